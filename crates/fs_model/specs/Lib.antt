@@ -1,0 +1,5 @@
+pub mod Cover
+pub mod Files
+pub mod Operation
+pub mod Path
+pub mod Trace

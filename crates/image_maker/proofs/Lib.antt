@@ -1,0 +1,4 @@
+pub mod Units
+pub mod LayingLemmas
+pub mod OneLeaves
+pub mod Room

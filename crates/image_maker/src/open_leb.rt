@@ -1,0 +1,147 @@
+// The LEB that takes the next nodes.
+
+ghost use Rattle.std.specs.Prelude.{◌≡◌, ◌+◌, ◌^◌, ◌<◌, ◌≤◌, ◌++◌, ◌∷◌, [], List, length, OnOk, IfOk};
+ghost use Rattle.ubifs_base.specs.Areas.{main_first};
+ghost use Rattle.ubifs_base.specs.RawOf.{raw_of};
+ghost use Rattle.ubi_volume.specs.MemVolume.{state_of};
+ghost use Rattle.media_leaf.specs.LeafNode.{LeafNode, IsLeaf};
+ghost use Rattle.image_maker.specs.Image.{leaf_text, to_unit, round_up};
+ghost use Rattle.image_maker.specs.Laying.{node_of, leaf_bytes, HasGeometry, IsLaid, IsClosed};
+
+use crate::leaf::Leaf;
+use std::alloc::Global;
+use ubi_volume::{MemVolume, Volume};
+use ubifs_base::{Geometry, Memory, fill_gap};
+
+// The number of the LEB, the sequence number of the next node, and the bytes of the nodes that it took.
+#[derive(Drop)]
+pub(crate) struct OpenLeb {
+    pub(crate) lnum: u32,
+    pub(crate) sqnum: u64,
+    pub(crate) bytes: Vec<u8>,
+}
+
+impl OpenLeb {
+    // The first main LEB, which took none.
+    pub(crate) fn new(alloc: Global, geometry: &Geometry) -> Result<OpenLeb, Memory>
+        ensures lnum { IfOk result (λ leb. leb.lnum ≡ main_first (raw_of geometry.now)) }
+        ensures sqnum { IfOk result (λ leb. leb.sqnum ≡ 1) }
+        ensures bytes { IfOk result (λ leb. leb.bytes.items ≡ []) }
+    {
+        Ok(OpenLeb {
+            lnum: geometry.main_first(),
+            sqnum: 1,
+            bytes: Vec::with_capacity(alloc, geometry.leb_size as usize)?,
+        })
+    }
+
+    // Takes one more node: into this LEB where it fits, and else into the next.
+    pub(crate) fn lay(
+        &mut self,
+        geometry: &Geometry,
+        volume: &mut MemVolume,
+        leaf: &Leaf,
+    ) -> Result<(), Memory>
+        requires geometry { HasGeometry (raw_of geometry.now) (state_of volume.old) }
+        requires node { IsLeaf (node_of leaf.now) }
+        requires room { self.old.lnum + 2 ≤ geometry.now.leb_cnt }
+        requires number { self.old.sqnum < 2 ^ 63 }
+        requires fits { length self.old.bytes.items ≤ geometry.now.leb_size }
+        ensures laid { OnOk result ((leaves : List LeafNode) → IsLaid (raw_of geometry.now) leaves self.old (state_of volume.old).holds
+            → IsLaid (raw_of geometry.now) (leaves ++ node_of leaf.now ∷ []) self.new (state_of volume.new).holds) }
+        ensures some { OnOk result (0 < length self.new.bytes.items) }
+        ensures fits { OnOk result (length self.new.bytes.items ≤ geometry.now.leb_size) }
+        ensures geometry { HasGeometry (raw_of geometry.now) (state_of volume.new) }
+    {
+        let len = leaf.text_len();
+        self.make_room(geometry, volume, len)?;
+        self.append(leaf)?;
+        Ok(())
+    }
+
+    // Goes on to the next LEB where so many bytes don't fit.
+    fn make_room(
+        &mut self,
+        geometry: &Geometry,
+        volume: &mut MemVolume,
+        len: usize,
+    ) -> Result<(), Memory>
+        requires geometry { HasGeometry (raw_of geometry.now) (state_of volume.old) }
+        requires most { len ≤ 4256 }
+        requires room { self.old.lnum + 2 ≤ geometry.now.leb_cnt }
+        requires fits { length self.old.bytes.items ≤ geometry.now.leb_size }
+        ensures laid { OnOk result ((leaves : List LeafNode) → IsLaid (raw_of geometry.now) leaves self.old (state_of volume.old).holds
+            → IsLaid (raw_of geometry.now) leaves self.new (state_of volume.new).holds) }
+        ensures sqnum { OnOk result (self.new.sqnum ≡ self.old.sqnum) }
+        ensures fits { OnOk result (length self.new.bytes.items + len ≤ geometry.now.leb_size) }
+        ensures geometry { HasGeometry (raw_of geometry.now) (state_of volume.new) }
+    {
+        if self.bytes.len() + len <= geometry.leb_size as usize {
+            return Ok(());
+        }
+        self.close(geometry, volume)?;
+        Ok(())
+    }
+
+    // Writes the LEB, and goes on to the next.
+    pub(crate) fn close(
+        &mut self,
+        geometry: &Geometry,
+        volume: &mut MemVolume,
+    ) -> Result<(), Memory>
+        requires geometry { HasGeometry (raw_of geometry.now) (state_of volume.old) }
+        requires room { self.old.lnum + 1 ≤ geometry.now.leb_cnt }
+        requires some { 0 < length self.old.bytes.items }
+        requires fits { length self.old.bytes.items ≤ geometry.now.leb_size }
+        ensures closed { OnOk result (IsClosed (raw_of geometry.now) self.old self.new (state_of volume.old).holds (state_of volume.new).holds) }
+        ensures geometry { HasGeometry (raw_of geometry.now) (state_of volume.new) }
+    {
+        fill_unit(&mut self.bytes, geometry.min_io as usize)?;
+        volume.change(self.lnum, &self.bytes).unwrap();
+        self.bytes.clear();
+        self.lnum += 1;
+        Ok(())
+    }
+
+    // Takes a node behind those that are here.
+    fn append(&mut self, leaf: &Leaf) -> Result<(), Memory>
+        requires node { IsLeaf (node_of leaf.now) }
+        requires number { self.old.sqnum < 2 ^ 63 }
+        requires fits { length self.old.bytes.items ≤ 2097152 }
+        ensures lnum { OnOk result (self.new.lnum ≡ self.old.lnum) }
+        ensures sqnum { OnOk result (self.new.sqnum ≡ self.old.sqnum + 1) }
+        ensures bytes { OnOk result (self.new.bytes.items ≡ self.old.bytes.items ++ leaf_text self.old.sqnum (node_of leaf.now)) }
+        ensures len { OnOk result (length self.new.bytes.items ≡ length self.old.bytes.items + leaf_bytes (node_of leaf.now)) }
+    {
+        append_text(&mut self.bytes, leaf, self.sqnum)?;
+        self.sqnum += 1;
+        Ok(())
+    }
+}
+
+// Appends a node, and 0xCE up to a multiple of 8.
+fn append_text(bytes: &mut Vec<u8>, leaf: &Leaf, sqnum: u64) -> Result<(), Memory>
+    requires node { IsLeaf (node_of leaf.now) }
+    requires fits { length bytes.old.items ≤ 2097152 }
+    ensures bytes { OnOk result (bytes.new.items ≡ bytes.old.items ++ leaf_text sqnum (node_of leaf.now)) }
+    ensures len { OnOk result (length bytes.new.items ≡ length bytes.old.items + leaf_bytes (node_of leaf.now)) }
+{
+    let start = bytes.len();
+    bytes.resize(start + leaf.text_len(), 0)?;
+    leaf.write_text(sqnum, bytes.split_at_mut(start).1);
+    Ok(())
+}
+
+// Fills the gap up to the unit.
+fn fill_unit(bytes: &mut Vec<u8>, unit: usize) -> Result<(), Memory>
+    requires unit { 0 < unit }
+    requires small { unit ≤ 16384 }
+    requires fits { length bytes.old.items ≤ 2097152 }
+    ensures bytes { OnOk result (bytes.new.items ≡ to_unit unit bytes.old.items) }
+    ensures len { OnOk result (length bytes.new.items ≡ round_up unit (length bytes.old.items)) }
+{
+    let start = bytes.len();
+    bytes.resize(start.div_ceil(unit) * unit, 0)?;
+    fill_gap(bytes.split_at_mut(start).1);
+    Ok(())
+}

@@ -1,0 +1,29 @@
+-- What a keeper's calls promise. Files are a function from the bytes of a name to the bytes of a file, where there is one.
+use Rattle.std.specs.Prelude.{◌≡◌, ◌≤◌, ℕ, List, Option, Some, Result, Ok, Err}
+use Rattle.std.specs.Str.{bytes_eq}
+use Rattle.std.specs.Map.{update}
+use Rattle.io_edges.specs.Counts.{Rose}
+use Rattle.io_edges.specs.declared.keeper.KeepFault.{KeepFault}
+use Rattle.io_edges.specs.declared.keeper.KeepFault.TheVariants.{Failed, Missing, Memory}
+
+-- all files are as they were
+abbrev pub SameFiles : (List ℕ → Option (List ℕ)) → (List ℕ → Option (List ℕ)) → Type 0
+SameFiles old new = (name : List ℕ) → new name ≡ old name
+
+-- the file of this name has these bytes, and the others are as they were
+abbrev pub SetsFile : (List ℕ → Option (List ℕ)) → List ℕ → List ℕ → (List ℕ → Option (List ℕ)) → Type 0
+SetsFile old name bytes new = (other : List ℕ) → new other ≡ update bytes_eq old name (Some bytes) other
+
+-- the call answered Failed
+abbrev pub IsFailed : {T : Type 0} → Result T KeepFault → Type 0
+IsFailed (Err (Failed count)) = Unit {0}
+IsFailed (Err Missing) = ⊥
+IsFailed (Err Memory) = ⊥
+IsFailed (Ok x) = ⊥
+
+-- Failed comes exactly where the count of faults rose in the call, and tells it; any other answer leaves the count
+abbrev pub IsCounted : {T : Type 0} → ℕ → ℕ → Result T KeepFault → Type 0
+IsCounted before now (Err (Failed count)) = (before ≤ now) × (Rose before now × (count ≡ now))
+IsCounted before now (Err Missing) = now ≡ before
+IsCounted before now (Err Memory) = now ≡ before
+IsCounted before now (Ok x) = now ≡ before

@@ -1,0 +1,6 @@
+pub mod Counts
+pub mod Keeper
+pub mod Sink
+pub mod MemKeeper
+pub mod MemSink
+pub mod Host

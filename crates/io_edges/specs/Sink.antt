@@ -1,0 +1,21 @@
+-- What a sink's call promises.
+use Rattle.std.specs.Prelude.{◌≡◌, ◌≤◌, ◌++◌, ℕ, List, take, Result, Ok, Err}
+use Rattle.io_edges.specs.Counts.{Rose}
+use Rattle.io_edges.specs.declared.sink.SinkFault.{SinkFault}
+use Rattle.io_edges.specs.declared.sink.SinkFault.TheVariants.{Failed, Memory}
+
+-- some first part of the piece was added
+abbrev pub AddsPrefix : List ℕ → List ℕ → List ℕ → Type 0
+AddsPrefix old piece new = (n : ℕ) × (new ≡ old ++ take n piece)
+
+-- the call answered Failed
+abbrev pub IsFailed : {T : Type 0} → Result T SinkFault → Type 0
+IsFailed (Err (Failed count)) = Unit {0}
+IsFailed (Err Memory) = ⊥
+IsFailed (Ok x) = ⊥
+
+-- Failed comes exactly where the count of faults rose in the call, and tells it; any other answer leaves the count
+abbrev pub IsCounted : {T : Type 0} → ℕ → ℕ → Result T SinkFault → Type 0
+IsCounted before now (Err (Failed count)) = (before ≤ now) × (Rose before now × (count ≡ now))
+IsCounted before now (Err Memory) = now ≡ before
+IsCounted before now (Ok x) = now ≡ before

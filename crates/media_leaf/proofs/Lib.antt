@@ -1,0 +1,7 @@
+pub mod DataLemmas
+pub mod EntryLemmas
+pub mod InodeLemmas
+pub mod LeafLaws
+pub mod LeafLemmas
+pub mod PlaceLemmas
+pub mod TruncationLemmas

@@ -1,0 +1,8 @@
+use Rattle.byteorder.specs.Endian.{little_bytes}
+use Rattle.media_leaf.proofs.PlaceLemmas.{written_at}
+use Rattle.media_leaf.proofs.fields.put_u32.Goals as goal
+
+pub returns-clause-place : goal.returns-clause-place
+returns-clause-place c =
+    let halves = c.split_at_mut.ensures in
+    written_at c.args.at 4 c.split_at_mut.result.0.now c.write_u32.new.buf c.split_at_mut.result.1.now c.args.body.now (little_bytes 4 c.args.number) halves.front_len c.write_u32.ensures halves.back

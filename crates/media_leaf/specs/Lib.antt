@@ -1,0 +1,8 @@
+pub mod Fields
+pub mod FieldLaws
+pub mod Data
+pub mod Entry
+pub mod Inode
+pub mod Truncation
+pub mod LeafNode
+pub mod Opening

@@ -1,0 +1,127 @@
+// Data nodes.
+
+ghost use Rattle.std.specs.Prelude.{◌≡◌, ◌++◌, List, ◌+◌, ◌≤◌, ℕ, length, IfOk, IfSome, IfNone};
+ghost use Rattle.media_leaf.specs.Data.{IsDataNode, data_fields, read_data};
+ghost use Rattle.media_leaf.specs.Fields.{AllFit, spelling};
+ghost use Rattle.media_leaf.specs.LeafNode.{IsData, block, written};
+ghost use Rattle.media_leaf.specs.Opening.{decoded};
+
+use crate::fields::{put_key, put_last, put_u32, u16_at, u32_at};
+use crate::opening::opened_node;
+use std::alloc::Global;
+use ubifs_base::{Bytes, Head, Key, Memory, frame};
+
+/// The bytes of a block of a file: `ubifs_data_node` of ubifs-media.h, not compressed.
+#[derive(Debug, Drop)]
+pub struct DataNode {
+    pub ino: u32,
+    pub block: u32,
+    pub bytes: Bytes,
+}
+
+const KIND: u8 = 1;
+
+impl DataNode {
+    /// How many bytes the node takes, header and all.
+    pub fn len(&self) -> u32
+        requires { IsDataNode self.now }
+        ensures { result ≡ 48 + length self.now.bytes }
+    {
+        48 + self.bytes.len() as u32
+    }
+
+    /// Writes the node's one spelling, in which all that is ignored is 0, over all of `out`. A group
+    /// type is 0 for none, 1 in a group, 2 for the last of one.
+    pub fn encode(&self, sqnum: u64, group: u8, out: &mut [u8])
+        requires node { IsDataNode self.now }
+        requires group { group ≤ 2 }
+        requires room { length out.old ≡ 48 + length self.now.bytes }
+        ensures spelling { out.new ≡ written sqnum group (block self.now) }
+        ensures grammar { IsData out.new sqnum group self.now }
+    {
+        write_body(out.split_at_mut(24).1, self);
+        let len = self.len();
+        frame(
+            out,
+            &Head {
+                sqnum,
+                len,
+                kind: KIND,
+                group,
+            },
+        );
+    }
+
+    /// The node that the bytes are, all of them; none where they are no such node. The error is
+    /// want of memory.
+    pub fn decode(alloc: Global, bytes: &[u8]) -> Result<Option<DataNode>, Memory>
+        ensures found { IfOk result (λ r. IfSome r (λ node. (sqnum : ℕ) × (group : ℕ) × IsData bytes.now sqnum group node)) }
+        ensures none { IfOk result (λ r. IfNone r ((sqnum group : ℕ) (node : _) → IsData bytes.now sqnum group node → ⊥)) }
+    {
+        decode_exactly(alloc, bytes)
+    }
+}
+
+// From the last field to the first, so that what stands behind a field is already as it stays.
+#[tactic(auto, unfolding(crate::specs::Fields::spelling))]
+fn write_body(body: &mut [u8], node: &DataNode)
+    requires node { IsDataNode node.now }
+    requires room { length body.old ≡ 24 + length node.now.bytes }
+    ensures spelling { body.new ≡ spelling (data_fields node.now) node.now.bytes }
+    ensures fits { AllFit (data_fields node.now) }
+{
+    put_last(body, 24, node.bytes.as_slice());
+    put_u32(body, 20, 0);
+    put_u32(body, 16, node.bytes.len() as u32);
+    put_key(
+        body,
+        &Key::Block {
+            ino: node.ino,
+            block: node.block,
+        },
+    );
+}
+
+fn decode_exactly(alloc: Global, bytes: &[u8]) -> Result<Option<DataNode>, Memory>
+    ensures { IfOk result (λ r. r ≡ decoded read_data bytes.now) }
+{
+    let Some((kind, body)) = opened_node(bytes) else {
+        return Ok(None);
+    };
+    read_body(alloc, kind, body)
+}
+
+#[tactic(auto, unfolding(crate::specs::Data::read_data))]
+fn read_body(alloc: Global, kind: u8, body: &[u8]) -> Result<Option<DataNode>, Memory>
+    ensures { IfOk result (λ r. r ≡ read_data kind body.now) }
+{
+    if kind != KIND {
+        return Ok(None);
+    }
+    if body.len() < 24 {
+        return Ok(None);
+    }
+    let ino = u32_at(body, 0);
+    let second = u32_at(body, 4);
+    if second / (1 << 29) != 1 {
+        return Ok(None);
+    }
+    if u16_at(body, 20) != 0 {
+        return Ok(None);
+    }
+    let size = u32_at(body, 16);
+    if size < 1 {
+        return Ok(None);
+    }
+    if size > 4096 {
+        return Ok(None);
+    }
+    if body.len() - 24 != size as usize {
+        return Ok(None);
+    }
+    Ok(Some(DataNode {
+        ino,
+        block: second % (1 << 29),
+        bytes: Bytes::from_slice(alloc, body.split_at(24).1)?,
+    }))
+}

@@ -1,0 +1,202 @@
+// Entry nodes.
+
+ghost use Rattle.std.specs.Prelude.{◌≡◌, ◌++◌, List, ◌+◌, ◌^◌, ◌<◌, ◌≤◌, ℕ, ◌==◌, ◌||◌, length, take, drop, if◌then◌else◌, IfOk, IfSome, IfNone};
+ghost use Rattle.std.specs.List.{list_all};
+ghost use Rattle.byteorder.specs.Endian.{little_number};
+ghost use Rattle.ubifs_base.specs.Key.{IsKey};
+ghost use Rattle.ubifs_base.specs.declared.key.Key.TheVariants.{Dent, Xent};
+ghost use Rattle.ubifs_base.specs.R5.{r5_of};
+ghost use Rattle.media_leaf.specs.Entry.{IsDentNode, is_name_byte, entry_fields, entry_tail, entry_type, named_entry, read_entry};
+ghost use Rattle.media_leaf.specs.Fields.{AllFit, spelling, key_fields};
+ghost use Rattle.media_leaf.specs.LeafNode.{IsDent, entry, written};
+ghost use Rattle.media_leaf.specs.Opening.{decoded};
+
+use crate::fields::{put_key, put_name, put_u8, put_u16, put_u32, put_u64, u16_at, u32_at, u64_at};
+use crate::opening::opened_node;
+use std::alloc::Global;
+use ubifs_base::{Head, Key, Memory, Name, frame, r5};
+
+/// A name in a directory, or the name of an attribute: `ubifs_dent_node` of ubifs-media.h. An `inum`
+/// of 0 says that the entry is deleted. The kind is that of the inode.
+#[derive(Debug, Drop)]
+pub struct DentNode {
+    pub dir: u32,
+    pub inum: u32,
+    pub kind: u8,
+    pub name: Name,
+    pub attribute: bool,
+}
+
+const KIND: u8 = 2;
+
+const ATTRIBUTE_KIND: u8 = 3;
+
+impl DentNode {
+    /// How many bytes the node takes, header and all.
+    pub fn len(&self) -> u32
+        requires { IsDentNode self.now }
+        ensures { result ≡ 57 + length self.now.name }
+    {
+        57 + self.name.len() as u32
+    }
+
+    /// Writes the node's one spelling, in which all that is ignored is 0, over all of `out`. A group
+    /// type is 0 for none, 1 in a group, 2 for the last of one.
+    pub fn encode(&self, sqnum: u64, group: u8, out: &mut [u8])
+        requires node { IsDentNode self.now }
+        requires group { group ≤ 2 }
+        requires room { length out.old ≡ 57 + length self.now.name }
+        ensures spelling { out.new ≡ written sqnum group (entry self.now) }
+        ensures grammar { IsDent out.new sqnum group self.now }
+    {
+        write_body(out.split_at_mut(24).1, self);
+        let len = self.len();
+        let kind = kind_of(self);
+        frame(
+            out,
+            &Head {
+                sqnum,
+                len,
+                kind,
+                group,
+            },
+        );
+    }
+
+    /// The node that the bytes are, all of them; none where they are no such node. The error is
+    /// want of memory.
+    pub fn decode(alloc: Global, bytes: &[u8]) -> Result<Option<DentNode>, Memory>
+        ensures found { IfOk result (λ r. IfSome r (λ node. (sqnum : ℕ) × (group : ℕ) × IsDent bytes.now sqnum group node)) }
+        ensures none { IfOk result (λ r. IfNone r ((sqnum group : ℕ) (node : _) → IsDent bytes.now sqnum group node → ⊥)) }
+    {
+        decode_exactly(alloc, bytes)
+    }
+}
+
+fn kind_of(node: &DentNode) -> u8
+    ensures { result ≡ entry_type node.now }
+{
+    if node.attribute { ATTRIBUTE_KIND } else { KIND }
+}
+
+fn hash_of(name: &[u8]) -> u32
+    ensures value { result ≡ r5_of name.now }
+    ensures bits { result < 2 ^ 29 }
+{
+    r5(name)
+}
+
+fn key_of(attribute: bool, dir: u32, hash: u32) -> Key
+    requires { hash < 2 ^ 29 }
+    ensures value { result ≡ (if attribute then Xent dir hash else Dent dir hash) }
+    ensures fits { IsKey result }
+{
+    if attribute {
+        Key::Xent { ino: dir, hash }
+    } else {
+        Key::Dent { dir, hash }
+    }
+}
+
+// From the last field to the first, so that what stands behind a field is already as it stays.
+#[tactic(auto, unfolding(crate::specs::Fields::spelling))]
+fn write_body(body: &mut [u8], node: &DentNode)
+    requires node { IsDentNode node.now }
+    requires room { length body.old ≡ 33 + length node.now.name }
+    ensures spelling { body.new ≡ spelling (entry_fields node.now) (entry_tail node.now) }
+    ensures fits { AllFit (entry_fields node.now) }
+{
+    put_name(body, 32, node.name.as_slice());
+    put_u32(body, 28, 0);
+    put_u16(body, 26, node.name.len() as u16);
+    put_u8(body, 25, node.kind);
+    put_u8(body, 24, 0);
+    put_u64(body, 16, node.inum as u64);
+    let hash = hash_of(node.name.as_slice());
+    put_key(body, &key_of(node.attribute, node.dir, hash));
+}
+
+fn decode_exactly(alloc: Global, bytes: &[u8]) -> Result<Option<DentNode>, Memory>
+    ensures { IfOk result (λ r. r ≡ decoded read_entry bytes.now) }
+{
+    let Some((kind, body)) = opened_node(bytes) else {
+        return Ok(None);
+    };
+    read_body(alloc, kind, body)
+}
+
+#[tactic(auto, unfolding(crate::specs::Entry::read_entry))]
+fn read_body(alloc: Global, kind: u8, body: &[u8]) -> Result<Option<DentNode>, Memory>
+    ensures { IfOk result (λ r. r ≡ read_entry kind body.now) }
+{
+    if !is_entry_kind(kind) {
+        return Ok(None);
+    }
+    if body.len() < 33 {
+        return Ok(None);
+    }
+    if u64_at(body, 16) > 0xffff_ffff {
+        return Ok(None);
+    }
+    if body[25] > 6 {
+        return Ok(None);
+    }
+    let size = u16_at(body, 26);
+    if size < 1 {
+        return Ok(None);
+    }
+    if size > 255 {
+        return Ok(None);
+    }
+    if body.len() - 33 != size as usize {
+        return Ok(None);
+    }
+    if body[32 + size as usize] != 0 {
+        return Ok(None);
+    }
+    read_named(alloc, kind, body, name_in(body, size as usize))
+}
+
+fn name_in(body: &[u8], size: usize) -> &[u8]
+    requires { 33 + size ≡ length body.now }
+    ensures { result.now ≡ take size (drop 32 body.now) }
+{
+    body.split_at(32).1.split_at(size).0
+}
+
+fn is_entry_kind(kind: u8) -> bool
+    ensures { result ≡ (kind == 2 || kind == 3) }
+{
+    kind == KIND || kind == ATTRIBUTE_KIND
+}
+
+#[tactic(auto, unfolding(crate::specs::Entry::named_entry))]
+fn read_named(alloc: Global, kind: u8, body: &[u8], name: &[u8]) -> Result<Option<DentNode>, Memory>
+    requires room { 33 ≤ length body.now }
+    requires inum { little_number 8 (drop 16 body.now) < 2 ^ 32 }
+    ensures { IfOk result (λ r. r ≡ named_entry kind body.now name.now) }
+{
+    if !has_name_bytes(name) {
+        return Ok(None);
+    }
+    let second = u32_at(body, 4);
+    if second / (1 << 29) != kind as u32 {
+        return Ok(None);
+    }
+    if second % (1 << 29) != r5(name) {
+        return Ok(None);
+    }
+    Ok(Some(DentNode {
+        dir: u32_at(body, 0),
+        inum: u64_at(body, 16) as u32,
+        kind: body[25],
+        name: Name::from_slice(alloc, name)?,
+        attribute: kind == ATTRIBUTE_KIND,
+    }))
+}
+
+fn has_name_bytes(name: &[u8]) -> bool
+    ensures { result ≡ list_all is_name_byte name.now }
+{
+    name.iter().all(|byte| *byte != 0 && *byte != b'/')
+}

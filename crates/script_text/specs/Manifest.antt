@@ -1,0 +1,29 @@
+-- Manifests: a line with the geometry, and the line `end`.
+use Rattle.std.specs.Prelude.{ℕ, ◌<◌, ◌^◌, ◌≡◌, ◌≢◌, ◌⊎◌, List, [], ◌∷◌, ◌++◌, codes}
+use Rattle.std.specs.Fmt.{decimal}
+use Rattle.script_text.specs.declared.manifest.Manifest.{Manifest}
+use Rattle.script_text.specs.Words.{ended, line_of}
+
+-- the line with the geometry
+abbrev pub volume_line : Manifest → List ℕ
+volume_line m = line_of (codes "volume" ∷ decimal m.leb_size ∷ decimal m.min_io ∷ decimal m.main ∷ decimal m.fanout ∷ [])
+
+-- the numbers are in range
+abbrev pub HasRange : Manifest → Type 0
+HasRange m = (m.leb_size < 2 ^ 32) × (m.min_io < 2 ^ 32) × (m.main < 2 ^ 31) × (m.fanout < 2 ^ 32)
+
+-- the text is the geometry's line and the line `end`
+pub record IsManifest (text : List ℕ) (m : Manifest) : Type 0 where
+  pub lines : text ≡ volume_line m ++ ended (codes "end")
+  pub range : HasRange m
+
+-- the text begins with a line with a geometry in range, and then has this
+abbrev pub BeginsWithVolume : List ℕ → List ℕ → Type 0
+BeginsWithVolume text rest = (m : Manifest) × HasRange m × (text ≡ volume_line m ++ rest)
+
+-- The line of this number is the first that isn't in the grammar: no geometry stands there; or no `end` behind it; or something behind that.
+abbrev pub IsFirstBadManifestLine : List ℕ → ℕ → Type 0
+IsFirstBadManifestLine text number =
+    ((number ≡ 1) × ((rest : List ℕ) → BeginsWithVolume text rest → ⊥))
+    ⊎ ((number ≡ 2) × ((rest : List ℕ) × BeginsWithVolume text rest × ((more : List ℕ) → rest ≢ ended (codes "end") ++ more)))
+    ⊎ ((number ≡ 3) × ((more : List ℕ) × (more ≢ []) × BeginsWithVolume text (ended (codes "end") ++ more)))

@@ -1,0 +1,95 @@
+-- The line of a reply.
+use Rattle.std.specs.Prelude.{ℕ, ◌+◌, ◌/◌, ◌%◌, ◌==◌, nat_lt, if◌then◌else◌, List, [], ◌∷◌, ◌++◌, length, codes}
+use Rattle.std.specs.Fmt.{decimal}
+use Rattle.fs_model.specs.declared.reply.Reply.{Reply}
+use Rattle.fs_model.specs.declared.reply.Reply.TheVariants.{Done, Ino, Count, Bytes, Refused}
+use Rattle.fs_model.specs.declared.refusal.Refusal.{Refusal}
+use Rattle.fs_model.specs.declared.refusal.Refusal.TheVariants.{Enoent, Eexist, Enotdir, Eisdir, Enotempty, Enospc, Erofs, Eio, Enomem, Efbig, Enametoolong, Einval, Emlink, Enfile, Ebadf}
+use Rattle.fs_model.specs.declared.refusal.Cause.{Cause}
+use Rattle.fs_model.specs.declared.refusal.Cause.TheVariants.{Tight, Faulted, Spent}
+use Rattle.fs_model.specs.declared.refusal.Scarce.{Scarce}
+use Rattle.fs_model.specs.declared.refusal.Scarce.TheVariants.{Space, Empty, Index, Area}
+use Rattle.fs_model.specs.declared.refusal.Table.{Table}
+use Rattle.fs_model.specs.declared.refusal.Table.TheVariants.{Orphans, Inodes}
+use Rattle.script_text.specs.Words.{spaced, ended}
+
+-- n times a byte, before runs
+abbrev pub with_run : ℕ → ℕ → List (ℕ × ℕ) → List (ℕ × ℕ)
+with_run n byte [] = (n, byte) ∷ []
+with_run n byte (run ∷ runs) = if byte == run.1 then (n + run.0, byte) ∷ runs else (n, byte) ∷ run ∷ runs
+
+-- the longest runs of equal bytes, each as its length and its byte
+abbrev pub runs_of : List ℕ → List (ℕ × ℕ)
+runs_of [] = []
+runs_of (byte ∷ bytes) = with_run 1 byte (runs_of bytes)
+
+-- a lower-case hex digit
+abbrev pub hex_digit : ℕ → ℕ
+hex_digit n = if nat_lt n 10 then 48 + n else 87 + n
+
+-- a byte as two lower-case hex digits
+abbrev pub hex_byte : ℕ → List ℕ
+hex_byte byte = hex_digit (byte / 16) ∷ hex_digit (byte % 16) ∷ []
+
+-- a run's length, an x and its byte in hex
+abbrev pub run_text : ℕ × ℕ → List ℕ
+run_text run = decimal run.0 ++ (120 ∷ hex_byte run.1)
+
+-- runs, joined by commas
+abbrev pub runs_text : List (ℕ × ℕ) → List ℕ
+runs_text [] = []
+runs_text (run ∷ []) = run_text run
+runs_text (run ∷ next ∷ runs) = run_text run ++ (44 ∷ runs_text (next ∷ runs))
+
+-- what there is too little of
+abbrev pub scarce_word : Scarce → List ℕ
+scarce_word Space = codes "space"
+scarce_word Empty = codes "empty"
+scarce_word Index = codes "index"
+scarce_word Area = codes "area"
+
+-- the table that is full
+abbrev pub table_word : Table → List ℕ
+table_word Orphans = codes "orphans"
+table_word Inodes = codes "inodes"
+
+-- why a store is read-only
+abbrev pub cause_words : Cause → List (List ℕ)
+cause_words (Tight what need room) = codes "tight" ∷ scarce_word what ∷ decimal need ∷ decimal room ∷ []
+cause_words (Faulted count) = codes "faulted" ∷ decimal count ∷ []
+cause_words (Spent sqnum cmt_no) = codes "spent" ∷ decimal sqnum ∷ decimal cmt_no ∷ []
+
+-- a refusal's number, and what it carries
+abbrev pub refusal_words : Refusal → List (List ℕ)
+refusal_words Enoent = codes "E1" ∷ []
+refusal_words Eexist = codes "E2" ∷ []
+refusal_words Enotdir = codes "E3" ∷ []
+refusal_words Eisdir = codes "E4" ∷ []
+refusal_words Enotempty = codes "E5" ∷ []
+refusal_words (Enospc space) = codes "E6" ∷ decimal space.need ∷ decimal space.room ∷ []
+refusal_words (Erofs cause) = codes "E7" ∷ cause_words cause
+refusal_words (Eio count) = codes "E8" ∷ decimal count ∷ []
+refusal_words Enomem = codes "E9" ∷ []
+refusal_words Efbig = codes "E10" ∷ []
+refusal_words Enametoolong = codes "E11" ∷ []
+refusal_words Einval = codes "E12" ∷ []
+refusal_words Emlink = codes "E13" ∷ []
+refusal_words (Enfile what limit) = codes "E14" ∷ table_word what ∷ decimal limit ∷ []
+refusal_words Ebadf = codes "E15" ∷ []
+
+-- the bytes that were read: how many, and their runs, of which none has none
+abbrev pub bytes_words : List ℕ → List (List ℕ)
+bytes_words [] = codes "0" ∷ []
+bytes_words (byte ∷ bytes) = decimal (length (byte ∷ bytes)) ∷ runs_text (runs_of (byte ∷ bytes)) ∷ []
+
+-- a reply's words
+abbrev pub reply_words : Reply → List (List ℕ)
+reply_words Done = codes "ok" ∷ []
+reply_words (Ino ino) = codes "ok" ∷ decimal ino ∷ []
+reply_words (Count n) = codes "ok" ∷ decimal n ∷ []
+reply_words (Bytes bytes) = codes "ok" ∷ bytes_words bytes
+reply_words (Refused refusal) = refusal_words refusal
+
+-- the caller, the number of its call, and the reply
+abbrev pub reply_line : ℕ → ℕ → Reply → List ℕ
+reply_line caller number reply = ended (decimal caller ++ spaced (decimal number ∷ reply_words reply))

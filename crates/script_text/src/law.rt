@@ -1,0 +1,37 @@
+// Laws of texts: each text has one answer.
+
+ghost use Rattle.std.specs.Prelude.{◌≡◌, ℕ, List};
+ghost use Rattle.script_text.specs.Script.{IsScript, IsFirstBadLine};
+ghost use Rattle.script_text.specs.Manifest.{IsManifest, IsFirstBadManifestLine};
+ghost use Rattle.script_text.specs.declared.part.Part.{Part};
+ghost use Rattle.script_text.specs.declared.manifest.Manifest.{Manifest};
+
+/// A text is one script.
+pub fn one_script()
+    ensures { (text : List ℕ) → (these those : List Part) → IsScript text these → IsScript text those → these ≡ those }
+{}
+
+/// A script has no first bad line.
+pub fn script_has_no_bad_line()
+    ensures { (text : List ℕ) → (parts : List Part) → (number : ℕ) → IsScript text parts → IsFirstBadLine text number → ⊥ }
+{}
+
+/// A text has one first bad line as a script.
+pub fn one_bad_line()
+    ensures { (text : List ℕ) → (this that : ℕ) → IsFirstBadLine text this → IsFirstBadLine text that → this ≡ that }
+{}
+
+/// A text is one manifest.
+pub fn one_manifest()
+    ensures { (text : List ℕ) → (this that : Manifest) → IsManifest text this → IsManifest text that → this ≡ that }
+{}
+
+/// A manifest has no first bad line.
+pub fn manifest_has_no_bad_line()
+    ensures { (text : List ℕ) → (m : Manifest) → (number : ℕ) → IsManifest text m → IsFirstBadManifestLine text number → ⊥ }
+{}
+
+/// A text has one first bad line as a manifest.
+pub fn one_bad_manifest_line()
+    ensures { (text : List ℕ) → (this that : ℕ) → IsFirstBadManifestLine text this → IsFirstBadManifestLine text that → this ≡ that }
+{}

@@ -1,0 +1,33 @@
+//! What do the lines of a manifest and of a script say, and how is a reply written as a line?
+//!
+//! Texts are lines of words, with one space between words. A reader answers the parts that the text spells, or the
+//! number of the first line that isn't in the grammar, and never both: `specs/Script.antt` and `specs/Manifest.antt` say
+//! which texts are spelled how, and the laws of this crate say that each text has one answer. The idea is that a newline
+//! ends a line and a space ends a word, so that a text can be cut in one way only. The reader keeps that the text is the
+//! lines of the parts so far and then the rest, and that the parts lead from the start to the stage that it has reached.
+#![tactic(auto)]
+
+mod cut;
+mod fault;
+mod law;
+mod manifest;
+mod number;
+mod part;
+mod reply;
+mod run;
+mod script;
+mod stage;
+mod word;
+
+pub use crate::fault::TextFault;
+pub use crate::law::{
+    manifest_has_no_bad_line, one_bad_line, one_bad_manifest_line, one_manifest, one_script,
+    script_has_no_bad_line,
+};
+pub use crate::manifest::{Manifest, read_manifest};
+pub use crate::part::Part;
+pub use crate::reply::write_reply;
+pub use crate::script::{Script, read_script};
+
+#[cfg(test)]
+mod tests;

@@ -1,0 +1,3 @@
+pub mod Lebs
+pub mod TwoWrites
+pub mod UnmapAll

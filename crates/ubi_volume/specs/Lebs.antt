@@ -1,0 +1,39 @@
+-- The LEBs of a volume in memory.
+use Rattle.std.specs.Prelude.{◌≡◌, ◌≢◌, ◌⊎◌, IsTrue, false, ℕ, ◌-◌, List, [], Option, Some, None, slice_get, length, drop, replicate, All}
+use Rattle.ubi_volume.specs.declared.leb.Leb.{Leb}
+
+-- the bytes of a LEB, and none of one that isn't there
+abbrev pub bytes_in : Option Leb → List ℕ
+bytes_in (Some leb) = leb.content.items
+bytes_in None = []
+
+-- how many of them aren't open for writing
+abbrev pub written_in : Option Leb → ℕ
+written_in (Some leb) = leb.written
+written_in None = 0
+
+-- what a cut may leave: the bytes, or those from before an unmapping that isn't final
+abbrev pub IsLeft : Option Leb → List ℕ → Type 0
+IsLeft (Some leb) c = (c ≡ leb.content.items) ⊎ (IsTrue leb.undo × (c ≡ leb.before.items))
+IsLeft None c = c ≡ []
+
+-- a LEB of this size, of which what isn't written is 255
+pub record IsLeb (size : ℕ) (leb : Leb) : Type 0 where
+  pub content : length leb.content.items ≡ size
+  pub before : length leb.before.items ≡ size
+  pub blank : drop leb.written leb.content.items ≡ replicate (size - leb.written) 255
+
+-- one LEB has other bytes, and the rest is the same
+pub record IsReplaced (size : ℕ) (old new : List Leb) (n : ℕ) (bytes : List ℕ) (written : ℕ) : Type 0 where
+  pub others : (k : ℕ) → k ≢ n → slice_get new k ≡ slice_get old k
+  pub bytes_are : bytes_in (slice_get new n) ≡ bytes
+  pub written_is : written_in (slice_get new n) ≡ written
+  pub len : length new ≡ length old
+  pub sizes : All (IsLeb size) new
+
+-- an unwritten LEB, of which a cut leaves nothing else
+pub record IsBlankLeb (size : ℕ) (leb : Leb) : Type 0 where
+  pub content : leb.content.items ≡ replicate size 255
+  pub before : length leb.before.items ≡ size
+  pub written : leb.written ≡ 0
+  pub undo : leb.undo ≡ false

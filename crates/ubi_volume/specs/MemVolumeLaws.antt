@@ -1,0 +1,42 @@
+-- What is true of every volume in memory.
+use Rattle.std.specs.Prelude.{◌≡◌, ℕ, ◌-◌, ◌<◌, List, Option, Some, None, slice_get, length, drop, replicate, All}
+use Rattle.std.proofs.Common.{inl, inr, arith, subst, sym}
+use Rattle.std.proofs.lemmas.Option.{slice_get_cases}
+use Rattle.ubi_volume.specs.Lebs.{bytes_in, written_in, IsLeft, IsLeb}
+use Rattle.ubi_volume.specs.MemVolume.{state_of}
+use Rattle.ubi_volume.specs.declared.leb.Leb.{Leb}
+use Rattle.ubi_volume.specs.declared.mem_volume.MemVolume.{MemVolume}
+
+-- the LEB of a number
+pub leb_at : (size : ℕ) (lebs : List Leb) (n : ℕ) → n < length lebs → All (IsLeb size) lebs → (leb : Leb) × (slice_get lebs n ≡ Some leb) × IsLeb size leb
+leb_at size lebs n inside all =
+    elim (slice_get_cases lebs n).1 [
+      | inl there ↦ let P : Leb → Type 0 = IsLeb size in (there.0, there.2, subst P there.3 (all n there.0 inside))
+      | inr past ↦ absurd (omega (arith, inside, past.0))
+    ]
+
+-- a LEB has its size
+pub length-bytes_in : (size : ℕ) (lebs : List Leb) (n : ℕ) → n < length lebs → All (IsLeb size) lebs → length (bytes_in (slice_get lebs n)) ≡ size
+length-bytes_in size lebs n inside all =
+    let leb = leb_at size lebs n inside all in
+    let P : Option Leb → Type 0 = λ o. length (bytes_in o) ≡ size in
+    subst P (sym leb.1) leb.2.content
+
+-- what isn't written of it is 255
+pub drop-bytes_in : (size : ℕ) (lebs : List Leb) (n : ℕ) → n < length lebs → All (IsLeb size) lebs
+    → drop (written_in (slice_get lebs n)) (bytes_in (slice_get lebs n)) ≡ replicate (size - written_in (slice_get lebs n)) 255
+drop-bytes_in size lebs n inside all =
+    let leb = leb_at size lebs n inside all in
+    let P : Option Leb → Type 0 = λ o. drop (written_in o) (bytes_in o) ≡ replicate (size - written_in o) 255 in
+    subst P (sym leb.1) leb.2.blank
+
+-- what a LEB holds, a cut may leave
+pub left_now : (leb : Option Leb) (c : List ℕ) → c ≡ bytes_in leb → IsLeft leb c
+left_now (Some leb) c h = inl h
+left_now None c h = h
+
+pub leb_len_of : (v : MemVolume) (n : ℕ) → n < (state_of v).leb_cnt → length ((state_of v).holds n) ≡ (state_of v).leb_size
+leb_len_of v n inside = length-bytes_in v.shape.leb_size v.lebs.items n (omega (arith, inside, v.all)) v.sizes
+
+pub blank_of : (v : MemVolume) (n : ℕ) → n < (state_of v).leb_cnt → drop ((state_of v).written n) ((state_of v).holds n) ≡ replicate ((state_of v).leb_size - (state_of v).written n) 255
+blank_of v n inside = drop-bytes_in v.shape.leb_size v.lebs.items n (omega (arith, inside, v.all)) v.sizes

@@ -1,0 +1,51 @@
+-- What follows from a volume's clauses over several calls.
+use Rattle.std.specs.Prelude.{◌≡◌, ◌⊎◌, ℕ, List}
+use Rattle.std.proofs.Common.{inl, inr, arith, subst, ap, ◌∙◌}
+use Rattle.ubi_volume.specs.Volume.{VolumeState, Only, put, Torn, SameShape, Leaves, Keeps, WriteUnderWay, IsWritten}
+
+-- One run after another. P and Q are what each moment of the first and of the second leaves, and R is what both imply.
+pub Leaves-then : (a b c : VolumeState) (P Q R : (ℕ → List ℕ) → Type 0) → ((x : ℕ → List ℕ) → P x → R x) → ((x : ℕ → List ℕ) → Q x → R x)
+    → Leaves a b P → Leaves b c Q → Leaves a c R
+Leaves-then a b c P Q R pr qr ab bc =
+    let first = ab.later in
+    let second = bc.later in
+    record {
+      later = omega (arith, first, second);
+      nothing_else = λ t x early left.
+          elim (bc.nothing_else t x (omega (arith, early, first)) left) [
+            | inr q ↦ inr (qr x q)
+            | inl before ↦ elim (ab.nothing_else t x early before) [ inl older ↦ inl older | inr p ↦ inr (pr x p) ]
+          ];
+    }
+
+-- A call that keeps all leaves nothing else at any moment.
+pub Leaves-keeps : (a b : VolumeState) (P : (ℕ → List ℕ) → Type 0) → Keeps a b → Leaves a b P
+Leaves-keeps a b P keeps = record {
+  later = keeps.later;
+  nothing_else = λ t x early left. inl ((keeps.time t x early).0 left);
+}
+
+-- a write under way into a LEB of which a cut leaves nothing else
+pub WriteUnderWay-only : (old : VolumeState) (lnum offs n : ℕ) (one : List ℕ) → Only one (old.left_now lnum)
+    → ((c : List ℕ) → old.left_mapped lnum c → old.left_now lnum c) → (c : List ℕ) → WriteUnderWay old lnum offs n c → (c ≡ one) ⊎ Torn offs n one c
+WriteUnderWay-only old lnum offs n one only sub c (inl now) = inl (only c now)
+WriteUnderWay-only old lnum offs n one only sub c (inr (d, is, torn)) = let P : List ℕ → Type 0 = λ y. Torn offs n y c in inr (subst P (only d (sub d is)) torn)
+
+-- what a cut leaves of such a LEB after the write
+pub Only-written : (old new : VolumeState) (lnum offs : ℕ) (bytes one : List ℕ) → Only one (old.left_now lnum)
+    → ((c : List ℕ) → old.left_mapped lnum c → old.left_now lnum c) → IsWritten old new lnum offs bytes → Only (put offs bytes one) (new.left_now lnum)
+Only-written old new lnum offs bytes one only sub written c is =
+    let from = written.left c is in
+    from.2 ∙ ap (put offs bytes) (only from.0 (sub from.0 from.1))
+
+-- Before the first call nothing else is left.
+pub Leaves-none : (a : VolumeState) (P : (ℕ → List ℕ) → Type 0) → Leaves a a P
+Leaves-none a P = record { later = omega arith; nothing_else = λ t x early left. inl left }
+
+-- the shape over one call after another
+pub SameShape-then : (a b c : VolumeState) → SameShape a b → SameShape b c → SameShape a c
+SameShape-then a b c ab bc = record {
+  leb_size = bc.leb_size ∙ ab.leb_size;
+  min_io = bc.min_io ∙ ab.min_io;
+  leb_cnt = bc.leb_cnt ∙ ab.leb_cnt;
+}

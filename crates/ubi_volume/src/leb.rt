@@ -1,0 +1,138 @@
+// One logical erase block in memory.
+
+ghost use Rattle.std.specs.Prelude.{◌≡◌, ◌⊎◌, ◌+◌, ◌-◌, ◌<◌, ◌≤◌, ◌++◌, ℕ, List, [], length, drop, replicate, All, slice_get, IfOk};
+ghost use Rattle.ubi_volume.specs.Lebs.{bytes_in, written_in, IsLeft, IsLeb, IsBlankLeb, IsReplaced};
+ghost use Rattle.ubi_volume.specs.Volume.{put, filled, image_of, Torn};
+
+use std::alloc::Global;
+use std::mem::swap;
+use ubifs_base::Memory;
+
+// The bytes, how many of them aren't open for writing, and what was there before an unmapping that can be undone.
+#[derive(Drop)]
+pub(crate) struct Leb {
+    pub(crate) content: Vec<u8>,
+    pub(crate) written: u32,
+    pub(crate) before: Vec<u8>,
+    pub(crate) undo: bool,
+}
+
+// An unwritten LEB.
+fn blank_leb(alloc: Global, size: u32) -> Result<Leb, Memory>
+    ensures { IfOk result (IsBlankLeb size) }
+{
+    Ok(Leb {
+        content: vec![in alloc; 0xff; size as usize]?,
+        written: 0,
+        before: vec![in alloc; 0xff; size as usize]?,
+        undo: false,
+    })
+}
+
+// So many of them.
+pub(crate) fn blank_lebs(alloc: Global, size: u32, count: u32) -> Result<Vec<Leb>, Memory>
+    ensures blank { IfOk result (λ lebs. All (IsBlankLeb size) lebs.items) }
+    ensures len { IfOk result (λ lebs. length lebs.items ≡ count) }
+{
+    let mut lebs = Vec::with_capacity(alloc, count as usize)?;
+    for i in 0..count {
+        lebs.push(blank_leb(alloc, size)?)?;
+    }
+    Ok(lebs)
+}
+
+// The bytes of all, one after another.
+pub(crate) fn all_bytes(alloc: Global, size: usize, lebs: &[Leb]) -> Result<Vec<u8>, Memory>
+    ensures { IfOk result (λ bytes. bytes.items ≡ image_of (λ k. bytes_in (slice_get lebs.now k)) (length lebs.now)) }
+{
+    let mut bytes = Vec::with_capacity(alloc, size)?;
+    for leb in lebs {
+        bytes.extend_from_slice(&leb.content)?;
+    }
+    Ok(bytes)
+}
+
+// The bytes, and erased bytes behind them.
+fn fill_with(buffer: &mut [u8], bytes: &[u8])
+    requires { length bytes.now ≤ length buffer.old }
+    ensures { buffer.new ≡ filled (length buffer.old) bytes.now }
+{
+    let (front, back) = buffer.split_at_mut(bytes.len());
+    front.copy_from_slice(bytes);
+    back.fill(0xff);
+}
+
+// The bytes at an offset.
+fn put_at(buffer: &mut [u8], offs: usize, bytes: &[u8])
+    requires { offs + length bytes.now ≤ length buffer.old }
+    ensures put { buffer.new ≡ put offs bytes.now buffer.old }
+    ensures torn { Torn offs (length bytes.now) buffer.old buffer.new }
+    ensures blank { (written size : ℕ) → written ≤ offs → drop written buffer.old ≡ replicate (size - written) 255
+        → drop (offs + length bytes.now) buffer.new ≡ replicate (size - (offs + length bytes.now)) 255 }
+{
+    copy_at(buffer, offs, bytes);
+}
+
+fn copy_at(buffer: &mut [u8], offs: usize, bytes: &[u8])
+    requires { offs + length bytes.now ≤ length buffer.old }
+    ensures { buffer.new ≡ put offs bytes.now buffer.old }
+{
+    buffer[offs..offs + bytes.len()].copy_from_slice(bytes);
+}
+
+// Gives a LEB these bytes, and erased bytes behind them.
+pub(crate) fn change_leb(lebs: &mut [Leb], size: u32, lnum: usize, bytes: &[u8])
+    requires lnum { lnum < length lebs.old }
+    requires sizes { All (IsLeb size) lebs.old }
+    requires range { length bytes.now ≤ size }
+    ensures changed { IsReplaced size lebs.old lebs.new lnum (filled size bytes.now) (length bytes.now) }
+    ensures left { (c : List ℕ) → IsLeft (slice_get lebs.new lnum) c → c ≡ bytes_in (slice_get lebs.new lnum) }
+{
+    let leb = &mut lebs[lnum];
+    fill_with(&mut leb.content, bytes);
+    leb.written = bytes.len() as u32;
+    leb.undo = false;
+}
+
+// Erases a LEB, and keeps what was there for a cut.
+pub(crate) fn unmap_leb(lebs: &mut [Leb], size: u32, lnum: usize)
+    requires lnum { lnum < length lebs.old }
+    requires sizes { All (IsLeb size) lebs.old }
+    ensures changed { IsReplaced size lebs.old lebs.new lnum (filled size []) 0 }
+    ensures left { (c : List ℕ) → IsLeft (slice_get lebs.new lnum) c → IsLeft (slice_get lebs.old lnum) c ⊎ (c ≡ filled size []) }
+{
+    let leb = &mut lebs[lnum];
+    if !leb.undo {
+        swap(&mut leb.content, &mut leb.before);
+    }
+    fill_with(&mut leb.content, &[]);
+    leb.written = 0;
+    leb.undo = true;
+}
+
+// Makes the unmapping of a LEB final.
+pub(crate) fn map_leb(lebs: &mut [Leb], size: u32, lnum: usize)
+    requires lnum { lnum < length lebs.old }
+    requires sizes { All (IsLeb size) lebs.old }
+    ensures mapped { IsReplaced size lebs.old lebs.new lnum (bytes_in (slice_get lebs.old lnum)) (written_in (slice_get lebs.old lnum)) }
+    ensures left { (c : List ℕ) → IsLeft (slice_get lebs.new lnum) c → c ≡ bytes_in (slice_get lebs.new lnum) }
+{
+    let leb = &mut lebs[lnum];
+    leb.undo = false;
+}
+
+// Puts bytes into a LEB.
+pub(crate) fn write_leb(lebs: &mut [Leb], size: u32, lnum: usize, offs: u32, bytes: &[u8])
+    requires lnum { lnum < length lebs.old }
+    requires sizes { All (IsLeb size) lebs.old }
+    requires range { offs + length bytes.now ≤ size }
+    requires open { written_in (slice_get lebs.old lnum) ≤ offs }
+    ensures torn { Torn offs (length bytes.now) (bytes_in (slice_get lebs.old lnum)) (bytes_in (slice_get lebs.new lnum)) }
+    ensures left { (c : List ℕ) → IsLeft (slice_get lebs.new lnum) c → c ≡ bytes_in (slice_get lebs.new lnum) }
+    ensures put { IsReplaced size lebs.old lebs.new lnum (put offs bytes.now (bytes_in (slice_get lebs.old lnum))) (offs + length bytes.now) }
+{
+    let leb = &mut lebs[lnum];
+    put_at(&mut leb.content, offs as usize, bytes);
+    leb.written = offs + bytes.len() as u32;
+    leb.undo = false;
+}

@@ -1,0 +1,17 @@
+pub mod Areas
+pub mod Crc
+pub mod CrcLaws
+pub mod Frame
+pub mod FrameLaws
+pub mod Gap
+pub mod Geometry
+pub mod GeometryFaults
+pub mod GeometryLaws
+pub mod Key
+pub mod KeyLaws
+pub mod Node
+pub mod NodeLaws
+pub mod Properties
+pub mod PropertiesLaws
+pub mod R5
+pub mod RawOf

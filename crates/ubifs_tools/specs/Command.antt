@@ -1,0 +1,112 @@
+-- What the command `run` answers, over the files that it is given.
+use Rattle.std.specs.Prelude.{◌≡◌, ◌≢◌, ◌⊎◌, ◌↔◌, ℕ, ◌+◌, ◌<◌, ◌≤◌, Bool, IsTrue, Option, Some, None, List, [], ◌∷◌, ◌++◌, map, take, slice_index, codes}
+use Rattle.std.specs.Fmt.{decimal}
+use Rattle.ubifs_base.specs.Geometry.{IsGeometry, plain_geometry}
+use Rattle.ubifs_base.specs.GeometryFaults.{IsFirstOut, tested_fields}
+use Rattle.ubifs_base.specs.declared.raw_geometry.RawGeometry.{RawGeometry}
+use Rattle.ubifs_base.specs.declared.raw_geometry.GeomFault.{GeomFault}
+use Rattle.ubifs_base.specs.declared.raw_geometry.GeomField.{GeomField}
+use Rattle.ubifs_base.specs.declared.raw_geometry.GeomField.TheVariants.{LebSize, MinIo, LogLebs, LptLebs, OrphLebs, LebCnt, MaxLebCnt, Fanout, LsaveCnt}
+use Rattle.ubi_volume.specs.Volume.{image_of}
+use Rattle.fs_model.specs.Trace.{IsHistory}
+use Rattle.io_edges.specs.Counts.{Rose}
+use Rattle.io_edges.specs.Keeper.{SetsFile}
+use Rattle.image_maker.specs.Leaves.{live_leaves}
+use Rattle.image_maker.specs.Image.{IsImage}
+use Rattle.script_text.specs.declared.part.Part.{Part}
+use Rattle.script_text.specs.declared.manifest.Manifest.{Manifest}
+use Rattle.script_text.specs.Manifest.{IsManifest, IsFirstBadManifestLine}
+use Rattle.script_text.specs.Script.{IsScript, IsFirstBadLine}
+use Rattle.script_text.specs.Words.{line_of}
+use Rattle.ubifs_tools.specs.Run.{trace_from, session_after, run_text}
+use Rattle.ubifs_tools.specs.Session.{opening}
+
+-- a word that names a file: it isn't empty, and no dash stands in front
+abbrev pub IsFileName : List ℕ → Type 0
+IsFileName word = (word ≢ []) × (slice_index word 0 ≢ 45)
+
+-- the words `run`, a manifest, a script, and the image to be written
+pub record IsRun (words : List (List ℕ)) (manifest script image : List ℕ) : Type 0 where
+  pub words_are : words ≡ codes "run" ∷ manifest ∷ script ∷ image ∷ []
+  pub manifest_is : IsFileName manifest
+  pub script_is : IsFileName script
+  pub image_is : IsFileName image
+
+-- the words are of this form, and this holds of the three names
+pub record OnRun (words : List (List ℕ)) (P : List ℕ → List ℕ → List ℕ → Type 0) : Type 0 where
+  pub manifest : List ℕ
+  pub script : List ℕ
+  pub image : List ℕ
+  pub is : IsRun words manifest script image
+  pub holds : P manifest script image
+
+-- where the files are told, this one has these bytes
+abbrev pub Told : Bool → (List ℕ → Option (List ℕ)) → List ℕ → List ℕ → Type 0
+Told tells content name bytes = IsTrue tells → content name ≡ Some bytes
+
+-- what was read: a manifest's text and a script's
+pub record IsRead (tells : Bool) (content : List ℕ → Option (List ℕ)) (manifest script : List ℕ) (texts : List ℕ × List ℕ) : Type 0 where
+  pub manifest_told : Told tells content manifest texts.0
+  pub script_told : Told tells content script texts.1
+
+-- the geometry that a manifest names
+abbrev pub geometry_of : Manifest → RawGeometry
+geometry_of m = plain_geometry m.leb_size m.min_io m.main m.fanout
+
+-- the line that tells a text's first bad line
+abbrev pub bad_line : List ℕ → ℕ → List ℕ
+bad_line word number = line_of (word ∷ codes "line" ∷ decimal number ∷ [])
+
+-- A text isn't in its grammar, the manifest's before the script's; the line names the first bad line.
+pub record IsBadText (texts : List ℕ × List ℕ) (line : List ℕ) : Type 0 where
+  pub number : ℕ
+  pub bad : (IsFirstBadManifestLine texts.0 number × (line ≡ bad_line (codes "manifest") number))
+      ⊎ ((m : Manifest) × IsManifest texts.0 m × IsFirstBadLine texts.1 number × (line ≡ bad_line (codes "script") number))
+
+abbrev pub field_name : GeomField → List ℕ
+field_name LebSize = codes "leb_size"
+field_name MinIo = codes "min_io"
+field_name LogLebs = codes "log_lebs"
+field_name LptLebs = codes "lpt_lebs"
+field_name OrphLebs = codes "orph_lebs"
+field_name LebCnt = codes "leb_cnt"
+field_name MaxLebCnt = codes "max_leb_cnt"
+field_name Fanout = codes "fanout"
+field_name LsaveCnt = codes "lsave_cnt"
+
+-- Both texts are in their grammar, but the manifest's geometry has a field out of range, or fewer than 24 main LEBs.
+pub record IsBadGeometry (texts : List ℕ × List ℕ) (line : List ℕ) : Type 0 where
+  pub m : Manifest
+  pub parts : List Part
+  pub manifest : IsManifest texts.0 m
+  pub script : IsScript texts.1 parts
+  pub bad : ((fault : GeomFault) × IsFirstOut (geometry_of m) tested_fields fault × (line ≡ line_of (codes "geometry" ∷ field_name fault.field ∷ decimal fault.value ∷ [])))
+      ⊎ (IsGeometry (geometry_of m) × (m.main < 24) × (line ≡ line_of (codes "small" ∷ decimal m.main ∷ codes "24" ∷ [])))
+
+-- The work was done: the texts are in their grammar, the text is that of the script's trace, the trace is a legal history of
+-- the files with the caller's lines each once and in order, and the image's bytes are those of a volume whose main LEBs
+-- hold exactly the live nodes of the final tree.
+pub record IsDone (texts : List ℕ × List ℕ) (text image : List ℕ) : Type 0 where
+  pub m : Manifest
+  pub parts : List Part
+  pub manifest : IsManifest texts.0 m
+  pub script : IsScript texts.1 parts
+  pub geometry : IsGeometry (geometry_of m)
+  pub main : 24 ≤ m.main
+  pub printed : text ≡ run_text (trace_from (geometry_of m) [] opening parts)
+  pub legal : IsHistory [] opening.files (trace_from (geometry_of m) [] opening parts) (session_after (geometry_of m) opening parts).files
+  pub holds : ℕ → List ℕ
+  pub nodes : IsImage (geometry_of m) (live_leaves (session_after (geometry_of m) opening parts).stored) holds
+  pub image_is : image ≡ image_of holds (geometry_of m).leb_cnt
+
+-- A file that is to be read isn't there, or a call of the keeper failed; the line names the file.
+abbrev pub IsUnread : Bool → (List ℕ → Option (List ℕ)) → ℕ → ℕ → List ℕ → List ℕ → List ℕ → List ℕ → Type 0
+IsUnread tells content before now manifest script image line =
+    (Rose before now × ((name : List ℕ) × (line ≡ line_of (codes "file" ∷ name ∷ []))))
+    ⊎ (IsTrue tells × (content manifest ≡ None) × (line ≡ line_of (codes "file" ∷ manifest ∷ [])))
+    ⊎ (IsTrue tells × (content script ≡ None) × (line ≡ line_of (codes "file" ∷ script ∷ [])))
+
+-- Where text is told: all of it was added, or a first part where the sink failed, or nothing for want of memory.
+abbrev pub IsPrinted : Bool → List ℕ → List ℕ → ℕ → ℕ → List ℕ → Type 0
+IsPrinted tells old new before now text =
+    IsTrue tells → (new ≡ old ++ text) ⊎ ((n : ℕ) × (new ≡ old ++ take n text) × Rose before now) ⊎ (new ≡ old)

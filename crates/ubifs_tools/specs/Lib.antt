@@ -1,0 +1,4 @@
+pub mod Command
+pub mod Run
+pub mod Session
+pub mod Store

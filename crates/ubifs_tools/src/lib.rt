@@ -1,0 +1,8 @@
+//! The program's commands, over any keeper of files and any sink of text.
+#![tactic(auto)]
+
+mod image;
+mod line;
+mod run;
+mod store;
+mod words;

@@ -1,0 +1,34 @@
+// The words of a command.
+
+ghost use Rattle.std.specs.Prelude.{◌≡◌, ◌↔◌, ℕ, List, IsTrue, IfSome, IfNone, map};
+ghost use Rattle.std.specs.String.{string_bytes};
+ghost use Rattle.ubifs_tools.specs.Command.{IsRun, IsFileName};
+
+// The files that the words `run MANIFEST SCRIPT IMAGE` name.
+pub(crate) fn run_words(words: &[String]) -> Option<(&str, &str, &str)>
+    ensures some { IfSome result (λ names. IsRun (map string_bytes words.now) names.0.now names.1.now names.2.now) }
+    ensures none { IfNone result ((manifest script image : List ℕ) → IsRun (map string_bytes words.now) manifest script image → ⊥) }
+{
+    let [command, manifest, script, image] = words else {
+        return None;
+    };
+    if command.as_bytes() != b"run".as_slice() {
+        return None;
+    }
+    if !is_file_name(manifest.as_bytes()) {
+        return None;
+    }
+    if !is_file_name(script.as_bytes()) {
+        return None;
+    }
+    if !is_file_name(image.as_bytes()) {
+        return None;
+    }
+    Some((manifest.as_str(), script.as_str(), image.as_str()))
+}
+
+fn is_file_name(word: &[u8]) -> bool
+    ensures { IsTrue result ↔ IsFileName word.now }
+{
+    !word.is_empty() && word[0] != b'-'
+}
