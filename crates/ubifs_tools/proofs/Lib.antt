@@ -1,7 +1,10 @@
 pub mod Covered
 pub mod Flushing
+pub mod History
 pub mod Pages
+pub mod Performing
 pub mod Playing
 pub mod Serving
 pub mod Shape
 pub mod Volumes
+pub mod FourWords

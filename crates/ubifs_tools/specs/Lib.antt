@@ -1,4 +1,5 @@
 pub mod Command
+pub mod Performed
 pub mod Run
 pub mod Session
 pub mod Store

@@ -3,6 +3,7 @@
 
 mod image;
 mod line;
+mod perform;
 mod run;
 mod store;
 mod words;
