@@ -56,5 +56,5 @@ done_of manifest script text image m parts raw store is_manifest is_script range
     }
 
 pub no_error : {T E : Type 0} (r : Result T E) (x : T) → r ≡ Ok x → IsErr r → ⊥
-no_error (Ok y) x e h = h
+no_error (Ok y) x e h = absurd cc
 no_error (Err y) x e h = absurd cc

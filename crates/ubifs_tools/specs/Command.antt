@@ -102,7 +102,7 @@ pub record IsDone (texts : List ℕ × List ℕ) (text image : List ℕ) : Type 
 -- A file that is to be read isn't there, or a call of the keeper failed; the line names the file.
 abbrev pub IsUnread : Bool → (List ℕ → Option (List ℕ)) → ℕ → ℕ → List ℕ → List ℕ → List ℕ → List ℕ → Type 0
 IsUnread tells content before now manifest script image line =
-    (Rose before now × ((name : List ℕ) × (line ≡ line_of (codes "file" ∷ name ∷ []))))
+    (Rose before now × ((name : List ℕ) × ((name ≡ manifest) ⊎ (name ≡ script) ⊎ (name ≡ image)) × (line ≡ line_of (codes "file" ∷ name ∷ []))))
     ⊎ (IsTrue tells × (content manifest ≡ None) × (line ≡ line_of (codes "file" ∷ manifest ∷ [])))
     ⊎ (IsTrue tells × (content script ≡ None) × (line ≡ line_of (codes "file" ∷ script ∷ [])))
 

@@ -1,4 +1,5 @@
 pub mod Command
+pub mod Ended
 pub mod Performed
 pub mod Run
 pub mod Session

@@ -1,9 +1,13 @@
 //! The program's commands, over any keeper of files and any sink of text.
 #![tactic(auto)]
 
+mod command;
 mod image;
 mod line;
 mod perform;
 mod run;
 mod store;
+mod top;
 mod words;
+
+pub use crate::top::ubifs;

@@ -1,6 +1,6 @@
 // The words of a command.
 
-ghost use Rattle.std.specs.Prelude.{◌≡◌, ◌↔◌, ℕ, List, IsTrue, IfSome, IfNone, map};
+ghost use Rattle.std.specs.Prelude.{◌≡◌, ◌↔◌, ℕ, List, IsTrue, IfSome, IfNone, map, codes};
 ghost use Rattle.std.specs.String.{string_bytes};
 ghost use Rattle.ubifs_tools.specs.Command.{IsRun, IsFileName};
 
@@ -12,7 +12,7 @@ pub(crate) fn run_words(words: &[String]) -> Option<(&str, &str, &str)>
     let [command, manifest, script, image] = words else {
         return None;
     };
-    if command.as_bytes() != b"run".as_slice() {
+    if !is_run(command.as_bytes()) {
         return None;
     }
     if !is_file_name(manifest.as_bytes()) {
@@ -25,6 +25,12 @@ pub(crate) fn run_words(words: &[String]) -> Option<(&str, &str, &str)>
         return None;
     }
     Some((manifest.as_str(), script.as_str(), image.as_str()))
+}
+
+fn is_run(word: &[u8]) -> bool
+    ensures { IsTrue result ↔ (word.now ≡ codes "run") }
+{
+    word == b"run".as_slice()
 }
 
 fn is_file_name(word: &[u8]) -> bool

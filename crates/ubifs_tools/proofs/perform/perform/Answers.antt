@@ -1,10 +1,12 @@
-use Rattle.std.proofs.Common.{◌≡◌, ◌∷◌, ap, sym, refl, ◌∙◌, subst, inl, arith}
+use Rattle.std.proofs.Common.{◌≡◌, ◌∷◌, ap, sym, refl, ◌∙◌, subst, inl, arith, []}
 use Rattle.std.specs.Prelude.{IsErr, Result, Ok, Err}
 use Rattle.ubifs_base.specs.declared.raw_geometry.RawGeometry.{RawGeometry}
 use Rattle.ubifs_base.specs.Geometry.{IsGeometry}
 use Rattle.ubifs_base.specs.GeometryFaults.{IsFirstOut, tested_fields}
 use Rattle.ubifs_base.specs.RawOf.{raw_of}
 use Rattle.ubifs_tools.specs.Command.{geometry_of}
+use Rattle.ubifs_tools.specs.Run.{trace_from, session_after, run_text}
+use Rattle.ubifs_tools.specs.Session.{opening}
 use Rattle.ubifs_tools.proofs.Performing.{bad_manifest, bad_script, done_of, no_error}
 use Rattle.ubifs_tools.proofs.perform.perform.Goals as goal
 
@@ -29,4 +31,5 @@ returns-in-Err-new c = record {
 pub returns : goal.returns
 returns c = done_of c.args.manifest.now c.args.script.now c.in_ok-run.run'.text.items c.in_ok-image.image.items c.in-Ok.manifest c.in-Ok-read_script.script.parts.items (raw_of c.in-Ok-new.geometry) c.in_ok-run.run'.store
     c.in-Ok.ensures.ok c.in-Ok-read_script.ensures.ok c.in-Ok-new.geometry.in_range (c.in-Ok-new.ensures.fields ∙ c.plain-raw.ensures) c.if-manifest-lt24.false
-    (c.in_ok-run.ensures.text ∙ ?) (? ∙ c.in_ok-run.ensures.session) (ap raw_of c.in_ok-run.ensures.geometry) c.in_ok-image.ensures
+    (c.in_ok-run.ensures.text ∙ ap (λ ps. run_text (trace_from (raw_of c.in-Ok-new.geometry) [] opening ps)) c.deref.ensures.value)
+    (ap (session_after (raw_of c.in-Ok-new.geometry) opening) (sym c.deref.ensures.value) ∙ c.in_ok-run.ensures.session) (ap raw_of c.in_ok-run.ensures.geometry) c.in_ok-image.ensures

@@ -1,0 +1,84 @@
+// The program's one call.
+
+ghost use Rattle.std.specs.Prelude.{◌≡◌, ◌≢◌, ◌≤◌, ◌↔◌, ◌⊎◌, ◌++◌, ℕ, List, IsTrue, map};
+ghost use Rattle.std.specs.String.{string_bytes};
+ghost use Rattle.io_edges.specs.Counts.{Rose};
+ghost use Rattle.io_edges.specs.Keeper.{SameFiles};
+ghost use Rattle.ubifs_tools.specs.Command.{IsRun, OnRun, IsPrinted, IsUnread, IsBadText, IsBadGeometry};
+ghost use Rattle.ubifs_tools.specs.Ended.{IsFinished, IsTurnedDown};
+
+use crate::command::{Ended, run};
+use crate::words::run_words;
+use io_edges::{Keeper, Sink, SinkFault};
+use std::alloc::Global;
+use ubifs_base::Memory;
+
+/// Runs the command that the words say, over the keeper's files, and prints to the sink. The answer is the status: 0 the
+/// work was done, 1 the words aren't a command, 2 a text isn't in its grammar, 4 a file wasn't read or written, 5 the
+/// output failed, 6 there was no memory, 7 the manifest's geometry is out of range.
+pub fn ubifs<K: Keeper, O: Sink>(alloc: Global, words: &[String], keeper: &mut K, out: &mut O) -> u8
+    ensures known { (result ≤ 7) × (result ≢ 3) }
+    ensures usage { (result ≡ 1) ↔ ((manifest script image : List ℕ) → IsRun (map string_bytes words.now) manifest script image → ⊥) }
+
+    // The work was done, and all of its text was printed.
+    ensures done { result ≡ 0 → OnRun (map string_bytes words.now) (λ manifest script image. (text : List ℕ)
+        × IsFinished (K.tells keeper.old) (K.content keeper.old) (K.content keeper.new) manifest script image text
+        × (IsTrue (O.tells out.old) → O.text out.new ≡ O.text out.old ++ text)) }
+
+    // Nothing was done, and the line says why.
+    ensures text { result ≡ 2 → OnRun (map string_bytes words.now) (λ manifest script image. (line : List ℕ)
+        × IsTurnedDown (K.tells keeper.old) (K.content keeper.old) (K.content keeper.new) manifest script (λ texts. IsBadText texts line)
+        × IsPrinted (O.tells out.old) (O.text out.old) (O.text out.new) (O.count out.old) (O.count out.new) line) }
+    ensures geometry { result ≡ 7 → OnRun (map string_bytes words.now) (λ manifest script image. (line : List ℕ)
+        × IsTurnedDown (K.tells keeper.old) (K.content keeper.old) (K.content keeper.new) manifest script (λ texts. IsBadGeometry texts line)
+        × IsPrinted (O.tells out.old) (O.text out.old) (O.text out.new) (O.count out.old) (O.count out.new) line) }
+    ensures files { result ≡ 4 → OnRun (map string_bytes words.now) (λ manifest script image. (line : List ℕ)
+        × IsUnread (K.tells keeper.old) (K.content keeper.old) (K.count keeper.old) (K.count keeper.new) manifest script image line
+        × SameFiles (K.content keeper.old) (K.content keeper.new)
+        × IsPrinted (O.tells out.old) (O.text out.old) (O.text out.new) (O.count out.old) (O.count out.new) line) }
+
+    // The work was done, but the sink failed.
+    ensures output { result ≡ 5 → Rose (O.count out.old) (O.count out.new)
+        × OnRun (map string_bytes words.now) (λ manifest script image. (text : List ℕ)
+        × IsFinished (K.tells keeper.old) (K.content keeper.old) (K.content keeper.new) manifest script image text) }
+
+    // A file changes only where the work was done.
+    ensures kept { SameFiles (K.content keeper.old) (K.content keeper.new)
+        ⊎ OnRun (map string_bytes words.now) (λ manifest script image. (text : List ℕ)
+        × IsFinished (K.tells keeper.old) (K.content keeper.old) (K.content keeper.new) manifest script image text) }
+{
+    let Some((manifest, script, image)) = run_words(words) else {
+        say(out, b"usage\n".as_slice());
+        return 1;
+    };
+    match run(alloc, manifest, script, image, keeper) {
+        Ok(Ended::Unread { line }) => {
+            say(out, &line);
+            4
+        }
+        Ok(Ended::BadText { line }) => {
+            say(out, &line);
+            2
+        }
+        Ok(Ended::BadGeometry { line }) => {
+            say(out, &line);
+            7
+        }
+        Ok(Ended::Done { text }) => match out.write(&text) {
+            Ok(()) => 0,
+            Err(SinkFault::Failed { .. }) => 5,
+            Err(SinkFault::Memory) => 6,
+        },
+        Err(Memory) => {
+            say(out, b"memory\n".as_slice());
+            6
+        }
+    }
+}
+
+// Prints a line as far as the sink takes it.
+fn say<O: Sink>(out: &mut O, line: &[u8])
+    ensures { IsPrinted (O.tells out.old) (O.text out.old) (O.text out.new) (O.count out.old) (O.count out.new) line.now }
+{
+    let _ = out.write(line);
+}
