@@ -1,9 +1,9 @@
 -- Where a file's last block ends, through a write.
-use Rattle.std.proofs.Common.{◌≡◌, ℕ, zero, suc, ◌+◌, ◌-◌, ◌*◌, ◌<◌, ◌≤◌, List, [], ◌∷◌, ◌++◌, length, take, drop, refl, ap, sym, ◌∙◌, arith, Bool, true, false, cond, eqb, min, max, subst, inl, inr, Option, Some, None}
-use Rattle.std.specs.Prelude.{replicate, unwrap_or, fold}
+use Rattle.std.proofs.Common.{◌≡◌, ℕ, ◌+◌, ◌-◌, ◌*◌, ◌<◌, ◌≤◌, List, [], ◌∷◌, length, refl, sym, arith, Bool, true, false, cond, min, max, subst, inl, inr, Some}
+use Rattle.std.specs.Prelude.{unwrap_or, fold}
 use Rattle.std.specs.List.{range_with_len}
 use Rattle.std.specs.Map.{lookup}
-use Rattle.std.specs.BTreeMap.{insert_entry, is_at}
+use Rattle.std.specs.BTreeMap.{is_at}
 use Rattle.std.proofs.lemmas.Bool.Decides.{eqb_tells}
 use Rattle.std.proofs.Common.{length-append, length-take, length-drop}
 use Rattle.std.proofs.lemmas.List.{length-replicate}

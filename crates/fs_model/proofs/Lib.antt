@@ -1,3 +1,4 @@
 pub mod Ends
+pub mod Keeps
 pub mod Orders
 pub mod Pieces

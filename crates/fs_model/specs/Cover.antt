@@ -1,5 +1,5 @@
 -- What a store has room for: the sum that admission tests, so that what was granted can always be written.
-use Rattle.std.specs.Prelude.{◌≡◌, ℕ, ◌+◌, ◌-◌, ◌*◌, ◌/◌, ◌≤◌, max, List, [], ◌∷◌, length, sum_by}
+use Rattle.std.specs.Prelude.{ℕ, ◌+◌, ◌-◌, ◌*◌, ◌/◌, max, List, length, sum_by}
 use Rattle.std.specs.Map.{values_of}
 use Rattle.ubifs_base.specs.declared.raw_geometry.RawGeometry.{RawGeometry}
 use Rattle.ubifs_base.specs.Geometry.{index_nodes_per_leb, leb_reserve}
@@ -9,7 +9,7 @@ use Rattle.fs_model.specs.declared.space.Space.{Space}
 use Rattle.fs_model.specs.declared.space.Need.{Need}
 use Rattle.fs_model.specs.declared.space.Class.{Class}
 use Rattle.fs_model.specs.declared.space.Class.TheVariants.{Ordinary, Removal}
-use Rattle.fs_model.specs.Files.{Tree, Blocks}
+use Rattle.fs_model.specs.Files.{Tree}
 
 -- rounded up to a multiple of 8
 abbrev pub round_8 : ℕ → ℕ

@@ -1,5 +1,5 @@
 -- The state of the plain model: a tree of inodes, blocks and entries, and the handles of open files. Maps are finite, as their entries in order of key.
-use Rattle.std.specs.Prelude.{ℕ, ◌+◌, ◌-◌, ◌*◌, ◌/◌, ◌%◌, ◌≡◌, ◌==◌, if◌then◌else◌, max, Option, Some, None, List, [], ◌∷◌, ◌++◌, length, get_or, take, drop, replicate, map, fold, suc, min}
+use Rattle.std.specs.Prelude.{ℕ, ◌+◌, ◌-◌, ◌*◌, ◌/◌, ◌%◌, ◌==◌, if◌then◌else◌, max, Option, List, [], ◌∷◌, ◌++◌, length, get_or, take, drop, replicate, map, fold, suc, min}
 use Rattle.std.specs.List.{range_with_len}
 use Rattle.std.specs.declared.cmp.Ordering.{Ordering}
 use Rattle.std.specs.Ordering.{nat_cmp, ordering_then}

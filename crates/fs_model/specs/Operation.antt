@@ -1,12 +1,10 @@
 -- What each operation answers and leaves, with its refusals in order.
-use Rattle.std.specs.Prelude.{ℕ, Bool, true, false, ◌+◌, ◌-◌, ◌*◌, ◌^◌, ◌&&◌, ◌||◌, ◌==◌, not, nat_lt, nat_le, is_some, if◌then◌else◌, max, min, Option, Some, None, Result, Ok, Err, List, [], ◌∷◌, length}
+use Rattle.std.specs.Prelude.{ℕ, Bool, true, false, ◌+◌, ◌-◌, ◌^◌, ◌||◌, ◌==◌, not, nat_lt, nat_le, is_some, if◌then◌else◌, max, min, Option, Some, None, Result, Ok, Err, List, [], ◌∷◌}
 use Rattle.std.specs.Ordering.{nat_cmp}
 use Rattle.std.specs.BTreeMap.{insert_entry, is_at}
-use Rattle.std.specs.Map.{remove_entry, set_value}
+use Rattle.std.specs.Map.{remove_entry}
 use Rattle.fs_model.specs.declared.inode.Inode.{Inode}
-use Rattle.fs_model.specs.declared.inode.Entry.{Entry}
-use Rattle.fs_model.specs.declared.inode.Kind.{Kind}
-use Rattle.fs_model.specs.declared.inode.Kind.TheVariants.{File, Dir}
+use Rattle.fs_model.specs.declared.inode.Kind.TheVariants.{File}
 use Rattle.fs_model.specs.declared.op.Op.{Op}
 use Rattle.fs_model.specs.declared.op.Op.TheVariants.{Create, OpenFile, Close, Read, Write, Flush}
 use Rattle.fs_model.specs.declared.refusal.Refusal.{Refusal}
@@ -15,7 +13,7 @@ use Rattle.fs_model.specs.declared.refusal.Table.TheVariants.{Inodes}
 use Rattle.fs_model.specs.declared.reply.Reply.{Reply}
 use Rattle.fs_model.specs.declared.reply.Reply.TheVariants.{Done, Ino, Count, Bytes, Refused}
 use Rattle.fs_model.specs.Files.{Tree, Files, inode_at, entry_at, handle_at, name_cmp, pair_cmp, size_of, bytes_from, blocks_written}
-use Rattle.fs_model.specs.Path.{is_path, has_long_name, components, is_empty, last_of, parent_of, walked, is_dir, is_file, is_root}
+use Rattle.fs_model.specs.Path.{is_path, has_long_name, components, last_of, parent_of, walked, is_dir, is_file, is_root}
 
 -- an answer, and the files then; or the reason to refuse
 abbrev pub Outcome : Type 0

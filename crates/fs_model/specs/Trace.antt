@@ -1,13 +1,12 @@
 -- Histories of calls.
-use Rattle.std.specs.Prelude.{◌≡◌, ℕ, ◌+◌, ◌⊎◌, ◌==◌, Option, Some, None, Result, Ok, Err, List, [], ◌∷◌, ◌++◌, count_by}
+use Rattle.std.specs.Prelude.{◌≡◌, ℕ, ◌+◌, ◌⊎◌, ◌==◌, Ok, List, [], ◌∷◌, ◌++◌, count_by}
 use Rattle.fs_model.specs.declared.reply.Reply.{Reply}
 use Rattle.fs_model.specs.declared.reply.Reply.TheVariants.{Refused}
-use Rattle.fs_model.specs.declared.refusal.Refusal.{Refusal}
 use Rattle.fs_model.specs.declared.refusal.Refusal.TheVariants.{Enospc}
 use Rattle.fs_model.specs.declared.refusal.NoSpace.{NoSpace}
 use Rattle.fs_model.specs.declared.trace.TraceLine.{TraceLine}
 use Rattle.fs_model.specs.Files.{Files}
-use Rattle.fs_model.specs.Operation.{outcome_of, reply_in, files_in, Outcome}
+use Rattle.fs_model.specs.Operation.{outcome_of, reply_in, files_in}
 
 -- refused for want of space, where nothing else refuses it; the files stay as they were
 pub record IsNoSpace (files : Files) (line : TraceLine) (after : Files) : Type 0 where

@@ -6,6 +6,7 @@
 
 mod blocks;
 mod inode;
+mod law;
 mod op;
 mod refusal;
 mod reply;
@@ -14,8 +15,12 @@ mod trace;
 
 pub use crate::blocks::{BLOCK_SIZE, Blocks};
 pub use crate::inode::{Entry, Inode, Kind};
+pub use crate::law::{reads_are_what_was_written, writes_are_kept};
 pub use crate::op::Op;
 pub use crate::refusal::{Cause, NoSpace, Refusal, Scarce, Table};
 pub use crate::reply::Reply;
 pub use crate::space::{Class, Need, Space};
 pub use crate::trace::TraceLine;
+
+#[cfg(test)]
+mod tests;

@@ -7,3 +7,6 @@ mod admission;
 
 pub use crate::admission::{Sides, room};
 pub use fs_model::Space;
+
+#[cfg(test)]
+mod tests;

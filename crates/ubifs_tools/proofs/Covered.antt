@@ -7,7 +7,6 @@ use Rattle.image_maker.specs.OneFile.{one_file}
 use Rattle.std.proofs.Math.Nat.{mul-le-mul_right}
 use Rattle.fs_model.specs.declared.refusal.NoSpace.{NoSpace}
 use Rattle.fs_model.specs.Cover.{tree_bytes, block_bytes}
-use Rattle.ubifs_base.specs.Areas.{main_lebs}
 use Rattle.ubifs_base.specs.Geometry.{leb_reserve}
 use Rattle.ubifs_base.specs.declared.raw_geometry.RawGeometry.{RawGeometry}
 use Rattle.ubifs_tools.specs.Session.{Session, sides_of}

@@ -1,6 +1,6 @@
 -- Putting the dirty pages one by one.
-use Rattle.std.proofs.Common.{◌≡◌, ℕ, ◌+◌, ◌-◌, ◌*◌, ◌≤◌, ◌<◌, List, [], ◌∷◌, length, max, min, arith, ap, sym, refl, ◌∙◌, subst, suc}
-use Rattle.std.specs.Prelude.{fold, All}
+use Rattle.std.proofs.Common.{◌≡◌, ℕ, ◌+◌, ◌-◌, ◌*◌, ◌≤◌, List, ◌∷◌, length, max, min, arith, ap, sym, refl, ◌∙◌, subst, suc}
+use Rattle.std.specs.Prelude.{fold}
 use Rattle.fs_model.specs.Files.{Blocks, blocks_end, bytes_from, with_block}
 use Rattle.image_maker.specs.Page.{IsPage}
 use Rattle.ubifs_tools.specs.Session.{Session, put_page}

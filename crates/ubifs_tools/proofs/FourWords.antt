@@ -1,5 +1,5 @@
 -- The four words of a command.
-use Rattle.std.proofs.Common.{◌≡◌, ℕ, ◌≤◌, ◌<◌, List, [], ◌∷◌, length, get_or, map, arith, ap, sym, refl, ◌∙◌}
+use Rattle.std.proofs.Common.{◌≡◌, ℕ, List, [], ◌∷◌, length, get_or, map, arith, refl}
 
 -- a list of four items, by its items
 pub four : {A : Type 0} (f : A → List ℕ) (xs : List A) (a b d e : A) → length xs ≡ 4 → a ≡ get_or xs 0 a → b ≡ get_or xs 1 b → d ≡ get_or xs 2 d → e ≡ get_or xs 3 e → map f xs ≡ f a ∷ f b ∷ f d ∷ f e ∷ []

@@ -1,5 +1,5 @@
 -- What the session answers is a legal history of the files.
-use Rattle.std.proofs.Common.{◌≡◌, ℕ, ◌+◌, ◌⊎◌, List, [], ◌∷◌, ◌++◌, ap, sym, refl, ◌∙◌, subst, inl, inr, Option, Some, None, Result, Ok, Err, Bool, true, false, cond}
+use Rattle.std.proofs.Common.{◌≡◌, ℕ, ◌⊎◌, List, [], ◌∷◌, ◌++◌, ap, sym, refl, ◌∙◌, subst, inl, inr, Option, Some, None, Ok, Err, Bool, true, false}
 use Rattle.std.specs.Prelude.{fold, ◌||◌, ◌==◌, nat_le}
 use Rattle.std.specs.Option.{option_map_or}
 use Rattle.ubifs_base.specs.declared.raw_geometry.RawGeometry.{RawGeometry}
@@ -13,7 +13,7 @@ use Rattle.fs_model.specs.declared.reply.Reply.TheVariants.{Refused}
 use Rattle.fs_model.specs.declared.trace.TraceLine.{TraceLine}
 use Rattle.fs_model.specs.Files.{Files, inode_at, handle_at}
 use Rattle.fs_model.specs.Operation.{Outcome, outcome_of, reply_in, files_in}
-use Rattle.fs_model.specs.Trace.{IsPlain, IsNoSpace, IsHistory, next_number}
+use Rattle.fs_model.specs.Trace.{IsPlain, IsNoSpace, IsHistory}
 use Rattle.script_text.specs.declared.part.Part.{Part}
 use Rattle.script_text.specs.declared.part.Part.TheVariants.{Mount, Unmount, Line}
 use Rattle.ubifs_tools.specs.Run.{trace_from, traced, session_after}

@@ -1,6 +1,6 @@
 -- Counting the pages that aren't dirty yet.
 use Rattle.std.proofs.Common.{◌≡◌, ℕ, suc, ◌≤◌, ◌<◌, ◌-◌, ◌+◌, Some, map, List, Bool, true, false, length, arith, refl, ap, sym, ◌∙◌}
-use Rattle.std.specs.Prelude.{filter, not, fold, All, cond, ◌*◌, [], ◌∷◌}
+use Rattle.std.specs.Prelude.{not, fold, All, cond, ◌*◌, [], ◌∷◌}
 use Rattle.std.proofs.lemmas.Bool.{false≢true}
 use Rattle.std.specs.BTreeSet.{insert_key}
 use Rattle.std.proofs.lemmas.Map.Views.{All-insert_key}

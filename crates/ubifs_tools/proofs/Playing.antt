@@ -1,6 +1,6 @@
 -- A whole run: what stands before the work and behind it.
-use Rattle.std.proofs.Common.{◌≡◌, ℕ, ◌+◌, ◌-◌, ◌*◌, ◌≤◌, ◌<◌, ◌⊎◌, List, [], ◌∷◌, ◌++◌, length, drop, take, arith, ap, sym, refl, ◌∙◌, subst, inl, inr, append_assoc, Option, Some, None}
-use Rattle.std.specs.Prelude.{All, fold, codes}
+use Rattle.std.proofs.Common.{◌≡◌, ℕ, ◌+◌, List, [], ◌∷◌, ◌++◌, length, arith, ap, sym, refl, ◌∙◌, append_assoc, Option, Some, None}
+use Rattle.std.specs.Prelude.{fold, codes}
 use Rattle.std.specs.List.{flat_map}
 use Rattle.std.specs.Option.{option_map_or}
 use Rattle.std.proofs.lemmas.Grind.{flat_map-append}
@@ -17,9 +17,8 @@ use Rattle.fs_model.specs.Files.{inode_at}
 use Rattle.fs_model.specs.Trace.{next_number}
 use Rattle.script_text.specs.declared.part.Part.{Part}
 use Rattle.script_text.specs.declared.part.Part.TheVariants.{Mount, Unmount, Line}
-use Rattle.script_text.specs.declared.stage.Stage.TheVariants.{Start, Opened, Unmounted}
 use Rattle.script_text.specs.Reply.{reply_line}
-use Rattle.script_text.specs.Script.{IsWork, Leads}
+use Rattle.script_text.specs.Script.{IsWork}
 use Rattle.script_text.specs.Words.{ended}
 use Rattle.ubifs_tools.specs.Run.{trace_from, traced, session_after, trace_text, run_text, script_parts}
 use Rattle.ubifs_tools.specs.Session.{Session, answered, opening, closed, flushed, put_page, put_with}

@@ -1,6 +1,6 @@
 -- Serving the work of a script, one line after another.
-use Rattle.std.proofs.Common.{◌≡◌, ℕ, ◌+◌, ◌*◌, ◌≤◌, ◌<◌, ◌⊎◌, List, [], ◌∷◌, ◌++◌, length, drop, arith, ap, sym, refl, ◌∙◌, subst, inl, inr, append_assoc, Result, Ok, Err, get_or, add-zero, get_or-drop}
-use Rattle.std.specs.Prelude.{All, OnOk, fold, cond, ◌==◌, true}
+use Rattle.std.proofs.Common.{◌≡◌, ℕ, ◌+◌, List, [], ◌∷◌, ◌++◌, ap, sym, refl, ◌∙◌, inl, inr, append_assoc}
+use Rattle.std.specs.Prelude.{fold, cond, ◌==◌, true}
 use Rattle.std.proofs.lemmas.Bool.{eq-eqb}
 use Rattle.std.specs.List.{flat_map}
 use Rattle.ubifs_base.specs.declared.raw_geometry.RawGeometry.{RawGeometry}

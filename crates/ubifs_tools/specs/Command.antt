@@ -1,5 +1,5 @@
 -- What the command `run` answers, over the files that it is given.
-use Rattle.std.specs.Prelude.{◌≡◌, ◌≢◌, ◌⊎◌, ◌↔◌, ℕ, ◌+◌, ◌<◌, ◌≤◌, Bool, IsTrue, Option, Some, None, List, [], ◌∷◌, ◌++◌, map, take, slice_index, codes}
+use Rattle.std.specs.Prelude.{◌≡◌, ◌≢◌, ◌⊎◌, ℕ, ◌<◌, ◌≤◌, Bool, IsTrue, Option, Some, None, List, [], ◌∷◌, ◌++◌, take, slice_index, codes}
 use Rattle.std.specs.Fmt.{decimal}
 use Rattle.ubifs_base.specs.Geometry.{IsGeometry, plain_geometry}
 use Rattle.ubifs_base.specs.GeometryFaults.{IsFirstOut, tested_fields}
@@ -10,7 +10,6 @@ use Rattle.ubifs_base.specs.declared.raw_geometry.GeomField.TheVariants.{LebSize
 use Rattle.ubi_volume.specs.Volume.{image_of}
 use Rattle.fs_model.specs.Trace.{IsHistory}
 use Rattle.io_edges.specs.Counts.{Rose}
-use Rattle.io_edges.specs.Keeper.{SetsFile}
 use Rattle.image_maker.specs.Leaves.{live_leaves}
 use Rattle.image_maker.specs.Image.{IsImage}
 use Rattle.script_text.specs.declared.part.Part.{Part}
@@ -106,7 +105,7 @@ IsUnread tells content before now manifest script image line =
     ⊎ (IsTrue tells × (content manifest ≡ None) × (line ≡ line_of (codes "file" ∷ manifest ∷ [])))
     ⊎ (IsTrue tells × (content script ≡ None) × (line ≡ line_of (codes "file" ∷ script ∷ [])))
 
--- Where text is told: all of it was added, or a first part where the sink failed, or nothing for want of memory.
+-- Where text is told: all of it was added, or a first part where the sink failed.
 abbrev pub IsPrinted : Bool → List ℕ → List ℕ → ℕ → ℕ → List ℕ → Type 0
 IsPrinted tells old new before now text =
-    IsTrue tells → (new ≡ old ++ text) ⊎ ((n : ℕ) × (new ≡ old ++ take n text) × Rose before now) ⊎ (new ≡ old)
+    IsTrue tells → (new ≡ old ++ text) ⊎ ((n : ℕ) × (new ≡ old ++ take n text) × Rose before now)

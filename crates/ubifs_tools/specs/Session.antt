@@ -1,5 +1,5 @@
 -- The store of the first path: the files as callers see them, the tree that was put, and the pages that are dirty. It says when admission refuses, and what is put when.
-use Rattle.std.specs.Prelude.{◌≡◌, ℕ, Bool, true, false, ◌+◌, ◌-◌, ◌*◌, ◌==◌, ◌||◌, not, nat_le, if◌then◌else◌, min, Option, Some, None, Result, Ok, Err, List, [], ◌∷◌, length, map, filter, fold}
+use Rattle.std.specs.Prelude.{ℕ, Bool, ◌+◌, ◌-◌, ◌*◌, ◌==◌, ◌||◌, not, nat_le, if◌then◌else◌, min, Option, Some, None, Ok, Err, List, [], length, map, filter, fold}
 use Rattle.std.specs.List.{list_any}
 use Rattle.std.specs.Ordering.{nat_cmp}
 use Rattle.std.specs.BTreeMap.{insert_entry, is_at}

@@ -1,5 +1,5 @@
 -- What the plain store of one file stands for.
-use Rattle.std.specs.Prelude.{◌≡◌, ℕ, ◌+◌, ◌-◌, ◌*◌, ◌^◌, ◌<◌, ◌≤◌, List, [], ◌∷◌, length}
+use Rattle.std.specs.Prelude.{◌≡◌, ℕ, ◌+◌, ◌-◌, ◌*◌, ◌^◌, ◌≤◌, List, [], ◌∷◌, length}
 use Rattle.std.specs.List.{All}
 use Rattle.std.specs.Map.{keys_of, values_of}
 use Rattle.ubifs_base.specs.declared.raw_geometry.RawGeometry.{RawGeometry}
@@ -7,7 +7,7 @@ use Rattle.ubifs_base.specs.Areas.{main_lebs}
 use Rattle.ubifs_base.specs.Geometry.{leb_reserve}
 use Rattle.ubifs_base.specs.RawOf.{raw_of}
 use Rattle.fs_model.specs.Cover.{credit_bytes, tree_bytes}
-use Rattle.fs_model.specs.Files.{Tree, Files, Blocks, blocks_end}
+use Rattle.fs_model.specs.Files.{Files, Blocks, blocks_end}
 use Rattle.image_maker.specs.OneFile.{one_file}
 use Rattle.image_maker.specs.Page.{IsPage, IsKey, IsStored}
 use Rattle.ubifs_tools.specs.Session.{Session}

@@ -1,8 +1,9 @@
 // The program's one call.
 
-ghost use Rattle.std.specs.Prelude.{◌≡◌, ◌≢◌, ◌≤◌, ◌↔◌, ◌⊎◌, ◌++◌, ℕ, List, IsTrue, map};
+ghost use Rattle.std.specs.Prelude.{◌≡◌, ◌≢◌, ◌≤◌, ◌⊎◌, ◌++◌, ◌∷◌, [], ℕ, List, IsTrue, map, codes};
 ghost use Rattle.std.specs.String.{string_bytes};
 ghost use Rattle.io_edges.specs.Counts.{Rose};
+ghost use Rattle.script_text.specs.Words.{line_of};
 ghost use Rattle.io_edges.specs.Keeper.{SameFiles};
 ghost use Rattle.ubifs_tools.specs.Command.{IsRun, OnRun, IsPrinted, IsUnread, IsBadText, IsBadGeometry};
 ghost use Rattle.ubifs_tools.specs.Ended.{IsFinished, IsTurnedDown};
@@ -18,7 +19,11 @@ use ubifs_base::Memory;
 /// output failed, 6 there was no memory, 7 the manifest's geometry is out of range.
 pub fn ubifs<K: Keeper, O: Sink>(alloc: Global, words: &[String], keeper: &mut K, out: &mut O) -> u8
     ensures known { (result ≤ 7) × (result ≢ 3) }
-    ensures usage { (result ≡ 1) ↔ ((manifest script image : List ℕ) → IsRun (map string_bytes words.now) manifest script image → ⊥) }
+
+    // The words aren't a run of three files.
+    ensures words { ((manifest script image : List ℕ) → IsRun (map string_bytes words.now) manifest script image → ⊥) → (result ≡ 1) ⊎ (result ≡ 6) }
+    ensures usage { result ≡ 1 → ((manifest script image : List ℕ) → IsRun (map string_bytes words.now) manifest script image → ⊥)
+        × IsPrinted (O.tells out.old) (O.text out.old) (O.text out.new) (O.count out.old) (O.count out.new) (line_of (codes "usage" ∷ [])) }
 
     // The work was done, and all of its text was printed.
     ensures done { result ≡ 0 → OnRun (map string_bytes words.now) (λ manifest script image. (text : List ℕ)
@@ -40,7 +45,8 @@ pub fn ubifs<K: Keeper, O: Sink>(alloc: Global, words: &[String], keeper: &mut K
     // The work was done, but the sink failed.
     ensures output { result ≡ 5 → Rose (O.count out.old) (O.count out.new)
         × OnRun (map string_bytes words.now) (λ manifest script image. (text : List ℕ)
-        × IsFinished (K.tells keeper.old) (K.content keeper.old) (K.content keeper.new) manifest script image text) }
+        × IsFinished (K.tells keeper.old) (K.content keeper.old) (K.content keeper.new) manifest script image text
+        × IsPrinted (O.tells out.old) (O.text out.old) (O.text out.new) (O.count out.old) (O.count out.new) text) }
 
     // A file changes only where the work was done.
     ensures kept { SameFiles (K.content keeper.old) (K.content keeper.new)
@@ -48,37 +54,30 @@ pub fn ubifs<K: Keeper, O: Sink>(alloc: Global, words: &[String], keeper: &mut K
         × IsFinished (K.tells keeper.old) (K.content keeper.old) (K.content keeper.new) manifest script image text) }
 {
     let Some((manifest, script, image)) = run_words(words) else {
-        say(out, b"usage\n".as_slice());
-        return 1;
+        return turned_down(out, b"usage\n".as_slice(), 1);
     };
     match run(alloc, manifest, script, image, keeper) {
-        Ok(Ended::Unread { line }) => {
-            say(out, &line);
-            4
-        }
-        Ok(Ended::BadText { line }) => {
-            say(out, &line);
-            2
-        }
-        Ok(Ended::BadGeometry { line }) => {
-            say(out, &line);
-            7
-        }
+        Ok(Ended::Unread { line }) => turned_down(out, &line, 4),
+        Ok(Ended::BadText { line }) => turned_down(out, &line, 2),
+        Ok(Ended::BadGeometry { line }) => turned_down(out, &line, 7),
         Ok(Ended::Done { text }) => match out.write(&text) {
             Ok(()) => 0,
             Err(SinkFault::Failed { .. }) => 5,
             Err(SinkFault::Memory) => 6,
         },
         Err(Memory) => {
-            say(out, b"memory\n".as_slice());
+            let _ = out.write(b"memory\n".as_slice());
             6
         }
     }
 }
 
-// Prints a line as far as the sink takes it.
-fn say<O: Sink>(out: &mut O, line: &[u8])
-    ensures { IsPrinted (O.tells out.old) (O.text out.old) (O.text out.new) (O.count out.old) (O.count out.new) line.now }
+// Prints the line of a status, as far as the sink takes it. A sink that failed leaves the status; want of memory is its own.
+fn turned_down<O: Sink>(out: &mut O, line: &[u8], status: u8) -> u8
+    ensures { (result ≡ 6) ⊎ ((result ≡ status) × IsPrinted (O.tells out.old) (O.text out.old) (O.text out.new) (O.count out.old) (O.count out.new) line.now) }
 {
-    let _ = out.write(line);
+    match out.write(line) {
+        Err(SinkFault::Memory) => 6,
+        _ => status,
+    }
 }

@@ -1,6 +1,6 @@
-use Rattle.std.proofs.Common.{◌≡◌, ◌++◌, ◌+◌, ◌-◌, min, sym, ap, ◌∙◌, arith, refl}
+use Rattle.std.proofs.Common.{ap, ◌∙◌, arith, refl}
 use Rattle.fs_model.specs.Files.{bytes_from}
-use Rattle.fs_model.proofs.Pieces.{ReadSoFar, read_more}
+use Rattle.fs_model.proofs.Pieces.{read_more}
 use Rattle.fs_model.proofs.blocks.read_pages.Goals as goal
 
 pub loop-from-init : goal.loop-from-init

@@ -1,5 +1,4 @@
-use Rattle.std.proofs.Common.{◌≡◌, ◌+◌, ◌-◌, ◌≤◌, length}
-use Rattle.fs_model.specs.Files.{bytes_from}
+use Rattle.std.proofs.Common.{◌-◌, length}
 use Rattle.fs_model.proofs.Pieces.{ReadSoFar}
 use Rattle.fs_model.proofs.blocks.read_pages.Given as goal
 

@@ -1,10 +1,7 @@
-use Rattle.std.proofs.Common.{◌≡◌, ◌∷◌, ap, sym, refl, ◌∙◌, subst, inl, arith, []}
-use Rattle.std.specs.Prelude.{IsErr, Result, Ok, Err}
+use Rattle.std.proofs.Common.{ap, sym, ◌∙◌, subst, inl, []}
 use Rattle.ubifs_base.specs.declared.raw_geometry.RawGeometry.{RawGeometry}
-use Rattle.ubifs_base.specs.Geometry.{IsGeometry}
 use Rattle.ubifs_base.specs.GeometryFaults.{IsFirstOut, tested_fields}
 use Rattle.ubifs_base.specs.RawOf.{raw_of}
-use Rattle.ubifs_tools.specs.Command.{geometry_of}
 use Rattle.ubifs_tools.specs.Run.{trace_from, session_after, run_text}
 use Rattle.ubifs_tools.specs.Session.{opening}
 use Rattle.ubifs_tools.proofs.Performing.{bad_manifest, bad_script, done_of, no_error}

@@ -1,12 +1,10 @@
-use Rattle.std.proofs.Common.{arith, refl, sym, ap, ◌∙◌, ◌≡◌, ◌++◌}
-use Rattle.std.specs.List.{flat_map}
+use Rattle.std.proofs.Common.{refl, ap, ◌∙◌, ◌++◌}
 use Rattle.std.proofs.lemmas.List.Elements.{recursion_from_All}
 use Rattle.fs_model.specs.declared.reply.Reply.{Reply}
 use Rattle.script_text.specs.Script.{IsWork}
 use Rattle.ubifs_base.specs.RawOf.{raw_of}
-use Rattle.ubifs_tools.specs.Run.{trace_from, trace_text, session_after}
 use Rattle.ubifs_tools.specs.Session.{Session, closed}
-use Rattle.ubifs_tools.specs.Store.{session_of, first_session}
+use Rattle.ubifs_tools.specs.Store.{session_of}
 use Rattle.ubifs_tools.proofs.Playing.{text_is, session_is, first_lines}
 use Rattle.ubifs_tools.proofs.run.play.Goals as goal
 

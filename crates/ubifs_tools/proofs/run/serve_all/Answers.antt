@@ -1,7 +1,5 @@
-use Rattle.std.proofs.Common.{arith, ap, sym, subst, suc, ◌≡◌, ◌∷◌, ◌+◌, ◌∙◌, ◌++◌, drop, drop-cons, refl, [], length}
-use Rattle.std.specs.List.{flat_map}
+use Rattle.std.proofs.Common.{arith, ap, sym, subst, suc, ◌≡◌, ◌∷◌, ◌+◌, ◌∙◌, drop, drop-cons, refl, []}
 use Rattle.std.proofs.lemmas.List.{append-nil, drop_all}
-use Rattle.ubifs_tools.specs.Run.{trace_from, trace_text}
 use Rattle.script_text.specs.declared.part.Part.{Part}
 use Rattle.script_text.specs.Script.{IsWork}
 use Rattle.ubifs_base.specs.RawOf.{raw_of}

@@ -1,6 +1,6 @@
-use Rattle.std.proofs.Common.{◌≡◌, ◌+◌, ◌-◌, ◌*◌, ◌/◌, ◌<◌, suc, sym, ap, ◌∙◌, arith, refl, eqb, false, true}
+use Rattle.std.proofs.Common.{◌≡◌, ◌+◌, ◌-◌, ◌*◌, ◌/◌, ◌<◌, suc, arith, refl, eqb, false}
 use Rattle.std.proofs.lemmas.Bool.Decides.{nat_tests}
-use Rattle.ubifs_tools.proofs.Pages.{Marked, mark_one, still}
+use Rattle.ubifs_tools.proofs.Pages.{mark_one, still}
 use Rattle.ubifs_tools.proofs.store.mark.Goals as goal
 
 pub loop-page-init : goal.loop-page-init

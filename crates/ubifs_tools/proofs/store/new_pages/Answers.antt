@@ -1,7 +1,6 @@
-use Rattle.std.proofs.Common.{◌≡◌, ◌+◌, ◌-◌, ◌*◌, ◌/◌, suc, sym, ap, ◌∙◌, arith, refl, eqb, false, true, add-zero}
+use Rattle.std.proofs.Common.{◌≡◌, ◌+◌, ◌-◌, ◌/◌, suc, sym, ◌∙◌, arith, eqb, false, add-zero}
 use Rattle.std.proofs.lemmas.Bool.Decides.{nat_tests}
-use Rattle.ubifs_tools.specs.Session.{is_dirty}
-use Rattle.ubifs_tools.proofs.Pages.{Counted, counted_new, counted_old}
+use Rattle.ubifs_tools.proofs.Pages.{counted_new, counted_old}
 use Rattle.ubifs_tools.proofs.store.new_pages.Goals as goal
 use Rattle.ubifs_tools.proofs.store.new_pages.Goals.{then-not-contains, else-not-contains}
 

@@ -1,6 +1,3 @@
-use Rattle.std.proofs.Common.{◌≡◌, ◌≤◌, ◌-◌, ◌+◌, Some, map}
-use Rattle.std.specs.List.{range_with_len}
-use Rattle.ubifs_tools.specs.Session.{newly_dirty, pages_in}
 use Rattle.ubifs_tools.proofs.Pages.{Counted}
 use Rattle.ubifs_tools.proofs.store.new_pages.Given as goal
 

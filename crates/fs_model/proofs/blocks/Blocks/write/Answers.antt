@@ -1,7 +1,5 @@
-use Rattle.std.proofs.Common.{◌≡◌, ◌++◌, ◌+◌, ◌-◌, ◌/◌, suc, sym, ap, ◌∙◌, arith, refl, eqb, false, ◌*◌, ◌<◌}
+use Rattle.std.proofs.Common.{◌≡◌, ◌+◌, ◌-◌, ◌/◌, suc, ap, ◌∙◌, arith, refl, eqb, false, ◌*◌, ◌<◌}
 use Rattle.std.proofs.lemmas.Bool.Decides.{nat_tests}
-use Rattle.std.specs.Prelude.{fold}
-use Rattle.std.specs.List.{range_with_len}
 use Rattle.fs_model.specs.Files.{with_page, with_block, overlaid, block_at}
 use Rattle.fs_model.proofs.Ends.{page_ends}
 use Rattle.fs_model.proofs.blocks.Blocks.write.Goals as goal

@@ -1,7 +1,3 @@
-use Rattle.std.proofs.Common.{◌≡◌, ◌-◌}
-use Rattle.std.specs.Prelude.{fold}
-use Rattle.std.specs.List.{range_with_len}
-use Rattle.fs_model.specs.Files.{blocks_written, with_page}
 use Rattle.fs_model.proofs.Ends.{WrittenSoFar}
 use Rattle.fs_model.proofs.blocks.Blocks.write.Given as goal
 

@@ -1,4 +1,4 @@
-use Rattle.std.proofs.Common.{arith, refl}
+use Rattle.std.proofs.Common.{refl}
 use Rattle.ubifs_tools.proofs.Flushing.{flush_one, sound_rest, first_page}
 use Rattle.ubifs_tools.proofs.store.Store.flush.Goals as goal
 

@@ -1,6 +1,6 @@
-use Rattle.std.proofs.Common.{arith, max, ◌≤◌, ◌+◌, ◌*◌, length, refl}
+use Rattle.std.proofs.Common.{arith, length}
 use Rattle.ubifs_base.specs.RawOf.{raw_of}
-use Rattle.ubifs_tools.specs.Store.{session_of, most_bytes}
+use Rattle.ubifs_tools.specs.Store.{session_of}
 use Rattle.ubifs_tools.proofs.Covered.{covered_after}
 use Rattle.ubifs_tools.proofs.Pages.{pages_grow}
 use Rattle.ubifs_tools.proofs.store.Store.write.Goals as goal
