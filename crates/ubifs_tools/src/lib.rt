@@ -11,3 +11,6 @@ mod top;
 mod words;
 
 pub use crate::top::ubifs;
+
+#[cfg(test)]
+mod tests;
