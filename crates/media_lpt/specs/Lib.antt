@@ -1,0 +1,4 @@
+pub mod BigModel
+pub mod Nodes
+pub mod Packed
+pub mod PackedLaws
