@@ -5,11 +5,12 @@ use Rattle.byteorder.specs.Endian.{little_number}
 use Rattle.ubifs_base.specs.NodeLaws.{IsBytes}
 use Rattle.media_leaf.specs.declared.data_node.DataNode.{DataNode}
 use Rattle.media_leaf.specs.Data.{data_fields, read_data}
-use Rattle.media_leaf.specs.FieldLaws.{reads_back, spelled, length-read}
-use Rattle.media_leaf.specs.LeafNode.{block}
-use Rattle.media_leaf.proofs.LeafLemmas.{IsBody, IsReader, guard, some_same}
+use Rattle.node_fields.specs.FieldLaws.{reads_back, spelled, length-read}
+use Rattle.media_leaf.specs.LeafNode.{leaf_form, block}
+use Rattle.node_fields.specs.Form.{IsBody}
+use Rattle.node_fields.specs.FormLaws.{IsReader, guard, some_same}
 
-takes : (kind : ℕ) (body : List ℕ) (node : DataNode) → IsBody kind body (block node) → read_data kind body ≡ Some node
+takes : (kind : ℕ) (body : List ℕ) (node : DataNode) → IsBody leaf_form kind body (block node) → read_data kind body ≡ Some node
 unfolding read_data
 takes kind body node h =
     let fits = h.is.block_fits in
@@ -31,7 +32,7 @@ takes kind body node h =
     let t4 : (length body - 24 == length node.bytes) ≡ true = eq-eqb (length body - 24) (length node.bytes) (omega (arith, long)) in
     rw (t0, t1, second, high, plain, size, t2, t3, t4, ino, low, rest) refl
 
-gives : (kind : ℕ) (body : List ℕ) (node : DataNode) → IsBytes body → read_data kind body ≡ Some node → IsBody kind body (block node)
+gives : (kind : ℕ) (body : List ℕ) (node : DataNode) → IsBytes body → read_data kind body ≡ Some node → IsBody leaf_form kind body (block node)
 unfolding read_data
 gives kind body node fits h =
     let second = little_number 4 (drop 4 body) in
@@ -52,12 +53,12 @@ gives kind body node fits h =
     let whole : length body - 24 ≡ size = eqb-true (length body - 24) size (not-false (length body - 24 == size) g6.0) in
     let wide : length (drop 24 body) ≡ size = length-drop 24 body ∙ whole in
     let word : second ≡ 2 ^ 29 + second % 2 ^ 29 = omega (arith, high) in
-    let P : DataNode → Type 0 = λ n. IsBody kind body (block n) in
+    let P : DataNode → Type 0 = λ n. IsBody leaf_form kind body (block n) in
     subst P (some_same read node g6.1) (record {
       kind_is = eqb-true kind 1 (not-false (kind == 1) g0.0);
       spelled = spelled 0 (data_fields read) body fits long (refl, (word, (sym wide, (plain, tt))));
       is = record { block_fits = omega arith; some = rw wide some; most = rw wide most };
     })
 
-pub data_reader : IsReader block read_data
+pub data_reader : IsReader leaf_form block read_data
 data_reader = record { takes = takes; gives = gives }

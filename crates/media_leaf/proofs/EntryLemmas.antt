@@ -13,10 +13,11 @@ use Rattle.ubifs_base.specs.NodeLaws.{IsBytes}
 use Rattle.ubifs_base.specs.R5.{r5_of, r5_from}
 use Rattle.media_leaf.specs.declared.dent_node.DentNode.{DentNode}
 use Rattle.media_leaf.specs.Entry.{is_name_byte, entry_fields, entry_tail, entry_type, named_entry, read_entry}
-use Rattle.media_leaf.specs.FieldLaws.{reads_back, spelled, length-read}
-use Rattle.media_leaf.specs.Fields.{Spells}
-use Rattle.media_leaf.specs.LeafNode.{entry}
-use Rattle.media_leaf.proofs.LeafLemmas.{IsBody, IsReader, guard, some_same}
+use Rattle.node_fields.specs.FieldLaws.{reads_back, spelled, length-read}
+use Rattle.node_fields.specs.Fields.{Spells}
+use Rattle.media_leaf.specs.LeafNode.{leaf_form, entry}
+use Rattle.node_fields.specs.Form.{IsBody}
+use Rattle.node_fields.specs.FormLaws.{IsReader, guard, some_same}
 
 -- a hash has 29 bits
 above_two : (masked : ℕ) → masked < 2 ^ 29 → (if nat_le masked 2 then masked + 3 else masked) < 2 ^ 29
@@ -81,7 +82,7 @@ type_above kind hash h = omega arith
 hash_below : (kind hash : ℕ) → hash < 2 ^ 29 → (kind * 2 ^ 29 + hash) % 2 ^ 29 ≡ hash
 hash_below kind hash h = omega arith
 
-takes : (kind : ℕ) (body : List ℕ) (node : DentNode) → IsBody kind body (entry node) → read_entry kind body ≡ Some node
+takes : (kind : ℕ) (body : List ℕ) (node : DentNode) → IsBody leaf_form kind body (entry node) → read_entry kind body ≡ Some node
 unfolding read_entry named_entry
 takes kind body node h =
     let name = node.name in
@@ -124,7 +125,7 @@ takes kind body node h =
     let which : (kind == 3) ≡ attribute = subst Q (sym type) (attribute_is attribute) in
     rw (t0, t1, inum, t2, kind_byte, t3, long_name, t4, t5, t6, t7, t8, plain, second, high, t9, low, t10, dir, which) refl
 
-gives : (kind : ℕ) (body : List ℕ) (node : DentNode) → IsBytes body → read_entry kind body ≡ Some node → IsBody kind body (entry node)
+gives : (kind : ℕ) (body : List ℕ) (node : DentNode) → IsBytes body → read_entry kind body ≡ Some node → IsBody leaf_form kind body (entry node)
 unfolding read_entry named_entry
 gives kind body node fits h =
     let second = little_number 4 (drop 4 body) in
@@ -158,7 +159,7 @@ gives kind body node fits h =
     let word : second ≡ kind * 2 ^ 29 + r5_of name = omega (arith, high, low) in
     let long_name : length name ≡ size = length-take-le size (drop 32 body) (let l = length-drop 32 body in omega (arith, l, long)) in
     let tail : drop 32 body ≡ entry_tail read = name_and_zero size body long zero_byte in
-    let P : DentNode → Type 0 = λ n. IsBody kind body (entry n) in
+    let P : DentNode → Type 0 = λ n. IsBody leaf_form kind body (entry n) in
     let Q : List ℕ → Type 0 = λ t. Spells (entry_fields read) t body in
     let first_is = sym (first_word (little_number 4 body) (r5_of name) (kind == 3)) in
     let second_is = word ∙ ap (λ (k : ℕ). k * 2 ^ 29 + r5_of name) type ∙ sym (second_word (little_number 4 body) (r5_of name) (kind == 3)) in
@@ -168,5 +169,5 @@ gives kind body node fits h =
       is = record { inum_fits = omega (arith, inum_most); kind_known = known; some = rw long_name some; most = rw long_name most; plain = plain };
     })
 
-pub entry_reader : IsReader entry read_entry
+pub entry_reader : IsReader leaf_form entry read_entry
 entry_reader = record { takes = takes; gives = gives }

@@ -5,10 +5,11 @@ use Rattle.std.proofs.Math.Bool.{and-false, and-true}
 use Rattle.byteorder.specs.Endian.{little_number}
 use Rattle.ubifs_base.specs.NodeLaws.{IsBytes}
 use Rattle.media_leaf.specs.declared.ino_node.InoNode.{InoNode}
-use Rattle.media_leaf.specs.FieldLaws.{IsRead, reads_back, spelled, length-read}
+use Rattle.node_fields.specs.FieldLaws.{IsRead, reads_back, spelled, length-read}
 use Rattle.media_leaf.specs.Inode.{inode_at, inode_fields, may_hold_data, read_inode}
-use Rattle.media_leaf.specs.LeafNode.{inode}
-use Rattle.media_leaf.proofs.LeafLemmas.{IsBody, IsReader, guard, some_same}
+use Rattle.media_leaf.specs.LeafNode.{leaf_form, inode}
+use Rattle.node_fields.specs.Form.{IsBody}
+use Rattle.node_fields.specs.FormLaws.{IsReader, guard, some_same}
 
 no_data : (n : ℕ) (b : Bool) → (b ≡ false → n ≡ 0) → (not (n == 0) && not b) ≡ false
 no_data n true h = and-false (not (n == 0))
@@ -32,7 +33,7 @@ at_fields node body h =
     let n14 = n12.1.1 in
     rw (n.0, n2.0, n2.1.0, n4.0, n4.1.0, n6.0, n6.1.0, n8.0, n8.1.0, n10.0, n12.0, n12.1.0, n14.0, rest) refl
 
-takes : (kind : ℕ) (body : List ℕ) (node : InoNode) → IsBody kind body (inode node) → read_inode kind body ≡ Some node
+takes : (kind : ℕ) (body : List ℕ) (node : InoNode) → IsBody leaf_form kind body (inode node) → read_inode kind body ≡ Some node
 unfolding read_inode
 takes kind body node h =
     let numbered = h.is.numbered in
@@ -54,7 +55,7 @@ takes kind body node h =
     let t5 : (not (size == 0) && not (may_hold_data node.mode)) ≡ false = no_data size (may_hold_data node.mode) h.is.plain in
     rw (t0, t1, second, ino, t2, data_len, t3, t4, mode, t5) (ap (λ (n : InoNode). Some n) (at_fields node body back))
 
-gives : (kind : ℕ) (body : List ℕ) (node : InoNode) → IsBytes body → read_inode kind body ≡ Some node → IsBody kind body (inode node)
+gives : (kind : ℕ) (body : List ℕ) (node : InoNode) → IsBytes body → read_inode kind body ≡ Some node → IsBody leaf_form kind body (inode node)
 unfolding read_inode inode_at
 gives kind body node fits h =
     let mode = little_number 4 (drop 80 body) in
@@ -73,7 +74,7 @@ gives kind body node fits h =
     let most : size ≤ 4096 = ltb-false 4096 size g4.0 in
     let whole : length body - 136 ≡ size = eqb-true (length body - 136) size (not-false (length body - 136 == size) g5.0) in
     let wide : length (drop 136 body) ≡ size = length-drop 136 body ∙ whole in
-    let P : InoNode → Type 0 = λ n. IsBody kind body (inode n) in
+    let P : InoNode → Type 0 = λ n. IsBody leaf_form kind body (inode n) in
     subst P (some_same read node g6.1) (record {
       kind_is = eqb-true kind 0 (not-false (kind == 0) g0.0);
       spelled = spelled 0 (inode_fields read) body fits long
@@ -81,5 +82,5 @@ gives kind body node fits h =
       is = record { numbered = numbered; most = rw wide most; plain = λ e. wide ∙ without_data size (may_hold_data mode) g6.0 e };
     })
 
-pub inode_reader : IsReader inode read_inode
+pub inode_reader : IsReader leaf_form inode read_inode
 inode_reader = record { takes = takes; gives = gives }

@@ -2,6 +2,4 @@ pub mod DataLemmas
 pub mod EntryLemmas
 pub mod InodeLemmas
 pub mod LeafLaws
-pub mod LeafLemmas
-pub mod PlaceLemmas
 pub mod TruncationLemmas

@@ -2,7 +2,7 @@
 use Rattle.std.specs.Prelude.{ℕ, ◌-◌, ◌/◌, ◌%◌, ◌^◌, ◌<◌, ◌≤◌, ◌==◌, not, nat_lt, if◌then◌else◌, List, [], ◌∷◌, ◌++◌, length, drop, Option, Some, None}
 use Rattle.byteorder.specs.Endian.{little_number}
 use Rattle.ubifs_base.specs.declared.key.Key.TheVariants.{Block}
-use Rattle.media_leaf.specs.Fields.{Field, number, ignored, key_fields}
+use Rattle.node_fields.specs.Fields.{Field, number, ignored, key_fields}
 use Rattle.media_leaf.specs.declared.data_node.DataNode.{DataNode}
 
 -- what a data node may say

@@ -5,7 +5,7 @@ use Rattle.byteorder.specs.Endian.{little_number}
 use Rattle.ubifs_base.specs.declared.key.Key.{Key}
 use Rattle.ubifs_base.specs.declared.key.Key.TheVariants.{Dent, Xent}
 use Rattle.ubifs_base.specs.R5.{r5_of}
-use Rattle.media_leaf.specs.Fields.{Field, number, ignored, key_fields}
+use Rattle.node_fields.specs.Fields.{Field, number, ignored, key_fields}
 use Rattle.media_leaf.specs.declared.dent_node.DentNode.{DentNode}
 
 -- a byte that may stand in a name: neither zero nor a slash

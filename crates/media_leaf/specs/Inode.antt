@@ -2,7 +2,7 @@
 use Rattle.std.specs.Prelude.{◌≡◌, ℕ, ◌-◌, ◌/◌, ◌%◌, ◌≤◌, ◌==◌, ◌||◌, ◌&&◌, not, nat_lt, if◌then◌else◌, Bool, false, List, [], ◌∷◌, ◌++◌, length, drop, Option, Some, None}
 use Rattle.byteorder.specs.Endian.{little_number}
 use Rattle.ubifs_base.specs.declared.key.Key.TheVariants.{Ino}
-use Rattle.media_leaf.specs.Fields.{Field, number, ignored, key_fields}
+use Rattle.node_fields.specs.Fields.{Field, number, ignored, key_fields}
 use Rattle.media_leaf.specs.declared.ino_node.InoNode.{InoNode}
 
 -- whether a mode's file type is a symbolic link, a block device or a character device

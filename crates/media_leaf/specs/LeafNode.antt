@@ -1,11 +1,11 @@
 -- The grammar of leaf nodes: bytes, and the sequence number, group type and node that they stand for.
-use Rattle.std.specs.Prelude.{ℕ, List, [], ◌∷◌, ⊤}
-use Rattle.ubifs_base.specs.Node.{IsNode, node_bytes}
+use Rattle.std.specs.Prelude.{ℕ, List, [], ⊤}
 use Rattle.media_leaf.specs.declared.data_node.DataNode.{DataNode}
 use Rattle.media_leaf.specs.declared.dent_node.DentNode.{DentNode}
 use Rattle.media_leaf.specs.declared.ino_node.InoNode.{InoNode}
 use Rattle.media_leaf.specs.declared.trun_node.TrunNode.{TrunNode}
-use Rattle.media_leaf.specs.Fields.{Field, Spells, spelling}
+use Rattle.node_fields.specs.Fields.{Field}
+use Rattle.node_fields.specs.Form.{Form, IsOf, written_as}
 use Rattle.media_leaf.specs.Data.{IsDataNode, data_fields}
 use Rattle.media_leaf.specs.Entry.{IsDentNode, entry_fields, entry_tail, entry_type}
 use Rattle.media_leaf.specs.Inode.{IsInoNode, inode_fields}
@@ -46,12 +46,13 @@ IsLeaf (block node) = IsDataNode node
 IsLeaf (entry node) = IsDentNode node
 IsLeaf (truncation node) = ⊤
 
+-- the family of leaf nodes
+abbrev pub leaf_form : Form LeafNode
+leaf_form = record { type_of = type_of; fields_of = fields_of; tail_of = tail_of; Allowed = IsLeaf }
+
 -- These bytes are this node, all of them. Ignored bytes may be anything.
-pub record IsLeafNode (bytes : List ℕ) (sqnum group : ℕ) (node : LeafNode) : Type 0 where
-  pub body : List ℕ
-  pub framed : IsNode bytes sqnum (type_of node) group body
-  pub spelled : Spells (fields_of node) (tail_of node) body
-  pub is : IsLeaf node
+abbrev pub IsLeafNode : List ℕ → ℕ → ℕ → LeafNode → Type 0
+IsLeafNode bytes sqnum group node = IsOf leaf_form bytes sqnum group node
 
 -- the bytes are this inode
 abbrev pub IsIno : List ℕ → ℕ → ℕ → InoNode → Type 0
@@ -71,4 +72,4 @@ IsTrun bytes sqnum group node = IsLeafNode bytes sqnum group (truncation node)
 
 -- the one spelling that is written, in which all that is ignored is 0
 abbrev pub written : ℕ → ℕ → LeafNode → List ℕ
-written sqnum group node = node_bytes sqnum (type_of node) group (0 ∷ 0 ∷ []) (spelling (fields_of node) (tail_of node))
+written sqnum group node = written_as leaf_form sqnum group node

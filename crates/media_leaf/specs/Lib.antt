@@ -1,8 +1,5 @@
-pub mod Fields
-pub mod FieldLaws
 pub mod Data
 pub mod Entry
 pub mod Inode
 pub mod Truncation
 pub mod LeafNode
-pub mod Opening

@@ -1,7 +1,7 @@
 -- Truncation nodes: a file was cut.
 use Rattle.std.specs.Prelude.{ℕ, ◌==◌, not, if◌then◌else◌, List, [], ◌∷◌, length, drop, Option, Some, None}
 use Rattle.byteorder.specs.Endian.{little_number}
-use Rattle.media_leaf.specs.Fields.{Field, number, ignored}
+use Rattle.node_fields.specs.Fields.{Field, number, ignored}
 use Rattle.media_leaf.specs.declared.trun_node.TrunNode.{TrunNode}
 
 -- after the header: the inode's number, the size before and the size after; there is no key

@@ -2,12 +2,11 @@
 
 ghost use Rattle.std.specs.Prelude.{◌≡◌, ◌++◌, List, ◌+◌, ◌≤◌, ℕ, length, IfOk, IfSome, IfNone};
 ghost use Rattle.media_leaf.specs.Data.{IsDataNode, data_fields, read_data};
-ghost use Rattle.media_leaf.specs.Fields.{AllFit, spelling};
+ghost use Rattle.node_fields.specs.Fields.{AllFit, spelling};
 ghost use Rattle.media_leaf.specs.LeafNode.{IsData, block, written};
-ghost use Rattle.media_leaf.specs.Opening.{decoded};
+ghost use Rattle.node_fields.specs.Opening.{decoded};
 
-use crate::fields::{put_key, put_last, put_u32, u16_at, u32_at};
-use crate::opening::opened_node;
+use node_fields::{opened_node, put_key, put_last, put_u32, u16_at, u32_at};
 use std::alloc::Global;
 use ubifs_base::{Bytes, Head, Key, Memory, frame};
 
@@ -63,7 +62,7 @@ impl DataNode {
 }
 
 // From the last field to the first, so that what stands behind a field is already as it stays.
-#[tactic(auto, unfolding(crate::specs::Fields::spelling))]
+#[tactic(auto, unfolding(node_fields::specs::Fields::spelling))]
 fn write_body(body: &mut [u8], node: &DataNode)
     requires node { IsDataNode node.now }
     requires room { length body.old ≡ 24 + length node.now.bytes }

@@ -7,12 +7,13 @@ ghost use Rattle.ubifs_base.specs.Key.{IsKey};
 ghost use Rattle.ubifs_base.specs.declared.key.Key.TheVariants.{Dent, Xent};
 ghost use Rattle.ubifs_base.specs.R5.{r5_of};
 ghost use Rattle.media_leaf.specs.Entry.{IsDentNode, is_name_byte, entry_fields, entry_tail, entry_type, named_entry, read_entry};
-ghost use Rattle.media_leaf.specs.Fields.{AllFit, spelling, key_fields};
+ghost use Rattle.node_fields.specs.Fields.{AllFit, spelling, key_fields};
 ghost use Rattle.media_leaf.specs.LeafNode.{IsDent, entry, written};
-ghost use Rattle.media_leaf.specs.Opening.{decoded};
+ghost use Rattle.node_fields.specs.Opening.{decoded};
 
-use crate::fields::{put_key, put_name, put_u8, put_u16, put_u32, put_u64, u16_at, u32_at, u64_at};
-use crate::opening::opened_node;
+use node_fields::{
+    opened_node, put_key, put_name, put_u8, put_u16, put_u32, put_u64, u16_at, u32_at, u64_at,
+};
 use std::alloc::Global;
 use ubifs_base::{Head, Key, Memory, Name, frame, r5};
 
@@ -99,7 +100,7 @@ fn key_of(attribute: bool, dir: u32, hash: u32) -> Key
 }
 
 // From the last field to the first, so that what stands behind a field is already as it stays.
-#[tactic(auto, unfolding(crate::specs::Fields::spelling))]
+#[tactic(auto, unfolding(node_fields::specs::Fields::spelling))]
 fn write_body(body: &mut [u8], node: &DentNode)
     requires node { IsDentNode node.now }
     requires room { length body.old ≡ 33 + length node.now.name }

@@ -2,14 +2,13 @@
 
 ghost use Rattle.std.specs.Prelude.{◌≡◌, ◌++◌, List, ◌+◌, ◌≤◌, ℕ, length, drop, IfOk, IfSome, IfNone};
 ghost use Rattle.ubifs_base.specs.Key.{IsKey};
-ghost use Rattle.media_leaf.specs.Fields.{AllFit, spelling, key_fields};
+ghost use Rattle.node_fields.specs.Fields.{AllFit, spelling, key_fields};
 ghost use Rattle.ubifs_base.specs.declared.key.Key.TheVariants.{Ino};
 ghost use Rattle.media_leaf.specs.Inode.{IsInoNode, may_hold_data as may_hold, inode_fields, size_fields, time_fields, owner_fields, extra_fields, last_fields, inode_at, read_inode};
 ghost use Rattle.media_leaf.specs.LeafNode.{IsIno, inode, written};
-ghost use Rattle.media_leaf.specs.Opening.{decoded};
+ghost use Rattle.node_fields.specs.Opening.{decoded};
 
-use crate::fields::{put_key, put_last, put_u32, put_u64, u32_at, u64_at};
-use crate::opening::opened_node;
+use node_fields::{opened_node, put_key, put_last, put_u32, put_u64, u32_at, u64_at};
 use std::alloc::Global;
 use ubifs_base::{Bytes, Head, Key, Memory, frame};
 
@@ -91,7 +90,7 @@ fn write_body(body: &mut [u8], node: &InoNode)
     write_first(body, node);
 }
 
-#[tactic(auto, unfolding(crate::specs::Fields::spelling))]
+#[tactic(auto, unfolding(node_fields::specs::Fields::spelling))]
 fn write_last(body: &mut [u8])
     requires { 136 ≤ length body.old }
     ensures { drop 108 body.new ≡ spelling last_fields (drop 136 body.old) }
@@ -102,7 +101,7 @@ fn write_last(body: &mut [u8])
     put_u64(body, 108, 0);
 }
 
-#[tactic(auto, unfolding(crate::specs::Fields::spelling))]
+#[tactic(auto, unfolding(node_fields::specs::Fields::spelling))]
 fn write_extra(body: &mut [u8], node: &InoNode)
     requires node { length node.now.bytes ≤ 4096 }
     requires room { 108 ≤ length body.old }
@@ -116,7 +115,7 @@ fn write_extra(body: &mut [u8], node: &InoNode)
     put_u32(body, 88, node.bytes.len() as u32);
 }
 
-#[tactic(auto, unfolding(crate::specs::Fields::spelling))]
+#[tactic(auto, unfolding(node_fields::specs::Fields::spelling))]
 fn write_owner(body: &mut [u8], node: &InoNode)
     requires { 88 ≤ length body.old }
     ensures spelling { drop 68 body.new ≡ spelling (owner_fields node.now) (drop 88 body.old) }
@@ -129,7 +128,7 @@ fn write_owner(body: &mut [u8], node: &InoNode)
     put_u32(body, 68, node.nlink);
 }
 
-#[tactic(auto, unfolding(crate::specs::Fields::spelling))]
+#[tactic(auto, unfolding(node_fields::specs::Fields::spelling))]
 fn write_times(body: &mut [u8], node: &InoNode)
     requires { 68 ≤ length body.old }
     ensures spelling { drop 32 body.new ≡ spelling (time_fields node.now) (drop 68 body.old) }
@@ -149,7 +148,7 @@ fn key_of(ino: u32) -> Key
     Key::Ino { ino }
 }
 
-#[tactic(auto, unfolding(crate::specs::Fields::spelling))]
+#[tactic(auto, unfolding(node_fields::specs::Fields::spelling))]
 fn write_first(body: &mut [u8], node: &InoNode)
     requires { 32 ≤ length body.old }
     ensures spelling { body.new ≡ spelling (key_fields (Ino node.now.ino)) (spelling (size_fields node.now) (drop 32 body.old)) }

@@ -10,10 +10,8 @@
 
 mod data_node;
 mod dent_node;
-mod fields;
 mod ino_node;
 mod laws;
-mod opening;
 mod trun_node;
 
 pub use crate::data_node::DataNode;

@@ -1,13 +1,12 @@
 // Truncation nodes.
 
 ghost use Rattle.std.specs.Prelude.{◌≡◌, ◌++◌, List, ◌+◌, ◌≤◌, ℕ, length, IfOk, IfSome, IfNone, IsOk, []};
-ghost use Rattle.media_leaf.specs.Fields.{AllFit, spelling};
+ghost use Rattle.node_fields.specs.Fields.{AllFit, spelling};
 ghost use Rattle.media_leaf.specs.LeafNode.{IsTrun, truncation, written};
-ghost use Rattle.media_leaf.specs.Opening.{decoded};
+ghost use Rattle.node_fields.specs.Opening.{decoded};
 ghost use Rattle.media_leaf.specs.Truncation.{truncation_fields, read_truncation};
 
-use crate::fields::{put_u32, put_u64, u32_at, u64_at};
-use crate::opening::opened_node;
+use node_fields::{opened_node, put_u32, put_u64, u32_at, u64_at};
 use std::alloc::Global;
 use ubifs_base::{Head, Memory, frame};
 
@@ -62,7 +61,7 @@ impl TrunNode {
 }
 
 // From the last field to the first, so that what stands behind a field is already as it stays.
-#[tactic(auto, unfolding(crate::specs::Fields::spelling))]
+#[tactic(auto, unfolding(node_fields::specs::Fields::spelling))]
 fn write_body(body: &mut [u8], node: &TrunNode)
     requires { length body.old ≡ 32 }
     ensures spelling { body.new ≡ spelling (truncation_fields node.now) [] }

@@ -1,6 +1,6 @@
 use Rattle.std.proofs.Common.{ap, ◌∙◌, List, ℕ}
 use Rattle.ubifs_base.specs.declared.key.Key.TheVariants.{Ino}
-use Rattle.media_leaf.specs.Fields.{spelling, key_fields}
+use Rattle.node_fields.specs.Fields.{spelling, key_fields}
 use Rattle.media_leaf.specs.Inode.{size_fields, time_fields, owner_fields, extra_fields, last_fields}
 use Rattle.media_leaf.proofs.ino_node.write_body.Goals as goal
 

@@ -1,12 +1,12 @@
 use Rattle.std.proofs.Common.{arith}
 use Rattle.media_leaf.specs.Inode.{read_inode}
-use Rattle.media_leaf.specs.LeafNode.{inode}
+use Rattle.media_leaf.specs.LeafNode.{leaf_form, inode}
 use Rattle.media_leaf.proofs.InodeLemmas.{inode_reader}
-use Rattle.media_leaf.proofs.LeafLemmas.{found_of, none_of}
+use Rattle.node_fields.specs.FormLaws.{found_of, none_of}
 use Rattle.media_leaf.proofs.ino_node.InoNode.decode.Goals as goal
 
 pub returns-clause-found : goal.returns-clause-found
-returns-clause-found c = found_of inode read_inode inode_reader c.args.bytes.now c.decode_exactly.result (λ i. omega (arith, c.type_inv.bytes i)) c.decode_exactly.ensures
+returns-clause-found c = found_of leaf_form inode read_inode inode_reader c.args.bytes.now c.decode_exactly.result (λ i. omega (arith, c.type_inv.bytes i)) c.decode_exactly.ensures
 
 pub returns-clause-none : goal.returns-clause-none
-returns-clause-none c = none_of inode read_inode inode_reader c.args.bytes.now c.decode_exactly.result (λ i. omega (arith, c.type_inv.bytes i)) c.decode_exactly.ensures
+returns-clause-none c = none_of leaf_form inode read_inode inode_reader c.args.bytes.now c.decode_exactly.result (λ i. omega (arith, c.type_inv.bytes i)) c.decode_exactly.ensures

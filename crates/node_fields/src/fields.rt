@@ -3,7 +3,7 @@
 ghost use Rattle.std.specs.Prelude.{◌≡◌, ◌++◌, ◌+◌, ◌^◌, ◌<◌, ◌≤◌, length, drop};
 ghost use Rattle.std.specs.Prelude.{[], ◌∷◌};
 ghost use Rattle.ubifs_base.specs.Key.{IsKey};
-ghost use Rattle.media_leaf.specs.Fields.{AllFit, spelling, key_fields};
+ghost use Rattle.node_fields.specs.Fields.{AllFit, spelling, key_fields};
 ghost use Rattle.byteorder.specs.Endian.{little_bytes, little_number};
 
 use byteorder::{ByteOrder, LittleEndian};

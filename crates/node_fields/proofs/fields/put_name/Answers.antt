@@ -1,6 +1,6 @@
 use Rattle.std.proofs.Common.{◌≡◌, ℕ, List, ◌++◌, ◌+◌, ◌∷◌, [], length, drop, ap, ◌∙◌, arith}
 use Rattle.std.proofs.lemmas.List.{drop_all}
-use Rattle.media_leaf.proofs.fields.put_name.Goals as goal
+use Rattle.node_fields.proofs.fields.put_name.Goals as goal
 
 -- nothing stands behind the zero byte
 pub returns : goal.returns

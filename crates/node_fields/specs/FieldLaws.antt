@@ -6,7 +6,7 @@ use Rattle.std.proofs.Math.Seq.{take-append_seam, drop-append_seam}
 use Rattle.byteorder.specs.Endian.{little_bytes, little_number}
 use Rattle.byteorder.specs.Numbers.{little_from-lt, little_number-reads_back, length-bytes_low_first}
 use Rattle.ubifs_base.specs.NodeLaws.{IsBytes, little_bytes-number}
-use Rattle.media_leaf.specs.Fields.{Field, number, ignored, Spells, spelling, total_width, AllFit, Reads}
+use Rattle.node_fields.specs.Fields.{Field, number, ignored, Spells, spelling, total_width, AllFit, Reads}
 
 -- what is spelled is read
 pub record IsRead (place : ℕ) (fields : List Field) (tail bytes : List ℕ) : Type 0 where

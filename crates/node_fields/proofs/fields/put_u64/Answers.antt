@@ -1,6 +1,6 @@
 use Rattle.byteorder.specs.Endian.{little_bytes}
-use Rattle.media_leaf.proofs.PlaceLemmas.{written_at}
-use Rattle.media_leaf.proofs.fields.put_u64.Goals as goal
+use Rattle.node_fields.specs.PlaceLaws.{written_at}
+use Rattle.node_fields.proofs.fields.put_u64.Goals as goal
 
 pub returns-clause-place : goal.returns-clause-place
 returns-clause-place c =

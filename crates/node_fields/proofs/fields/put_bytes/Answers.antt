@@ -1,6 +1,6 @@
 use Rattle.std.proofs.Common.{length}
-use Rattle.media_leaf.proofs.PlaceLemmas.{written_at}
-use Rattle.media_leaf.proofs.fields.put_bytes.Goals as goal
+use Rattle.node_fields.specs.PlaceLaws.{written_at}
+use Rattle.node_fields.proofs.fields.put_bytes.Goals as goal
 
 pub returns : goal.returns
 returns c =

@@ -1,7 +1,7 @@
 // The step that all nodes share: from the bytes of a node to its type and body.
 
 ghost use Rattle.std.specs.Prelude.{◌≡◌, MatchOption, Some, None};
-ghost use Rattle.media_leaf.specs.Opening.{opened};
+ghost use Rattle.node_fields.specs.Opening.{opened};
 
 use ubifs_base::unframe;
 
