@@ -10,3 +10,7 @@ text_of sink = sink.text.items
 -- its calls of write
 abbrev pub calls_of : MemSink → Calls
 calls_of sink = sink.calls
+
+-- how many of its calls found no memory
+abbrev pub shortages_of : MemSink → ℕ
+shortages_of sink = sink.shortages

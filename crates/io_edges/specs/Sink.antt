@@ -1,8 +1,17 @@
 -- What a sink's call promises.
-use Rattle.std.specs.Prelude.{◌≡◌, ◌≤◌, ◌++◌, ℕ, List, take, Result, Ok, Err}
+use Rattle.std.specs.Prelude.{◌≡◌, ◌≤◌, ◌++◌, ℕ, Bool, List, take, Result, Ok, Err}
 use Rattle.io_edges.specs.Counts.{Rose}
 use Rattle.io_edges.specs.declared.sink.SinkFault.{SinkFault}
 use Rattle.io_edges.specs.declared.sink.SinkFault.TheVariants.{Failed, Memory}
+
+-- what there is to say of a sink at one moment
+pub record SinkState : Type 0 where
+  -- whether it tells what it took, and the bytes that were written
+  pub tells : Bool
+  pub text : List ℕ
+  -- how many calls failed, and how many found no memory
+  pub faults : ℕ
+  pub shortages : ℕ
 
 -- some first part of the piece was added
 abbrev pub AddsPrefix : List ℕ → List ℕ → List ℕ → Type 0
@@ -19,3 +28,9 @@ abbrev pub IsCounted : {T : Type 0} → ℕ → ℕ → Result T SinkFault → T
 IsCounted before now (Err (Failed count)) = (before ≤ now) × (Rose before now × (count ≡ now))
 IsCounted before now (Err Memory) = now ≡ before
 IsCounted before now (Ok x) = now ≡ before
+
+-- Memory comes exactly where the count of calls that found no memory rose; any other answer leaves it.
+abbrev pub IsShort : {T : Type 0} → ℕ → ℕ → Result T SinkFault → Type 0
+IsShort before now (Err (Failed count)) = now ≡ before
+IsShort before now (Err Memory) = (before ≤ now) × Rose before now
+IsShort before now (Ok x) = now ≡ before

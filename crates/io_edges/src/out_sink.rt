@@ -25,11 +25,7 @@ impl<R: Print> Sink for OutSink<R> {
     ghost use Rattle.std.specs.Prelude.{false, []};
     ghost use Rattle.io_edges.specs.Host.{sink_faults};
 
-    ghost tells = { λ _. false };
-
-    ghost text = { λ _. [] };
-
-    ghost count = { sink_faults };
+    ghost state = { λ sink. record { tells = false; text = []; faults = sink_faults sink; shortages = 0 } };
 
     fn write(&mut self, bytes: &[u8]) -> Result<(), SinkFault> {
         if self.host.write_all(bytes).is_ok() {

@@ -1,10 +1,8 @@
 // Where text goes.
 
-ghost use Rattle.std.specs.Prelude.{◌≡◌, ◌++◌, ℕ, List, Bool, IsTrue, OnOk, OnErr, IsErrOf};
-ghost use Rattle.io_edges.specs.Sink.{AddsPrefix, IsCounted};
-ghost use Rattle.io_edges.specs.declared.sink.SinkFault.TheVariants.{Memory};
+ghost use Rattle.std.specs.Prelude.{◌≡◌, ◌++◌, IsTrue, OnOk, OnErr, IsErrOf};
+ghost use Rattle.io_edges.specs.Sink.{SinkState, AddsPrefix, IsCounted, IsShort};
 
-use std::alloc::{AllocError, AllocFailed};
 use thiserror::Error;
 
 /// Why a [`Sink`] didn't take a piece.
@@ -18,42 +16,21 @@ pub enum SinkFault {
     Memory,
 }
 
-impl From<AllocError> for SinkFault {
-    ghost from_gives = { λ _ e. e ≡ Memory };
-
-    fn from(_error: AllocError) -> SinkFault {
-        SinkFault::Memory
-    }
-}
-
-impl<T: Drop> From<AllocFailed<T>> for SinkFault {
-    ghost from_gives = { λ _ e. e ≡ Memory };
-
-    fn from(_error: AllocFailed<T>) -> SinkFault {
-        SinkFault::Memory
-    }
-}
-
 /// Takes text, piece by piece.
 pub trait Sink {
-    /// Whether the sink tells what it took.
-    ghost tells: { Self → Bool };
-
-    /// The bytes that were written.
-    ghost text: { Self → List ℕ };
-
-    /// The count of faults.
-    ghost count: { Self → ℕ };
+    /// What there is to say of the sink now.
+    ghost state: { Self → SinkState };
 
     /// Adds the bytes behind those that were written before.
     fn write(&mut self, bytes: &[u8]) -> Result<(), SinkFault>
-        ensures added { OnOk result (IsTrue (tells self.old) → text self.new ≡ text self.old ++ bytes.now) }
-        ensures prefix { OnErr result (IsTrue (tells self.old) → AddsPrefix (text self.old) bytes.now (text self.new)) }
-        ensures nothing { IsErrOf result SinkFault.Memory → text self.new ≡ text self.old }
-        ensures telling { tells self.new ≡ tells self.old }
-        ensures counted { IsCounted (count self.old) (count self.new) result };
+        ensures added { OnOk result (IsTrue (state self.old).tells → (state self.new).text ≡ (state self.old).text ++ bytes.now) }
+        ensures prefix { OnErr result (IsTrue (state self.old).tells → AddsPrefix (state self.old).text bytes.now (state self.new).text) }
+        ensures nothing { IsErrOf result SinkFault.Memory → (state self.new).text ≡ (state self.old).text }
+        ensures telling { (state self.new).tells ≡ (state self.old).tells }
+        ensures counted { IsCounted (state self.old).faults (state self.new).faults result }
+        ensures short { IsShort (state self.old).shortages (state self.new).shortages result };
 
     /// How many calls have failed.
     fn faults(&self) -> u64
-        ensures { result ≡ count self.now };
+        ensures { result ≡ (state self.now).faults };
 }

@@ -26,11 +26,11 @@ fn publish<K: Keeper, O: Sink>(
     from: &str,
     to: &str,
 ) -> Result<(), PublishFault>
-    ensures both { OnOk result (IsTrue (K.tells keeper.old) → IsTrue (O.tells sink.old) → ((bytes : List ℕ)
+    ensures both { OnOk result (IsTrue (K.tells keeper.old) → IsTrue (O.state sink.old).tells → ((bytes : List ℕ)
         × (K.content keeper.old from.now ≡ Some bytes)
-        × (O.text sink.new ≡ O.text sink.old ++ bytes)
+        × ((O.state sink.new).text ≡ (O.state sink.old).text ++ bytes)
         × ((other : List ℕ) → K.content keeper.new other ≡ update bytes_eq (K.content keeper.old) to.now (Some bytes) other))) }
-    ensures telling { (K.tells keeper.new ≡ K.tells keeper.old) × (O.tells sink.new ≡ O.tells sink.old) }
+    ensures telling { (K.tells keeper.new ≡ K.tells keeper.old) × ((O.state sink.new).tells ≡ (O.state sink.old).tells) }
 {
     let bytes = keeper.read(from).map_err(PublishFault::Keep)?;
     sink.write(&bytes).map_err(PublishFault::Sink)?;

@@ -1,3 +1,5 @@
 pub mod Lebs
+pub mod LoadedLebs
 pub mod TwoWrites
 pub mod UnmapAll
+pub mod WrittenPart

@@ -1,5 +1,7 @@
 -- The LEBs of a volume in memory.
-use Rattle.std.specs.Prelude.{◌≡◌, ◌≢◌, ◌⊎◌, IsTrue, false, ℕ, ◌-◌, List, [], Option, Some, None, slice_get, length, drop, replicate, All}
+use Rattle.std.specs.Prelude.{◌≡◌, ◌≢◌, ◌⊎◌, IsTrue, false, ℕ, ◌-◌, ◌*◌, take, List, [], Option, Some, None, slice_get, length, drop, replicate, All}
+use Rattle.ubi_volume.specs.Volume.{filled}
+use Rattle.ubi_volume.specs.Loading.{IsWrittenPart}
 use Rattle.ubi_volume.specs.declared.leb.Leb.{Leb}
 
 -- the bytes of a LEB, and none of one that isn't there
@@ -37,3 +39,14 @@ pub record IsBlankLeb (size : ℕ) (leb : Leb) : Type 0 where
   pub before : length leb.before.items ≡ size
   pub written : leb.written ≡ 0
   pub undo : leb.undo ≡ false
+
+-- a LEB with these bytes, of which a cut leaves nothing else
+pub record IsLoadedLeb (size unit : ℕ) (bytes : List ℕ) (leb : Leb) : Type 0 where
+  pub content : leb.content.items ≡ filled size bytes
+  pub before : length leb.before.items ≡ size
+  pub written : IsWrittenPart unit leb.content.items leb.written
+  pub undo : leb.undo ≡ false
+
+-- LEBs with the bytes of an image, each with its own
+pub record AreLoaded (size unit : ℕ) (image : List ℕ) (lebs : List Leb) : Type 0 where
+  pub each : (k : ℕ) (leb : Leb) → slice_get lebs k ≡ Some leb → IsLoadedLeb size unit (take size (drop (k * size) image)) leb

@@ -4,5 +4,6 @@ pub mod Faults
 pub mod FaultLaws
 pub mod Lebs
 pub mod Shape
+pub mod Loading
 pub mod MemVolume
 pub mod MemVolumeLaws

@@ -18,7 +18,7 @@ pub(crate) struct Leb {
 }
 
 // An unwritten LEB.
-fn blank_leb(alloc: Global, size: u32) -> Result<Leb, Memory>
+pub(crate) fn blank_leb(alloc: Global, size: u32) -> Result<Leb, Memory>
     ensures { IfOk result (IsBlankLeb size) }
 {
     Ok(Leb {
@@ -53,7 +53,7 @@ pub(crate) fn all_bytes(alloc: Global, size: usize, lebs: &[Leb]) -> Result<Vec<
 }
 
 // The bytes, and erased bytes behind them.
-fn fill_with(buffer: &mut [u8], bytes: &[u8])
+pub(crate) fn fill_with(buffer: &mut [u8], bytes: &[u8])
     requires { length bytes.now ≤ length buffer.old }
     ensures { buffer.new ≡ filled (length buffer.old) bytes.now }
 {

@@ -12,12 +12,13 @@ pub mod caller;
 mod fault;
 mod image;
 mod leb;
+mod loading;
 mod mem_volume;
 #[cfg(test)]
 mod tests;
 mod volume;
 
-pub use crate::fault::{AreaFault, VolFault};
-pub use crate::image::save_image;
+pub use crate::fault::{AreaFault, LoadFault, VolFault};
+pub use crate::image::{load_image, save_image};
 pub use crate::mem_volume::{MemVolume, VolShape};
 pub use crate::volume::Volume;

@@ -5,6 +5,7 @@ ghost use Rattle.ubi_volume.specs.Lebs.{IsLeb};
 ghost use Rattle.ubi_volume.specs.Shape.{IsShape};
 
 use crate::leb::{Leb, all_bytes, blank_lebs, change_leb, map_leb, unmap_leb, write_leb};
+use crate::loading::loaded_lebs;
 use crate::{VolFault, Volume};
 use std::alloc::Global;
 use ubifs_base::{Arm, Memory};
@@ -31,6 +32,7 @@ impl MemVolume {
     ghost use Rattle.std.specs.Prelude.{◌≡◌, IfOk};
     ghost use Rattle.ubi_volume.specs.Shape.{IsShape};
     ghost use Rattle.ubi_volume.specs.MemVolume.{state_of, IsBlank};
+    ghost use Rattle.ubi_volume.specs.Loading.{IsLoaded};
     ghost use Rattle.ubi_volume.specs.Volume.{image_of};
 
     /// A volume of which no LEB is written.
@@ -39,6 +41,15 @@ impl MemVolume {
         ensures { IfOk result (λ volume. IsBlank shape (state_of volume)) }
     {
         let lebs = blank_lebs(alloc, shape.leb_size, shape.leb_cnt)?;
+        Ok(MemVolume { shape, lebs })
+    }
+
+    // A volume that holds the bytes, and unwritten ones behind them.
+    pub(crate) fn loaded(alloc: Global, bytes: &[u8], shape: VolShape) -> Result<MemVolume, Memory>
+        requires { IsShape shape }
+        ensures { IfOk result (λ volume. IsLoaded shape bytes.now (state_of volume)) }
+    {
+        let lebs = loaded_lebs(alloc, shape, bytes)?;
         Ok(MemVolume { shape, lebs })
     }
 

@@ -10,6 +10,7 @@ use Rattle.ubifs_base.specs.declared.raw_geometry.GeomField.TheVariants.{LebSize
 use Rattle.ubi_volume.specs.Volume.{image_of}
 use Rattle.fs_model.specs.Trace.{IsHistory}
 use Rattle.io_edges.specs.Counts.{Rose}
+use Rattle.io_edges.specs.Sink.{SinkState}
 use Rattle.image_maker.specs.Leaves.{live_leaves}
 use Rattle.image_maker.specs.Image.{IsImage}
 use Rattle.script_text.specs.declared.part.Part.{Part}
@@ -103,9 +104,11 @@ abbrev pub IsUnread : Bool → (List ℕ → Option (List ℕ)) → ℕ → ℕ 
 IsUnread tells content before now manifest script image line =
     (Rose before now × ((name : List ℕ) × ((name ≡ manifest) ⊎ (name ≡ script) ⊎ (name ≡ image)) × (line ≡ line_of (codes "file" ∷ name ∷ []))))
     ⊎ (IsTrue tells × (content manifest ≡ None) × (line ≡ line_of (codes "file" ∷ manifest ∷ [])))
-    ⊎ (IsTrue tells × (content script ≡ None) × (line ≡ line_of (codes "file" ∷ script ∷ [])))
+    ⊎ (IsTrue tells × ((bytes : List ℕ) × (content manifest ≡ Some bytes)) × (content script ≡ None) × (line ≡ line_of (codes "file" ∷ script ∷ [])))
 
--- Where text is told: all of it was added, or a first part where the sink failed.
-abbrev pub IsPrinted : Bool → List ℕ → List ℕ → ℕ → ℕ → List ℕ → Type 0
-IsPrinted tells old new before now text =
-    IsTrue tells → (new ≡ old ++ text) ⊎ ((n : ℕ) × (new ≡ old ++ take n text) × Rose before now)
+-- Where text is told: all of it was added, or a first part where the sink failed, or nothing where it found no memory.
+abbrev pub IsPrinted : SinkState → SinkState → List ℕ → Type 0
+IsPrinted old new text = IsTrue old.tells
+    → (new.text ≡ old.text ++ text)
+    ⊎ ((n : ℕ) × (new.text ≡ old.text ++ take n text) × Rose old.faults new.faults)
+    ⊎ ((new.text ≡ old.text) × Rose old.shortages new.shortages)

@@ -1,6 +1,6 @@
 // The program's one call.
 
-ghost use Rattle.std.specs.Prelude.{◌≡◌, ◌≢◌, ◌≤◌, ◌⊎◌, ◌++◌, ◌∷◌, [], ℕ, List, IsTrue, map, codes};
+ghost use Rattle.std.specs.Prelude.{◌≡◌, ◌≢◌, ◌≤◌, ◌⊎◌, ◌↔◌, ◌++◌, ◌∷◌, [], ℕ, List, IsTrue, map, codes};
 ghost use Rattle.std.specs.String.{string_bytes};
 ghost use Rattle.io_edges.specs.Counts.{Rose};
 ghost use Rattle.script_text.specs.Words.{line_of};
@@ -21,32 +21,31 @@ pub fn ubifs<K: Keeper, O: Sink>(alloc: Global, words: &[String], keeper: &mut K
     ensures known { (result ≤ 7) × (result ≢ 3) }
 
     // The words aren't a run of three files.
-    ensures words { ((manifest script image : List ℕ) → IsRun (map string_bytes words.now) manifest script image → ⊥) → (result ≡ 1) ⊎ (result ≡ 6) }
-    ensures usage { result ≡ 1 → ((manifest script image : List ℕ) → IsRun (map string_bytes words.now) manifest script image → ⊥)
-        × IsPrinted (O.tells out.old) (O.text out.old) (O.text out.new) (O.count out.old) (O.count out.new) (line_of (codes "usage" ∷ [])) }
+    ensures words { (result ≡ 1) ↔ ((manifest script image : List ℕ) → IsRun (map string_bytes words.now) manifest script image → ⊥) }
+    ensures usage { result ≡ 1 → IsPrinted (O.state out.old) (O.state out.new) (line_of (codes "usage" ∷ [])) }
 
     // The work was done, and all of its text was printed.
     ensures done { result ≡ 0 → OnRun (map string_bytes words.now) (λ manifest script image. (text : List ℕ)
         × IsFinished (K.tells keeper.old) (K.content keeper.old) (K.content keeper.new) manifest script image text
-        × (IsTrue (O.tells out.old) → O.text out.new ≡ O.text out.old ++ text)) }
+        × (IsTrue (O.state out.old).tells → (O.state out.new).text ≡ (O.state out.old).text ++ text)) }
 
     // Nothing was done, and the line says why.
     ensures text { result ≡ 2 → OnRun (map string_bytes words.now) (λ manifest script image. (line : List ℕ)
         × IsTurnedDown (K.tells keeper.old) (K.content keeper.old) (K.content keeper.new) manifest script (λ texts. IsBadText texts line)
-        × IsPrinted (O.tells out.old) (O.text out.old) (O.text out.new) (O.count out.old) (O.count out.new) line) }
+        × IsPrinted (O.state out.old) (O.state out.new) line) }
     ensures geometry { result ≡ 7 → OnRun (map string_bytes words.now) (λ manifest script image. (line : List ℕ)
         × IsTurnedDown (K.tells keeper.old) (K.content keeper.old) (K.content keeper.new) manifest script (λ texts. IsBadGeometry texts line)
-        × IsPrinted (O.tells out.old) (O.text out.old) (O.text out.new) (O.count out.old) (O.count out.new) line) }
+        × IsPrinted (O.state out.old) (O.state out.new) line) }
     ensures files { result ≡ 4 → OnRun (map string_bytes words.now) (λ manifest script image. (line : List ℕ)
         × IsUnread (K.tells keeper.old) (K.content keeper.old) (K.count keeper.old) (K.count keeper.new) manifest script image line
         × SameFiles (K.content keeper.old) (K.content keeper.new)
-        × IsPrinted (O.tells out.old) (O.text out.old) (O.text out.new) (O.count out.old) (O.count out.new) line) }
+        × IsPrinted (O.state out.old) (O.state out.new) line) }
 
     // The work was done, but the sink failed.
-    ensures output { result ≡ 5 → Rose (O.count out.old) (O.count out.new)
+    ensures output { result ≡ 5 → Rose (O.state out.old).faults (O.state out.new).faults
         × OnRun (map string_bytes words.now) (λ manifest script image. (text : List ℕ)
         × IsFinished (K.tells keeper.old) (K.content keeper.old) (K.content keeper.new) manifest script image text
-        × IsPrinted (O.tells out.old) (O.text out.old) (O.text out.new) (O.count out.old) (O.count out.new) text) }
+        × IsPrinted (O.state out.old) (O.state out.new) text) }
 
     // A file changes only where the work was done.
     ensures kept { SameFiles (K.content keeper.old) (K.content keeper.new)
@@ -54,30 +53,26 @@ pub fn ubifs<K: Keeper, O: Sink>(alloc: Global, words: &[String], keeper: &mut K
         × IsFinished (K.tells keeper.old) (K.content keeper.old) (K.content keeper.new) manifest script image text) }
 {
     let Some((manifest, script, image)) = run_words(words) else {
-        return turned_down(out, b"usage\n".as_slice(), 1);
+        return told(out, b"usage\n".as_slice(), 1);
     };
     match run(alloc, manifest, script, image, keeper) {
-        Ok(Ended::Unread { line }) => turned_down(out, &line, 4),
-        Ok(Ended::BadText { line }) => turned_down(out, &line, 2),
-        Ok(Ended::BadGeometry { line }) => turned_down(out, &line, 7),
+        Ok(Ended::Unread { line }) => told(out, &line, 4),
+        Ok(Ended::BadText { line }) => told(out, &line, 2),
+        Ok(Ended::BadGeometry { line }) => told(out, &line, 7),
         Ok(Ended::Done { text }) => match out.write(&text) {
             Ok(()) => 0,
             Err(SinkFault::Failed { .. }) => 5,
             Err(SinkFault::Memory) => 6,
         },
-        Err(Memory) => {
-            let _ = out.write(b"memory\n".as_slice());
-            6
-        }
+        Err(Memory) => told(out, b"memory\n".as_slice(), 6),
     }
 }
 
-// Prints the line of a status, as far as the sink takes it. A sink that failed leaves the status; want of memory is its own.
-fn turned_down<O: Sink>(out: &mut O, line: &[u8], status: u8) -> u8
-    ensures { (result ≡ 6) ⊎ ((result ≡ status) × IsPrinted (O.tells out.old) (O.text out.old) (O.text out.new) (O.count out.old) (O.count out.new) line.now) }
+// Prints the line of a status, as far as the sink takes it.
+fn told<O: Sink>(out: &mut O, line: &[u8], status: u8) -> u8
+    ensures status { result ≡ status }
+    ensures printed { IsPrinted (O.state out.old) (O.state out.new) line.now }
 {
-    match out.write(line) {
-        Err(SinkFault::Memory) => 6,
-        _ => status,
-    }
+    let _ = out.write(line);
+    status
 }
