@@ -1,5 +1,5 @@
 -- The body of an entry node is read exactly where it is spelled.
-use Rattle.std.proofs.Common.{◌≡◌, ℕ, suc, ◌+◌, ◌-◌, ◌*◌, ◌/◌, ◌%◌, ◌^◌, ◌<◌, ◌≤◌, ◌==◌, ◌||◌, not, nat_lt, nat_le, Bool, true, false, List, [], ◌∷◌, ◌++◌, length, take, drop, slice_index, get_or, Some, refl, ap, sym, ◌∙◌, subst, arith, inl, inr, length-append, length-drop, get_or-drop, take-append-drop}
+use Rattle.std.proofs.Common.{◌≡◌, ℕ, suc, ◌+◌, ◌-◌, ◌*◌, ◌/◌, ◌%◌, ◌^◌, ◌<◌, ◌≤◌, ◌==◌, ◌||◌, not, nat_lt, nat_le, Bool, true, false, List, [], ◌∷◌, ◌++◌, length, take, drop, slice_index, get_or, refl, ap, sym, ◌∙◌, subst, arith, inl, inr, length-append, length-drop, get_or-drop, take-append-drop}
 use Rattle.std.specs.List.{list_all}
 use Rattle.std.specs.Prelude.{if◌then◌else◌}
 use Rattle.std.proofs.Math.Seq.{take-append_seam, get_or-append_seam, drop-cons}
@@ -12,12 +12,13 @@ use Rattle.ubifs_base.specs.declared.key.Key.TheVariants.{Dent, Xent}
 use Rattle.ubifs_base.specs.NodeLaws.{IsBytes}
 use Rattle.ubifs_base.specs.R5.{r5_of, r5_from}
 use Rattle.media_leaf.specs.declared.dent_node.DentNode.{DentNode}
-use Rattle.media_leaf.specs.Entry.{is_name_byte, entry_fields, entry_tail, entry_type, named_entry, read_entry}
+use Rattle.media_leaf.specs.Entry.{is_name_byte, entry_fields, entry_tail, entry_at, entry_type, is_entry, is_named, read_entry}
 use Rattle.node_fields.specs.FieldLaws.{reads_back, spelled, length-read}
 use Rattle.node_fields.specs.Fields.{Spells}
 use Rattle.media_leaf.specs.LeafNode.{leaf_form, entry}
 use Rattle.node_fields.specs.Form.{IsBody}
-use Rattle.node_fields.specs.FormLaws.{IsReader, guard, some_same}
+use Rattle.node_fields.specs.FormLaws.{IsReader}
+use Rattle.media_leaf.proofs.BodyTests.{IsTest, past, reader_of}
 
 -- a hash has 29 bits
 above_two : (masked : ℕ) → masked < 2 ^ 29 → (if nat_le masked 2 then masked + 3 else masked) < 2 ^ 29
@@ -82,9 +83,9 @@ type_above kind hash h = omega arith
 hash_below : (kind hash : ℕ) → hash < 2 ^ 29 → (kind * 2 ^ 29 + hash) % 2 ^ 29 ≡ hash
 hash_below kind hash h = omega arith
 
-takes : (kind : ℕ) (body : List ℕ) (node : DentNode) → IsBody leaf_form kind body (entry node) → read_entry kind body ≡ Some node
-unfolding read_entry named_entry
-takes kind body node h =
+passes : (kind : ℕ) (body : List ℕ) (node : DentNode) → IsBody leaf_form kind body (entry node) → is_entry kind body ≡ true
+unfolding is_entry is_named
+passes kind body node h =
     let name = node.name in
     let size = length name in
     let hash = r5_of name in
@@ -96,10 +97,8 @@ takes kind body node h =
     let plain : list_all is_name_byte name ≡ true = h.is.plain in
     let type : kind ≡ entry_type node = h.kind_is in
     let P : ℕ → Type 0 = λ k. (k == 2 || k == 3) ≡ true in
-    let Q : ℕ → Type 0 = λ k. (k == 3) ≡ attribute in
     let back = reads_back 0 (entry_fields node) (entry_tail node) body (omega arith) h.spelled in
     let rest : drop 32 body ≡ name ++ (0 ∷ []) = back.rest in
-    let dir : little_number 4 body ≡ node.dir = back.numbers.0 ∙ first_word node.dir hash attribute in
     let second : little_number 4 (drop 4 body) ≡ kind * 2 ^ 29 + hash =
     back.numbers.1.0 ∙ second_word node.dir hash attribute ∙ ap (λ (k : ℕ). k * 2 ^ 29 + hash) (sym type) in
     let inum : little_number 8 (drop 16 body) ≡ node.inum = back.numbers.1.1.0 in
@@ -122,28 +121,44 @@ takes kind body node h =
     let low : (kind * 2 ^ 29 + hash) % 2 ^ 29 ≡ hash = hash_below kind hash bits in
     let t9 : (kind == kind) ≡ true = eq-eqb kind kind refl in
     let t10 : (hash == hash) ≡ true = eq-eqb hash hash refl in
-    let which : (kind == 3) ≡ attribute = subst Q (sym type) (attribute_is attribute) in
-    rw (t0, t1, inum, t2, kind_byte, t3, long_name, t4, t5, t6, t7, t8, plain, second, high, t9, low, t10, dir, which) refl
+    rw (t0, t1, inum, t2, kind_byte, t3, long_name, t4, t5, t6, t7, t8, plain, second, high, t9, low, t10) refl
 
-gives : (kind : ℕ) (body : List ℕ) (node : DentNode) → IsBytes body → read_entry kind body ≡ Some node → IsBody leaf_form kind body (entry node)
-unfolding read_entry named_entry
-gives kind body node fits h =
+reads : (kind : ℕ) (body : List ℕ) (node : DentNode) → IsBody leaf_form kind body (entry node) → entry_at kind body ≡ node
+unfolding entry_at
+reads kind body node h =
+    let name = node.name in
+    let hash = r5_of name in
+    let attribute = node.attribute in
+    let type : kind ≡ entry_type node = h.kind_is in
+    let Q : ℕ → Type 0 = λ k. (k == 3) ≡ attribute in
+    let back = reads_back 0 (entry_fields node) (entry_tail node) body (omega arith) h.spelled in
+    let rest : drop 32 body ≡ name ++ (0 ∷ []) = back.rest in
+    let dir : little_number 4 body ≡ node.dir = back.numbers.0 ∙ first_word node.dir hash attribute in
+    let inum : little_number 8 (drop 16 body) ≡ node.inum = back.numbers.1.1.0 in
+    let kind_byte : slice_index body 25 ≡ node.kind = sym (byte_at_place 25 body) ∙ back.numbers.1.1.1.0 in
+    let long_name : little_number 2 (drop 26 body) ≡ length name = back.numbers.1.1.1.1.0 in
+    let there : take (length name) (drop 32 body) ≡ name = name_at name body rest in
+    let which : (kind == 3) ≡ attribute = subst Q (sym type) (attribute_is attribute) in
+    rw (inum, kind_byte, long_name, there, dir, which) refl
+
+spells : (kind : ℕ) (body : List ℕ) → IsBytes body → is_entry kind body ≡ true → IsBody leaf_form kind body (entry (entry_at kind body))
+unfolding is_entry is_named entry_at
+spells kind body fits h =
     let second = little_number 4 (drop 4 body) in
     let inum = little_number 8 (drop 16 body) in
     let size = little_number 2 (drop 26 body) in
     let name = take size (drop 32 body) in
-    let read : DentNode = record { dir = little_number 4 body; inum = inum; kind = slice_index body 25; name = name; attribute = kind == 3 } in
-    let g0 = guard (not (kind == 2 || kind == 3)) _ node h in
-    let g1 = guard (nat_lt (length body) 33) _ node g0.1 in
-    let g2 = guard (nat_lt 4294967295 inum) _ node g1.1 in
-    let g3 = guard (nat_lt 6 (slice_index body 25)) _ node g2.1 in
-    let g4 = guard (nat_lt size 1) _ node g3.1 in
-    let g5 = guard (nat_lt 255 size) _ node g4.1 in
-    let g6 = guard (not (length body - 33 == size)) _ node g5.1 in
-    let g7 = guard (not (slice_index body (32 + size) == 0)) _ node g6.1 in
-    let g8 = guard (not (list_all is_name_byte name)) _ node g7.1 in
-    let g9 = guard (not (second / 2 ^ 29 == kind)) _ node g8.1 in
-    let g10 = guard (not (second % 2 ^ 29 == r5_of name)) (Some read) node g9.1 in
+    let read : DentNode = entry_at kind body in
+    let g0 = past (not (kind == 2 || kind == 3)) _ h in
+    let g1 = past (nat_lt (length body) 33) _ g0.1 in
+    let g2 = past (nat_lt 4294967295 inum) _ g1.1 in
+    let g3 = past (nat_lt 6 (slice_index body 25)) _ g2.1 in
+    let g4 = past (nat_lt size 1) _ g3.1 in
+    let g5 = past (nat_lt 255 size) _ g4.1 in
+    let g6 = past (not (length body - 33 == size)) _ g5.1 in
+    let g7 = past (not (slice_index body (32 + size) == 0)) _ g6.1 in
+    let g8 = past (not (list_all is_name_byte name)) _ g7.1 in
+    let g9 = past (not (second / 2 ^ 29 == kind)) (second % 2 ^ 29 == r5_of name) g8.1 in
     let type : kind ≡ entry_type read = kind_is kind (not-false (kind == 2 || kind == 3) g0.0) in
     let room : 33 ≤ length body = ltb-false (length body) 33 g1.0 in
     let inum_most : inum ≤ 4294967295 = ltb-false 4294967295 inum g2.0 in
@@ -155,19 +170,22 @@ gives kind body node fits h =
     let zero_byte : slice_index body (32 + size) ≡ 0 = eqb-true (slice_index body (32 + size)) 0 (not-false (slice_index body (32 + size) == 0) g7.0) in
     let plain : list_all is_name_byte name ≡ true = not-false (list_all is_name_byte name) g8.0 in
     let high : second / 2 ^ 29 ≡ kind = eqb-true (second / 2 ^ 29) kind (not-false (second / 2 ^ 29 == kind) g9.0) in
-    let low : second % 2 ^ 29 ≡ r5_of name = eqb-true (second % 2 ^ 29) (r5_of name) (not-false (second % 2 ^ 29 == r5_of name) g10.0) in
+    let low : second % 2 ^ 29 ≡ r5_of name = eqb-true (second % 2 ^ 29) (r5_of name) g9.1 in
     let word : second ≡ kind * 2 ^ 29 + r5_of name = omega (arith, high, low) in
     let long_name : length name ≡ size = length-take-le size (drop 32 body) (let l = length-drop 32 body in omega (arith, l, long)) in
     let tail : drop 32 body ≡ entry_tail read = name_and_zero size body long zero_byte in
-    let P : DentNode → Type 0 = λ n. IsBody leaf_form kind body (entry n) in
     let Q : List ℕ → Type 0 = λ t. Spells (entry_fields read) t body in
     let first_is = sym (first_word (little_number 4 body) (r5_of name) (kind == 3)) in
     let second_is = word ∙ ap (λ (k : ℕ). k * 2 ^ 29 + r5_of name) type ∙ sym (second_word (little_number 4 body) (r5_of name) (kind == 3)) in
-    subst P (some_same read node g10.1) (record {
+    record {
       kind_is = type;
       spelled = subst Q tail (spelled 0 (entry_fields read) body fits (omega (arith, room)) (first_is, (second_is, (refl, (byte_at_place 25 body, (sym long_name, tt))))));
       is = record { inum_fits = omega (arith, inum_most); kind_known = known; some = rw long_name some; most = rw long_name most; plain = plain };
-    })
+    }
+
+pub entry_test : IsTest leaf_form entry is_entry entry_at
+entry_test = record { passes = passes; reads = reads; spells = spells }
 
 pub entry_reader : IsReader leaf_form entry read_entry
-entry_reader = record { takes = takes; gives = gives }
+unfolding read_entry
+entry_reader = reader_of leaf_form entry is_entry entry_at entry_test

@@ -1,5 +1,5 @@
 -- Data nodes: a block of a file.
-use Rattle.std.specs.Prelude.{ℕ, ◌-◌, ◌/◌, ◌%◌, ◌^◌, ◌<◌, ◌≤◌, ◌==◌, not, nat_lt, if◌then◌else◌, List, [], ◌∷◌, ◌++◌, length, drop, Option, Some, None}
+use Rattle.std.specs.Prelude.{ℕ, ◌-◌, ◌/◌, ◌%◌, ◌^◌, ◌<◌, ◌≤◌, ◌==◌, not, nat_lt, if◌then◌else◌, Bool, false, List, [], ◌∷◌, ◌++◌, length, drop, Option, Some, None}
 use Rattle.byteorder.specs.Endian.{little_number}
 use Rattle.ubifs_base.specs.declared.key.Key.TheVariants.{Block}
 use Rattle.node_fields.specs.Fields.{Field, number, ignored, key_fields}
@@ -15,16 +15,23 @@ pub record IsDataNode (node : DataNode) : Type 0 where
 abbrev pub data_fields : DataNode → List Field
 data_fields node = key_fields (Block node.ino node.block) ++ (number 4 (length node.bytes) ∷ number 2 0 ∷ ignored 2 ∷ [])
 
--- the node that a body of this type spells, if it spells one
-unfoldable pub read_data : ℕ → List ℕ → Option DataNode
-read_data kind body =
+-- whether a body of this type spells a node
+unfoldable pub is_data : ℕ → List ℕ → Bool
+is_data kind body =
     let second = little_number 4 (drop 4 body) in
     let size = little_number 4 (drop 16 body) in
-    if not (kind == 1) then None
-    else if nat_lt (length body) 24 then None
-    else if not (second / 2 ^ 29 == 1) then None
-    else if not (little_number 2 (drop 20 body) == 0) then None
-    else if nat_lt size 1 then None
-    else if nat_lt 4096 size then None
-    else if not (length body - 24 == size) then None
-    else Some (record { ino = little_number 4 body; block = second % 2 ^ 29; bytes = drop 24 body })
+    if not (kind == 1) then false
+    else if nat_lt (length body) 24 then false
+    else if not (second / 2 ^ 29 == 1) then false
+    else if not (little_number 2 (drop 20 body) == 0) then false
+    else if nat_lt size 1 then false
+    else if nat_lt 4096 size then false
+    else length body - 24 == size
+
+-- the node that such a body spells
+unfoldable pub data_at : List ℕ → DataNode
+data_at body = record { ino = little_number 4 body; block = little_number 4 (drop 4 body) % 2 ^ 29; bytes = drop 24 body }
+
+-- the node that a body of this type spells, if it spells one
+unfoldable pub read_data : ℕ → List ℕ → Option DataNode
+read_data kind body = if is_data kind body then Some (data_at body) else None

@@ -1,5 +1,5 @@
 -- Entry nodes: a name in a directory, or the name of an attribute.
-use Rattle.std.specs.Prelude.{ℕ, ◌+◌, ◌-◌, ◌/◌, ◌%◌, ◌^◌, ◌<◌, ◌≤◌, ◌==◌, ◌&&◌, ◌||◌, not, nat_lt, if◌then◌else◌, Bool, IsTrue, List, [], ◌∷◌, ◌++◌, length, take, drop, slice_index, Option, Some, None}
+use Rattle.std.specs.Prelude.{ℕ, ◌+◌, ◌-◌, ◌/◌, ◌%◌, ◌^◌, ◌<◌, ◌≤◌, ◌==◌, ◌&&◌, ◌||◌, not, nat_lt, if◌then◌else◌, Bool, false, IsTrue, List, [], ◌∷◌, ◌++◌, length, take, drop, slice_index, Option, Some, None}
 use Rattle.std.specs.List.{list_all}
 use Rattle.byteorder.specs.Endian.{little_number}
 use Rattle.ubifs_base.specs.declared.key.Key.{Key}
@@ -38,25 +38,36 @@ entry_fields node =
 abbrev pub entry_tail : DentNode → List ℕ
 entry_tail node = node.name ++ (0 ∷ [])
 
--- of a body whose fields are in range: the node of this name, if it may be a name and the key is its key
-unfoldable pub named_entry : ℕ → List ℕ → List ℕ → Option DentNode
-named_entry kind body name =
+-- the name that stands in a body
+abbrev pub name_of : List ℕ → List ℕ
+name_of body = take (little_number 2 (drop 26 body)) (drop 32 body)
+
+-- of a body whose fields are in range: whether this may be a name, and the key is its key
+unfoldable pub is_named : ℕ → List ℕ → List ℕ → Bool
+is_named kind body name =
     let second = little_number 4 (drop 4 body) in
-    if not (list_all is_name_byte name) then None
-    else if not (second / 2 ^ 29 == kind) then None
-    else if not (second % 2 ^ 29 == r5_of name) then None
-    else Some (record { dir = little_number 4 body; inum = little_number 8 (drop 16 body); kind = slice_index body 25; name = name; attribute = kind == 3 })
+    if not (list_all is_name_byte name) then false
+    else if not (second / 2 ^ 29 == kind) then false
+    else second % 2 ^ 29 == r5_of name
+
+-- whether a body of this type spells a node
+unfoldable pub is_entry : ℕ → List ℕ → Bool
+is_entry kind body =
+    let size = little_number 2 (drop 26 body) in
+    if not (kind == 2 || kind == 3) then false
+    else if nat_lt (length body) 33 then false
+    else if nat_lt 4294967295 (little_number 8 (drop 16 body)) then false
+    else if nat_lt 6 (slice_index body 25) then false
+    else if nat_lt size 1 then false
+    else if nat_lt 255 size then false
+    else if not (length body - 33 == size) then false
+    else if not (slice_index body (32 + size) == 0) then false
+    else is_named kind body (name_of body)
+
+-- the node that such a body spells
+unfoldable pub entry_at : ℕ → List ℕ → DentNode
+entry_at kind body = record { dir = little_number 4 body; inum = little_number 8 (drop 16 body); kind = slice_index body 25; name = name_of body; attribute = kind == 3 }
 
 -- the node that a body of this type spells, if it spells one
 unfoldable pub read_entry : ℕ → List ℕ → Option DentNode
-read_entry kind body =
-    let size = little_number 2 (drop 26 body) in
-    if not (kind == 2 || kind == 3) then None
-    else if nat_lt (length body) 33 then None
-    else if nat_lt 4294967295 (little_number 8 (drop 16 body)) then None
-    else if nat_lt 6 (slice_index body 25) then None
-    else if nat_lt size 1 then None
-    else if nat_lt 255 size then None
-    else if not (length body - 33 == size) then None
-    else if not (slice_index body (32 + size) == 0) then None
-    else named_entry kind body (take size (drop 32 body))
+read_entry kind body = if is_entry kind body then Some (entry_at kind body) else None

@@ -43,7 +43,20 @@ abbrev pub inode_fields : InoNode → List Field
 inode_fields node =
     key_fields (Ino node.ino) ++ (size_fields node ++ (time_fields node ++ (owner_fields node ++ (extra_fields node ++ last_fields))))
 
--- the node that a body spells, if it spells one
+-- whether a body of this type spells a node
+unfoldable pub is_inode : ℕ → List ℕ → Bool
+is_inode kind body =
+    let mode = little_number 4 (drop 80 body) in
+    let size = little_number 4 (drop 88 body) in
+    if not (kind == 0) then false
+    else if nat_lt (length body) 136 then false
+    else if not (little_number 4 (drop 4 body) == 0) then false
+    else if nat_lt (little_number 4 body) 1 then false
+    else if nat_lt 4096 size then false
+    else if not (length body - 136 == size) then false
+    else not (not (size == 0) && not (may_hold_data mode))
+
+-- the node that such a body spells
 unfoldable pub inode_at : List ℕ → InoNode
 inode_at body = record {
   ino = little_number 4 body;
@@ -64,14 +77,4 @@ inode_at body = record {
 
 -- the node that a body of this type spells, if it spells one
 unfoldable pub read_inode : ℕ → List ℕ → Option InoNode
-read_inode kind body =
-    let mode = little_number 4 (drop 80 body) in
-    let size = little_number 4 (drop 88 body) in
-    if not (kind == 0) then None
-    else if nat_lt (length body) 136 then None
-    else if not (little_number 4 (drop 4 body) == 0) then None
-    else if nat_lt (little_number 4 body) 1 then None
-    else if nat_lt 4096 size then None
-    else if not (length body - 136 == size) then None
-    else if not (size == 0) && not (may_hold_data mode) then None
-    else Some (inode_at body)
+read_inode kind body = if is_inode kind body then Some (inode_at body) else None

@@ -1,7 +1,7 @@
 // Data nodes.
 
-ghost use Rattle.std.specs.Prelude.{◌≡◌, ◌++◌, List, ◌+◌, ◌≤◌, ℕ, length, IfOk, IfSome, IfNone};
-ghost use Rattle.media_leaf.specs.Data.{IsDataNode, data_fields, read_data};
+ghost use Rattle.std.specs.Prelude.{◌≡◌, ◌++◌, List, ◌+◌, ◌≤◌, ℕ, length, true, IfOk, IfSome, IfNone};
+ghost use Rattle.media_leaf.specs.Data.{IsDataNode, data_fields, data_at, is_data, read_data};
 ghost use Rattle.node_fields.specs.Fields.{AllFit, spelling};
 ghost use Rattle.media_leaf.specs.LeafNode.{IsData, block, written};
 ghost use Rattle.node_fields.specs.Opening.{decoded};
@@ -94,33 +94,48 @@ fn decode_exactly(alloc: Global, bytes: &[u8]) -> Result<Option<DataNode>, Memor
 fn read_body(alloc: Global, kind: u8, body: &[u8]) -> Result<Option<DataNode>, Memory>
     ensures { IfOk result (λ r. r ≡ read_data kind body.now) }
 {
-    if kind != KIND {
+    if !is_data_body(kind, body) {
         return Ok(None);
+    }
+    Ok(Some(node_at(alloc, body)?))
+}
+
+/// Whether a type and a body are a data node.
+#[tactic(auto, unfolding(crate::specs::Data::is_data))]
+pub(crate) fn is_data_body(kind: u8, body: &[u8]) -> bool
+    ensures test { result ≡ is_data kind body.now }
+    ensures room { result ≡ true → 24 ≤ length body.now }
+{
+    if kind != KIND {
+        return false;
     }
     if body.len() < 24 {
-        return Ok(None);
+        return false;
     }
-    let ino = u32_at(body, 0);
-    let second = u32_at(body, 4);
-    if second / (1 << 29) != 1 {
-        return Ok(None);
+    if u32_at(body, 4) / (1 << 29) != 1 {
+        return false;
     }
     if u16_at(body, 20) != 0 {
-        return Ok(None);
+        return false;
     }
     let size = u32_at(body, 16);
     if size < 1 {
-        return Ok(None);
+        return false;
     }
     if size > 4096 {
-        return Ok(None);
+        return false;
     }
-    if body.len() - 24 != size as usize {
-        return Ok(None);
-    }
-    Ok(Some(DataNode {
-        ino,
-        block: second % (1 << 29),
+    body.len() - 24 == size as usize
+}
+
+#[tactic(auto, unfolding(crate::specs::Data::data_at))]
+fn node_at(alloc: Global, body: &[u8]) -> Result<DataNode, Memory>
+    requires { 24 ≤ length body.now }
+    ensures { IfOk result (λ node. node ≡ data_at body.now) }
+{
+    Ok(DataNode {
+        ino: u32_at(body, 0),
+        block: u32_at(body, 4) % (1 << 29),
         bytes: Bytes::from_slice(alloc, body.split_at(24).1)?,
-    }))
+    })
 }

@@ -1,12 +1,12 @@
 // Entry nodes.
 
-ghost use Rattle.std.specs.Prelude.{◌≡◌, ◌++◌, List, ◌+◌, ◌^◌, ◌<◌, ◌≤◌, ℕ, ◌==◌, ◌||◌, length, take, drop, if◌then◌else◌, IfOk, IfSome, IfNone};
+ghost use Rattle.std.specs.Prelude.{◌≡◌, ◌++◌, List, ◌+◌, ◌^◌, ◌<◌, ◌≤◌, ℕ, ◌==◌, ◌||◌, length, drop, true, if◌then◌else◌, IfOk, IfSome, IfNone};
 ghost use Rattle.std.specs.List.{list_all};
 ghost use Rattle.byteorder.specs.Endian.{little_number};
 ghost use Rattle.ubifs_base.specs.Key.{IsKey};
 ghost use Rattle.ubifs_base.specs.declared.key.Key.TheVariants.{Dent, Xent};
 ghost use Rattle.ubifs_base.specs.R5.{r5_of};
-ghost use Rattle.media_leaf.specs.Entry.{IsDentNode, is_name_byte, entry_fields, entry_tail, entry_type, named_entry, read_entry};
+ghost use Rattle.media_leaf.specs.Entry.{IsDentNode, is_name_byte, entry_at, entry_fields, entry_tail, entry_type, is_entry, is_named, name_of, read_entry};
 ghost use Rattle.node_fields.specs.Fields.{AllFit, spelling, key_fields};
 ghost use Rattle.media_leaf.specs.LeafNode.{IsDent, entry, written};
 ghost use Rattle.node_fields.specs.Opening.{decoded};
@@ -130,39 +130,53 @@ fn decode_exactly(alloc: Global, bytes: &[u8]) -> Result<Option<DentNode>, Memor
 fn read_body(alloc: Global, kind: u8, body: &[u8]) -> Result<Option<DentNode>, Memory>
     ensures { IfOk result (λ r. r ≡ read_entry kind body.now) }
 {
-    if !is_entry_kind(kind) {
+    if !is_entry_body(kind, body) {
         return Ok(None);
+    }
+    Ok(Some(node_at(alloc, kind, body)?))
+}
+
+/// Whether a type and a body are an entry node.
+#[tactic(auto, unfolding(crate::specs::Entry::is_entry))]
+pub(crate) fn is_entry_body(kind: u8, body: &[u8]) -> bool
+    ensures test { result ≡ is_entry kind body.now }
+    ensures room { result ≡ true → 33 + little_number 2 (drop 26 body.now) ≡ length body.now }
+    ensures inum { result ≡ true → little_number 8 (drop 16 body.now) < 2 ^ 32 }
+{
+    if !is_entry_kind(kind) {
+        return false;
     }
     if body.len() < 33 {
-        return Ok(None);
+        return false;
     }
     if u64_at(body, 16) > 0xffff_ffff {
-        return Ok(None);
+        return false;
     }
     if body[25] > 6 {
-        return Ok(None);
+        return false;
     }
     let size = u16_at(body, 26);
     if size < 1 {
-        return Ok(None);
+        return false;
     }
     if size > 255 {
-        return Ok(None);
+        return false;
     }
     if body.len() - 33 != size as usize {
-        return Ok(None);
+        return false;
     }
     if body[32 + size as usize] != 0 {
-        return Ok(None);
+        return false;
     }
-    read_named(alloc, kind, body, name_in(body, size as usize))
+    is_named_body(kind, body, name_in(body))
 }
 
-fn name_in(body: &[u8], size: usize) -> &[u8]
-    requires { 33 + size ≡ length body.now }
-    ensures { result.now ≡ take size (drop 32 body.now) }
+fn name_in(body: &[u8]) -> &[u8]
+    requires { 33 + little_number 2 (drop 26 body.now) ≡ length body.now }
+    ensures { result.now ≡ name_of body.now }
 {
-    body.split_at(32).1.split_at(size).0
+    let size = u16_at(body, 26);
+    body.split_at(32).1.split_at(size as usize).0
 }
 
 fn is_entry_kind(kind: u8) -> bool
@@ -171,29 +185,37 @@ fn is_entry_kind(kind: u8) -> bool
     kind == KIND || kind == ATTRIBUTE_KIND
 }
 
-#[tactic(auto, unfolding(crate::specs::Entry::named_entry))]
-fn read_named(alloc: Global, kind: u8, body: &[u8], name: &[u8]) -> Result<Option<DentNode>, Memory>
-    requires room { 33 ≤ length body.now }
-    requires inum { little_number 8 (drop 16 body.now) < 2 ^ 32 }
-    ensures { IfOk result (λ r. r ≡ named_entry kind body.now name.now) }
+#[tactic(auto, unfolding(crate::specs::Entry::is_named))]
+fn is_named_body(kind: u8, body: &[u8], name: &[u8]) -> bool
+    requires { 33 ≤ length body.now }
+    ensures { result ≡ is_named kind body.now name.now }
 {
     if !has_name_bytes(name) {
-        return Ok(None);
+        return false;
     }
     let second = u32_at(body, 4);
     if second / (1 << 29) != kind as u32 {
-        return Ok(None);
+        return false;
     }
     if second % (1 << 29) != r5(name) {
-        return Ok(None);
+        return false;
     }
-    Ok(Some(DentNode {
+    true
+}
+
+#[tactic(auto, unfolding(crate::specs::Entry::entry_at))]
+fn node_at(alloc: Global, kind: u8, body: &[u8]) -> Result<DentNode, Memory>
+    requires room { 33 + little_number 2 (drop 26 body.now) ≡ length body.now }
+    requires inum { little_number 8 (drop 16 body.now) < 2 ^ 32 }
+    ensures { IfOk result (λ node. node ≡ entry_at kind body.now) }
+{
+    Ok(DentNode {
         dir: u32_at(body, 0),
         inum: u64_at(body, 16) as u32,
         kind: body[25],
-        name: Name::from_slice(alloc, name)?,
+        name: Name::from_slice(alloc, name_in(body))?,
         attribute: kind == ATTRIBUTE_KIND,
-    }))
+    })
 }
 
 fn has_name_bytes(name: &[u8]) -> bool

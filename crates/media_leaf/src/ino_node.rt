@@ -1,10 +1,10 @@
 // Inode nodes.
 
-ghost use Rattle.std.specs.Prelude.{◌≡◌, ◌++◌, List, ◌+◌, ◌≤◌, ℕ, length, drop, IfOk, IfSome, IfNone};
+ghost use Rattle.std.specs.Prelude.{◌≡◌, ◌++◌, List, ◌+◌, ◌≤◌, ℕ, length, drop, true, IfOk, IfSome, IfNone};
 ghost use Rattle.ubifs_base.specs.Key.{IsKey};
 ghost use Rattle.node_fields.specs.Fields.{AllFit, spelling, key_fields};
 ghost use Rattle.ubifs_base.specs.declared.key.Key.TheVariants.{Ino};
-ghost use Rattle.media_leaf.specs.Inode.{IsInoNode, may_hold_data as may_hold, inode_fields, size_fields, time_fields, owner_fields, extra_fields, last_fields, inode_at, read_inode};
+ghost use Rattle.media_leaf.specs.Inode.{IsInoNode, may_hold_data as may_hold, inode_fields, size_fields, time_fields, owner_fields, extra_fields, last_fields, inode_at, is_inode, read_inode};
 ghost use Rattle.media_leaf.specs.LeafNode.{IsIno, inode, written};
 ghost use Rattle.node_fields.specs.Opening.{decoded};
 
@@ -179,30 +179,42 @@ fn may_hold_data(mode: u32) -> bool
 fn read_body(alloc: Global, kind: u8, body: &[u8]) -> Result<Option<InoNode>, Memory>
     ensures { IfOk result (λ r. r ≡ read_inode kind body.now) }
 {
-    if kind != KIND {
+    if !is_inode_body(kind, body) {
         return Ok(None);
+    }
+    Ok(Some(node_at(alloc, body)?))
+}
+
+/// Whether a type and a body are an inode node.
+#[tactic(auto, unfolding(crate::specs::Inode::is_inode))]
+pub(crate) fn is_inode_body(kind: u8, body: &[u8]) -> bool
+    ensures test { result ≡ is_inode kind body.now }
+    ensures room { result ≡ true → 136 ≤ length body.now }
+{
+    if kind != KIND {
+        return false;
     }
     if body.len() < 136 {
-        return Ok(None);
+        return false;
     }
     if u32_at(body, 4) != 0 {
-        return Ok(None);
+        return false;
     }
     if u32_at(body, 0) < 1 {
-        return Ok(None);
+        return false;
     }
     let mode = u32_at(body, 80);
     let size = u32_at(body, 88);
     if size > 4096 {
-        return Ok(None);
+        return false;
     }
     if body.len() - 136 != size as usize {
-        return Ok(None);
+        return false;
     }
     if size != 0 && !may_hold_data(mode) {
-        return Ok(None);
+        return false;
     }
-    Ok(Some(node_at(alloc, body)?))
+    true
 }
 
 #[tactic(auto, unfolding(crate::specs::Inode::inode_at))]

@@ -12,12 +12,14 @@ mod data_node;
 mod dent_node;
 mod ino_node;
 mod laws;
+mod leaf;
 mod trun_node;
 
 pub use crate::data_node::DataNode;
 pub use crate::dent_node::DentNode;
 pub use crate::ino_node::InoNode;
 pub use crate::laws::{one_node, whole_node};
+pub use crate::leaf::is_leaf;
 pub use crate::trun_node::TrunNode;
 
 #[cfg(test)]

@@ -114,3 +114,20 @@ fn truncation(rt: HostRuntime) -> Result<(), Fail> {
     assert_eq!(rt; read, node);
     Ok(())
 }
+
+#[test]
+fn leaves(rt: HostRuntime) -> Result<(), Fail> {
+    let rows: &[(u8, &[u8], bool)] = &[
+        (0, INODE.as_slice(), true),
+        (1, BLOCK.as_slice(), true),
+        (2, ENTRY.as_slice(), true),
+        (4, TRUNCATION.as_slice(), true),
+        (3, ENTRY.as_slice(), false),
+        (5, TRUNCATION.as_slice(), false),
+    ];
+    for (kind, bytes, wanted) in rows {
+        let (_, body) = bytes.split_at_checked(24).ok_or("a header")?;
+        assert_eq!(rt; is_leaf(*kind, body), *wanted);
+    }
+    Ok(())
+}

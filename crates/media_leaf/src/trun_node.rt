@@ -1,10 +1,10 @@
 // Truncation nodes.
 
-ghost use Rattle.std.specs.Prelude.{◌≡◌, ◌++◌, List, ◌+◌, ◌≤◌, ℕ, length, IfOk, IfSome, IfNone, IsOk, []};
+ghost use Rattle.std.specs.Prelude.{◌≡◌, ◌++◌, List, ◌+◌, ◌≤◌, ℕ, length, true, IfOk, IfSome, IfNone, IsOk, []};
 ghost use Rattle.node_fields.specs.Fields.{AllFit, spelling};
 ghost use Rattle.media_leaf.specs.LeafNode.{IsTrun, truncation, written};
 ghost use Rattle.node_fields.specs.Opening.{decoded};
-ghost use Rattle.media_leaf.specs.Truncation.{truncation_fields, read_truncation};
+ghost use Rattle.media_leaf.specs.Truncation.{is_truncation, read_truncation, truncation_at, truncation_fields};
 
 use node_fields::{opened_node, put_u32, put_u64, u32_at, u64_at};
 use std::alloc::Global;
@@ -85,15 +85,32 @@ fn decode_exactly(bytes: &[u8]) -> Option<TrunNode>
 fn read_body(kind: u8, body: &[u8]) -> Option<TrunNode>
     ensures { result ≡ read_truncation kind body.now }
 {
+    if !is_truncation_body(kind, body) {
+        return None;
+    }
+    Some(node_at(body))
+}
+
+/// Whether a type and a body are a truncation node.
+#[tactic(auto, unfolding(crate::specs::Truncation::is_truncation))]
+pub(crate) fn is_truncation_body(kind: u8, body: &[u8]) -> bool
+    ensures test { result ≡ is_truncation kind body.now }
+    ensures room { result ≡ true → length body.now ≡ 32 }
+{
     if kind != KIND {
-        return None;
+        return false;
     }
-    if body.len() != 32 {
-        return None;
-    }
-    Some(TrunNode {
+    body.len() == 32
+}
+
+#[tactic(auto, unfolding(crate::specs::Truncation::truncation_at))]
+fn node_at(body: &[u8]) -> TrunNode
+    requires { length body.now ≡ 32 }
+    ensures { result ≡ truncation_at body.now }
+{
+    TrunNode {
         ino: u32_at(body, 0),
         old_size: u64_at(body, 16),
         new_size: u64_at(body, 24),
-    })
+    }
 }
