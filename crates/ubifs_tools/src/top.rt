@@ -47,6 +47,9 @@ pub fn ubifs<K: Keeper, O: Sink>(alloc: Global, words: &[String], keeper: &mut K
         × IsFinished (K.tells keeper.old) (K.content keeper.old) (K.content keeper.new) manifest script image text
         × IsPrinted (O.state out.old) (O.state out.new) text) }
 
+    // There was no memory.
+    ensures memory { result ≡ 6 → IsPrinted (O.state out.old) (O.state out.new) (line_of (codes "memory" ∷ [])) }
+
     // A file changes only where the work was done.
     ensures kept { SameFiles (K.content keeper.old) (K.content keeper.new)
         ⊎ OnRun (map string_bytes words.now) (λ manifest script image. (text : List ℕ)
