@@ -75,11 +75,7 @@ impl<R: Files> Keeper for FileKeeper<R> {
     ghost use Rattle.std.specs.Prelude.{false, None};
     ghost use Rattle.io_edges.specs.Host.{keeper_faults};
 
-    ghost tells = { λ _. false };
-
-    ghost content = { λ _ _. None };
-
-    ghost count = { keeper_faults };
+    ghost state = { λ keeper. record { tells = false; content = λ _. None; faults = keeper_faults keeper } };
 
     fn read(&mut self, name: &str) -> Result<Vec<u8>, KeepFault> {
         match read_file(self.alloc, &self.host, name) {

@@ -1,7 +1,7 @@
 // Files by name.
 
-ghost use Rattle.std.specs.Prelude.{◌≡◌, ℕ, List, Option, Some, None, Bool, IsTrue, IfOk, OnOk, OnErr, IsErrOf};
-ghost use Rattle.io_edges.specs.Keeper.{SameFiles, SetsFile, IsCounted};
+ghost use Rattle.std.specs.Prelude.{◌≡◌, Some, None, IsTrue, IfOk, OnOk, OnErr, IsErrOf};
+ghost use Rattle.io_edges.specs.Keeper.{KeeperState, SameFiles, SetsFile, IsCounted};
 ghost use Rattle.io_edges.specs.declared.keeper.KeepFault.TheVariants.{Memory};
 
 use std::alloc::{AllocError, AllocFailed};
@@ -38,32 +38,26 @@ impl<T: Drop> From<AllocFailed<T>> for KeepFault {
 
 /// Named byte files.
 pub trait Keeper {
-    /// Whether the keeper tells what its files hold.
-    ghost tells: { Self → Bool };
-
-    /// The bytes of the file of a name, where there is one.
-    ghost content: { Self → List ℕ → Option (List ℕ) };
-
-    /// The count of faults.
-    ghost count: { Self → ℕ };
+    /// What there is to say of the keeper now.
+    ghost state: { Self → KeeperState };
 
     /// Reads a whole file.
     fn read(&mut self, name: &str) -> Result<Vec<u8>, KeepFault>
-        ensures file { IfOk result (λ bytes. IsTrue (tells self.old) → content self.old name.now ≡ Some bytes.items) }
-        ensures missing { IsErrOf result KeepFault.Missing → IsTrue (tells self.old) × (content self.old name.now ≡ None) }
-        ensures files { SameFiles (content self.old) (content self.new) }
-        ensures telling { tells self.new ≡ tells self.old }
-        ensures counted { IsCounted (count self.old) (count self.new) result };
+        ensures file { IfOk result (λ bytes. IsTrue (state self.old).tells → (state self.old).content name.now ≡ Some bytes.items) }
+        ensures missing { IsErrOf result KeepFault.Missing → IsTrue (state self.old).tells × ((state self.old).content name.now ≡ None) }
+        ensures files { SameFiles (state self.old) (state self.new) }
+        ensures telling { (state self.new).tells ≡ (state self.old).tells }
+        ensures counted { IsCounted (state self.old).faults (state self.new).faults result };
 
     /// Makes a file, or replaces one as a whole.
     fn write(&mut self, name: &str, bytes: &[u8]) -> Result<(), KeepFault>
-        ensures written { OnOk result (IsTrue (tells self.old) → SetsFile (content self.old) name.now bytes.now (content self.new)) }
-        ensures unwritten { OnErr result (SameFiles (content self.old) (content self.new)) }
+        ensures written { OnOk result (IsTrue (state self.old).tells → SetsFile (state self.old) name.now bytes.now (state self.new)) }
+        ensures unwritten { OnErr result (SameFiles (state self.old) (state self.new)) }
         ensures never_missing { ¬ (IsErrOf result KeepFault.Missing) }
-        ensures telling { tells self.new ≡ tells self.old }
-        ensures counted { IsCounted (count self.old) (count self.new) result };
+        ensures telling { (state self.new).tells ≡ (state self.old).tells }
+        ensures counted { IsCounted (state self.old).faults (state self.new).faults result };
 
     /// How many calls have failed.
     fn faults(&self) -> u64
-        ensures { result ≡ count self.now };
+        ensures { result ≡ (state self.now).faults };
 }

@@ -34,21 +34,17 @@ impl MemKeeper {
 }
 
 impl Keeper for MemKeeper {
-    ghost use Rattle.std.specs.Prelude.{◌≡◌, Some, None, true, IfOk, OnOk, OnErr, IsErrOf};
+    ghost use Rattle.std.specs.Prelude.{◌≡◌, Some, None, IfOk, OnOk, OnErr, IsErrOf};
     ghost use Rattle.io_edges.specs.Counts.{TakesCall};
     ghost use Rattle.io_edges.specs.Keeper.{IsFailed, IsCounted, SameFiles, SetsFile};
-    ghost use Rattle.io_edges.specs.MemKeeper.{content_of, calls_of};
+    ghost use Rattle.io_edges.specs.MemKeeper.{content_of, calls_of, state_of};
 
-    ghost tells = { λ _. true };
-
-    ghost content = { content_of };
-
-    ghost count = { λ keeper. (calls_of keeper).failed };
+    ghost state = { state_of };
 
     fn read(&mut self, name: &str) -> Result<Vec<u8>, KeepFault>
         ensures file { IfOk result (λ bytes. content_of self.old name.now ≡ Some bytes.items) }
         ensures missing { IsErrOf result KeepFault.Missing → content_of self.old name.now ≡ None }
-        ensures files { SameFiles (content_of self.old) (content_of self.new) }
+        ensures files { SameFiles (state_of self.old) (state_of self.new) }
         ensures counted { IsCounted (calls_of self.old).failed (calls_of self.new).failed result }
         ensures listed { TakesCall (calls_of self.old) (calls_of self.new) (IsFailed result) }
     {
@@ -62,8 +58,8 @@ impl Keeper for MemKeeper {
     }
 
     fn write(&mut self, name: &str, bytes: &[u8]) -> Result<(), KeepFault>
-        ensures written { OnOk result (SetsFile (content_of self.old) name.now bytes.now (content_of self.new)) }
-        ensures unwritten { OnErr result (SameFiles (content_of self.old) (content_of self.new)) }
+        ensures written { OnOk result (SetsFile (state_of self.old) name.now bytes.now (state_of self.new)) }
+        ensures unwritten { OnErr result (SameFiles (state_of self.old) (state_of self.new)) }
         ensures never_missing { ¬ (IsErrOf result KeepFault.Missing) }
         ensures counted { IsCounted (calls_of self.old).failed (calls_of self.new).failed result }
         ensures listed { TakesCall (calls_of self.old) (calls_of self.new) (IsFailed result) }

@@ -26,11 +26,11 @@ fn publish<K: Keeper, O: Sink>(
     from: &str,
     to: &str,
 ) -> Result<(), PublishFault>
-    ensures both { OnOk result (IsTrue (K.tells keeper.old) → IsTrue (O.state sink.old).tells → ((bytes : List ℕ)
-        × (K.content keeper.old from.now ≡ Some bytes)
+    ensures both { OnOk result (IsTrue (K.state keeper.old).tells → IsTrue (O.state sink.old).tells → ((bytes : List ℕ)
+        × ((K.state keeper.old).content from.now ≡ Some bytes)
         × ((O.state sink.new).text ≡ (O.state sink.old).text ++ bytes)
-        × ((other : List ℕ) → K.content keeper.new other ≡ update bytes_eq (K.content keeper.old) to.now (Some bytes) other))) }
-    ensures telling { (K.tells keeper.new ≡ K.tells keeper.old) × ((O.state sink.new).tells ≡ (O.state sink.old).tells) }
+        × ((other : List ℕ) → (K.state keeper.new).content other ≡ update bytes_eq (K.state keeper.old).content to.now (Some bytes) other))) }
+    ensures telling { ((K.state keeper.new).tells ≡ (K.state keeper.old).tells) × ((O.state sink.new).tells ≡ (O.state sink.old).tells) }
 {
     let bytes = keeper.read(from).map_err(PublishFault::Keep)?;
     sink.write(&bytes).map_err(PublishFault::Sink)?;

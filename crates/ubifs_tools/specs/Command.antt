@@ -10,6 +10,7 @@ use Rattle.ubifs_base.specs.declared.raw_geometry.GeomField.TheVariants.{LebSize
 use Rattle.ubi_volume.specs.Volume.{image_of}
 use Rattle.fs_model.specs.Trace.{IsHistory}
 use Rattle.io_edges.specs.Counts.{Rose}
+use Rattle.io_edges.specs.Keeper.{KeeperState}
 use Rattle.io_edges.specs.Sink.{SinkState}
 use Rattle.image_maker.specs.Leaves.{live_leaves}
 use Rattle.image_maker.specs.Image.{IsImage}
@@ -41,13 +42,13 @@ pub record OnRun (words : List (List ℕ)) (P : List ℕ → List ℕ → List �
   pub holds : P manifest script image
 
 -- where the files are told, this one has these bytes
-abbrev pub Told : Bool → (List ℕ → Option (List ℕ)) → List ℕ → List ℕ → Type 0
-Told tells content name bytes = IsTrue tells → content name ≡ Some bytes
+abbrev pub Told : KeeperState → List ℕ → List ℕ → Type 0
+Told files name bytes = IsTrue files.tells → files.content name ≡ Some bytes
 
 -- what was read: a manifest's text and a script's
-pub record IsRead (tells : Bool) (content : List ℕ → Option (List ℕ)) (manifest script : List ℕ) (texts : List ℕ × List ℕ) : Type 0 where
-  pub manifest_told : Told tells content manifest texts.0
-  pub script_told : Told tells content script texts.1
+pub record IsRead (files : KeeperState) (manifest script : List ℕ) (texts : List ℕ × List ℕ) : Type 0 where
+  pub manifest_told : Told files manifest texts.0
+  pub script_told : Told files script texts.1
 
 -- the geometry that a manifest names
 abbrev pub geometry_of : Manifest → RawGeometry
@@ -99,12 +100,20 @@ pub record IsDone (texts : List ℕ × List ℕ) (text image : List ℕ) : Type 
   pub nodes : IsImage (geometry_of m) (live_leaves (session_after (geometry_of m) opening parts).stored) holds
   pub image_is : image ≡ image_of holds (geometry_of m).leb_cnt
 
--- A file that is to be read isn't there, or a call of the keeper failed; the line names the file.
-abbrev pub IsUnread : Bool → (List ℕ → Option (List ℕ)) → ℕ → ℕ → List ℕ → List ℕ → List ℕ → List ℕ → Type 0
-IsUnread tells content before now manifest script image line =
-    (Rose before now × ((name : List ℕ) × ((name ≡ manifest) ⊎ (name ≡ script) ⊎ (name ≡ image)) × (line ≡ line_of (codes "file" ∷ name ∷ []))))
-    ⊎ (IsTrue tells × (content manifest ≡ None) × (line ≡ line_of (codes "file" ∷ manifest ∷ [])))
-    ⊎ (IsTrue tells × ((bytes : List ℕ) × (content manifest ≡ Some bytes)) × (content script ≡ None) × (line ≡ line_of (codes "file" ∷ script ∷ [])))
+-- the files are told, and there is none of this name
+abbrev pub IsMissing : KeeperState → List ℕ → Type 0
+IsMissing files name = IsTrue files.tells × (files.content name ≡ None)
+
+-- the line that names a file
+abbrev pub file_line : List ℕ → List ℕ
+file_line name = line_of (codes "file" ∷ name ∷ [])
+
+-- A call of the keeper failed, or a file that is to be read isn't there, the first of them; the line names the file.
+abbrev pub IsUnread : KeeperState → KeeperState → List ℕ → List ℕ → List ℕ → List ℕ → Type 0
+IsUnread old new manifest script image line =
+    (Rose old.faults new.faults × ((name : List ℕ) × ((name ≡ manifest) ⊎ (name ≡ script) ⊎ (name ≡ image)) × (line ≡ file_line name)))
+    ⊎ (IsMissing old manifest × (line ≡ file_line manifest))
+    ⊎ (((bytes : List ℕ) × Told old manifest bytes) × IsMissing old script × (line ≡ file_line script))
 
 -- Where text is told: all of it was added, or a first part where the sink failed, or nothing where it found no memory.
 abbrev pub IsPrinted : SinkState → SinkState → List ℕ → Type 0

@@ -27,8 +27,8 @@ pub(crate) fn run<K: Keeper>(
     image: &str,
     keeper: &mut K,
 ) -> Result<Ended, Memory>
-    ensures ended { IfOk result (IsEnded (K.tells keeper.old) (K.content keeper.old) (K.content keeper.new) (K.count keeper.old) (K.count keeper.new) manifest.now script.now image.now) }
-    ensures err { OnErr result (SameFiles (K.content keeper.old) (K.content keeper.new)) }
+    ensures ended { IfOk result (IsEnded (K.state keeper.old) (K.state keeper.new) manifest.now script.now image.now) }
+    ensures err { OnErr result (SameFiles (K.state keeper.old) (K.state keeper.new)) }
 {
     let manifest_text = match keeper.read(manifest) {
         Ok(text) => text,

@@ -26,34 +26,34 @@ pub fn ubifs<K: Keeper, O: Sink>(alloc: Global, words: &[String], keeper: &mut K
 
     // The work was done, and all of its text was printed.
     ensures done { result ≡ 0 → OnRun (map string_bytes words.now) (λ manifest script image. (text : List ℕ)
-        × IsFinished (K.tells keeper.old) (K.content keeper.old) (K.content keeper.new) manifest script image text
+        × IsFinished (K.state keeper.old) (K.state keeper.new) manifest script image text
         × (IsTrue (O.state out.old).tells → (O.state out.new).text ≡ (O.state out.old).text ++ text)) }
 
     // Nothing was done, and the line says why.
     ensures text { result ≡ 2 → OnRun (map string_bytes words.now) (λ manifest script image. (line : List ℕ)
-        × IsTurnedDown (K.tells keeper.old) (K.content keeper.old) (K.content keeper.new) manifest script (λ texts. IsBadText texts line)
+        × IsTurnedDown (K.state keeper.old) (K.state keeper.new) manifest script (λ texts. IsBadText texts line)
         × IsPrinted (O.state out.old) (O.state out.new) line) }
     ensures geometry { result ≡ 7 → OnRun (map string_bytes words.now) (λ manifest script image. (line : List ℕ)
-        × IsTurnedDown (K.tells keeper.old) (K.content keeper.old) (K.content keeper.new) manifest script (λ texts. IsBadGeometry texts line)
+        × IsTurnedDown (K.state keeper.old) (K.state keeper.new) manifest script (λ texts. IsBadGeometry texts line)
         × IsPrinted (O.state out.old) (O.state out.new) line) }
     ensures files { result ≡ 4 → OnRun (map string_bytes words.now) (λ manifest script image. (line : List ℕ)
-        × IsUnread (K.tells keeper.old) (K.content keeper.old) (K.count keeper.old) (K.count keeper.new) manifest script image line
-        × SameFiles (K.content keeper.old) (K.content keeper.new)
+        × IsUnread (K.state keeper.old) (K.state keeper.new) manifest script image line
+        × SameFiles (K.state keeper.old) (K.state keeper.new)
         × IsPrinted (O.state out.old) (O.state out.new) line) }
 
     // The work was done, but the sink failed.
     ensures output { result ≡ 5 → Rose (O.state out.old).faults (O.state out.new).faults
         × OnRun (map string_bytes words.now) (λ manifest script image. (text : List ℕ)
-        × IsFinished (K.tells keeper.old) (K.content keeper.old) (K.content keeper.new) manifest script image text
+        × IsFinished (K.state keeper.old) (K.state keeper.new) manifest script image text
         × IsPrinted (O.state out.old) (O.state out.new) text) }
 
     // There was no memory.
     ensures memory { result ≡ 6 → IsPrinted (O.state out.old) (O.state out.new) (line_of (codes "memory" ∷ [])) }
 
     // A file changes only where the work was done.
-    ensures kept { SameFiles (K.content keeper.old) (K.content keeper.new)
+    ensures kept { SameFiles (K.state keeper.old) (K.state keeper.new)
         ⊎ OnRun (map string_bytes words.now) (λ manifest script image. (text : List ℕ)
-        × IsFinished (K.tells keeper.old) (K.content keeper.old) (K.content keeper.new) manifest script image text) }
+        × IsFinished (K.state keeper.old) (K.state keeper.new) manifest script image text) }
 {
     let Some((manifest, script, image)) = run_words(words) else {
         return told(out, b"usage\n".as_slice(), 1);
