@@ -4,7 +4,7 @@ use Rattle.std.specs.Prelude.{codes}
 use Rattle.std.proofs.lemmas.List.{append_cancel_left}
 use Rattle.script_text.specs.declared.manifest.Manifest.{Manifest}
 use Rattle.script_text.specs.Manifest.{volume_line, HasRange, IsManifest, IsFirstBadManifestLine}
-use Rattle.script_text.specs.Words.{ended}
+use Rattle.text_lines.specs.Lines.{ended}
 use Rattle.script_text.proofs.Lines.{number_cut, volume_bytes, leb_size_bytes, min_io_bytes, main_bytes, fanout_bytes}
 
 made : ℕ → ℕ → ℕ → ℕ → Manifest

@@ -11,7 +11,8 @@ use Rattle.fs_model.specs.declared.op.Op.TheVariants.{Create, OpenFile, Close, R
 use Rattle.script_text.specs.declared.part.Part.{Part}
 use Rattle.script_text.specs.declared.part.Part.TheVariants.{Line}
 use Rattle.script_text.specs.Script.{part_line, IsWork}
-use Rattle.script_text.specs.Words.{ended, octal}
+use Rattle.text_lines.specs.Lines.{ended}
+use Rattle.script_text.specs.Words.{octal}
 
 zero_digit : decimal 0 ≡ 48 ∷ []
 zero_digit = decimal_digit 0 (omega arith)

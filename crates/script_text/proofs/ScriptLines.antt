@@ -11,7 +11,8 @@ use Rattle.script_text.specs.declared.part.Part.TheVariants.{Mount, Unmount, Lin
 use Rattle.script_text.specs.declared.stage.Stage.{Stage}
 use Rattle.script_text.specs.declared.stage.Stage.TheVariants.{Start, Mounted, Created, Opened, Closed, Unmounted}
 use Rattle.script_text.specs.Script.{part_line, lines_of, IsWork, Steps, Leads, IsFirstBadLine}
-use Rattle.script_text.specs.Words.{ended, Lacks}
+use Rattle.text_lines.specs.Lines.{ended}
+use Rattle.script_text.specs.Words.{Lacks}
 use Rattle.script_text.proofs.Cutting.{lacks_append, cut_once, not_cut, lacks_decimal}
 use Rattle.script_text.proofs.PartLines.{create_bytes, open_bytes, close_bytes, flush_bytes, read_bytes, write_bytes, read_numbers, write_numbers}
 

@@ -2,7 +2,7 @@
 use Rattle.std.specs.Prelude.{ℕ, ◌<◌, ◌^◌, ◌≡◌, ◌≢◌, ◌⊎◌, List, [], ◌∷◌, ◌++◌, codes}
 use Rattle.std.specs.Fmt.{decimal}
 use Rattle.script_text.specs.declared.manifest.Manifest.{Manifest}
-use Rattle.script_text.specs.Words.{ended, line_of}
+use Rattle.text_lines.specs.Lines.{ended, line_of}
 
 -- the line with the geometry
 abbrev pub volume_line : Manifest → List ℕ

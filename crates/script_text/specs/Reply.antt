@@ -11,7 +11,7 @@ use Rattle.fs_model.specs.declared.refusal.Scarce.{Scarce}
 use Rattle.fs_model.specs.declared.refusal.Scarce.TheVariants.{Space, Empty, Index, Area}
 use Rattle.fs_model.specs.declared.refusal.Table.{Table}
 use Rattle.fs_model.specs.declared.refusal.Table.TheVariants.{Orphans, Inodes}
-use Rattle.script_text.specs.Words.{spaced, ended}
+use Rattle.text_lines.specs.Lines.{spaced, ended}
 
 -- n times a byte, before runs
 abbrev pub with_run : ℕ → ℕ → List (ℕ × ℕ) → List (ℕ × ℕ)

@@ -10,7 +10,8 @@ use Rattle.script_text.specs.declared.stage.Stage.{Stage}
 use Rattle.script_text.specs.declared.stage.Stage.TheVariants.{Start, Mounted, Created, Opened, Closed, Unmounted}
 use Rattle.script_text.specs.declared.fault.TextFault.{TextFault}
 use Rattle.script_text.specs.declared.fault.TextFault.TheVariants.{Memory, Line as FaultLine}
-use Rattle.script_text.specs.Words.{ended, line_of, octal}
+use Rattle.text_lines.specs.Lines.{ended, line_of}
+use Rattle.script_text.specs.Words.{octal}
 
 -- an operation's words
 abbrev pub op_words : Op → List (List ℕ)

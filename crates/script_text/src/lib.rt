@@ -17,7 +17,6 @@ mod reply;
 mod run;
 mod script;
 mod stage;
-mod word;
 
 pub use crate::fault::TextFault;
 pub use crate::law::{

@@ -2,13 +2,13 @@
 
 ghost use Rattle.std.specs.Prelude.{◌≡◌, ◌<◌, ◌++◌, ◌∷◌, OnOk, OnErr};
 ghost use Rattle.std.specs.Fmt.{decimal};
-ghost use Rattle.script_text.specs.Words.{spaced};
+ghost use Rattle.text_lines.specs.Lines.{spaced};
 ghost use Rattle.script_text.specs.Reply.{reply_line, reply_words, bytes_words, refusal_words, cause_words, scarce_word, table_word, runs_text, runs_of};
 
 use crate::run::push_runs;
-use crate::word::{number_word, push_number, word};
 use fs_model::{Cause, Refusal, Reply, Scarce, Table};
 use std::alloc::AllocError;
+use text_lines::{push_number, push_number_word, push_word};
 use ubifs_base::Memory;
 
 /// Appends the line of a caller's reply: the caller, the number of its call from 1, and the reply. A fault leaves `out`
@@ -19,7 +19,7 @@ pub fn write_reply(caller: u16, number: u64, reply: &Reply, out: &mut Vec<u8>) -
 {
     let mut line = Vec::new(*out.allocator());
     push_number(&mut line, u64::from(caller))?;
-    number_word(&mut line, number)?;
+    push_number_word(&mut line, number)?;
     push_reply(&mut line, reply)?;
     line.push(b'\n')?;
     out.extend_from_slice(&line)?;
@@ -31,17 +31,17 @@ fn push_reply(line: &mut Vec<u8>, reply: &Reply) -> Result<(), AllocError>
     ensures { OnOk result (line.new.items ≡ line.old.items ++ spaced (reply_words reply.now)) }
 {
     match reply {
-        Reply::Done => word(line, b"ok".as_slice()),
+        Reply::Done => push_word(line, b"ok".as_slice()),
         Reply::Ino { ino } => {
-            word(line, b"ok".as_slice())?;
-            number_word(line, u64::from(*ino))
+            push_word(line, b"ok".as_slice())?;
+            push_number_word(line, u64::from(*ino))
         }
         Reply::Count { n } => {
-            word(line, b"ok".as_slice())?;
-            number_word(line, u64::from(*n))
+            push_word(line, b"ok".as_slice())?;
+            push_number_word(line, u64::from(*n))
         }
         Reply::Bytes { bytes } => {
-            word(line, b"ok".as_slice())?;
+            push_word(line, b"ok".as_slice())?;
             push_bytes(line, bytes.as_slice())
         }
         Reply::Refused { refusal } => push_refusal(line, *refusal),
@@ -53,9 +53,9 @@ fn push_bytes(line: &mut Vec<u8>, bytes: &[u8]) -> Result<(), AllocError>
     ensures { OnOk result (line.new.items ≡ line.old.items ++ spaced (bytes_words bytes.now)) }
 {
     if bytes.is_empty() {
-        return word(line, b"0".as_slice());
+        return push_word(line, b"0".as_slice());
     }
-    number_word(line, bytes.len() as u64)?;
+    push_number_word(line, bytes.len() as u64)?;
     line.push(b' ')?;
     push_runs(line, bytes)
 }
@@ -65,35 +65,35 @@ fn push_refusal(line: &mut Vec<u8>, refusal: Refusal) -> Result<(), AllocError>
     ensures { OnOk result (line.new.items ≡ line.old.items ++ spaced (refusal_words refusal)) }
 {
     match refusal {
-        Refusal::Enoent => word(line, b"E1".as_slice()),
-        Refusal::Eexist => word(line, b"E2".as_slice()),
-        Refusal::Enotdir => word(line, b"E3".as_slice()),
-        Refusal::Eisdir => word(line, b"E4".as_slice()),
-        Refusal::Enotempty => word(line, b"E5".as_slice()),
+        Refusal::Enoent => push_word(line, b"E1".as_slice()),
+        Refusal::Eexist => push_word(line, b"E2".as_slice()),
+        Refusal::Enotdir => push_word(line, b"E3".as_slice()),
+        Refusal::Eisdir => push_word(line, b"E4".as_slice()),
+        Refusal::Enotempty => push_word(line, b"E5".as_slice()),
         Refusal::Enospc { space } => {
-            word(line, b"E6".as_slice())?;
-            number_word(line, space.need)?;
-            number_word(line, space.room)
+            push_word(line, b"E6".as_slice())?;
+            push_number_word(line, space.need)?;
+            push_number_word(line, space.room)
         }
         Refusal::Erofs { cause } => {
-            word(line, b"E7".as_slice())?;
+            push_word(line, b"E7".as_slice())?;
             push_cause(line, cause)
         }
         Refusal::Eio { count } => {
-            word(line, b"E8".as_slice())?;
-            number_word(line, count)
+            push_word(line, b"E8".as_slice())?;
+            push_number_word(line, count)
         }
-        Refusal::Enomem => word(line, b"E9".as_slice()),
-        Refusal::Efbig => word(line, b"E10".as_slice()),
-        Refusal::Enametoolong => word(line, b"E11".as_slice()),
-        Refusal::Einval => word(line, b"E12".as_slice()),
-        Refusal::Emlink => word(line, b"E13".as_slice()),
+        Refusal::Enomem => push_word(line, b"E9".as_slice()),
+        Refusal::Efbig => push_word(line, b"E10".as_slice()),
+        Refusal::Enametoolong => push_word(line, b"E11".as_slice()),
+        Refusal::Einval => push_word(line, b"E12".as_slice()),
+        Refusal::Emlink => push_word(line, b"E13".as_slice()),
         Refusal::Enfile { what, limit } => {
-            word(line, b"E14".as_slice())?;
+            push_word(line, b"E14".as_slice())?;
             push_table(line, what)?;
-            number_word(line, limit)
+            push_number_word(line, limit)
         }
-        Refusal::Ebadf => word(line, b"E15".as_slice()),
+        Refusal::Ebadf => push_word(line, b"E15".as_slice()),
     }
 }
 
@@ -103,19 +103,19 @@ fn push_cause(line: &mut Vec<u8>, cause: Cause) -> Result<(), AllocError>
 {
     match cause {
         Cause::Tight { what, need, room } => {
-            word(line, b"tight".as_slice())?;
+            push_word(line, b"tight".as_slice())?;
             push_scarce(line, what)?;
-            number_word(line, need)?;
-            number_word(line, room)
+            push_number_word(line, need)?;
+            push_number_word(line, room)
         }
         Cause::Faulted { count } => {
-            word(line, b"faulted".as_slice())?;
-            number_word(line, count)
+            push_word(line, b"faulted".as_slice())?;
+            push_number_word(line, count)
         }
         Cause::Spent { sqnum, cmt_no } => {
-            word(line, b"spent".as_slice())?;
-            number_word(line, sqnum)?;
-            number_word(line, cmt_no)
+            push_word(line, b"spent".as_slice())?;
+            push_number_word(line, sqnum)?;
+            push_number_word(line, cmt_no)
         }
     }
 }
@@ -124,10 +124,10 @@ fn push_scarce(line: &mut Vec<u8>, what: Scarce) -> Result<(), AllocError>
     ensures { OnOk result (line.new.items ≡ line.old.items ++ (32 ∷ scarce_word what)) }
 {
     match what {
-        Scarce::Space => word(line, b"space".as_slice()),
-        Scarce::Empty => word(line, b"empty".as_slice()),
-        Scarce::Index => word(line, b"index".as_slice()),
-        Scarce::Area => word(line, b"area".as_slice()),
+        Scarce::Space => push_word(line, b"space".as_slice()),
+        Scarce::Empty => push_word(line, b"empty".as_slice()),
+        Scarce::Index => push_word(line, b"index".as_slice()),
+        Scarce::Area => push_word(line, b"area".as_slice()),
     }
 }
 
@@ -135,7 +135,7 @@ fn push_table(line: &mut Vec<u8>, what: Table) -> Result<(), AllocError>
     ensures { OnOk result (line.new.items ≡ line.old.items ++ (32 ∷ table_word what)) }
 {
     match what {
-        Table::Orphans => word(line, b"orphans".as_slice()),
-        Table::Inodes => word(line, b"inodes".as_slice()),
+        Table::Orphans => push_word(line, b"orphans".as_slice()),
+        Table::Inodes => push_word(line, b"inodes".as_slice()),
     }
 }

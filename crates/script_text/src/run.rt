@@ -3,8 +3,8 @@
 ghost use Rattle.std.specs.Prelude.{◌≡◌, ◌<◌, ◌++◌, OnOk};
 ghost use Rattle.script_text.specs.Reply.{hex_digit, run_text, runs_text, runs_of};
 
-use crate::word::push_number;
 use std::alloc::AllocError;
+use text_lines::push_number;
 
 /// Appends the longest runs of equal bytes, joined by commas.
 pub fn push_runs(line: &mut Vec<u8>, bytes: &[u8]) -> Result<(), AllocError>

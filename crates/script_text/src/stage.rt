@@ -2,7 +2,7 @@
 
 ghost use Rattle.std.specs.Prelude.{◌≡◌, ◌<◌, ◌≤◌, ◌^◌, ◌↔◌, ◌∷◌, ◌++◌, ℕ, IfOk, IfSome, IfNone, IsTrue, codes};
 ghost use Rattle.std.specs.Fmt.{decimal};
-ghost use Rattle.script_text.specs.Words.{ended};
+ghost use Rattle.text_lines.specs.Lines.{ended};
 ghost use Rattle.script_text.specs.Script.{Steps, IsWork, part_line};
 ghost use Rattle.script_text.specs.declared.stage.Stage.{Stage};
 ghost use Rattle.script_text.specs.declared.part.Part.{Part};

@@ -1,6 +1,6 @@
 -- What follows from a volume's clauses over several calls.
 use Rattle.std.specs.Prelude.{◌≡◌, ◌⊎◌, ℕ, List}
-use Rattle.std.proofs.Common.{inl, inr, arith, subst, ap, ◌∙◌}
+use Rattle.std.proofs.Common.{inl, inr, refl, arith, subst, ap, ◌∙◌}
 use Rattle.ubi_volume.specs.Volume.{VolumeState, Only, put, Torn, SameShape, Leaves, Keeps, WriteUnderWay, IsWritten}
 
 -- One run after another. P and Q are what each moment of the first and of the second leaves, and R is what both imply.
@@ -49,3 +49,30 @@ SameShape-then a b c ab bc = record {
   min_io = bc.min_io ∙ ab.min_io;
   leb_cnt = bc.leb_cnt ∙ ab.leb_cnt;
 }
+
+-- no call at all keeps all
+pub Keeps-none : (a : VolumeState) → Keeps a a
+Keeps-none a = record {
+  holds = λ k. refl;
+  written = λ k. refl;
+  left = λ k c. (λ h. h, λ h. h);
+  left_mapped = λ k c. (λ h. h, λ h. h);
+  later = omega arith;
+  time = λ t c early. (λ h. h, λ h. h);
+  spent = λ h. h;
+}
+
+-- what keeps all, one call after another
+pub Keeps-then : (a b c : VolumeState) → Keeps a b → Keeps b c → Keeps a c
+Keeps-then a b c ab bc =
+    let first = ab.later in
+    let second = bc.later in
+    record {
+      holds = λ k. bc.holds k ∙ ab.holds k;
+      written = λ k. bc.written k ∙ ab.written k;
+      left = λ k x. (λ h. (ab.left k x).0 ((bc.left k x).0 h), λ h. (bc.left k x).1 ((ab.left k x).1 h));
+      left_mapped = λ k x. (λ h. (ab.left_mapped k x).0 ((bc.left_mapped k x).0 h), λ h. (bc.left_mapped k x).1 ((ab.left_mapped k x).1 h));
+      later = omega (arith, first, second);
+      time = λ t x early. (λ h. (ab.time t x early).0 ((bc.time t x (omega (arith, early, first))).0 h), λ h. (bc.time t x (omega (arith, early, first))).1 ((ab.time t x early).1 h));
+      spent = λ h. bc.spent (ab.spent h);
+    }

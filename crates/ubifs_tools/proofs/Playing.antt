@@ -19,7 +19,7 @@ use Rattle.script_text.specs.declared.part.Part.{Part}
 use Rattle.script_text.specs.declared.part.Part.TheVariants.{Mount, Unmount, Line}
 use Rattle.script_text.specs.Reply.{reply_line}
 use Rattle.script_text.specs.Script.{IsWork}
-use Rattle.script_text.specs.Words.{ended}
+use Rattle.text_lines.specs.Lines.{ended}
 use Rattle.ubifs_tools.specs.Run.{trace_from, traced, session_after, trace_text, run_text, script_parts}
 use Rattle.ubifs_tools.specs.Session.{Session, answered, opening, closed, flushed, put_page, put_with}
 use Rattle.ubifs_tools.specs.Store.{first_session}

@@ -18,7 +18,7 @@ use Rattle.script_text.specs.declared.part.Part.{Part}
 use Rattle.script_text.specs.declared.manifest.Manifest.{Manifest}
 use Rattle.script_text.specs.Manifest.{IsManifest, IsFirstBadManifestLine}
 use Rattle.script_text.specs.Script.{IsScript, IsFirstBadLine}
-use Rattle.script_text.specs.Words.{line_of}
+use Rattle.text_lines.specs.Lines.{line_of}
 use Rattle.ubifs_tools.specs.Run.{trace_from, session_after, run_text}
 use Rattle.ubifs_tools.specs.Session.{opening}
 

@@ -9,7 +9,7 @@ use Rattle.fs_model.specs.Trace.{next_number}
 use Rattle.script_text.specs.declared.part.Part.{Part}
 use Rattle.script_text.specs.declared.part.Part.TheVariants.{Mount, Unmount, Line}
 use Rattle.script_text.specs.Reply.{reply_line}
-use Rattle.script_text.specs.Words.{ended}
+use Rattle.text_lines.specs.Lines.{ended}
 use Rattle.ubifs_tools.specs.Session.{Session, answered, flushed}
 
 -- a caller's line behind those before it, as the session answers it

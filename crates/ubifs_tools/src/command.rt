@@ -4,10 +4,10 @@ ghost use Rattle.std.specs.Prelude.{IfOk, OnErr};
 ghost use Rattle.io_edges.specs.Keeper.{SameFiles};
 ghost use Rattle.ubifs_tools.specs.Ended.{IsEnded, NamesFile};
 
-use crate::line::line_of_two;
 use crate::perform::{Performed, perform};
 use io_edges::{KeepFault, Keeper};
 use std::alloc::Global;
+use text_lines::line_of_two;
 use ubifs_base::Memory;
 
 /// How a run ended: a line that says why nothing was done, or the text of what was done.

@@ -3,7 +3,6 @@
 
 mod command;
 mod image;
-mod line;
 mod perform;
 mod run;
 mod store;

@@ -2,16 +2,16 @@
 
 ghost use Rattle.std.specs.Prelude.{◌≡◌, ◌∷◌, [], ℕ, List, IfOk, IsErr, codes};
 ghost use Rattle.script_text.specs.Script.{OnLine};
-ghost use Rattle.script_text.specs.Words.{line_of};
+ghost use Rattle.text_lines.specs.Lines.{line_of};
 ghost use Rattle.std.specs.Fmt.{decimal};
 ghost use Rattle.ubifs_tools.specs.Command.{bad_line, field_name};
 ghost use Rattle.ubifs_tools.specs.Performed.{IsPerformed};
 
 use crate::image::image_bytes;
-use crate::line::line_of_three;
 use crate::run::play;
 use script_text::{TextFault, read_manifest, read_script};
 use std::alloc::Global;
+use text_lines::line_of_three;
 use ubifs_base::{GeomFault, GeomField, Geometry, Memory, RawGeometry};
 
 /// What became of the texts: a line for a bad text or a bad geometry, or the text of the run and the image.

@@ -13,7 +13,7 @@ ghost use Rattle.script_text.specs.declared.stage.Stage.TheVariants.{Start, Unmo
 ghost use Rattle.ubifs_tools.specs.Run.{trace_from, session_after, run_text, trace_text, script_parts};
 ghost use Rattle.ubifs_tools.specs.Session.{answered, opening, closed};
 ghost use Rattle.script_text.specs.Reply.{reply_line};
-ghost use Rattle.script_text.specs.Words.{ended};
+ghost use Rattle.text_lines.specs.Lines.{ended};
 ghost use Rattle.fs_model.specs.declared.reply.Reply.TheVariants.{Ino};
 ghost use Rattle.ubifs_tools.specs.Store.{session_of, IsSound};
 

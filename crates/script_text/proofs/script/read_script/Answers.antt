@@ -3,7 +3,7 @@ use Rattle.std.proofs.lemmas.Bool.{false≢true}
 use Rattle.script_text.specs.declared.part.Part.{Part}
 use Rattle.script_text.specs.declared.stage.Stage.TheVariants.{Start}
 use Rattle.script_text.specs.Script.{Leads, Steps, part_line}
-use Rattle.script_text.specs.Words.{ended}
+use Rattle.text_lines.specs.Lines.{ended}
 use Rattle.script_text.proofs.ScriptLines.{bad_unterminated, bad_line, leads_push, lines_push}
 use Rattle.script_text.proofs.script.read_script.Goals as goal
 

@@ -4,7 +4,7 @@ use Rattle.fs_model.specs.declared.op.Op.TheVariants.{Create, OpenFile}
 use Rattle.script_text.specs.declared.stage.Stage.{Stage}
 use Rattle.script_text.specs.declared.part.Part.{Part}
 use Rattle.script_text.specs.declared.part.Part.TheVariants.{Line}
-use Rattle.script_text.specs.Words.{ended}
+use Rattle.text_lines.specs.Lines.{ended}
 use Rattle.script_text.specs.Script.{Steps, part_line}
 use Rattle.script_text.proofs.PartLines.{create_bytes, open_bytes, text_is, text_is_not, text_of}
 use Rattle.script_text.proofs.stage.next_part.Goals as goal

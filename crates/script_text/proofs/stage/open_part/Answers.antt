@@ -2,7 +2,7 @@ use Rattle.std.proofs.Common.{◌∙◌, ap, inl, inr}
 use Rattle.std.specs.Prelude.{codes}
 use Rattle.fs_model.specs.declared.op.Op.TheVariants.{Close}
 use Rattle.script_text.specs.declared.part.Part.TheVariants.{Line}
-use Rattle.script_text.specs.Words.{ended}
+use Rattle.text_lines.specs.Lines.{ended}
 use Rattle.script_text.proofs.PartLines.{close_bytes, text_is, text_is_not, text_of}
 use Rattle.script_text.proofs.stage.open_part.Goals as goal
 

@@ -1,6 +1,6 @@
 use Rattle.std.proofs.Common.{◌∙◌, ap, sym, ◌++◌, List, ℕ}
 use Rattle.std.specs.Prelude.{codes}
-use Rattle.script_text.specs.Words.{ended}
+use Rattle.text_lines.specs.Lines.{ended}
 use Rattle.script_text.proofs.PartLines.{flush_bytes, read_bytes, write_bytes, read_numbers, write_numbers, work_none, read_not_write, text_is, text_is_not, behind_text, not_behind, joined}
 use Rattle.script_text.proofs.stage.work.Goals as goal
 

@@ -1,12 +1,12 @@
 // Lines of words.
 
 ghost use Rattle.std.specs.Prelude.{◌≡◌, ◌∷◌, [], IfOk};
-ghost use Rattle.script_text.specs.Words.{line_of};
+ghost use Rattle.text_lines.specs.Lines.{line_of};
 
 use std::alloc::{AllocError, Global};
 
-// A line of two words.
-pub(crate) fn line_of_two(alloc: Global, first: &[u8], second: &[u8]) -> Result<Vec<u8>, AllocError>
+/// A line of two words.
+pub fn line_of_two(alloc: Global, first: &[u8], second: &[u8]) -> Result<Vec<u8>, AllocError>
     ensures { IfOk result (λ line. line.items ≡ line_of (first.now ∷ second.now ∷ [])) }
 {
     let mut line = Vec::from_slice(alloc, first)?;
@@ -16,8 +16,8 @@ pub(crate) fn line_of_two(alloc: Global, first: &[u8], second: &[u8]) -> Result<
     Ok(line)
 }
 
-// A line of three words.
-pub(crate) fn line_of_three(
+/// A line of three words.
+pub fn line_of_three(
     alloc: Global,
     first: &[u8],
     second: &[u8],

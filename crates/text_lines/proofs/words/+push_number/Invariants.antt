@@ -1,4 +1,4 @@
-use Rattle.script_text.proofs.word.+push_number.Given as goal
+use Rattle.text_lines.proofs.words.+push_number.Given as goal
 
 abbrev pub decreases-push_number : goal.decreases-push_number
 decreases-push_number l = l.n

@@ -19,7 +19,7 @@ pub fn push_number(line: &mut Vec<u8>, n: u64) -> Result<(), AllocError>
 }
 
 /// Appends a space and a word.
-pub fn word(line: &mut Vec<u8>, text: &[u8]) -> Result<(), AllocError>
+pub fn push_word(line: &mut Vec<u8>, text: &[u8]) -> Result<(), AllocError>
     ensures { OnOk result (line.new.items ≡ line.old.items ++ (32 ∷ text.now)) }
 {
     line.push(b' ')?;
@@ -27,7 +27,7 @@ pub fn word(line: &mut Vec<u8>, text: &[u8]) -> Result<(), AllocError>
 }
 
 /// Appends a space and a number.
-pub fn number_word(line: &mut Vec<u8>, n: u64) -> Result<(), AllocError>
+pub fn push_number_word(line: &mut Vec<u8>, n: u64) -> Result<(), AllocError>
     ensures { OnOk result (line.new.items ≡ line.old.items ++ (32 ∷ decimal n)) }
 {
     line.push(b' ')?;
