@@ -1,6 +1,8 @@
 -- What a volume is that was loaded from an image.
-use Rattle.std.specs.Prelude.{◌≡◌, ◌≢◌, ◌⊎◌, ℕ, ◌*◌, ◌-◌, ◌%◌, ◌<◌, ◌≤◌, List, length, take, drop, replicate}
+use Rattle.std.specs.Prelude.{◌≡◌, ◌≢◌, ◌⊎◌, ℕ, ◌*◌, ◌-◌, ◌%◌, ◌<◌, ◌≤◌, List, length, take, drop, replicate, ⊤}
 use Rattle.ubi_volume.specs.Volume.{VolumeState, Only, filled}
+use Rattle.ubi_volume.specs.declared.fault.LoadFault.{LoadFault}
+use Rattle.ubi_volume.specs.declared.fault.LoadFault.TheVariants.{Memory, Short, Long}
 use Rattle.ubi_volume.specs.declared.mem_volume.VolShape.{VolShape}
 
 -- from this place on all bytes are erased
@@ -37,3 +39,15 @@ pub record IsLong (shape : VolShape) (image : List ℕ) : Type 0 where
   pub some : 4096 ≤ length image
   pub whole : length image % shape.leb_size ≡ 0
   pub more : ¬ IsErased (shape.leb_size * shape.leb_cnt) image
+
+-- an image of whole LEBs, at least 4,096 bytes, with nothing behind the volume that isn't erased
+pub record Fits (shape : VolShape) (image : List ℕ) : Type 0 where
+  pub some : 4096 ≤ length image
+  pub whole : length image % shape.leb_size ≡ 0
+  pub no_more : IsErased (shape.leb_size * shape.leb_cnt) image
+
+-- why an image isn't loaded; want of memory says nothing of it
+abbrev pub IsUnloaded : VolShape → List ℕ → LoadFault → Type 0
+IsUnloaded shape image Memory = ⊤
+IsUnloaded shape image (Short len) = IsShort shape.leb_size image × (len ≡ length image)
+IsUnloaded shape image (Long len most) = IsLong shape image × (len ≡ length image) × (most ≡ shape.leb_size * shape.leb_cnt)

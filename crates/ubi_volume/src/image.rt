@@ -1,7 +1,7 @@
 // The bytes of a volume as one list.
 
-ghost use Rattle.std.specs.Prelude.{◌≡◌, ◌↔◌, ◌*◌, IfOk, IsErrOf, length};
-ghost use Rattle.ubi_volume.specs.Loading.{IsLoaded, IsShort, IsLong};
+ghost use Rattle.std.specs.Prelude.{◌≡◌, ◌↔◌, ◌*◌, IfOk, IfErr, IsErrOf, length};
+ghost use Rattle.ubi_volume.specs.Loading.{Fits, IsLoaded, IsUnloaded, IsShort, IsLong};
 ghost use Rattle.ubi_volume.specs.Shape.{IsShape};
 ghost use Rattle.ubi_volume.specs.Volume.{image_of};
 ghost use Rattle.ubi_volume.specs.MemVolume.{state_of};
@@ -23,6 +23,8 @@ pub fn save_image(alloc: Global, volume: &MemVolume) -> Result<Vec<u8>, Memory>
 pub fn load_image(alloc: Global, bytes: &[u8], shape: VolShape) -> Result<MemVolume, LoadFault>
     requires { IsShape shape }
     ensures loaded { IfOk result (λ volume. IsLoaded shape bytes.now (state_of volume)) }
+    ensures fits { IfOk result (λ _. Fits shape bytes.now) }
+    ensures fault { IfErr result (IsUnloaded shape bytes.now) }
     ensures short { IsShort shape.leb_size bytes.now ↔ IsErrOf result (LoadFault.Short (length bytes.now)) }
     ensures long { IsLong shape bytes.now ↔ IsErrOf result (LoadFault.Long (length bytes.now) (shape.leb_size * shape.leb_cnt)) }
 {

@@ -17,8 +17,10 @@ mod mem_volume;
 #[cfg(test)]
 mod tests;
 mod volume;
+mod whole;
 
 pub use crate::fault::{AreaFault, LoadFault, VolFault};
 pub use crate::image::{load_image, save_image};
 pub use crate::mem_volume::{MemVolume, VolShape};
 pub use crate::volume::Volume;
+pub use crate::whole::read_leb;

@@ -1,0 +1,11 @@
+pub mod FieldLemmas
+pub mod TestLemmas
+pub mod PaddingLemmas
+pub mod CommitStartLemmas
+pub mod ReferenceLemmas
+pub mod MasterLemmas
+pub mod SuperLemmas
+pub mod KeyLemmas
+pub mod IndexLemmas
+pub mod OrphanLemmas
+pub mod SystemLaws

@@ -1,0 +1,10 @@
+pub mod CommitStart
+pub mod Features
+pub mod Index
+pub mod Master
+pub mod Orphans
+pub mod Padding
+pub mod Reference
+pub mod Superblock
+pub mod SystemNode
+pub mod Tested
