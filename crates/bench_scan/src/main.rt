@@ -1,0 +1,145 @@
+//! Times the scan of LEBs full of nodes. With no word it prints how many nodes are found in three blocks, and in three
+//! truncations. With a number of MiB it prints a line for so many MiB of blocks of 4096 bytes, and one for so many MiB of
+//! truncations, the shortest nodes of the journal: how many nodes were found, the nanoseconds of the best of five scans,
+//! those of the best of five turns of the checksum over the bytes of the same nodes, and a sum of those checksums.
+#![tactic(auto)]
+
+ghost use Rattle.std.specs.Prelude.{◌≤◌, length};
+
+use leb_scan::scan;
+use media_leaf::{DataNode, TrunNode};
+use std::alloc::{AllocError, Global};
+use std::time::{Duration, Instant};
+use std::{env, io};
+use ubifs_base::{Bytes, crc32};
+
+/// The bytes of a MiB.
+const MIB: usize = 1 << 20;
+
+/// The most MiB.
+const MOST: usize = 1024;
+
+/// The most bytes of a LEB.
+const LEB: usize = 131_072;
+
+/// How often each is done.
+const TURNS: u32 = 5;
+
+/// The bytes of the node of a block of 4096 bytes.
+const BLOCK: usize = 4144;
+
+/// The bytes of a truncation node, the shortest node of the journal.
+const TRUNCATION: usize = 56;
+
+fn main(rt: HostRuntime) -> io::Result<()> {
+    let mut words = env::args(&rt)?;
+    words.next();
+    let Some(word) = words.next() else {
+        let blocks = blocks(rt.alloc(), 3)?;
+        let truncations = truncations(rt.alloc(), 3)?;
+        println!(rt; "{}", nodes_of(rt.alloc(), blocks.as_slice(), LEB))?;
+        return println!(rt; "{}", nodes_of(rt.alloc(), truncations.as_slice(), LEB));
+    };
+    let size = match word.parse::<usize>() {
+        Ok(n) => n.min(MOST) * MIB,
+        Err(_) => MIB,
+    };
+    let leb = blocks(rt.alloc(), size / BLOCK)?;
+    time(&rt, leb.as_slice(), BLOCK)?;
+    let leb = truncations(rt.alloc(), size / TRUNCATION)?;
+    time(&rt, leb.as_slice(), TRUNCATION)
+}
+
+// Prints the times of LEBs whose nodes have so many bytes each.
+fn time(rt: &HostRuntime, image: &[u8], len: usize) -> io::Result<()>
+    requires { 8 ≤ len }
+{
+    let leb_len = LEB / len * len;
+    let mut scanned = Duration::MAX;
+    let mut nodes = 0;
+    for _ in 0..TURNS {
+        let start = Instant::now(rt)?;
+        nodes = nodes_of(rt.alloc(), image, leb_len);
+        scanned = scanned.min(start.elapsed(rt)?);
+    }
+    let mut summed = Duration::MAX;
+    let mut sum = 0u32;
+    for _ in 0..TURNS {
+        let start = Instant::now(rt)?;
+        sum = sum.wrapping_add(checksums(image, len));
+        summed = summed.min(start.elapsed(rt)?);
+    }
+    println!(rt;
+        "{nodes} {} {} {sum:08x}",
+        scanned.as_nanos(),
+        summed.as_nanos()
+    )
+}
+
+// How many nodes the scans of an image's LEBs find.
+fn nodes_of(alloc: Global, image: &[u8], leb_len: usize) -> usize {
+    let mut nodes = 0usize;
+    let mut rest = image;
+    while !rest.is_empty() {
+        let (leb, others) = rest.split_at(leb_len.clamp(1, LEB).min(rest.len()));
+        nodes = nodes.wrapping_add(nodes_in(alloc, leb));
+        rest = others;
+    }
+    nodes
+}
+
+// How many nodes a scan finds; none where memory is out.
+fn nodes_in(alloc: Global, leb: &[u8]) -> usize
+    requires { length leb.now ≤ 131072 }
+{
+    match scan(alloc, leb, 0) {
+        Ok(text) => text.nodes.len(),
+        Err(_) => 0,
+    }
+}
+
+// The checksums of nodes of so many bytes, which each cover a node's bytes from the ninth on.
+fn checksums(leb: &[u8], len: usize) -> u32
+    requires { 8 ≤ len }
+{
+    let mut sum = 0u32;
+    let mut rest = leb;
+    while rest.len() >= len {
+        let (node, others) = rest.split_at(len);
+        sum = sum.wrapping_add(crc32(node.split_at(8).1));
+        rest = others;
+    }
+    sum
+}
+
+// So many nodes of one block.
+fn blocks(alloc: Global, count: usize) -> Result<Vec<u8>, AllocError> {
+    let node = DataNode {
+        ino: 65,
+        block: 3,
+        bytes: Bytes::from_slice(alloc, &[7; 4096])?,
+    };
+    let mut out = [0; BLOCK];
+    node.encode(1, 0, &mut out);
+    repeated(alloc, &out, count)
+}
+
+// So many truncation nodes.
+fn truncations(alloc: Global, count: usize) -> Result<Vec<u8>, AllocError> {
+    let node = TrunNode {
+        ino: 65,
+        old_size: 10_000,
+        new_size: 4_097,
+    };
+    let mut out = [0; TRUNCATION];
+    node.encode(1, 0, &mut out);
+    repeated(alloc, &out, count)
+}
+
+fn repeated(alloc: Global, node: &[u8], count: usize) -> Result<Vec<u8>, AllocError> {
+    let mut leb = Vec::new(alloc);
+    for _ in 0..count {
+        leb.extend_from_slice(node)?;
+    }
+    Ok(leb)
+}

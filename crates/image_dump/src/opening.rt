@@ -1,0 +1,151 @@
+// The volume of an image.
+
+ghost use Rattle.std.specs.Prelude.{◌≡◌, ℕ, IfOk, IfErr, IfSome, IfNone};
+ghost use Rattle.ubifs_base.specs.RawOf.{raw_of};
+ghost use Rattle.ubi_volume.specs.Loading.{IsLoaded};
+ghost use Rattle.ubi_volume.specs.MemVolume.{state_of};
+ghost use Rattle.media_sys.specs.SystemNode.{IsSuper};
+ghost use Rattle.media_sys.specs.declared.super_node.Super.{Super as ASuper};
+ghost use Rattle.image_dump.specs.Sound.{IsOpened, IsFaulty, HasGeometry, HasVolume, shape_of, field_of, fault_of};
+
+use crate::fault::ImageFault;
+use media_sys::{Super, SuperField};
+use small_areas::{latest, misplaced_address};
+use std::alloc::Global;
+use ubi_volume::{LoadFault, MemVolume, VolShape, load_image};
+use ubifs_base::{GeomField, Geometry};
+
+/// A volume in memory, and its geometry.
+#[derive(Drop)]
+pub struct Opened {
+    pub volume: MemVolume,
+    pub geometry: Geometry,
+}
+
+/// The volume of an image, whose shape its superblock tells. Errors are those of `ImageFault`, the first that applies.
+pub fn open_image(alloc: Global, image: &[u8]) -> Result<Opened, ImageFault>
+    ensures opened { IfOk result (IsOpened image.now) }
+    ensures fault { IfErr result (IsFaulty image.now) }
+{
+    let geometry = geometry_in(alloc, image)?;
+    let volume = load(alloc, image, &geometry)?;
+    test_master(alloc, image, volume, geometry)
+}
+
+// The geometry that the superblock tells.
+fn geometry_in(alloc: Global, image: &[u8]) -> Result<Geometry, ImageFault>
+    ensures has { IfOk result (λ geometry. HasGeometry image.now (raw_of geometry)) }
+    ensures fault { IfErr result (IsFaulty image.now) }
+{
+    if image.len() < 4096 {
+        return Err(ImageFault::Short {
+            len: image.len() as u64,
+        });
+    }
+    let Some(node) = superblock_of(alloc, image.split_at(4096).0) else {
+        return Err(ImageFault::Super {
+            field: SuperField::Node,
+        });
+    };
+    if let Some(what) = node.feature() {
+        return Err(ImageFault::Feature {
+            what,
+            lnum: 0,
+            offs: 0,
+        });
+    }
+    match Geometry::new(&node.raw()) {
+        Ok(geometry) => Ok(geometry),
+        Err(fault) => Err(ImageFault::Super {
+            field: field_named(fault.field),
+        }),
+    }
+}
+
+// The superblock that the bytes are.
+fn superblock_of(alloc: Global, bytes: &[u8]) -> Option<Super>
+    ensures some { IfSome result (λ node. (sqnum : ℕ) × (group : ℕ) × IsSuper bytes.now sqnum group node) }
+    ensures none { IfNone result ((sqnum group : ℕ) (node : ASuper) → IsSuper bytes.now sqnum group node → ⊥) }
+{
+    let Ok(node) = Super::decode(alloc, bytes) else {
+        return None;
+    };
+    node
+}
+
+// The field of a superblock that is a field of its geometry.
+fn field_named(field: GeomField) -> SuperField
+    ensures { result ≡ field_of field }
+{
+    match field {
+        GeomField::LebSize => SuperField::LebSize,
+        GeomField::MinIo => SuperField::MinIo,
+        GeomField::LogLebs => SuperField::LogLebs,
+        GeomField::LptLebs => SuperField::LptLebs,
+        GeomField::OrphLebs => SuperField::OrphLebs,
+        GeomField::LebCnt => SuperField::LebCnt,
+        GeomField::MaxLebCnt => SuperField::MaxLebCnt,
+        GeomField::Fanout => SuperField::Fanout,
+        GeomField::LsaveCnt => SuperField::LsaveCnt,
+    }
+}
+
+// The volume of an image whose geometry is told.
+fn load(alloc: Global, image: &[u8], geometry: &Geometry) -> Result<MemVolume, ImageFault>
+    requires { HasGeometry image.now (raw_of geometry.now) }
+    ensures fits { IfOk result (λ _. HasVolume image.now (raw_of geometry.now)) }
+    ensures loaded { IfOk result (λ volume. IsLoaded (shape_of (raw_of geometry.now)) image.now (state_of volume)) }
+    ensures fault { IfErr result (IsFaulty image.now) }
+{
+    let shape = VolShape {
+        leb_size: geometry.leb_size,
+        min_io: geometry.min_io,
+        leb_cnt: geometry.leb_cnt,
+    };
+    match load_image(alloc, image, shape) {
+        Ok(volume) => Ok(volume),
+        Err(fault) => Err(fault_told(fault)),
+    }
+}
+
+// Why the image wasn't loaded.
+fn fault_told(fault: LoadFault) -> ImageFault
+    ensures { result ≡ fault_of fault }
+{
+    match fault {
+        LoadFault::Memory => ImageFault::Memory,
+        LoadFault::Short { len } => ImageFault::Short { len },
+        LoadFault::Long { len, most } => ImageFault::Long { len, most },
+    }
+}
+
+// The volume and its geometry, where it has a master whose addresses lie in their areas.
+fn test_master(
+    alloc: Global,
+    image: &[u8],
+    volume: MemVolume,
+    geometry: Geometry,
+) -> Result<Opened, ImageFault>
+    requires fits { HasVolume image.now (raw_of geometry) }
+    requires loaded { IsLoaded (shape_of (raw_of geometry)) image.now (state_of volume) }
+    ensures opened { IfOk result (IsOpened image.now) }
+    ensures fault { IfErr result (IsFaulty image.now) }
+{
+    let mut volume = volume;
+    let Ok(master) = latest(alloc, &mut volume) else {
+        return Err(ImageFault::Memory);
+    };
+    let Some(master) = master else {
+        return Err(ImageFault::NoMaster);
+    };
+    if let Some(misplaced) = misplaced_address(&master.master, &geometry) {
+        return Err(ImageFault::Damaged {
+            rule: 2,
+            lnum: master.lnum,
+            offs: master.offs,
+            wanted: misplaced.wanted as u64,
+            found: misplaced.found as u64,
+        });
+    }
+    Ok(Opened { volume, geometry })
+}

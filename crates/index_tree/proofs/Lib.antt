@@ -1,0 +1,10 @@
+pub mod KeptNumbers
+pub mod Search
+pub mod Rooting
+pub mod Removing
+pub mod Pruning
+pub mod Replacing
+pub mod LastLeaf
+pub mod Keeping
+pub mod NodeList
+pub mod Rebuilding

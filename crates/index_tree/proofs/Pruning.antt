@@ -1,0 +1,29 @@
+-- The steps of the removal of a range.
+use Rattle.std.proofs.Common.{◌≡◌, ℕ, ◌+◌, ◌≤◌, Bool, true, if◌then◌else◌, nat_le, ap, subst, arith, inl, inr}
+use Rattle.std.proofs.lemmas.Bool.{cases_Bool}
+use Rattle.index_tree.specs.Shape.{Shape, node, node_count, shape_weight, full}
+use Rattle.index_tree.proofs.Removing.{Ready, node_right}
+use Rattle.std.proofs.lemmas.Bool.Decides.{nat_tests}
+use Rattle.std.proofs.lemmas.List.Elements.{filter-append}
+use Rattle.std.proofs.Common.{length-append}
+use Rattle.index_tree.specs.GrowthLaws.{node_fits}
+use Rattle.index_tree.specs.RemovalLaws.{full-falls}
+use Rattle.index_tree.specs.RangeLaws.{pruned-shrunk, pruned-whole, without_range-is, without_range-laws, without_range-ordered}
+
+pub ruleset pruning = (nat_tests, node_fits, full-falls, pruned-shrunk, filter-append, length-append)
+
+pub ruleset pruning_rooted = (nat_tests, pruned-whole, without_range-is, without_range-laws, without_range-ordered, pruned-shrunk)
+
+-- what stands behind a node is ready once its children were pruned
+pub pruned_ready : (f n w m v m' v' : ℕ) (b : Bool) (s c d rest : Shape) → s ≡ node c rest → Ready f n w s → m + node_count c ≡ n + node_count d → v + shape_weight f c ≡ w + shape_weight f d → m' ≡ m → v' + (if b then 1 else 0) ≡ v + full f d → Ready f m' v' rest
+pruned_ready f n w m v m' v' b s c d rest is r nodes weight same counted =
+    let P : Shape → Type 0 = λ k. Ready f n w k in
+    let q = subst P is r in
+    let p = node_right f n w s c rest is r in
+    let one : (if b then 1 else 0) ≤ 1 = elim (cases_Bool b) [ inl e ↦ rw e (omega arith) | inr e ↦ rw e (omega arith) ] in
+    record {
+      sound = p.sound;
+      ordered = p.ordered;
+      nodes_there = omega (arith, q.nodes_there);
+      weight_there = omega (arith, q.weight_there);
+    }

@@ -1,0 +1,74 @@
+-- The steps of a removal.
+use Rattle.std.proofs.Common.{◌≡◌, ℕ, ◌+◌, ◌≤◌, true, false, ap, subst, ◌∙◌, arith}
+use Rattle.index_tree.specs.Order.{leaf_rank, ordered_from}
+use Rattle.index_tree.specs.Shape.{Shape, leaf, node, contents, node_count, shape_weight, fits}
+use Rattle.index_tree.specs.Removal.{holds, removed}
+use Rattle.std.proofs.lemmas.Bool.Decides.{nat_tests}
+use Rattle.index_tree.specs.declared.leaf.Leaf.{Leaf}
+use Rattle.index_tree.specs.GrowthLaws.{node_fits, below-full}
+use Rattle.index_tree.specs.OrderLaws.{ordered_head, ordered-weaken, ordered-left, ordered-right}
+use Rattle.index_tree.specs.KeptLaws.{kept_parts}
+use Rattle.index_tree.specs.InsertLaws.{fits-filled, lone-whole}
+use Rattle.index_tree.specs.CollapseLaws.{lone-count, removed-whole, without_leaf-is, without_leaf-laws, without_leaf-ordered, without-absent}
+use Rattle.index_tree.specs.RemovalLaws.{holds-append, removed-absent, absent_left, absent_right, absent_behind, removed-shrunk, full-falls, empty}
+
+pub ruleset removing = (nat_tests, empty, below-full)
+
+pub ruleset removal = (nat_tests, kept_parts, node_fits, ordered_head, ordered-weaken, ordered-left, ordered-right, fits-filled, holds-append, removed-absent, absent_left, absent_right, absent_behind, full-falls, removed-shrunk)
+
+pub ruleset collapsing = (nat_tests, empty, below-full, lone-whole, lone-count)
+
+pub ruleset removing_rooted = (nat_tests, removed-absent, removed-shrunk, removed-whole, without_leaf-is, without_leaf-laws, without_leaf-ordered, without-absent)
+
+-- what a removal from a row asks for
+pub record Ready (f n w : ℕ) (s : Shape) : Type 0 where
+  pub sound : fits f s ≡ true
+  pub ordered : ordered_from 0 (contents s) ≡ true
+  pub nodes_there : node_count s ≤ n
+  pub weight_there : shape_weight f s ≤ w
+
+pub leaf_parts : (f n w : ℕ) (x : Leaf) (s rest : Shape) → s ≡ leaf x rest → Ready f n w s → Ready f n w rest
+leaf_parts f n w x s rest is r =
+    let P : Shape → Type 0 = λ v. Ready f n w v in
+    let q = subst P is r in
+    record {
+      sound = q.sound;
+      ordered = ordered-weaken 0 (leaf_rank x) (contents rest) (omega arith) (ordered_head 0 x (contents rest) q.ordered).others;
+      nodes_there = q.nodes_there;
+      weight_there = q.weight_there;
+    }
+
+pub node_left : (f n w : ℕ) (s c rest : Shape) → s ≡ node c rest → Ready f n w s → Ready f n w c
+node_left f n w s c rest is r =
+    let P : Shape → Type 0 = λ v. Ready f n w v in
+    let q = subst P is r in
+    record {
+      sound = (node_fits f c rest q.sound).children;
+      ordered = ordered-left 0 (contents c) (contents rest) q.ordered;
+      nodes_there = omega (arith, q.nodes_there);
+      weight_there = omega (arith, q.weight_there);
+    }
+
+pub node_right : (f n w : ℕ) (s c rest : Shape) → s ≡ node c rest → Ready f n w s → Ready f n w rest
+node_right f n w s c rest is r =
+    let P : Shape → Type 0 = λ v. Ready f n w v in
+    let q = subst P is r in
+    record {
+      sound = (node_fits f c rest q.sound).others;
+      ordered = ordered-right 0 (contents c) (contents rest) q.ordered;
+      nodes_there = omega (arith, q.nodes_there);
+      weight_there = omega (arith, q.weight_there);
+    }
+
+-- the numbers are as before where nothing was taken out
+pub still_ready : (f n w m v : ℕ) (gone : Leaf) (c d rest : Shape) → holds gone (contents c) ≡ false → d ≡ removed gone c → m + node_count c ≡ n + node_count d → v + shape_weight f c ≡ w + shape_weight f d → Ready f n w rest → Ready f m v rest
+still_ready f n w m v gone c d rest absent is nodes weight r =
+    let same = is ∙ removed-absent gone c absent in
+    let size = ap node_count same in
+    let heft : shape_weight f d ≡ shape_weight f c = ap (λ k. shape_weight f k) same in
+    record {
+      sound = r.sound;
+      ordered = r.ordered;
+      nodes_there = omega (arith, r.nodes_there);
+      weight_there = omega (arith, r.weight_there);
+    }

@@ -1,0 +1,4 @@
+pub mod Text
+pub mod Known
+pub mod TextLaws
+pub mod Gathered

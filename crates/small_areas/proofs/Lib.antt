@@ -1,0 +1,4 @@
+pub mod LastMaster
+pub mod TwoMasters
+pub mod Standing
+pub mod Tests

@@ -1,0 +1,17 @@
+//! What stands in the small areas of a volume: which master is the latest, and do its addresses lie in their areas?
+//!
+//! A volume has two copies of its master, in LEBs 1 and 2. Each LEB is written from its start on, so the last master in a
+//! LEB's text is its newest, and of the two the one with the greater sequence number is the latest. `specs/Masters.antt`
+//! says so of the bytes of both LEBs, and `specs/Addresses.antt` where each address of a master may lie.
+#![tactic(auto)]
+
+mod masters;
+mod misplaced;
+mod placed_master;
+
+pub use crate::masters::latest;
+pub use crate::misplaced::{Misplaced, misplaced_address};
+pub use crate::placed_master::PlacedMaster;
+
+#[cfg(test)]
+mod tests;
