@@ -1,4 +1,4 @@
 pub mod LastMaster
 pub mod TwoMasters
 pub mod Standing
-pub mod Tests
+pub mod FirstFound

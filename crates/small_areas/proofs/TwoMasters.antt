@@ -1,5 +1,5 @@
 -- The later of the last masters of two LEBs.
-use Rattle.std.proofs.Common.{◌≡◌, ◌<◌, ◌≤◌, ℕ, nat_lt, Bool, true, false, List, Option, Some, None, IfSome, IfNone, inl, inr}
+use Rattle.std.proofs.Common.{ℕ, nat_lt, List, Option, Some, None, IfSome, IfNone, inl, inr}
 use Rattle.std.proofs.lemmas.Bool.{cases_Bool, ltb-true, ltb-false}
 use Rattle.small_areas.specs.Later.{IsReadOf, later_of}
 use Rattle.small_areas.specs.Masters.{HasNoMaster, IsLatest}

@@ -1,5 +1,5 @@
 -- Where the addresses of a master may lie.
-use Rattle.std.specs.Prelude.{◌≡◌, ℕ, ◌+◌, ◌-◌, nat_lt, if◌then◌else◌, List, [], ◌∷◌, Option, Some, None}
+use Rattle.std.specs.Prelude.{ℕ, ◌-◌, nat_lt, if◌then◌else◌, List, [], ◌∷◌, Option, Some, None}
 use Rattle.std.specs.Option.{option_or}
 use Rattle.ubifs_base.specs.Areas.{lpt_first, orph_first, main_first}
 use Rattle.ubifs_base.specs.Properties.{nnode_len, ltab_len}

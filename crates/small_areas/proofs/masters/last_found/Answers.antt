@@ -1,4 +1,4 @@
-use Rattle.std.proofs.Common.{List, ◌++◌, ◌∷◌, [], arith}
+use Rattle.std.proofs.Common.{◌++◌, ◌∷◌, [], arith}
 use Rattle.leb_scan.specs.Gathered.{gathered_next}
 use Rattle.small_areas.proofs.LastMaster.{seen_other, seen_master, seen_some, seen_none}
 use Rattle.small_areas.proofs.masters.last_found.Goals as goal

@@ -1,4 +1,4 @@
-use Rattle.std.proofs.Common.{◌≡◌, ℕ, List, Option, IfSome, sym, subst}
+use Rattle.std.proofs.Common.{ℕ, List, Option, IfSome, sym, subst}
 use Rattle.small_areas.proofs.TwoMasters.{later_found}
 use Rattle.small_areas.specs.Later.{IsReadOf}
 use Rattle.small_areas.specs.Masters.{IsLatest}
