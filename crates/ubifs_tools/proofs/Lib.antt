@@ -1,4 +1,5 @@
 pub mod Covered
+pub mod Dumping
 pub mod Flushing
 pub mod History
 pub mod Pages

@@ -1,5 +1,5 @@
 -- What the command `run` answers, over the files that it is given.
-use Rattle.std.specs.Prelude.{◌≡◌, ◌≢◌, ◌⊎◌, ℕ, ◌<◌, ◌≤◌, Bool, IsTrue, Option, Some, None, List, [], ◌∷◌, ◌++◌, take, slice_index, codes}
+use Rattle.std.specs.Prelude.{◌≡◌, ◌≢◌, ◌⊎◌, ℕ, ◌<◌, ◌≤◌, IsTrue, Some, None, List, [], ◌∷◌, ◌++◌, take, slice_index, codes}
 use Rattle.std.specs.Fmt.{decimal}
 use Rattle.ubifs_base.specs.Geometry.{IsGeometry, plain_geometry}
 use Rattle.ubifs_base.specs.GeometryFaults.{IsFirstOut, tested_fields}
@@ -121,3 +121,7 @@ IsPrinted old new text = IsTrue old.tells
     → (new.text ≡ old.text ++ text)
     ⊎ ((n : ℕ) × (new.text ≡ old.text ++ take n text) × Rose old.faults new.faults)
     ⊎ ((new.text ≡ old.text) × Rose old.shortages new.shortages)
+
+-- Where text is told, all of it was added.
+abbrev pub IsTold : SinkState → SinkState → List ℕ → Type 0
+IsTold old new text = IsTrue old.tells → new.text ≡ old.text ++ text

@@ -1,7 +1,6 @@
 -- How a run ended, over a keeper's files before and after it.
-use Rattle.std.specs.Prelude.{◌≡◌, ℕ, Bool, IsTrue, Option, List, [], ◌∷◌, codes}
+use Rattle.std.specs.Prelude.{◌≡◌, ℕ, IsTrue, List}
 use Rattle.io_edges.specs.Keeper.{KeeperState, SameFiles, SetsFile}
-use Rattle.text_lines.specs.Lines.{line_of}
 use Rattle.ubifs_tools.specs.Command.{IsRead, IsUnread, file_line, IsBadText, IsBadGeometry, IsDone}
 use Rattle.ubifs_tools.specs.declared.command.Ended.{Ended}
 use Rattle.ubifs_tools.specs.declared.command.Ended.TheVariants.{Unread, BadText, BadGeometry, Done}

@@ -1,4 +1,6 @@
 pub mod Command
+pub mod Dump
+pub mod Dumped
 pub mod Ended
 pub mod Performed
 pub mod Run

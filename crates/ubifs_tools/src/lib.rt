@@ -2,6 +2,7 @@
 #![tactic(auto)]
 
 mod command;
+mod dump;
 mod image;
 mod perform;
 mod run;

@@ -84,6 +84,11 @@ fn each_status_has_its_line(rt: HostRuntime) -> Result<(), Fail> {
         (&["run", "a", "b", ""], 0, 0, 1, b"usage\n"),
         (&["dump", "a", "b", "c"], 0, 0, 1, b"usage\n"),
         (&["run", "a", "b", "-c"], 0, 1, 1, b""),
+        (&["dump", "-a"], 0, 0, 1, b"usage\n"),
+        (&["dump", "d"], 0, 0, 4, b"file d\n"),
+        (&["dump", "a"], 1, 0, 4, b"file a\n"),
+        (&["dump", "a"], 0, 0, 3, b"image short 26\n"),
+        (&["dump", "a"], 0, 1, 3, b""),
     ];
     for (names, keeper_fails, sink_fails, status, text) in rows {
         let mut keeper = keeper(rt.alloc(), keeper_fails)?;

@@ -3,6 +3,7 @@
 ghost use Rattle.std.specs.Prelude.{◌≡◌, ◌↔◌, ℕ, List, IsTrue, IfSome, IfNone, map, codes};
 ghost use Rattle.std.specs.String.{string_bytes};
 ghost use Rattle.ubifs_tools.specs.Command.{IsRun, IsFileName};
+ghost use Rattle.ubifs_tools.specs.Dump.{IsDump};
 
 // The files that the words `run MANIFEST SCRIPT IMAGE` name.
 pub(crate) fn run_words(words: &[String]) -> Option<(&str, &str, &str)>
@@ -25,6 +26,29 @@ pub(crate) fn run_words(words: &[String]) -> Option<(&str, &str, &str)>
         return None;
     }
     Some((manifest.as_str(), script.as_str(), image.as_str()))
+}
+
+// The image that the words `dump IMAGE` name.
+pub(crate) fn dump_words(words: &[String]) -> Option<&str>
+    ensures some { IfSome result (λ name. IsDump (map string_bytes words.now) name.now) }
+    ensures none { IfNone result ((image : List ℕ) → IsDump (map string_bytes words.now) image → ⊥) }
+{
+    let [command, image] = words else {
+        return None;
+    };
+    if !is_dump(command.as_bytes()) {
+        return None;
+    }
+    if !is_file_name(image.as_bytes()) {
+        return None;
+    }
+    Some(image.as_str())
+}
+
+fn is_dump(word: &[u8]) -> bool
+    ensures { IsTrue result ↔ (word.now ≡ codes "dump") }
+{
+    word == b"dump".as_slice()
 }
 
 fn is_run(word: &[u8]) -> bool
