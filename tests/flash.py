@@ -28,7 +28,7 @@ def node(kind, sqnum, body, group=0):
 
 def fields(named, *layout):
     """Each field is its name and its width in bytes."""
-    return b"".join(int(named.get(name, 0), 0).to_bytes(width, "little") for name, width in layout)
+    return b"".join(int(named.get(name, "0"), 0).to_bytes(width, "little") for name, width in layout)
 
 
 SUPER = [
