@@ -8,11 +8,13 @@
 #![tactic(auto)]
 
 mod fault;
+mod law;
 mod leb;
 mod listing;
 mod opening;
 
 pub use crate::fault::ImageFault;
+pub use crate::law::never_both;
 pub use crate::listing::dump;
 pub use crate::opening::{Opened, open_image};
 
