@@ -82,7 +82,7 @@ none_there leb bytes found e h none =
 abbrev pub OneNode : Type 0
 OneNode = (bytes : List ℕ) (s1 g1 s2 g2 : ℕ) (n1 n2 : SystemNode) → IsBytes bytes → IsSystemNode bytes s1 g1 n1 → IsSystemNode bytes s2 g2 n2 → (s1 ≡ s2) × (g1 ≡ g2) × (n1 ≡ n2)
 
-master_same : (m n : Master) → master m ≡ master n → m ≡ n
+pub master_same : (m n : Master) → master m ≡ master n → m ≡ n
 master_same m n h = cc
 
 -- and so at most one master

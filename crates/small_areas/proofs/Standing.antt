@@ -19,7 +19,7 @@ placed leb place first found node same stands =
     let Q : Found → Type 0 = λ f. Stands leb f in
     subst Q same (node, subst P (sym stands.here) stands)
 
-head_of : {X : Type 0} (x y : X) (xs ys : List X) → x ∷ xs ≡ y ∷ ys → (x ≡ y) × (xs ≡ ys)
+pub head_of : {X : Type 0} (x y : X) (xs ys : List X) → x ∷ xs ≡ y ∷ ys → (x ≡ y) × (xs ≡ ys)
 head_of x y xs ys h = (cc, cc)
 
 -- one of the nodes of items that stand there

@@ -1,3 +1,5 @@
 pub mod Masters
 pub mod Later
+pub mod Copies
+pub mod Puts
 pub mod Addresses

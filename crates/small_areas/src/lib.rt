@@ -5,10 +5,12 @@
 //! says so of the bytes of both LEBs, and `specs/Addresses.antt` where each address of a master may lie.
 #![tactic(auto)]
 
+mod copies;
 mod masters;
 mod misplaced;
 mod placed_master;
 
+pub use crate::copies::write_master;
 pub use crate::masters::latest;
 pub use crate::misplaced::{Misplaced, misplaced_address};
 pub use crate::placed_master::PlacedMaster;

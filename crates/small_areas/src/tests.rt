@@ -1,6 +1,6 @@
 // Masters in a volume in memory, and their addresses.
 
-use crate::{Misplaced, latest, misplaced_address};
+use crate::{Misplaced, latest, misplaced_address, write_master};
 use media_sys::Master;
 use std::test::Fail;
 use ubi_volume::{MemVolume, VolShape, Volume};
@@ -71,6 +71,38 @@ fn master_of_the_greater_number_is_the_latest(rt: HostRuntime) -> Result<(), Fai
         };
         assert_eq!(rt; found.map(|placed| placed.lnum), wanted);
     }
+    Ok(())
+}
+
+#[test]
+fn written_master_is_the_latest(rt: HostRuntime) -> Result<(), Fail> {
+    let Ok(geometry) = Geometry::new(&RawGeometry::plain(16384, 512, 64, 8)) else {
+        return Err(Fail::from("no geometry"));
+    };
+    let shape = VolShape {
+        leb_size: 16384,
+        min_io: 512,
+        leb_cnt: 74,
+    };
+    let mut volume = MemVolume::new(rt.alloc(), shape)?;
+    let mut leb = vec![in rt.alloc(); 0; 16384]?;
+    let mut sqnum = 7;
+    let Ok(()) = write_master(&mut volume, &geometry, &PLACED, &mut sqnum, &mut leb) else {
+        return Err(Fail::from("no first master"));
+    };
+    let second = Master {
+        cmt_no: 1,
+        ..PLACED
+    };
+    let Ok(()) = write_master(&mut volume, &geometry, &second, &mut sqnum, &mut leb) else {
+        return Err(Fail::from("no second master"));
+    };
+    let Ok(Some(found)) = latest(rt.alloc(), &mut volume) else {
+        return Err(Fail::from("no master"));
+    };
+    assert_eq!(rt; (found.lnum, found.offs, found.sqnum), (2, 512, 11));
+    assert_eq!(rt; found.master.cmt_no, 1);
+    assert_eq!(rt; sqnum, 11);
     Ok(())
 }
 

@@ -1,0 +1,18 @@
+-- A LEB has at most one place for a copy: where its text ends.
+use Rattle.std.proofs.Common.{◌≡◌, ℕ, List}
+use Rattle.ubifs_base.specs.NodeLaws.{IsBytes}
+use Rattle.leb_scan.specs.Text.{IsText}
+use Rattle.leb_scan.specs.declared.item.Item.{Item}
+use Rattle.leb_scan.specs.declared.tail.Tail.{Tail}
+use Rattle.leb_scan.specs.declared.tail.Tail.TheVariants.{Clean}
+use Rattle.small_areas.specs.Copies.{IsPlace}
+
+-- bytes have at most one text
+abbrev pub OneText : Type 0
+OneText = (leb : List ℕ) (from end1 end2 : ℕ) (items1 items2 : List Item) (tail1 tail2 : Tail) → IsBytes leb
+    → IsText leb from items1 end1 tail1 → IsText leb from items2 end2 tail2 → (items1 ≡ items2) × (end1 ≡ end2) × (tail1 ≡ tail2)
+
+pub place_ends : OneText → (leb : List ℕ) (room place end : ℕ) (tail : Tail) → IsBytes leb → ((items : List Item) × IsText leb 0 items end tail) → IsPlace leb room place → (place ≡ end) × (Clean ≡ tail)
+place_ends one leb room place end tail fits text h =
+    let same = one leb 0 place end h.items text.0 Clean tail fits h.is_text text.1 in
+    (same.1, same.2)

@@ -1,0 +1,133 @@
+-- Copies of a master: where the next one of a LEB goes, which bytes it has, and what a write of one leaves.
+use Rattle.std.specs.Prelude.{◌≡◌, ◌≢◌, ◌⊎◌, ℕ, ◌+◌, ◌-◌, ◌*◌, ◌/◌, ◌%◌, ◌^◌, ◌<◌, ◌≤◌, List, ◌++◌, All, length, take, drop}
+use Rattle.ubifs_base.specs.Gap.{gap_of}
+use Rattle.ubifs_base.specs.NodeLaws.{IsBytes}
+use Rattle.ubifs_base.specs.declared.raw_geometry.RawGeometry.{RawGeometry}
+use Rattle.ubi_volume.specs.Volume.{VolumeState, Only, Leaves, IsWritten, IsChanged, ChangeUnderWay, WriteUnderWay}
+use Rattle.media_sys.specs.SystemNode.{IsMaster, master, written}
+use Rattle.media_sys.specs.declared.master.Master.{Master}
+use Rattle.leb_scan.specs.Text.{IsText, nodes_of}
+use Rattle.leb_scan.specs.declared.found.Found.{Found}
+use Rattle.leb_scan.specs.declared.item.Item.{Item}
+use Rattle.leb_scan.specs.declared.tail.Tail.{Tail}
+use Rattle.leb_scan.specs.declared.tail.Tail.TheVariants.{Clean}
+use Rattle.small_areas.specs.Masters.{IsLatest}
+use Rattle.small_areas.specs.declared.placed_master.PlacedMaster.{PlacedMaster}
+
+-- the geometry is that of the volume, which may have more LEBs
+pub record IsGeometryOf (geo : RawGeometry) (state : VolumeState) : Type 0 where
+  pub leb_size : geo.leb_size ≡ state.leb_size
+  pub min_io : geo.min_io ≡ state.min_io
+  pub leb_cnt : geo.leb_cnt ≤ state.leb_cnt
+
+-- the bytes from one place for a copy to the next: 512, rounded up to whole units
+abbrev pub room_of : ℕ → ℕ
+room_of unit = (511 + unit) / unit * unit
+
+-- room for a copy: that of a node, and words of 8 bytes
+pub record IsRoom (room : ℕ) : Type 0 where
+  pub low : 512 ≤ room
+  pub high : room < 2 ^ 32
+  pub even : room % 8 ≡ 0
+
+-- the node of a master, in its one spelling
+abbrev pub master_node : ℕ → Master → List ℕ
+master_node sqnum new = written sqnum 0 (master new)
+
+-- a copy: a node of 512 bytes, and a gap behind it
+abbrev pub copy_of : ℕ → List ℕ → List ℕ
+copy_of room node = node ++ gap_of (room - 512)
+
+-- the copy of a master
+abbrev pub master_copy : ℕ → ℕ → Master → List ℕ
+master_copy room sqnum new = copy_of room (master_node sqnum new)
+
+-- these bytes are the node of a master
+pub record IsNodeOf (node : List ℕ) (sqnum : ℕ) (new : Master) : Type 0 where
+  pub bytes : IsBytes node
+  pub is : IsMaster node sqnum 0 new
+  pub long : length node ≡ 512
+
+-- the place for the next copy: the text of the LEB ends there and nothing is written behind it, it is a multiple of the room, and there is so much room
+pub record IsPlace (leb : List ℕ) (room place : ℕ) : Type 0 where
+  pub items : List Item
+  pub is_text : IsText leb 0 items place Clean
+  pub multiple : place % room ≡ 0
+  pub fits : place + room ≤ length leb
+
+-- the LEB has no place for a copy
+abbrev pub HasNoPlace : List ℕ → ℕ → Type 0
+HasNoPlace leb room = (place : ℕ) → IsPlace leb room place → ⊥
+
+-- the LEB is open for writing where its next copy goes
+abbrev pub IsOpen : VolumeState → ℕ → ℕ → Type 0
+IsOpen state lnum room = (place : ℕ) → IsPlace (state.holds lnum) room place → state.written lnum ≤ place
+
+-- the copy was written at its place, or has replaced the LEB where there was none
+abbrev pub IsCopied : VolumeState → VolumeState → ℕ → ℕ → List ℕ → Type 0
+IsCopied old new lnum room copy =
+    ((place : ℕ) × IsPlace (old.holds lnum) room place × IsWritten old new lnum place copy) ⊎ (HasNoPlace (old.holds lnum) room × IsChanged old new lnum copy)
+
+-- a write at the place for the next copy, under way
+pub record IsAppending (old : VolumeState) (lnum room : ℕ) (left : List ℕ) : Type 0 where
+  pub place : ℕ
+  pub bytes : IsBytes (old.holds lnum)
+  pub is_place : IsPlace (old.holds lnum) room place
+  pub under_way : WriteUnderWay old lnum place room left
+
+-- what a cut leaves while the copy is written
+abbrev pub CopyUnderWay : VolumeState → ℕ → ℕ → List ℕ → List ℕ → Type 0
+CopyUnderWay old lnum room copy left = ChangeUnderWay old lnum copy left ⊎ IsAppending old lnum room left
+
+-- Of what a cut may leave of a LEB while a master's node is written at a place, this is what is meant: no torn node has a
+-- matching checksum. So the text from the place on has no master but that node, whole. Each list of bytes has a text.
+pub record IsUnmended (node : List ℕ) (place : ℕ) (left : List ℕ) : Type 0 where
+  pub items : List Item
+  pub end : ℕ
+  pub tail : Tail
+  pub is_text : IsText left place items end tail
+  pub masters : All (λ (found : Found). found.kind ≡ 7 → (found.offs ≡ place) × (take found.len (drop place left) ≡ node)) (nodes_of items)
+
+-- the premise on checksums, of what a cut left of a LEB to which a copy with this node was written, or was to be
+abbrev pub IsMeant : List ℕ → ℕ → List ℕ → List ℕ → Type 0
+IsMeant before room node left = (place : ℕ) → IsPlace before room place → IsUnmended node place left
+
+-- the latest master of two LEBs is the old one, where it stood, or the new one
+abbrev pub IsOldOrNew : PlacedMaster → Master → List ℕ → List ℕ → Type 0
+IsOldOrNew old new one two = (latest : PlacedMaster) × IsLatest one two latest × ((latest ≡ old) ⊎ (latest.master ≡ new))
+
+-- Both copies of a master were written, with the two numbers behind this one, and the master is the latest. Where the next
+-- copies go, the LEBs are open, and where a cut left what a LEB held, it does so again.
+pub record AreCopied (old new : VolumeState) (room number : ℕ) (fresh : Master) : Type 0 where
+  pub first : IsCopied old new 1 room (master_copy room (number + 1) fresh)
+  pub second : IsCopied old new 2 room (master_copy room (number + 2) fresh)
+  pub latest : PlacedMaster
+  pub is_latest : IsLatest (new.holds 1) (new.holds 2) latest
+  pub is_fresh : latest.master ≡ fresh
+  pub is_newer : latest.sqnum ≡ number + 2
+  pub open_first : IsOpen new 1 room
+  pub open_second : IsOpen new 2 room
+  pub settled_first : Only (old.holds 1) (old.left_now 1) → Only (new.holds 1) (new.left_now 1)
+  pub settled_second : Only (old.holds 2) (old.left_now 2) → Only (new.holds 2) (new.left_now 2)
+
+-- the start of a write of a master with the numbers behind this one: a cut leaves what both LEBs hold, and this is the latest master
+pub record IsStart (state : VolumeState) (number : ℕ) (old : PlacedMaster) : Type 0 where
+  pub latest : IsLatest (state.holds 1) (state.holds 2) old
+  pub low : old.sqnum ≤ number
+  pub first : Only (state.holds 1) (state.left_now 1)
+  pub second : Only (state.holds 2) (state.left_now 2)
+
+-- from such a start, a cut at any moment leaves the old latest master or the new one; of the outcomes, under the premise on checksums
+abbrev pub KeepsOldOrNew : VolumeState → VolumeState → ℕ → ℕ → Master → Type 0
+KeepsOldOrNew state new room number fresh =
+    (old : PlacedMaster) → IsStart state number old → Leaves state new (λ left.
+    IsMeant (state.holds 1) room (master_node (number + 1) fresh) (left 1)
+    → IsMeant (state.holds 2) room (master_node (number + 2) fresh) (left 2)
+    → IsOldOrNew old fresh (left 1) (left 2))
+
+-- LEBs other than 1 and 2 are as they were, now and after a cut
+pub record KeepsOthers (old new : VolumeState) : Type 0 where
+  pub holds : (k : ℕ) → k ≢ 1 → k ≢ 2 → new.holds k ≡ old.holds k
+  pub written : (k : ℕ) → k ≢ 1 → k ≢ 2 → new.written k ≡ old.written k
+  pub left : (k : ℕ) (bytes : List ℕ) → k ≢ 1 → k ≢ 2 → new.left_now k bytes → old.left_now k bytes
+  pub left_mapped : (k : ℕ) (bytes : List ℕ) → k ≢ 1 → k ≢ 2 → new.left_mapped k bytes → old.left_mapped k bytes
