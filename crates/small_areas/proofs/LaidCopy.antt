@@ -2,6 +2,8 @@
 use Rattle.std.proofs.Common.{◌≡◌, ℕ, zero, suc, ◌+◌, ◌-◌, ◌*◌, ◌/◌, ◌%◌, ◌^◌, ◌<◌, ◌≤◌, ◌==◌, min, true, List, [], ◌∷◌, ◌++◌, length, take, drop, replicate, Some, refl, ap, sym, ◌∙◌, subst, arith, append_assoc, length-append, length-drop}
 use Rattle.std.proofs.lemmas.Bool.{and_parts}
 use Rattle.std.proofs.lemmas.List.{drop-drop, take_at, drop_at}
+use Rattle.std.proofs.lemmas.List.Elements.{All-cons, All-weaker}
+use Rattle.std.specs.Prelude.{◌≢◌}
 use Rattle.ubifs_base.specs.Gap.{gap_of}
 use Rattle.media_sys.specs.SystemNode.{master, IsMaster}
 use Rattle.media_sys.specs.declared.master.Master.{Master}
@@ -11,9 +13,9 @@ use Rattle.leb_scan.specs.declared.found.Found.{Found}
 use Rattle.leb_scan.specs.declared.item.Item.{Item}
 use Rattle.leb_scan.specs.declared.item.Item.TheVariants.{Node}
 use Rattle.leb_scan.specs.declared.tail.Tail.TheVariants.{Clean}
-use Rattle.small_areas.specs.Copies.{IsNodeOf}
+use Rattle.small_areas.specs.Copies.{IsNodeOf, IsUnmended}
 use Rattle.small_areas.specs.Later.{IsReadOf}
-use Rattle.small_areas.specs.Masters.{IsLastOf, IsLastFound, IsLastMaster}
+use Rattle.small_areas.specs.Masters.{HasNone, IsLastOf, IsLastFound, IsLastMaster}
 use Rattle.small_areas.specs.declared.placed_master.PlacedMaster.{PlacedMaster}
 use Rattle.small_areas.proofs.LastMaster.{OneNode, found_there, master_same}
 use Rattle.small_areas.proofs.LastNode.{last_behind}
@@ -72,10 +74,20 @@ split leb front node gap back place g h at long wide =
       room = omega (arith, a, size, long);
     }
 
--- a copy behind items, with nothing written behind it
-pub laid : OneNode → (leb front node back : List ℕ) (lnum place g sqnum : ℕ) (new : Master) (items : List Item) → leb ≡ front ++ (node ++ gap_of g) ++ back → length front ≡ place → place % 8 ≡ 0 → g < 2 ^ 32 → g % 8 ≡ 0
-    → is_blank back ≡ true → Stand leb 0 items place → IsNodeOf node sqnum new → HasCopy leb lnum place (place + 512 + g) sqnum new
-laid one leb front node back lnum place g sqnum new items h at even fits even_gap blank stand is_node =
+-- from a place on a node stands, and behind it nothing but a gap
+pub record IsLaid (leb node : List ℕ) (place end : ℕ) : Type 0 where
+  pub found : Found
+  pub others : List Item
+  pub stand : Stand leb place (Node found ∷ others) end
+  pub blank : is_blank (drop end leb) ≡ true
+  pub kind : found.kind ≡ 7
+  pub offs : found.offs ≡ place
+  pub bytes : take found.len (drop place leb) ≡ node
+  pub none : HasNone (nodes_of others)
+
+pub laid_there : (leb front node back : List ℕ) (place g sqnum : ℕ) (new : Master) → leb ≡ front ++ (node ++ gap_of g) ++ back → length front ≡ place → place % 8 ≡ 0 → g < 2 ^ 32 → g % 8 ≡ 0 → is_blank back ≡ true → IsNodeOf node sqnum new
+    → IsLaid leb node place (place + 512 + g)
+laid_there leb front node back place g sqnum new h at even fits even_gap blank is_node =
     let parts = split leb front node (gap_of g) back place g h at is_node.long (gap_length g) in
     let others = gap_others g leb (place + 512) back fits even_gap parts.gap_there in
     let found : Found = record { offs = place; len = 512; kind = 7; group = 0; sqnum = sqnum } in
@@ -84,16 +96,40 @@ laid one leb front node back lnum place g sqnum new items h at even fits even_ga
     let room = parts.room in
     let next : place + 512 ≡ min ((place + 512 + 7) / 8 * 8) (length leb) = omega (arith, even, room) in
     let Q : ℕ → Type 0 = λ p. Stand leb p others.items (place + 512 + g) in
-    let more : Stand leb place (Node found ∷ others.items) (place + 512 + g) = (there, subst Q next others.stand) in
-    let all : Stand leb 0 (items ++ (Node found ∷ others.items)) (place + 512 + g) = Stand-then leb 0 place (place + 512 + g) items (Node found ∷ others.items) stand more in
     let R : List ℕ → Type 0 = λ bytes. is_blank bytes ≡ true in
-    let text : IsText leb 0 (items ++ (Node found ∷ others.items)) (place + 512 + g) Clean = record { stand = all; ends = subst R (sym parts.back_there) blank } in
-    let one_last : IsLastOf (found ∷ nodes_of others.items) found = record { before = []; behind = nodes_of others.items; split = refl; kind = refl; none = others.none } in
-    let S : List Found → Type 0 = λ nodes. IsLastOf nodes found in
-    let last : IsLastOf (nodes_of (items ++ (Node found ∷ others.items))) found = subst S (sym (nodes_of-append items (Node found ∷ others.items))) (last_behind (nodes_of items) (found ∷ nodes_of others.items) found one_last) in
-    let last_found : IsLastFound leb found = record { items = items ++ (Node found ∷ others.items); end = place + 512 + g; tail = Clean; is_text = text; last = last } in
     record {
-      items = items ++ (Node found ∷ others.items);
-      is_text = text;
-      read = read_new one leb node lnum place sqnum new found is_node last_found refl parts.node_there;
+      found = found;
+      others = others.items;
+      stand = (there, subst Q next others.stand);
+      blank = subst R (sym parts.back_there) blank;
+      kind = refl;
+      offs = refl;
+      bytes = parts.node_there;
+      none = others.none;
     }
+
+-- so nothing was mended there
+pub laid_unmended : (leb node : List ℕ) (place end : ℕ) → IsLaid leb node place end → IsUnmended node place leb
+laid_unmended leb node place end h =
+    let P : Found → Type 0 = λ found. found.kind ≡ 7 → (found.offs ≡ place) × (take found.len (drop place leb) ≡ node) in
+    let N : Found → Type 0 = λ found. found.kind ≢ 7 in
+    record {
+      items = Node h.found ∷ h.others;
+      end = end;
+      tail = Clean;
+      is_text = record { stand = h.stand; ends = h.blank };
+      masters = All-cons P h.found (nodes_of h.others) (λ kind. (h.offs, h.bytes)) (All-weaker N P (λ found other kind. absurd (other kind)) (nodes_of h.others) h.none);
+    }
+
+-- a copy behind items, with nothing written behind it
+pub laid : OneNode → (leb front node back : List ℕ) (lnum place g sqnum : ℕ) (new : Master) (items : List Item) → leb ≡ front ++ (node ++ gap_of g) ++ back → length front ≡ place → place % 8 ≡ 0 → g < 2 ^ 32 → g % 8 ≡ 0
+    → is_blank back ≡ true → Stand leb 0 items place → IsNodeOf node sqnum new → HasCopy leb lnum place (place + 512 + g) sqnum new
+laid one leb front node back lnum place g sqnum new items h at even fits even_gap blank stand is_node =
+    let there = laid_there leb front node back place g sqnum new h at even fits even_gap blank is_node in
+    let all : List Item = items ++ (Node there.found ∷ there.others) in
+    let text : IsText leb 0 all (place + 512 + g) Clean = record { stand = Stand-then leb 0 place (place + 512 + g) items (Node there.found ∷ there.others) stand there.stand; ends = there.blank } in
+    let one_last : IsLastOf (there.found ∷ nodes_of there.others) there.found = record { before = []; behind = nodes_of there.others; split = refl; kind = there.kind; none = there.none } in
+    let S : List Found → Type 0 = λ nodes. IsLastOf nodes there.found in
+    let last : IsLastOf (nodes_of all) there.found = subst S (sym (nodes_of-append items (Node there.found ∷ there.others))) (last_behind (nodes_of items) (there.found ∷ nodes_of there.others) there.found one_last) in
+    let last_found : IsLastFound leb there.found = record { items = all; end = place + 512 + g; tail = Clean; is_text = text; last = last } in
+    record { items = all; is_text = text; read = read_new one leb node lnum place sqnum new there.found is_node last_found there.offs there.bytes }

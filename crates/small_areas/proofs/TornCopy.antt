@@ -1,6 +1,7 @@
 -- While a copy is written to a LEB, a cut leaves its last master as it was, or the new one.
 use Rattle.std.proofs.Common.{◌≡◌, ◌⊎◌, ℕ, ◌+◌, ◌-◌, ◌≤◌, true, List, [], ◌++◌, length, take, drop, replicate, Option, Some, None, refl, ap, sym, ◌∙◌, subst, inl, inr, arith, append_assoc, length-append, length-drop}
 use Rattle.std.proofs.lemmas.List.{drop-drop, take_at, length-take-le}
+use Rattle.std.proofs.lemmas.List.Elements.{All-nil}
 use Rattle.ubifs_base.specs.Gap.{gap_of}
 use Rattle.ubifs_base.specs.NodeLaws.{IsBytes}
 use Rattle.ubi_volume.specs.Volume.{VolumeState, Only, filled, put}
@@ -18,7 +19,7 @@ use Rattle.small_areas.specs.Later.{IsReadOf}
 use Rattle.small_areas.specs.Masters.{HasNone, IsLastOf, IsLastFound, IsLastMaster, HasNoMaster}
 use Rattle.small_areas.specs.declared.placed_master.PlacedMaster.{PlacedMaster}
 use Rattle.small_areas.proofs.Fronts.{same_part, stand_alike, within}
-use Rattle.small_areas.proofs.LaidCopy.{standing_at, read_new, HasCopy, laid, blank_drop, blank_replicate}
+use Rattle.small_areas.proofs.LaidCopy.{standing_at, read_new, HasCopy, laid, laid_there, laid_unmended, blank_drop, blank_replicate}
 use Rattle.small_areas.proofs.LastMaster.{OneNode}
 use Rattle.small_areas.proofs.LastNode.{none_of_both, last_behind, last_before, last_of, of_last}
 use Rattle.small_areas.proofs.Places.{OneText}
@@ -99,29 +100,66 @@ replaced one leb node size lnum room sqnum new is_room h is_node =
     let P : ℕ → Type 0 = λ e. HasCopy leb lnum 0 e sqnum new in
     subst P end (laid one leb [] node back lnum 0 (room - 512) sqnum new [] h refl refl (omega (arith, high)) (omega (arith, low, even)) (blank_replicate (size - length (copy_of room node))) refl is_node)
 
+-- the parts of a LEB to which a copy was written
+record IsAppended (a leb node : List ℕ) (room place : ℕ) : Type 0 where
+  front : List ℕ
+  back : List ℕ
+  split : leb ≡ front ++ (node ++ gap_of (room - 512)) ++ back
+  at : length front ≡ place
+  same : take place a ≡ take place leb
+  long : length a ≡ length leb
+  blank : is_blank back ≡ true
+
+parts_of : (a leb node : List ℕ) (room place : ℕ) → IsRoom room → leb ≡ put place (copy_of room node) a → IsPlace a room place → length node ≡ 512 → IsAppended a leb node room place
+parts_of a leb node room place is_room h is_place size_of =
+    let copy : List ℕ = copy_of room node in
+    let front : List ℕ = take place a in
+    let back : List ℕ = drop (place + length copy) a in
+    let size : length copy ≡ room = copy_length room node is_room.low size_of in
+    let fits = is_place.fits in
+    let at : length front ≡ place = length-take-le place a (omega (arith, fits)) in
+    let l1 : length leb ≡ length (front ++ copy) + length back = ap length h ∙ length-append (front ++ copy) back in
+    let l2 : length (front ++ copy) ≡ length front + length copy = length-append front copy in
+    let l3 : length back ≡ length a - (place + length copy) = length-drop (place + length copy) a in
+    let P : List ℕ → Type 0 = λ bytes. is_blank bytes ≡ true in
+    record {
+      front = front;
+      back = back;
+      split = h;
+      at = at;
+      same = sym (ap (take place) (h ∙ append_assoc front copy back) ∙ take_at front (copy ++ back) place at);
+      long = omega (arith, l1, l2, l3, at, size, fits);
+      blank = subst P (drop-drop (length copy) place a) (blank_drop (length copy) (drop place a) is_place.is_text.ends);
+    }
+
 -- a LEB to which a copy was written
 pub appended : OneNode → (a leb node : List ℕ) (lnum room place sqnum : ℕ) (new : Master) → IsRoom room → leb ≡ put place (copy_of room node) a → IsPlace a room place → IsNodeOf node sqnum new → HasCopy leb lnum place (place + room) sqnum new
 appended one a leb node lnum room place sqnum new is_room h is_place is_node =
     let low = is_room.low in
     let high = is_room.high in
     let even = is_room.even in
-    let copy : List ℕ = copy_of room node in
-    let front : List ℕ = take place a in
-    let back : List ℕ = drop (place + length copy) a in
-    let size : length copy ≡ room = copy_length room node low is_node.long in
-    let fits = is_place.fits in
-    let at : length front ≡ place = length-take-le place a (omega (arith, fits)) in
-    let same : take place a ≡ take place leb = sym (ap (take place) (h ∙ append_assoc front copy back) ∙ take_at front (copy ++ back) place at) in
-    let l1 : length leb ≡ length (front ++ copy) + length back = ap length h ∙ length-append (front ++ copy) back in
-    let l2 : length (front ++ copy) ≡ length front + length copy = length-append front copy in
-    let l3 : length back ≡ length a - (place + length copy) = length-drop (place + length copy) a in
-    let long : length a ≡ length leb = omega (arith, l1, l2, l3, at, size, fits) in
-    let P : List ℕ → Type 0 = λ bytes. is_blank bytes ≡ true in
-    let blank : is_blank back ≡ true = subst P (drop-drop (length copy) place a) (blank_drop (length copy) (drop place a) is_place.is_text.ends) in
+    let parts = parts_of a leb node room place is_room h is_place is_node.long in
     let end : place + 512 + (room - 512) ≡ place + room = omega (arith, low) in
     let Q : ℕ → Type 0 = λ e. HasCopy leb lnum place e sqnum new in
-    subst Q end (laid one leb front node back lnum place (room - 512) sqnum new is_place.items h at (mod_through place room 8 is_place.multiple even) (omega (arith, high)) (omega (arith, low, even)) blank
-    (stand_alike a leb place 0 is_place.items same long is_place.is_text.stand) is_node)
+    subst Q end (laid one leb parts.front node parts.back lnum place (room - 512) sqnum new is_place.items parts.split parts.at (mod_through place room 8 is_place.multiple even) (omega (arith, high)) (omega (arith, low, even)) parts.blank
+    (stand_alike a leb place 0 is_place.items parts.same parts.long is_place.is_text.stand) is_node)
+
+-- nothing was mended where nothing was written yet
+pub unmended_before : (leb node : List ℕ) (room place : ℕ) → IsPlace leb room place → IsUnmended node place leb
+unmended_before leb node room place is_place =
+    let P : Found → Type 0 = λ found. found.kind ≡ 7 → (found.offs ≡ place) × (take found.len (drop place leb) ≡ node) in
+    record { items = []; end = place; tail = Clean; is_text = record { stand = refl; ends = is_place.is_text.ends }; masters = All-nil P }
+
+-- nor where the whole copy was
+pub unmended_after : (leb node : List ℕ) (room place sqnum : ℕ) (new : Master) → IsRoom room → IsNodeOf node sqnum new → IsPlace leb room place → IsUnmended node place (put place (copy_of room node) leb)
+unmended_after leb node room place sqnum new is_room is_node is_place =
+    let low = is_room.low in
+    let high = is_room.high in
+    let even = is_room.even in
+    let after : List ℕ = put place (copy_of room node) leb in
+    let parts = parts_of leb after node room place is_room refl is_place is_node.long in
+    laid_unmended after node place (place + 512 + (room - 512))
+    (laid_there after parts.front node parts.back place (room - 512) sqnum new parts.split parts.at (mod_through place room 8 is_place.multiple even) (omega (arith, high)) (omega (arith, low, even)) parts.blank is_node)
 
 -- what stands in the LEB after the copy
 pub copied : OneNode → (old new : VolumeState) (node : List ℕ) (lnum room sqnum : ℕ) (m : Master) → IsRoom room → IsNodeOf node sqnum m → IsCopied old new lnum room (copy_of room node)

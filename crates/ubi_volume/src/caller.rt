@@ -66,6 +66,7 @@ pub fn change_and_unmap<V: Volume>(volume: &mut V, fresh: &[u8]) -> Result<(), V
         ((c 1 ≡ (V.state volume.old).holds 1) × (c 2 ≡ (V.state volume.old).holds 2) × (c 3 ≡ (V.state volume.old).holds 3))
         ⊎ ((c 1 ≡ new) × ((c 2 ≡ (V.state volume.old).holds 2) ⊎ (c 2 ≡ new))
         × ((c 3 ≡ (V.state volume.old).holds 3) ⊎ (c 3 ≡ filled (V.state volume.old).leb_size [])))) }
+    ensures cause { HasCause (V.state volume.old).faults (V.state volume.new).faults result }
     ensures sure { StaysSure (V.state volume.old) (V.state volume.new) result }
 {
     volume.change(1, fresh)?;
