@@ -1,6 +1,9 @@
 -- Paths: `/`, or components each after a slash.
 use Rattle.std.specs.Prelude.{ℕ, Bool, true, false, ◌&&◌, ◌||◌, ◌==◌, not, nat_lt, if◌then◌else◌, Option, Some, None, Result, Ok, Err, List, [], ◌∷◌, length}
 use Rattle.std.specs.List.{list_any}
+use Rattle.std.specs.Ordering.{nat_cmp}
+use Rattle.std.specs.Cmp.Lexicographic.{slice_cmp}
+use Rattle.std.specs.BTreeMap.{is_at}
 use Rattle.fs_model.specs.declared.inode.Entry.{Entry}
 use Rattle.fs_model.specs.declared.inode.Kind.{Kind}
 use Rattle.fs_model.specs.declared.inode.Kind.TheVariants.{Dir, File}
@@ -38,6 +41,10 @@ is_dots [] = false
 is_dots (a ∷ []) = a == 46
 is_dots (a ∷ b ∷ []) = (a == 46) && (b == 46)
 is_dots (a ∷ b ∷ c ∷ bytes) = false
+
+-- whether two names are one
+abbrev pub is_same_name : List ℕ → List ℕ → Bool
+is_same_name a b = is_at (slice_cmp nat_cmp a) b
 
 -- A path that an operation takes: no empty component, none that is `.` or `..`, and no zero byte.
 abbrev pub is_path : List ℕ → Bool

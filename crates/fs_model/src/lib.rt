@@ -1,26 +1,42 @@
 //! The plain model of files: what each operation of the file system answers and leaves, as a function of the files
 //! alone. Every layer is proved against it, and nothing in it speaks of pages that are dirty, of places on the medium
-//! or of buffers. `specs/Files.antt` has the state, `specs/Operation.antt` the operations with their refusals in
-//! order, `specs/Trace.antt` a history of calls, and `specs/Cover.antt` the sum that admission tests.
+//! or of buffers. `specs/Files.antt` has the state, and `specs/Operation.antt` the operations, each with its refusals in
+//! order and, where it changes the tree at once, the group of changes that it puts; what one operation does stands in a
+//! file of its own (`Making`, `Links`, `Rename`, `Handles`, `Truncation`, `Attributes`). `specs/Change.antt` says what a
+//! change does, `specs/Recovery.antt` which trees a cut may leave, `specs/Proper.antt` what every tree keeps,
+//! `specs/Trace.antt` what a history of calls is, and `specs/Cover.antt` and `specs/Need.antt` have the sums that
+//! admission tests. `specs/Worked.antt` has runs worked by hand.
 #![tactic(auto)]
 
 mod blocks;
+mod change;
+mod group;
 mod inode;
 mod law;
 mod op;
 mod refusal;
 mod reply;
+mod rows;
 mod space;
 mod trace;
+mod worked;
 
 pub use crate::blocks::{BLOCK_SIZE, Blocks};
+pub use crate::change::Change;
+pub use crate::group::Group;
 pub use crate::inode::{Entry, Inode, Kind};
-pub use crate::law::{reads_are_what_was_written, writes_are_kept};
+pub use crate::law::{
+    changes_are_seen, groups_make_the_changes, reads_are_what_was_written, writes_are_kept,
+};
 pub use crate::op::Op;
 pub use crate::refusal::{Cause, NoSpace, Refusal, Scarce, Table};
 pub use crate::reply::Reply;
+pub use crate::rows::Rows;
 pub use crate::space::{Class, Need, Space};
 pub use crate::trace::TraceLine;
+pub use crate::worked::{
+    groups_and_trees_are_told, names_are_answered, open_files_are_answered, recovery_is_told,
+};
 
 #[cfg(test)]
 mod tests;

@@ -1,8 +1,8 @@
-// Blocks of a file, by hand.
+// Blocks of a file and lists of changes and entries, by hand.
 
-use crate::Blocks;
+use crate::{Blocks, Change, Entry, Group, Kind, Rows};
 use std::test::Fail;
-use ubifs_base::Bytes;
+use ubifs_base::{Bytes, Name};
 
 // Written over a page boundary, read back with the zeros around it, and taken out again.
 #[test]
@@ -29,5 +29,26 @@ fn blocks_keep_what_is_written(rt: HostRuntime) -> Result<(), Fail> {
     assert_eq!(rt; next, (65, 1));
     assert_eq!(rt; last.as_slice(), b"bcd".as_slice());
     assert!(rt; blocks.pop_first().is_none());
+    Ok(())
+}
+
+// A group's changes and a directory's rows come back as they were put in.
+#[test]
+fn lists_keep_what_is_put_in(rt: HostRuntime) -> Result<(), Fail> {
+    let mut group = Group::new(rt.alloc());
+    group.push(Change::DropInode { ino: 65 })?;
+    group.push(Change::DropInode { ino: 66 })?;
+    let again = Group::from_vec(group.into_vec());
+    assert_eq!(rt; again.as_slice().len(), 2);
+    let mut entries = Vec::new(rt.alloc());
+    entries.push(Entry {
+        dir: 1,
+        name: Name::from_slice(rt.alloc(), b"f".as_slice())?,
+        ino: 65,
+        kind: Kind::File,
+    })?;
+    let rows = Rows::from_vec(entries);
+    assert_eq!(rt; rows.as_slice().len(), 1);
+    assert_eq!(rt; rows.into_vec().len(), 1);
     Ok(())
 }

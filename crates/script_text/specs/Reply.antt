@@ -1,8 +1,12 @@
 -- The line of a reply.
-use Rattle.std.specs.Prelude.{ℕ, ◌+◌, ◌/◌, ◌%◌, ◌==◌, nat_lt, if◌then◌else◌, List, [], ◌∷◌, ◌++◌, length, codes}
+use Rattle.std.specs.Prelude.{ℕ, ◌+◌, ◌/◌, ◌%◌, ◌==◌, ◌&&◌, Bool, not, nat_lt, if◌then◌else◌, List, [], ◌∷◌, ◌++◌, length, map, codes}
 use Rattle.std.specs.Fmt.{decimal}
+use Rattle.std.specs.List.{flat_map}
+use Rattle.fs_model.specs.declared.inode.Entry.{Entry}
+use Rattle.fs_model.specs.declared.inode.Kind.{Kind}
+use Rattle.fs_model.specs.declared.inode.Kind.TheVariants.{File, Dir, Symlink, Block, Char, Fifo, Socket}
 use Rattle.fs_model.specs.declared.reply.Reply.{Reply}
-use Rattle.fs_model.specs.declared.reply.Reply.TheVariants.{Done, Ino, Count, Bytes, Refused}
+use Rattle.fs_model.specs.declared.reply.Reply.TheVariants.{Done, Ino, Count, Bytes, List as Listed, Stat, Target, Refused, Off}
 use Rattle.fs_model.specs.declared.refusal.Refusal.{Refusal}
 use Rattle.fs_model.specs.declared.refusal.Refusal.TheVariants.{Enoent, Eexist, Enotdir, Eisdir, Enotempty, Enospc, Erofs, Eio, Enomem, Efbig, Enametoolong, Einval, Emlink, Enfile, Ebadf}
 use Rattle.fs_model.specs.declared.refusal.Cause.{Cause}
@@ -11,6 +15,7 @@ use Rattle.fs_model.specs.declared.refusal.Scarce.{Scarce}
 use Rattle.fs_model.specs.declared.refusal.Scarce.TheVariants.{Space, Empty, Index, Area}
 use Rattle.fs_model.specs.declared.refusal.Table.{Table}
 use Rattle.fs_model.specs.declared.refusal.Table.TheVariants.{Orphans, Inodes}
+use Rattle.script_text.specs.Words.{octal}
 use Rattle.text_lines.specs.Lines.{spaced, ended}
 
 -- n times a byte, before runs
@@ -82,13 +87,47 @@ abbrev pub bytes_words : List ℕ → List (List ℕ)
 bytes_words [] = codes "0" ∷ []
 bytes_words (byte ∷ bytes) = decimal (length (byte ∷ bytes)) ∷ runs_text (runs_of (byte ∷ bytes)) ∷ []
 
+-- printable ASCII other than the space and `%`
+abbrev pub is_shown : ℕ → Bool
+is_shown byte = nat_lt 32 byte && nat_lt byte 127 && not (byte == 37)
+
+-- a byte of a name: itself, or `%` and its two hex digits
+abbrev pub escaped_byte : ℕ → List ℕ
+escaped_byte byte = if is_shown byte then byte ∷ [] else 37 ∷ hex_byte byte
+
+-- a name or a target
+abbrev pub escaped : List ℕ → List ℕ
+escaped bytes = flat_map escaped_byte bytes
+
+-- f d l b c p s
+abbrev pub kind_letter : Kind → ℕ
+kind_letter File = 102
+kind_letter Dir = 100
+kind_letter Symlink = 108
+kind_letter Block = 98
+kind_letter Char = 99
+kind_letter Fifo = 112
+kind_letter Socket = 115
+
+-- an entry of a directory: its name, its kind and its inode number
+abbrev pub row_word : Entry → List ℕ
+row_word entry = escaped entry.name ++ (58 ∷ kind_letter entry.kind ∷ 58 ∷ decimal entry.ino)
+
+-- a directory's entries: how many, and a word for each
+abbrev pub rows_words : List Entry → List (List ℕ)
+rows_words rows = decimal (length rows) ∷ map row_word rows
+
 -- a reply's words
 abbrev pub reply_words : Reply → List (List ℕ)
 reply_words Done = codes "ok" ∷ []
 reply_words (Ino ino) = codes "ok" ∷ decimal ino ∷ []
 reply_words (Count n) = codes "ok" ∷ decimal n ∷ []
 reply_words (Bytes bytes) = codes "ok" ∷ bytes_words bytes
+reply_words (Listed rows) = codes "ok" ∷ rows_words rows
+reply_words (Stat kind ino mode nlink size mtime) = codes "ok" ∷ (kind_letter kind ∷ []) ∷ decimal ino ∷ octal mode ∷ decimal nlink ∷ decimal size ∷ decimal mtime ∷ []
+reply_words (Target bytes) = codes "ok" ∷ escaped bytes ∷ []
 reply_words (Refused refusal) = refusal_words refusal
+reply_words Off = codes "off" ∷ []
 
 -- the caller, the number of its call, and the reply
 abbrev pub reply_line : ℕ → ℕ → Reply → List ℕ

@@ -13,7 +13,7 @@ use Rattle.script_text.specs.declared.fault.TextFault.TheVariants.{Memory, Line 
 use Rattle.text_lines.specs.Lines.{ended, line_of}
 use Rattle.script_text.specs.Words.{octal}
 
--- an operation's words
+-- an operation's words, of those that a script can have
 abbrev pub op_words : Op → List (List ℕ)
 op_words (Create path mode) = codes "create" ∷ path ∷ octal mode ∷ []
 op_words (OpenFile path slot) = codes "open" ∷ path ∷ decimal slot ∷ []
@@ -21,6 +21,7 @@ op_words (Close slot) = codes "close" ∷ decimal slot ∷ []
 op_words (Read slot offs len) = codes "read" ∷ decimal slot ∷ decimal offs ∷ decimal len ∷ []
 op_words (Write slot offs len byte) = codes "write" ∷ decimal slot ∷ decimal offs ∷ decimal len ∷ decimal byte ∷ []
 op_words Flush = codes "flush" ∷ []
+op_words op = []
 
 -- a part's words
 abbrev pub part_words : Part → List (List ℕ)

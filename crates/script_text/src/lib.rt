@@ -10,6 +10,7 @@
 mod cut;
 mod fault;
 mod law;
+mod listing;
 mod manifest;
 mod number;
 mod part;

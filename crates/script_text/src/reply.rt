@@ -5,6 +5,7 @@ ghost use Rattle.std.specs.Fmt.{decimal};
 ghost use Rattle.text_lines.specs.Lines.{spaced};
 ghost use Rattle.script_text.specs.Reply.{reply_line, reply_words, bytes_words, refusal_words, cause_words, scarce_word, table_word, runs_text, runs_of};
 
+use crate::listing::{push_escaped_word, push_kind_word, push_octal_word, push_rows};
 use crate::run::push_runs;
 use fs_model::{Cause, Refusal, Reply, Scarce, Table};
 use std::alloc::AllocError;
@@ -44,7 +45,32 @@ fn push_reply(line: &mut Vec<u8>, reply: &Reply) -> Result<(), AllocError>
             push_word(line, b"ok".as_slice())?;
             push_bytes(line, bytes.as_slice())
         }
+        Reply::List { rows } => {
+            push_word(line, b"ok".as_slice())?;
+            push_rows(line, rows.as_slice())
+        }
+        Reply::Stat {
+            kind,
+            ino,
+            mode,
+            nlink,
+            size,
+            mtime,
+        } => {
+            push_word(line, b"ok".as_slice())?;
+            push_kind_word(line, *kind)?;
+            push_number_word(line, u64::from(*ino))?;
+            push_octal_word(line, *mode)?;
+            push_number_word(line, u64::from(*nlink))?;
+            push_number_word(line, *size)?;
+            push_number_word(line, *mtime)
+        }
+        Reply::Target { bytes } => {
+            push_word(line, b"ok".as_slice())?;
+            push_escaped_word(line, bytes.as_slice())
+        }
         Reply::Refused { refusal } => push_refusal(line, *refusal),
+        Reply::Off => push_word(line, b"off".as_slice()),
     }
 }
 

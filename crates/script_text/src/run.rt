@@ -39,7 +39,8 @@ fn push_run(line: &mut Vec<u8>, n: u64, byte: u8) -> Result<(), AllocError>
     Ok(())
 }
 
-fn hex_digit(n: u8) -> u8
+/// A lower-case hex digit.
+pub fn hex_digit(n: u8) -> u8
     requires { n < 16 }
     ensures { result ≡ hex_digit n }
 {

@@ -4,11 +4,11 @@ use crate::{
     Manifest, Part, TextFault, manifest_has_no_bad_line, one_bad_line, one_bad_manifest_line,
     one_manifest, one_script, read_manifest, read_script, script_has_no_bad_line, write_reply,
 };
-use fs_model::{Cause, NoSpace, Op, Refusal, Reply, Scarce, Table};
+use fs_model::{Cause, Entry, Kind, NoSpace, Op, Refusal, Reply, Rows, Scarce, Table};
 use std::alloc::Global;
 use std::process::Abort;
 use std::test::Fail;
-use ubifs_base::Bytes;
+use ubifs_base::{Bytes, Name};
 
 const OPENED: &str = "mount\n1 create /f 644\n1 open /f 0\n";
 
@@ -247,6 +247,39 @@ fn replies_are_written(rt: HostRuntime) -> Result<(), Fail> {
         expect_line(&rt, rt.alloc(), &Reply::Refused { refusal }, text)?;
     }
     Ok(())
+}
+
+// A directory's entries, what an inode is, and a target whose bytes can't all stand in a word.
+#[test]
+fn listings_are_written(rt: HostRuntime) -> Result<(), Fail> {
+    let mut rows = Vec::new(rt.alloc());
+    for (name, ino, kind) in [
+        ("am", 65, Kind::File),
+        ("a b%", 66, Kind::Dir),
+        ("~\x7f", 67, Kind::Symlink),
+    ] {
+        rows.push(Entry {
+            dir: 1,
+            name: Name::from_slice(rt.alloc(), name.as_bytes())?,
+            ino,
+            kind,
+        })?;
+    }
+    let rows = Rows::from_vec(rows);
+    let text = "ok 3 am:f:65 a%20b%25:d:66 ~%7f:l:67";
+    expect_line(&rt, rt.alloc(), &Reply::List { rows }, text)?;
+    let stat = Reply::Stat {
+        kind: Kind::Dir,
+        ino: 1,
+        mode: 0o755,
+        nlink: 2,
+        size: 288,
+        mtime: 0,
+    };
+    expect_line(&rt, rt.alloc(), &stat, "ok d 1 755 2 288 0")?;
+    let bytes = Bytes::from_slice(rt.alloc(), b"../a b".as_slice())?;
+    expect_line(&rt, rt.alloc(), &Reply::Target { bytes }, "ok ../a%20b")?;
+    expect_line(&rt, rt.alloc(), &Reply::Off, "off")
 }
 
 fn expect_line(rt: &impl Abort, alloc: Global, reply: &Reply, text: &str) -> Result<(), Fail> {

@@ -53,6 +53,7 @@ done_steps geo s caller (Close slot) found e = inl (ap reply_in (sym e), ap (fil
 done_steps geo s caller (Read slot offs len) found e = inl (ap reply_in (sym e), ap (files_in s.files) (sym e))
 done_steps geo s caller (Write slot offs len byte) found e = admitted_steps geo s caller (Write slot offs len byte) found (pages_in (handle_at s.files caller slot) offs len) e
 done_steps geo s caller Flush found e = inl (ap reply_in (sym e), flushed-files s)
+done_steps geo s caller op found e = inl (ap reply_in (sym e), ap (files_in s.files) (sym e))
 
 answered_steps : (geo : RawGeometry) (s : Session) (caller : ℕ) (op : Op) → Stepped s.files caller op (answered geo s caller 0 op)
 unfolding Stepped

@@ -92,7 +92,7 @@ admitted geo session pages found =
     if (credits == 0) || nat_le sides.need sides.room then (found.0, record session { files = found.1; dirty = fold (insert_key pair_cmp) session.dirty pages })
     else (Refused (Enospc sides), session)
 
--- what the store does where the plain operation isn't refused
+-- what the store does where the plain operation isn't refused; no script has the other operations yet
 abbrev pub done : RawGeometry → Session → ℕ → ℕ → Op → Reply × Files → Reply × Session
 done geo session caller now (Create path mode) found = (found.0, with_group session found.1 caller now (Create path mode))
 done geo session caller now (Write slot offs len byte) found = admitted geo session (pages_in (handle_at session.files caller slot) offs len) found
@@ -100,6 +100,7 @@ done geo session caller now Flush found = (found.0, flushed session)
 done geo session caller now (OpenFile path slot) found = (found.0, record session { files = found.1 })
 done geo session caller now (Close slot) found = (found.0, record session { files = found.1 })
 done geo session caller now (Read slot offs len) found = (found.0, record session { files = found.1 })
+done geo session caller now op found = (found.0, record session { files = found.1 })
 
 abbrev pub unless_refused : Session → Outcome → (Reply × Files → Reply × Session) → Reply × Session
 unless_refused session (Err refusal) next = (Refused refusal, session)
