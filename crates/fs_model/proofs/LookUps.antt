@@ -1,6 +1,6 @@
 -- What changes mean to look-ups.
 use Rattle.std.proofs.Common.{◌≡◌, ◌≢◌, ℕ, ◌*◌, ◌<◌, ◌≤◌, Bool, true, false, cond, not, ◌&&◌, List, [], ◌∷◌, Some, refl, sym, ap, subst, ◌∙◌, arith, inl, inr}
-use Rattle.std.specs.Prelude.{filter, ◌==◌, nat_le}
+use Rattle.std.specs.Prelude.{filter, ◌==◌, nat_le, IsTrue, is_some, Option, None, unwrap_or}
 use Rattle.std.specs.Map.{lookup, remove_entry}
 use Rattle.std.specs.BTreeMap.{is_at, insert_entry}
 use Rattle.std.specs.Cmp.{nat_cmp_is}
@@ -13,8 +13,11 @@ use Rattle.std.proofs.lemmas.Bool.Decides.{eqb_tells, nat_tests}
 use Rattle.std.proofs.lemmas.Map.Lookups.{CmpEqualImpliesEq, exact_unsigned, exact_bytes, exact_pairs}
 use Rattle.fs_model.specs.declared.inode.Inode.{Inode}
 use Rattle.fs_model.specs.declared.inode.Entry.{Entry}
-use Rattle.fs_model.specs.ChangeLaw.{SetsInode, SetsEntry, LeavesEntries, CutsBlocks, DropsInode}
-use Rattle.fs_model.specs.Files.{Tree, Blocks, pair_cmp, name_cmp, block_at}
+use Rattle.fs_model.specs.ChangeLaw.{SetsInode, SetsEntry, LeavesEntries, SetsBlock, CutsBlocks, DropsInode}
+use Rattle.fs_model.specs.Change.{apply}
+use Rattle.fs_model.specs.Backing.{page_group}
+use Rattle.fs_model.specs.declared.page_node.PageNode.{PageNode}
+use Rattle.fs_model.specs.Files.{Tree, Blocks, pair_cmp, name_cmp, inode_at, block_at, with_block}
 
 nat_same : (x : ℕ) → nat_cmp x x ≡ Equal
 nat_same x = sym (nat_cmp_is x x Equal refl)
@@ -134,6 +137,38 @@ sets_entry tree entry = record {
   here = set_here name_cmp name_same tree.entries (entry.dir, entry.name) entry;
   others = λ dir name h. set_other name_cmp exact_names tree.entries (entry.dir, entry.name) entry (dir, name) (λ e. h (ap (λ (k : ℕ × List ℕ). k.0) e) (ap (λ (k : ℕ × List ℕ). k.1) e));
 }
+
+pair_same : (k : ℕ × ℕ) → pair_cmp k k ≡ Equal
+pair_same k = rw (nat_same k.0) (nat_same k.1)
+
+pub block_here : (blocks : Blocks) (ino block : ℕ) (bytes : List ℕ) → block_at (with_block blocks ino block bytes) ino block ≡ bytes
+block_here blocks ino block bytes = rw (set_here pair_cmp pair_same blocks (ino, block) bytes) refl
+
+block_other : (blocks : Blocks) (ino block : ℕ) (bytes : List ℕ) (other number : ℕ) → (other ≡ ino → number ≡ block → ⊥) → block_at (with_block blocks ino block bytes) other number ≡ block_at blocks other number
+block_other blocks ino block bytes other number h =
+    ap (λ x. unwrap_or x []) (set_other pair_cmp exact_blocks blocks (ino, block) bytes (other, number) (λ e. h (ap (λ (k : ℕ × ℕ). k.0) e) (ap (λ (k : ℕ × ℕ). k.1) e)))
+
+some_is_none : (inode : Inode) → Some inode ≡ None → ⊥
+some_is_none inode e = cc e
+
+pub sets_block : (tree : Tree) (ino block : ℕ) (bytes : List ℕ) → SetsBlock tree ino block bytes
+sets_block tree ino block bytes = by (inode_at tree ino) refl
+  where
+    by : (found : Option Inode) → inode_at tree ino ≡ found → SetsBlock tree ino block bytes
+    by None e = record {
+      here = λ there. let P : Option Inode → Type 0 = λ found. IsTrue (is_some found) in absurd (false≢true (subst P e there));
+      others = λ other number h. rw e refl;
+      missing = λ none. rw e refl;
+    }
+    by (Some inode) e = record {
+      here = λ there. rw e (block_here tree.blocks ino block bytes);
+      others = λ other number h. rw e (block_other tree.blocks ino block bytes other number h);
+      missing = λ none. absurd (some_is_none inode (sym e ∙ none));
+    }
+
+-- a page that was put is there
+pub page_block : (tree : Tree) (page : PageNode) → block_at (apply tree (page_group page)).blocks page.ino page.block ≡ page.bytes
+page_block tree page = rw (set_here nat_cmp nat_same tree.inodes page.ino page.inode) (block_here tree.blocks page.ino page.block page.bytes)
 
 pub leaves_entries : (tree : Tree) (from : ℕ) (gone : List ℕ) → LeavesEntries tree from gone
 leaves_entries tree from gone dir name h = removed_other name_cmp exact_names tree.entries (from, gone) (dir, name) (λ e. h (ap (λ (k : ℕ × List ℕ). k.0) e) (ap (λ (k : ℕ × List ℕ). k.1) e))

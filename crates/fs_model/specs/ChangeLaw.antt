@@ -1,6 +1,6 @@
 -- What each change means to who looks: the look-ups that it sets, and those that it leaves.
-use Rattle.std.specs.Prelude.{◌≡◌, ◌≢◌, ℕ, ◌*◌, ◌<◌, ◌≤◌, Some, List, []}
-use Rattle.fs_model.specs.declared.change.Change.TheVariants.{SetInode, SetEntry, DropEntry, CutBlocks, DropInode}
+use Rattle.std.specs.Prelude.{◌≡◌, ◌≢◌, ℕ, ◌*◌, ◌<◌, ◌≤◌, IsTrue, is_some, Some, None, List, []}
+use Rattle.fs_model.specs.declared.change.Change.TheVariants.{SetInode, SetEntry, DropEntry, SetBlock, CutBlocks, DropInode}
 use Rattle.fs_model.specs.declared.inode.Inode.{Inode}
 use Rattle.fs_model.specs.declared.inode.Entry.{Entry}
 use Rattle.fs_model.specs.Change.{changed}
@@ -19,6 +19,12 @@ pub record SetsEntry (tree : Tree) (entry : Entry) : Type 0 where
 -- a name goes, and no other one
 abbrev pub LeavesEntries : Tree → ℕ → List ℕ → Type 0
 LeavesEntries tree from gone = (dir : ℕ) (name : List ℕ) → (dir ≡ from → name ≡ gone → ⊥) → entry_at (changed tree (DropEntry from gone)) dir name ≡ entry_at tree dir name
+
+-- a block is set, of an inode that is there; a block of no inode is nothing
+pub record SetsBlock (tree : Tree) (ino block : ℕ) (bytes : List ℕ) : Type 0 where
+  pub here : IsTrue (is_some (inode_at tree ino)) → block_at (changed tree (SetBlock ino block bytes)).blocks ino block ≡ bytes
+  pub others : (other number : ℕ) → (other ≡ ino → number ≡ block → ⊥) → block_at (changed tree (SetBlock ino block bytes)).blocks other number ≡ block_at tree.blocks other number
+  pub missing : inode_at tree ino ≡ None → changed tree (SetBlock ino block bytes) ≡ tree
 
 -- the blocks past a size are cut off
 pub record CutsBlocks (tree : Tree) (ino old_size new_size : ℕ) : Type 0 where

@@ -1,4 +1,5 @@
 pub mod Attributes
+pub mod Backing
 pub mod Change
 pub mod ChangeLaw
 pub mod Cover
@@ -6,6 +7,8 @@ pub mod Directory
 pub mod Effect
 pub mod Files
 pub mod Handles
+pub mod Journal
+pub mod JournalLaws
 pub mod Law
 pub mod Links
 pub mod Making

@@ -4,7 +4,7 @@ ghost use Rattle.std.specs.Prelude.{◌≡◌, ℕ, List, replicate};
 ghost use Rattle.fs_model.specs.Files.{Blocks, bytes_from, blocks_written};
 ghost use Rattle.fs_model.specs.Files.{Files, Tree};
 ghost use Rattle.fs_model.specs.Law.{IsKept};
-ghost use Rattle.fs_model.specs.ChangeLaw.{SetsInode, SetsEntry, LeavesEntries, CutsBlocks, DropsInode};
+ghost use Rattle.fs_model.specs.ChangeLaw.{SetsInode, SetsEntry, LeavesEntries, SetsBlock, CutsBlocks, DropsInode};
 ghost use Rattle.fs_model.specs.Effect.{GroupMakes};
 ghost use Rattle.fs_model.specs.declared.inode.Inode.{Inode as AnyInode};
 ghost use Rattle.fs_model.specs.declared.inode.Entry.{Entry as AnyEntry};
@@ -25,6 +25,7 @@ pub fn changes_are_seen()
     ensures inode { (tree : Tree) (ino : ℕ) (inode : AnyInode) → SetsInode tree ino inode }
     ensures entry { (tree : Tree) (entry : AnyEntry) → SetsEntry tree entry }
     ensures names { (tree : Tree) (dir : ℕ) (name : List ℕ) → LeavesEntries tree dir name }
+    ensures block { (tree : Tree) (ino block : ℕ) (bytes : List ℕ) → SetsBlock tree ino block bytes }
     ensures cut { (tree : Tree) (ino old_size new_size : ℕ) → CutsBlocks tree ino old_size new_size }
     ensures dropped { (tree : Tree) (ino : ℕ) → DropsInode tree ino }
 {}

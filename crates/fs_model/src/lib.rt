@@ -8,12 +8,16 @@
 //! admission tests. `specs/Worked.antt` has runs worked by hand.
 #![tactic(auto)]
 
+mod backing;
+mod backing_answers;
 mod blocks;
+pub mod caller;
 mod change;
 mod group;
 mod inode;
 mod law;
 mod op;
+mod page_node;
 mod refusal;
 mod reply;
 mod rows;
@@ -21,6 +25,8 @@ mod space;
 mod trace;
 mod worked;
 
+pub use crate::backing::Backing;
+pub use crate::backing_answers::{Collected, Ended, Mode, Started, Stepped, StoreFault};
 pub use crate::blocks::{BLOCK_SIZE, Blocks};
 pub use crate::change::Change;
 pub use crate::group::Group;
@@ -29,6 +35,7 @@ pub use crate::law::{
     changes_are_seen, groups_make_the_changes, reads_are_what_was_written, writes_are_kept,
 };
 pub use crate::op::Op;
+pub use crate::page_node::PageNode;
 pub use crate::refusal::{Cause, NoSpace, Refusal, Scarce, Table};
 pub use crate::reply::Reply;
 pub use crate::rows::Rows;
