@@ -1,6 +1,8 @@
+pub mod Covered
 pub mod Effects
 pub mod Ends
 pub mod Keeps
 pub mod LookUps
 pub mod Orders
 pub mod Pieces
+pub mod PlainGoing

@@ -19,6 +19,7 @@ use Rattle.fs_model.specs.declared.change.Change.{Change}
 use Rattle.fs_model.specs.declared.change.Change.TheVariants.{SetInode, SetEntry, DropEntry, SetBlock, CutBlocks, DropInode}
 use Rattle.fs_model.specs.declared.inode.Kind.TheVariants.{File}
 use Rattle.fs_model.specs.declared.refusal.Cause.TheVariants.{Faulted, Spent}
+use Rattle.fs_model.specs.declared.space.Grant.{Grant}
 use Rattle.fs_model.specs.declared.space.Space.{Space}
 use Rattle.fs_model.specs.declared.space.Need.{Need}
 use Rattle.fs_model.specs.Change.{apply, without_inode}
@@ -28,11 +29,6 @@ use Rattle.fs_model.specs.Journal.{Journal, IfTold, MayLeave, AreSynced, base_he
 use Rattle.fs_model.specs.Need.{change_bytes}
 use Rattle.fs_model.specs.Orphan.{without_nameless}
 use Rattle.fs_model.specs.Proper.{IsProper, is_inode_node, is_entry_node, is_block_node, is_name, are_words, are_long_words, has_kind}
-
--- what the next group was granted
-pub record Grant : Type 0 where
-  pub bytes : ℕ
-  pub nodes : ℕ
 
 -- All that there is to say of a backing at one moment, but for what is expected of its volume.
 pub record BackingState : Type 0 where
@@ -54,6 +50,8 @@ pub record Outlook : Type 1 where
   pub sure : Type 0
   -- it takes no more writing, and so for good
   pub spent : Type 0
+  -- which call from now on fails, and no other, where this is told: 1 for the next one, 0 for none
+  pub strike : Option ℕ
 
 -- the count of faults rose, or it stands at its end
 abbrev pub Rose : ℕ → ℕ → Type 0
@@ -102,15 +100,34 @@ abbrev pub IsNotVolume : {T : Type 0} → Result T StoreFault → Type 0
 IsNotVolume (Err (Volume count)) = ⊥
 IsNotVolume result = Unit {0}
 
+-- the answer is that the volume failed
+abbrev pub IsVolume : {T : Type 0} → Result T StoreFault → Type 0
+IsVolume (Err (Volume count)) = Unit {0}
+IsVolume result = ⊥
+
+-- a call was counted, of which this one fails
+abbrev pub IsStruck : {T : Type 0} → Option ℕ → Option ℕ → Result T StoreFault → Type 0
+IsStruck None after result = Unit {0}
+IsStruck (Some zero) after result = (after ≡ Some 0) × IsNotVolume result
+IsStruck (Some (suc zero)) after result = (after ≡ Some 0) × IsVolume result
+IsStruck (Some (suc (suc n))) after result = (after ≡ Some (suc n)) × IsNotVolume result
+
+-- one that is refused as read-only isn't counted
+abbrev pub Strikes : {T : Type 0} → Option ℕ → Option ℕ → Result T StoreFault → Type 0
+Strikes before after (Err (IsReadOnly cause)) = after ≡ before
+Strikes before after result = IsStruck before after result
+
 -- where the volume was sure, it still is, and the call met no fault; or the volume is spent now
 pub record StaysSure {T : Type 0} (before after : Outlook) (old new : BackingState) (result : Result T StoreFault) : Type 0 where
   pub sure : before.sure → after.spent ⊎ (after.sure × (new.faults ≡ old.faults) × IsNotVolume result)
   pub spent : before.spent → after.spent
+  pub strike : Strikes before.strike after.strike result
 
 -- the same of a call that can't fail
 pub record KeepsSure (before after : Outlook) : Type 0 where
   pub sure : before.sure → after.sure
   pub spent : before.spent → after.spent
+  pub strike : after.strike ≡ before.strike
 
 -- a call that looks at the tree
 abbrev pub Reads : BackingState → BackingState → Type 0

@@ -1,6 +1,6 @@
 // What operations on files are written against.
 
-ghost use Rattle.std.specs.Prelude.{◌≡◌, ◌⊎◌, ◌↔◌, ◌+◌, ◌-◌, ◌≤◌, ◌<◌, ◌++◌, ℕ, ◌∷◌, [], length, replicate, IsTrue, IsOk, IfOk, OnOk, OnErr, IfErr};
+ghost use Rattle.std.specs.Prelude.{◌≡◌, ◌⊎◌, ◌↔◌, ◌+◌, ◌-◌, ◌≤◌, ◌<◌, ◌++◌, ℕ, ◌∷◌, [], length, take, min, replicate, IsTrue, IsOk, IfOk, OnOk, OnErr, IfErr};
 ghost use Rattle.ubifs_base.specs.Areas.{main_lebs};
 ghost use Rattle.fs_model.specs.Backing.{BackingState, Outlook, Goes, HasCause, HasMode, IsNotReadOnly, StaysSure, KeepsSure, Reads, KeepsFiles, IsModest, IsSmall, granted, given_back, page_puts, FitsPage, IsAdmitted, IsPagePut, IsGroupPut, IsDropped, IsSynced, LeavesTree, started_of, IsStarted, IsStepped, ended_of, IsEnded, IsCollected};
 ghost use Rattle.fs_model.specs.Cover.{needed, room_for, tree_bytes};
@@ -57,8 +57,8 @@ pub trait Backing {
     /// Reads a block into 4,096 bytes, with zeros past its end, and answers how many bytes are stored, 0 for a missing one.
     fn read_block(&mut self, ino: u32, block: u32, out: &mut [u8]) -> Result<u32, StoreFault>
         requires { length out.old ≡ 4096 }
-        ensures found { IfOk result (λ stored. (stored ≡ length (block_at (state self.old).tree.blocks ino block))
-            × (out.new ≡ block_at (state self.old).tree.blocks ino block ++ replicate (4096 - stored) 0)) }
+        ensures found { IfOk result (λ stored. (stored ≡ min (length (block_at (state self.old).tree.blocks ino block)) 4096)
+            × (out.new ≡ take 4096 (block_at (state self.old).tree.blocks ino block) ++ replicate (4096 - stored) 0)) }
         ensures reads { Reads (state self.old) (state self.new) }
         ensures goes { Goes 0 (state self.old) (state self.new) }
         ensures cause { HasCause (state self.old) (state self.new) result }

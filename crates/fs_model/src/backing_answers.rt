@@ -3,6 +3,7 @@
 ghost use Rattle.std.specs.Prelude.{◌≡◌};
 
 use crate::Cause;
+use std::alloc::AllocError;
 use thiserror::Error;
 use ubifs_base::Memory as NoMemory;
 
@@ -61,6 +62,16 @@ impl From<NoMemory> for StoreFault {
     ghost from_gives = { λ _ e. e ≡ Memory };
 
     fn from(_fault: NoMemory) -> StoreFault {
+        StoreFault::Memory
+    }
+}
+
+impl From<AllocError> for StoreFault {
+    ghost use Rattle.fs_model.specs.declared.backing_answers.StoreFault.TheVariants.{Memory};
+
+    ghost from_gives = { λ _ e. e ≡ Memory };
+
+    fn from(_fault: AllocError) -> StoreFault {
         StoreFault::Memory
     }
 }

@@ -1,6 +1,6 @@
 // A caller of several calls, proved from the trait alone.
 
-ghost use Rattle.std.specs.Prelude.{◌≡◌, ◌-◌, ◌≤◌, ◌++◌, ◌∷◌, [], length, replicate, IfOk, OnOk};
+ghost use Rattle.std.specs.Prelude.{◌≡◌, ◌-◌, ◌≤◌, ◌++◌, ◌∷◌, [], length, min, take, replicate, IfOk, OnOk};
 ghost use Rattle.fs_model.specs.Backing.{IsModest, FitsGroup, FitsPage, LeavesTree, page_group, page_puts};
 ghost use Rattle.fs_model.specs.Change.{apply};
 ghost use Rattle.fs_model.specs.Journal.{Leaves, base_head};
@@ -51,8 +51,8 @@ pub fn make_and_read<B: Backing>(
     requires page { FitsPage (apply (B.state backing.old).tree group.now) page.now }
     requires out { length out.old ≡ 4096 }
     ensures made { OnOk result ((B.state backing.new).tree ≡ apply (apply (B.state backing.old).tree group.now) (page_group page.now)) }
-    ensures read { IfOk result (λ stored. out.new ≡ page.now.bytes ++ replicate (4096 - stored) 0) }
-    ensures stored { IfOk result (λ stored. stored ≡ length page.now.bytes) }
+    ensures read { IfOk result (λ stored. out.new ≡ take 4096 page.now.bytes ++ replicate (4096 - stored) 0) }
+    ensures stored { IfOk result (λ stored. stored ≡ min (length page.now.bytes) 4096) }
     ensures left { OnOk result (LeavesTree (B.state backing.new)) }
     ensures cut { OnOk result (Leaves (B.state backing.old).journal (B.state backing.new).journal ((base_head, group.now) ∷ page_puts page.now)) }
 {

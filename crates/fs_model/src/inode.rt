@@ -16,7 +16,7 @@ pub enum Kind {
 
 /// An inode (`struct ubifs_ino_node` of ubifs-media.h). Times are seconds since 1970, `mode` has the permission bits
 /// alone, and `extra` is a symbolic link's target or a device's number.
-#[derive(Drop)]
+#[derive(Clone, Drop)]
 pub struct Inode {
     pub kind: Kind,
     pub mode: u32,
@@ -32,7 +32,7 @@ pub struct Inode {
 }
 
 /// A name in a directory (`struct ubifs_dent_node` of ubifs-media.h), and the inode that it names.
-#[derive(Drop)]
+#[derive(Clone, Drop)]
 pub struct Entry {
     pub dir: u32,
     pub name: Name,

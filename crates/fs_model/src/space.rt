@@ -28,3 +28,10 @@ pub struct Space {
     pub weight: u64,
     pub main: u32,
 }
+
+/// What was granted to the next group: the bytes of its nodes, each rounded up to 8, and their number.
+#[derive(Clone, Copy, Debug, PartialEq, Eq)]
+pub struct Grant {
+    pub bytes: u64,
+    pub nodes: u64,
+}

@@ -1,5 +1,6 @@
-use Rattle.std.proofs.Common.{◌-◌, ◌++◌, ◌∷◌, [], ℕ, length, replicate, List, ap, sym, subst, ◌∙◌}
-use Rattle.fs_model.specs.Backing.{BackingState, Grant, FitsGroup, page_puts}
+use Rattle.std.proofs.Common.{◌-◌, ◌++◌, ◌∷◌, [], ℕ, length, min, take, replicate, List, ap, sym, subst, ◌∙◌}
+use Rattle.fs_model.specs.Backing.{BackingState, FitsGroup, page_puts}
+use Rattle.fs_model.specs.declared.space.Grant.{Grant}
 use Rattle.fs_model.specs.Files.{Tree, block_at}
 use Rattle.fs_model.specs.Journal.{Journal, MightLeave, base_head}
 use Rattle.fs_model.proofs.LookUps.{page_block}
@@ -16,13 +17,13 @@ pub returns-clause-read : goal.returns-clause-read
 returns-clause-read g c =
     let block : Tree → List ℕ = λ t. block_at t.blocks c.args.page.now.ino c.args.page.now.block in
     let put = ap block c.in_ok-put_page.ensures.ok.tree ∙ page_block (g.B.Backing.state c.put_group.new.self).tree c.args.page.now in
-    c.in_ok-stored.ensures.found.1 ∙ ap (λ bytes. bytes ++ replicate (4096 - c.in_ok-stored.stored) 0) put
+    c.in_ok-stored.ensures.found.1 ∙ ap (λ bytes. take 4096 bytes ++ replicate (4096 - c.in_ok-stored.stored) 0) put
 
 pub returns-clause-stored : goal.returns-clause-stored
 returns-clause-stored g c =
     let block : Tree → List ℕ = λ t. block_at t.blocks c.args.page.now.ino c.args.page.now.block in
     let put = ap block c.in_ok-put_page.ensures.ok.tree ∙ page_block (g.B.Backing.state c.put_group.new.self).tree c.args.page.now in
-    c.in_ok-stored.ensures.found.0 ∙ ap (λ (bytes : List ℕ). length bytes) put
+    c.in_ok-stored.ensures.found.0 ∙ ap (λ (bytes : List ℕ). min (length bytes) 4096) put
 
 pub returns-clause-cut : goal.returns-clause-cut
 returns-clause-cut g c more tree left =
