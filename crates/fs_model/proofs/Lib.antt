@@ -1,6 +1,11 @@
+pub mod Counted
 pub mod Effects
 pub mod Ends
 pub mod Keeps
+pub mod Listing
 pub mod LookUps
 pub mod Orders
 pub mod Pieces
+pub mod Seen
+pub mod SoFar
+pub mod Walk

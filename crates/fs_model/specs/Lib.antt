@@ -1,4 +1,6 @@
 pub mod Attributes
+pub mod BlockWalk
+pub mod Cells
 pub mod Change
 pub mod ChangeLaw
 pub mod Cover
@@ -19,5 +21,7 @@ pub mod Recovery
 pub mod Rename
 pub mod Same
 pub mod Trace
+pub mod TreeCells
+pub mod TreeReads
 pub mod Truncation
 pub mod Worked

@@ -8,17 +8,26 @@
 //! admission tests. `specs/Worked.antt` has runs worked by hand.
 #![tactic(auto)]
 
+mod block_walk;
 mod blocks;
+mod cell;
 mod change;
+mod copies;
 mod group;
 mod inode;
 mod law;
+mod node_bytes;
 mod op;
+mod ordered_name;
 mod refusal;
 mod reply;
+mod rounds;
 mod rows;
 mod space;
 mod trace;
+mod tree;
+mod tree_cells;
+mod tree_reads;
 mod worked;
 
 pub use crate::blocks::{BLOCK_SIZE, Blocks};
@@ -34,9 +43,12 @@ pub use crate::reply::Reply;
 pub use crate::rows::Rows;
 pub use crate::space::{Class, Need, Space};
 pub use crate::trace::TraceLine;
+pub use crate::tree::Tree;
 pub use crate::worked::{
     groups_and_trees_are_told, names_are_answered, open_files_are_answered, recovery_is_told,
 };
 
 #[cfg(test)]
 mod tests;
+#[cfg(test)]
+mod tree_tests;
