@@ -1,8 +1,6 @@
-pub mod Covered
 pub mod Effects
 pub mod Ends
 pub mod Keeps
 pub mod LookUps
 pub mod Orders
 pub mod Pieces
-pub mod PlainGoing

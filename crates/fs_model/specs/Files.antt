@@ -1,6 +1,6 @@
 -- The state of the plain model: a tree of inodes, blocks and entries, and the handles of open files. Maps are finite, as their entries in order of key.
-use Rattle.std.specs.Prelude.{ℕ, ◌+◌, ◌-◌, ◌*◌, ◌/◌, ◌%◌, ◌==◌, if◌then◌else◌, max, Option, None, List, [], ◌∷◌, ◌++◌, length, get_or, take, drop, replicate, map, filter, fold, suc, min}
-use Rattle.std.specs.List.{range_with_len, last_or}
+use Rattle.std.specs.Prelude.{ℕ, ◌+◌, ◌-◌, ◌*◌, ◌/◌, ◌%◌, ◌==◌, if◌then◌else◌, max, Option, Some, None, List, [], ◌∷◌, ◌++◌, length, get_or, take, drop, replicate, map, fold, suc, min}
+use Rattle.std.specs.List.{range_with_len}
 use Rattle.std.specs.declared.cmp.Ordering.{Ordering}
 use Rattle.std.specs.Ordering.{nat_cmp, ordering_then}
 use Rattle.std.specs.Cmp.Lexicographic.{slice_cmp}
@@ -102,10 +102,7 @@ with_page ino place n byte blocks page = with_block blocks ino page (page_writte
 abbrev pub blocks_written : Blocks → ℕ → ℕ → ℕ → ℕ → Blocks
 blocks_written blocks ino place n byte = fold (with_page ino place n byte) blocks (pages_of place n)
 
--- the numbers of an inode's blocks, lowest first
-abbrev pub block_numbers : Blocks → ℕ → List ℕ
-block_numbers blocks ino = map (λ b. b.0.1) (filter (λ b. b.0.0 == ino) blocks)
-
--- the greatest number of an inode's blocks
+-- the greatest number among the blocks of an inode, and none where it has no block
 abbrev pub last_block_of : Blocks → ℕ → Option ℕ
-last_block_of blocks ino = last_or None (block_numbers blocks ino)
+last_block_of [] ino = None
+last_block_of (entry ∷ blocks) ino = if entry.0.0 == ino then Some (max entry.0.1 (unwrap_or (last_block_of blocks ino) 0)) else last_block_of blocks ino

@@ -17,8 +17,6 @@ pub mod Operation
 pub mod Orphan
 pub mod Outcome
 pub mod Path
-pub mod PlainBacking
-pub mod PlainBackingLaws
 pub mod Proper
 pub mod Recovery
 pub mod Rename

@@ -166,7 +166,7 @@ fn push_piece(out: &mut Vec<u8>, block: &[u8], from: usize, count: usize) -> Res
 }
 
 // At most so many of the bytes from a place on.
-pub(crate) fn part_of(block: &[u8], from: usize, count: usize) -> &[u8]
+fn part_of(block: &[u8], from: usize, count: usize) -> &[u8]
     ensures part { result.now ≡ take count (drop from block.now) }
     ensures len { length result.now ≤ count }
 {

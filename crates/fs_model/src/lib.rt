@@ -8,7 +8,6 @@
 //! admission tests. `specs/Worked.antt` has runs worked by hand.
 #![tactic(auto)]
 
-mod admission;
 mod backing;
 mod backing_answers;
 mod blocks;
@@ -19,18 +18,13 @@ mod inode;
 mod law;
 mod op;
 mod page_node;
-mod plain_backing;
-mod plain_numbers;
-mod plain_steps;
 mod refusal;
 mod reply;
 mod rows;
 mod space;
 mod trace;
-mod tree;
 mod worked;
 
-pub use crate::admission::{Sides, room};
 pub use crate::backing::Backing;
 pub use crate::backing_answers::{Collected, Ended, Mode, Started, Stepped, StoreFault};
 pub use crate::blocks::{BLOCK_SIZE, Blocks};
@@ -42,13 +36,11 @@ pub use crate::law::{
 };
 pub use crate::op::Op;
 pub use crate::page_node::PageNode;
-pub use crate::plain_backing::PlainBacking;
 pub use crate::refusal::{Cause, NoSpace, Refusal, Scarce, Table};
 pub use crate::reply::Reply;
 pub use crate::rows::Rows;
 pub use crate::space::{Class, Grant, Need, Space};
 pub use crate::trace::TraceLine;
-pub use crate::tree::Tree;
 pub use crate::worked::{
     groups_and_trees_are_told, names_are_answered, open_files_are_answered, recovery_is_told,
 };

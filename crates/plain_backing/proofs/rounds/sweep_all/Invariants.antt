@@ -1,0 +1,15 @@
+use Rattle.std.proofs.Common.{◌≡◌}
+use Rattle.plain_backing.specs.TreeCells.{tree_of}
+use Rattle.plain_backing.proofs.rounds.sweep_all.Given as goal
+
+abbrev pub invariant-loop-change : goal.invariant-loop-change
+invariant-loop-change l = record {
+  tree : tree_of l.cells ≡ tree_of l.fn.cells;
+  bytes : l.cells.bytes ≡ l.fn.cells.bytes;
+}
+
+abbrev pub invariant-loop-key : goal.invariant-loop-key
+invariant-loop-key l = record {
+  tree : tree_of l.cells ≡ tree_of l.fn.cells;
+  bytes : l.cells.bytes ≡ l.fn.cells.bytes;
+}

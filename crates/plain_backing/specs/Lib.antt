@@ -1,0 +1,5 @@
+pub mod BlockWalk
+pub mod Cells
+pub mod PlainBacking
+pub mod PlainBackingLaws
+pub mod TreeCells

@@ -1,0 +1,105 @@
+-- A backing in memory: what there is to say of it, and the numbers that it keeps.
+use Rattle.std.specs.Prelude.{◌≡◌, ℕ, zero, suc, ◌+◌, ◌-◌, ◌^◌, ◌<◌, false, min, Option, Some, None, []}
+use Rattle.ubifs_base.specs.declared.raw_geometry.RawGeometry.{RawGeometry}
+use Rattle.ubifs_base.specs.Areas.{main_lebs}
+use Rattle.ubifs_base.specs.RawOf.{raw_of}
+use Rattle.fs_model.specs.declared.backing_answers.Mode.{Mode}
+use Rattle.fs_model.specs.declared.backing_answers.Mode.TheVariants.{ReadWrite, ReadOnly}
+use Rattle.fs_model.specs.declared.backing_answers.StoreFault.{StoreFault}
+use Rattle.fs_model.specs.declared.backing_answers.StoreFault.TheVariants.{Memory, Volume, ReadOnly as IsReadOnly}
+use Rattle.plain_backing.specs.declared.numbers.Numbers.{Numbers}
+use Rattle.plain_backing.specs.declared.backing.PlainBacking.{PlainBacking}
+use Rattle.fs_model.specs.declared.refusal.Cause.TheVariants.{Faulted}
+use Rattle.fs_model.specs.declared.space.Need.{Need}
+use Rattle.fs_model.specs.declared.space.Space.{Space}
+use Rattle.fs_model.specs.Backing.{BackingState, Outlook}
+use Rattle.fs_model.specs.Cover.{tree_bytes}
+use Rattle.fs_model.specs.Files.{Tree}
+use Rattle.fs_model.specs.Journal.{Journal}
+
+-- nothing is held, nothing of an index is ever left to write, and collection never gains
+abbrev pub journal_of : Numbers → Journal
+journal_of n = record { running = n.running; left = 0; nodes = n.nodes; later = n.later; victim = false; medium = None }
+
+-- all that there is to say of a tree with these numbers
+abbrev pub state_with : RawGeometry → Tree → Numbers → BackingState
+state_with geo tree n = record {
+  geometry = geo;
+  orphan_limit = n.orphan_limit;
+  tree = tree;
+  space = record { used = tree_bytes tree; held = 0; credits = n.credits; empty = n.empty; index = n.index; weight = n.weight; main = main_lebs geo };
+  grant = n.grant;
+  journal = journal_of n;
+  mode = n.mode;
+  faults = n.faults;
+}
+
+abbrev pub state_of : PlainBacking → BackingState
+state_of b = state_with (raw_of b.geo) b.tree b.numbers
+
+-- it is sure while no failing call is set, and never spent
+abbrev pub outlook_with : Numbers → Outlook
+outlook_with n = record { sure = n.strike ≡ 0; spent = ⊥; strike = Some n.strike }
+
+abbrev pub outlook_of : PlainBacking → Outlook
+outlook_of b = outlook_with b.numbers
+
+-- a call that doesn't fail brings the one that does nearer
+abbrev pub counted : Numbers → Numbers
+counted n = record n { strike = n.strike - 1 }
+
+-- the mode after a fault
+abbrev pub faulted : Mode → ℕ → Mode
+faulted ReadWrite count = ReadOnly (Faulted count)
+faulted mode count = mode
+
+-- the call that fails
+abbrev pub failed : Numbers → Numbers
+failed n = let count = min (n.faults + 1) 18446744073709551615 in record n { strike = 0; faults = count; mode = faulted n.mode count }
+
+-- what there is to say of a new one: no credit is covered, no commit runs and nothing was put
+abbrev pub new_state : RawGeometry → Tree → Space → ℕ → BackingState
+new_state geo tree space orphan_room = record {
+  geometry = geo;
+  orphan_limit = orphan_room;
+  tree = tree;
+  space = record space { used = tree_bytes tree; held = 0 };
+  grant = None;
+  journal = record { running = None; left = 0; nodes = 0; later = 0; victim = false; medium = None };
+  mode = ReadWrite;
+  faults = 0;
+}
+
+-- the credits are covered, and the bytes and nodes are the grant
+abbrev pub admitted : Numbers → Need → Numbers
+admitted n need = record n { credits = n.credits + need.credits; grant = Some (record { bytes = need.bytes; nodes = need.nodes }) }
+
+-- a number that stays at the end of its type
+abbrev pub plus : ℕ → ℕ → ℕ
+plus a b = min (a + b) 18446744073709551615
+
+-- so many nodes were put
+abbrev pub with_nodes : Numbers → ℕ → Numbers
+with_nodes n nodes = record n { weight = n.weight + nodes; nodes = plus n.nodes nodes; later = plus n.later nodes }
+
+-- a credit is spent on a page
+abbrev pub page_spent : Numbers → Numbers
+page_spent n = with_nodes (record n { credits = n.credits - 1 }) 2
+
+-- the grant is spent on a group of so many nodes
+abbrev pub group_spent : Numbers → ℕ → Numbers
+group_spent n nodes = with_nodes (record n { grant = None }) nodes
+
+-- a commit runs, of the next number
+abbrev pub begun : Numbers → Numbers
+begun n = record n { running = Some (plus n.ended 1); later = 0 }
+
+-- the commit of this number has ended
+abbrev pub ended_as : Numbers → ℕ → Numbers
+ended_as n cmt_no = record n { running = None; ended = cmt_no; nodes = n.later; weight = n.base }
+
+-- a changing call that isn't done: it is the one that fails, or the store is read-only
+abbrev pub IsRefused : Numbers → Numbers → StoreFault → Type 0
+IsRefused old new Memory = ⊥
+IsRefused old new (Volume count) = (new ≡ failed old) × (old.strike ≡ 1) × (old.mode ≡ ReadWrite) × (count ≡ new.faults)
+IsRefused old new (IsReadOnly cause) = (new ≡ old) × (old.mode ≡ ReadOnly cause)

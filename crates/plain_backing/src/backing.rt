@@ -1,0 +1,299 @@
+// A backing in memory.
+
+ghost use Rattle.std.specs.Prelude.{◌≡◌, ◌<◌, ◌≤◌, ◌^◌, ◌++◌, ◌-◌, length, take, min, replicate, IfOk, IfErr};
+ghost use Rattle.std.specs.Option.{option_copied};
+ghost use Rattle.fs_model.specs.declared.backing_answers.StoreFault.TheVariants.{Memory as NoMemory};
+ghost use Rattle.fs_model.specs.Backing.{page_group};
+ghost use Rattle.fs_model.specs.Cover.{tree_bytes};
+
+use crate::numbers::Numbers;
+use crate::steps::{
+    admit, changing_call, count_call, end, has_weight_for, spend_grant, spend_page, start,
+};
+use crate::{Tree};
+use fs_model::{Backing, Change, Collected, Ended, Entry, Grant, Group, Inode, Mode, Need, NoSpace, PageNode, Space, Started, Stepped, StoreFault};
+use std::alloc::Global;
+use ubifs_base::{Arm, Geometry, Memory, Name};
+
+/// A tree of files in memory, with the numbers of a store that has it. Nothing is ever held, collection gains nothing, and
+/// a commit has nothing to write; so what is admitted here is what a store admits that has the same numbers.
+#[derive(Drop)]
+pub struct PlainBacking {
+    alloc: Global,
+    geo: Geometry,
+    tree: Tree,
+    numbers: Numbers,
+    ghost few_bytes: { tree_bytes tree < 2 ^ 40 },
+    ghost few_credits: { numbers.credits < 2 ^ 40 },
+    ghost light: { numbers.weight < 2 ^ 40 },
+    ghost light_base: { numbers.base ≤ numbers.weight },
+    ghost later_of: { numbers.later ≤ numbers.nodes },
+}
+
+impl PlainBacking {
+    ghost use Rattle.std.specs.Prelude.{◌≡◌, ◌<◌, ◌^◌, IfOk, []};
+    ghost use Rattle.ubifs_base.specs.Areas.{main_lebs};
+    ghost use Rattle.ubifs_base.specs.RawOf.{raw_of};
+    ghost use Rattle.fs_model.specs.Backing.{IsSmall};
+    ghost use Rattle.fs_model.specs.Cover.{tree_bytes};
+    ghost use Rattle.plain_backing.specs.PlainBacking.{state_of, outlook_of, new_state};
+
+    /// A backing of this tree, whose LEBs and weight are those of the space. `orphan_room` is how many orphans it takes.
+    pub fn new(
+        alloc: Global,
+        geo: Geometry,
+        tree: Tree,
+        space: Space,
+        orphan_room: u64,
+    ) -> Result<PlainBacking, Memory>
+        requires small { IsSmall space }
+        requires main { space.main ≡ main_lebs (raw_of geo) }
+        requires credits { space.credits ≡ 0 }
+        requires bytes { tree_bytes tree < 2 ^ 40 }
+        ensures state { IfOk result (λ backing. state_of backing ≡ new_state (raw_of geo) tree space orphan_room) }
+        ensures strike { IfOk result (λ backing. (outlook_of backing).strike ≡ Some 0) }
+    {
+        Ok(PlainBacking {
+            alloc,
+            geo,
+            tree,
+            numbers: Numbers {
+                orphan_limit: orphan_room,
+                credits: 0,
+                empty: space.empty,
+                index: space.index,
+                weight: space.weight,
+                base: space.weight,
+                grant: None,
+                running: None,
+                ended: 0,
+                nodes: 0,
+                later: 0,
+                mode: Mode::ReadWrite,
+                faults: 0,
+                strike: 0,
+            },
+        })
+    }
+
+    /// Makes a call fail: the one of this number, counted from now on over the calls that may answer that the volume
+    /// failed, the first being 1. No other call fails; 0 makes none fail.
+    pub fn fail_call(&mut self, call: u64)
+        ensures state { state_of self.new ≡ state_of self.old }
+        ensures strike { (outlook_of self.new).strike ≡ Some call }
+    {
+        self.numbers.strike = call;
+    }
+}
+
+// Fills 4,096 bytes with those that are stored, and zeros behind them, and answers how many are stored.
+fn fill_block(stored: &[u8], out: &mut [u8]) -> u32
+    requires { length out.old ≡ 4096 }
+    ensures count { result ≡ min (length stored.now) 4096 }
+    ensures filled { out.new ≡ take 4096 stored.now ++ replicate (4096 - result) 0 }
+{
+    let front = front_of(stored);
+    fill_with(out, front);
+    front.len() as u32
+}
+
+// At most 4,096 of the bytes.
+fn front_of(bytes: &[u8]) -> &[u8]
+    ensures part { result.now ≡ take 4096 bytes.now }
+    ensures len { length result.now ≤ 4096 }
+{
+    if bytes.len() <= 4096 {
+        return bytes;
+    }
+    bytes.split_at(4096).0
+}
+
+// The bytes, and zeros behind them.
+fn fill_with(out: &mut [u8], bytes: &[u8])
+    requires { length bytes.now ≤ length out.old }
+    ensures { out.new ≡ bytes.now ++ replicate (length out.old - length bytes.now) 0 }
+{
+    let (front, back) = out.split_at_mut(bytes.len());
+    front.copy_from_slice(bytes);
+    back.fill(0);
+}
+
+impl Backing for PlainBacking {
+    ghost use Rattle.std.proofs.Common.{refl};
+    ghost use Rattle.plain_backing.specs.PlainBacking.{state_of, outlook_of};
+    ghost use Rattle.plain_backing.specs.PlainBackingLaws.{small_of};
+
+    ghost state = { state_of };
+
+    ghost outlook = { outlook_of };
+
+    ghost used = { λ b. refl };
+
+    ghost main = { λ b. refl };
+
+    ghost small = { small_of };
+
+    fn inode(&mut self, ino: u32) -> Result<Option<Inode>, StoreFault> {
+        count_call(&mut self.numbers)?;
+        copy_inode(self.tree.inode(ino))
+    }
+
+    fn lookup(&mut self, dir: u32, name: &Name) -> Result<Option<Entry>, StoreFault> {
+        count_call(&mut self.numbers)?;
+        copy_entry(self.tree.entry(dir, name)?)
+    }
+
+    fn entries(&mut self, dir: u32) -> Result<Vec<Entry>, StoreFault> {
+        count_call(&mut self.numbers)?;
+        Ok(self.tree.entries_in(self.alloc, dir)?)
+    }
+
+    fn read_block(&mut self, ino: u32, block: u32, out: &mut [u8]) -> Result<u32, StoreFault> {
+        count_call(&mut self.numbers)?;
+        Ok(fill_block(self.tree.block(ino, block), out))
+    }
+
+    fn last_block(&mut self, ino: u32) -> Result<Option<u32>, StoreFault> {
+        count_call(&mut self.numbers)?;
+        Ok(self.tree.last_block(ino))
+    }
+
+    fn admit(&mut self, need: &Need) -> Result<(), NoSpace> {
+        let space = self.space();
+        admit(&mut self.numbers, &self.geo, &space, need)
+    }
+
+    fn give_back(&mut self, credits: u64) {
+        self.numbers.credits -= credits;
+    }
+
+    fn put_page(&mut self, page: &PageNode) -> Result<(), StoreFault> {
+        changing_call(&mut self.numbers)?;
+        if !has_weight_for(&self.numbers, 2) {
+            return Err(StoreFault::Memory);
+        }
+        let group = changes_of(self.alloc, page)?;
+        self.tree.apply(self.alloc, &group)?;
+        spend_page(&mut self.numbers);
+        Ok(())
+    }
+
+    fn put_group(&mut self, group: &Group) -> Result<(), StoreFault> {
+        changing_call(&mut self.numbers)?;
+        let nodes = group.as_slice().len();
+        if !has_weight_for(&self.numbers, nodes) {
+            return Err(StoreFault::Memory);
+        }
+        self.tree.apply(self.alloc, group)?;
+        spend_grant(&mut self.numbers, nodes);
+        Ok(())
+    }
+
+    fn drop_orphan(&mut self, ino: u32) -> Result<(), StoreFault> {
+        count_call(&mut self.numbers)?;
+        self.tree.drop_inode(ino);
+        Ok(())
+    }
+
+    fn sync(&mut self) -> Result<(), StoreFault> {
+        changing_call(&mut self.numbers)
+    }
+
+    fn collect_step(&mut self) -> Result<Collected, StoreFault> {
+        changing_call(&mut self.numbers)?;
+        Ok(Collected::Nothing)
+    }
+
+    fn commit_start(&mut self) -> Result<Started, StoreFault> {
+        changing_call(&mut self.numbers)?;
+        Ok(start(&mut self.numbers))
+    }
+
+    fn commit_step(&mut self) -> Result<Stepped, StoreFault> {
+        changing_call(&mut self.numbers)?;
+        match self.numbers.running {
+            Some(_) => Ok(Stepped::Ready),
+            None => Ok(Stepped::Idle),
+        }
+    }
+
+    fn commit_end(&mut self) -> Result<Ended, StoreFault> {
+        changing_call(&mut self.numbers)?;
+        Ok(end(&mut self.numbers))
+    }
+
+    fn space(&self) -> Space {
+        Space {
+            used: self.tree.bytes(),
+            held: 0,
+            credits: self.numbers.credits,
+            empty: self.numbers.empty,
+            index: self.numbers.index,
+            weight: self.numbers.weight,
+            main: self.geo.main_lebs(),
+        }
+    }
+
+    fn orphan_room(&self) -> u64 {
+        self.numbers
+            .orphan_limit
+            .saturating_sub(self.tree.orphans())
+    }
+
+    fn orphan_limit(&self) -> u64 {
+        self.numbers.orphan_limit
+    }
+
+    fn highest(&self) -> u32 {
+        self.tree.highest()
+    }
+
+    fn mode(&self) -> Mode {
+        self.numbers.mode
+    }
+
+    /// Does nothing: there is no volume.
+    fn arm(&mut self, _what: &Arm) {}
+
+    fn faults(&self) -> u64 {
+        self.numbers.faults
+    }
+}
+
+fn copy_inode(found: Option<&Inode>) -> Result<Option<Inode>, StoreFault>
+    ensures copy { IfOk result (λ copy. copy ≡ option_copied found.entry) }
+    ensures fault { IfErr result (λ fault. fault ≡ NoMemory) }
+{
+    match found {
+        Some(inode) => Ok(Some(inode.clone()?)),
+        None => Ok(None),
+    }
+}
+
+fn copy_entry(found: Option<&Entry>) -> Result<Option<Entry>, StoreFault>
+    ensures copy { IfOk result (λ copy. copy ≡ option_copied found.entry) }
+    ensures fault { IfErr result (λ fault. fault ≡ NoMemory) }
+{
+    match found {
+        Some(entry) => Ok(Some(entry.clone()?)),
+        None => Ok(None),
+    }
+}
+
+// The changes of a page's two nodes.
+fn changes_of(alloc: Global, page: &PageNode) -> Result<Group, StoreFault>
+    ensures group { IfOk result (λ group. group ≡ page_group page.now) }
+    ensures fault { IfErr result (λ fault. fault ≡ NoMemory) }
+{
+    let mut group = Group::new(alloc);
+    group.push(Change::SetInode {
+        ino: page.ino,
+        inode: page.inode.clone()?,
+    })?;
+    group.push(Change::SetBlock {
+        ino: page.ino,
+        block: page.block,
+        bytes: page.bytes.clone()?,
+    })?;
+    Ok(group)
+}

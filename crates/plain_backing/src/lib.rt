@@ -1,0 +1,25 @@
+//! The plain backing: files in memory, which answer as a store does. `Tree` is a tree of files, of which a group of
+//! changes is made wholly or not at all, whichever growth is refused: first each key that is set gets a cell, empty where
+//! it is new, and all values are copied; then the cells change, which wants no memory; then those that are left empty are
+//! swept. What is seen are the cells that hold a value. `PlainBacking` has a tree and the numbers of a store, and meets
+//! `Backing` with them; what is written against a backing is tried over it.
+#![tactic(auto)]
+
+mod backing;
+mod block_walk;
+mod cell;
+mod copies;
+mod node_bytes;
+mod numbers;
+mod ordered_name;
+mod rounds;
+mod steps;
+mod tree;
+mod tree_cells;
+mod tree_reads;
+
+pub use crate::backing::PlainBacking;
+pub use crate::tree::Tree;
+
+#[cfg(test)]
+mod tree_tests;

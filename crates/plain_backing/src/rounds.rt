@@ -1,0 +1,115 @@
+// The three rounds in which a group is made in cells.
+
+ghost use Rattle.std.specs.Prelude.{◌≡◌, ◌+◌, ◌^◌, ◌<◌, IfOk, reverse, sum_by};
+ghost use Rattle.std.specs.List.{AllByRecursion};
+ghost use Rattle.fs_model.specs.Change.{apply};
+ghost use Rattle.plain_backing.specs.TreeCells.{tree_of, set_bytes, IsCounted, HasRoom};
+
+use fs_model::Change;
+use crate::cell::sweep;
+use crate::copies::copy_change;
+use crate::node_bytes::{block_bytes, inode_bytes, name_bytes};
+use crate::ordered_name::OrderedName;
+use crate::tree_cells::{TreeCells, entry_key, make, make_room, sweep_after};
+use std::alloc::Global;
+use ubifs_base::Memory;
+
+/// Makes the cells of what the changes set, copies the changes, the last one first, and keeps the keys of the names.
+/// Nothing that is seen changes, whether or not there is memory.
+pub(crate) fn prepare(
+    alloc: Global,
+    cells: &mut TreeCells,
+    keys: &mut Vec<(u32, OrderedName)>,
+    changes: &[Change],
+) -> Result<Vec<Change>, Memory>
+    ensures tree { tree_of cells.new ≡ tree_of cells.old }
+    ensures bytes { cells.new.bytes ≡ cells.old.bytes }
+    ensures copies { IfOk result (λ copies. reverse copies.items ≡ changes.now) }
+    ensures room { IfOk result (λ copies. AllByRecursion (HasRoom cells.new) copies.items) }
+    ensures fits { IfOk result (λ copies. cells.old.bytes + sum_by set_bytes copies.items < 2 ^ 64) }
+{
+    let mut copies = Vec::with_capacity(alloc, changes.len())?;
+    let mut total = cells.bytes;
+    let mut left = changes.len();
+    while left > 0 {
+        left -= 1;
+        let change = copy_change(alloc, &changes[left])?;
+        total = grown(total, set_bytes(&change))?;
+        push_key(alloc, keys, &change)?;
+        make_room(alloc, cells, &change)?;
+        copies.push(change)?;
+    }
+    Ok(copies)
+}
+
+// A sum of bytes. The error is a sum that is too large to be kept.
+fn grown(total: u64, added: u64) -> Result<u64, Memory>
+    ensures { IfOk result (λ sum. (sum ≡ total + added) × (sum < 2 ^ 64)) }
+{
+    match total.checked_add(added) {
+        Some(sum) => Ok(sum),
+        None => Err(Memory),
+    }
+}
+
+// The bytes of the node that a change sets.
+fn set_bytes(change: &Change) -> u64
+    ensures { result ≡ set_bytes change.now }
+{
+    match change {
+        Change::SetInode { ino: _, inode } => inode_bytes(inode),
+        Change::SetEntry { entry } => name_bytes(&entry.name),
+        Change::SetBlock {
+            ino: _,
+            block: _,
+            bytes,
+        } => block_bytes(bytes),
+        _ => 0,
+    }
+}
+
+// Keeps the key of a change of a name.
+fn push_key(
+    alloc: Global,
+    keys: &mut Vec<(u32, OrderedName)>,
+    change: &Change,
+) -> Result<(), Memory> {
+    match change {
+        Change::SetEntry { entry } => {
+            let key = entry_key(alloc, entry.dir, &entry.name)?;
+            keys.push(key)?;
+        }
+        Change::DropEntry { dir, name } => {
+            let key = entry_key(alloc, *dir, name)?;
+            keys.push(key)?;
+        }
+        _ => {}
+    }
+    Ok(())
+}
+
+/// Makes changes whose cells are there, the last one first. Takes no memory.
+pub(crate) fn make_all(cells: &mut TreeCells, mut copies: Vec<Change>)
+    requires room { AllByRecursion (HasRoom cells.old) copies.items }
+    requires fits { cells.old.bytes + sum_by set_bytes copies.items < 2 ^ 64 }
+    requires counted { IsCounted cells.old }
+    ensures tree { tree_of cells.new ≡ apply (tree_of cells.old) (reverse copies.items) }
+    ensures counted { IsCounted cells.new }
+{
+    while let Some(change) = copies.pop() {
+        make(cells, change);
+    }
+}
+
+/// Takes out the empty cells that changes may have left. Nothing that is seen changes. Takes no memory.
+pub(crate) fn sweep_all(cells: &mut TreeCells, keys: &[(u32, OrderedName)], changes: &[Change])
+    ensures tree { tree_of cells.new ≡ tree_of cells.old }
+    ensures bytes { cells.new.bytes ≡ cells.old.bytes }
+{
+    for change in changes {
+        sweep_after(cells, change);
+    }
+    for key in keys {
+        sweep(&mut cells.entries, key);
+    }
+}

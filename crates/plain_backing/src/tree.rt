@@ -1,0 +1,165 @@
+// A tree of files in memory.
+
+ghost use Rattle.std.specs.Prelude.{◌≡◌, IfOk, OnOk, OnErr, is_some, []};
+ghost use Rattle.std.specs.Option.{option_copied, option_map};
+ghost use Rattle.std.specs.BTreeMap.{is_at};
+ghost use Rattle.std.specs.Map.{lookup};
+ghost use Rattle.fs_model.specs.Change.{apply};
+ghost use Rattle.fs_model.specs.Cover.{tree_bytes};
+ghost use Rattle.fs_model.specs.Directory.{entries_in};
+ghost use Rattle.fs_model.specs.Files.{inode_at, entry_at, block_at, pair_cmp};
+ghost use Rattle.plain_backing.specs.TreeCells.{entry_of};
+ghost use Rattle.fs_model.specs.Files.{last_block_of};
+
+use crate::cell::held;
+use crate::ordered_name::OrderedName;
+use crate::rounds::{make_all, prepare, sweep_all};
+use crate::tree_cells::{Named, TreeCells, entry_key};
+use crate::tree_reads::{entries_in, last_block};
+use fs_model::{Entry, Group, Inode};
+use std::alloc::Global;
+use std::collections::BTreeMap;
+use std::marker::Model;
+use ubifs_base::{Bytes, Memory, Name};
+
+/// Inodes, blocks and entries, and the highest inode number that was ever used: a tree of files kept in memory, which
+/// contracts see as the record `Tree` of `specs/Files.antt`.
+#[derive(Drop)]
+pub struct Tree {
+    cells: TreeCells,
+}
+
+impl Model for Tree {
+    ghost use Rattle.fs_model.specs.Files.{Tree as FilesTree};
+
+    ghost Value = { FilesTree };
+
+    ghost use Rattle.plain_backing.specs.TreeCells.{tree_of, IsCounted};
+
+    ghost view = { λ b. tree_of b.cells };
+
+    ghost invariant = { λ b. IsCounted b.cells };
+}
+
+impl Tree {
+    /// No inodes, blocks and entries, and this highest inode number.
+    pub fn new(alloc: Global, highest: u32) -> Tree
+        ensures { result ≡ record { inodes = []; blocks = []; entries = []; highest = highest } }
+    {
+        Tree {
+            cells: TreeCells {
+                inodes: BTreeMap::new(alloc),
+                blocks: BTreeMap::new(alloc),
+                entries: BTreeMap::new(alloc),
+                highest,
+                bytes: 0,
+            },
+        }
+    }
+
+    /// Makes a group of changes, all or none: where there is no memory, or the tree's bytes would not fit into 64 bits,
+    /// the tree is as it was.
+    pub fn apply(&mut self, alloc: Global, group: &Group) -> Result<(), Memory>
+        ensures ok { OnOk result (self.new ≡ apply self.old group.now) }
+        ensures err { OnErr result (self.new ≡ self.old) }
+    {
+        let mut keys = Vec::new(alloc);
+        let changes = group.as_slice();
+        match prepare(alloc, &mut self.cells, &mut keys, changes) {
+            Ok(copies) => {
+                make_all(&mut self.cells, copies);
+                sweep_all(&mut self.cells, keys.as_slice(), changes);
+                Ok(())
+            }
+            Err(_) => {
+                sweep_all(&mut self.cells, keys.as_slice(), changes);
+                Err(Memory)
+            }
+        }
+    }
+
+    /// The inode of a number.
+    pub fn inode(&self, ino: u32) -> Option<&Inode>
+        ensures { option_copied result ≡ inode_at self.now ino }
+    {
+        held(&self.cells.inodes, &ino)
+    }
+
+    /// The entry of a name in a directory. The error is want of memory.
+    pub fn entry(&self, alloc: Global, dir: u32, name: &Name) -> Result<Option<Entry>, Memory>
+        ensures { IfOk result (λ entry. entry ≡ entry_at self.now dir name.now) }
+    {
+        let key = entry_key(alloc, dir, name)?;
+        Ok(named(held(&self.cells.entries, &key), key))
+    }
+
+    /// The entries of a directory, in order of name. The time goes with their number, not with the tree.
+    pub fn entries_in(&self, alloc: Global, dir: u32) -> Result<Vec<Entry>, Memory>
+        ensures { IfOk result (λ entries. entries.items ≡ entries_in self.now dir) }
+    {
+        entries_in(alloc, &self.cells.entries, dir)
+    }
+
+    /// The stored bytes of a block; a missing one has none.
+    pub fn block(&self, ino: u32, block: u32) -> &[u8]
+        ensures { result.now ≡ block_at self.now.blocks ino block }
+    {
+        match held(&self.cells.blocks, &(ino, block)) {
+            Some(bytes) => bytes.as_slice(),
+            None => &[],
+        }
+    }
+
+    /// Whether an inode has a block of this number.
+    pub fn has_block(&self, ino: u32, block: u32) -> bool
+        ensures { result ≡ is_some (lookup (is_at (pair_cmp (ino, block))) self.now.blocks) }
+    {
+        held(&self.cells.blocks, &(ino, block)).is_some()
+    }
+
+    /// The greatest number of an inode's blocks.
+    pub fn last_block(&self, ino: u32) -> Option<u32>
+        ensures { result ≡ last_block_of self.now.blocks ino }
+    {
+        last_block(&self.cells.blocks, ino)
+    }
+
+    /// The highest inode number that was ever used.
+    pub fn highest(&self) -> u32
+        ensures { result ≡ self.now.highest }
+    {
+        self.cells.highest
+    }
+
+    /// The bytes of the tree's leaf nodes, each rounded up to 8. They are kept, not counted.
+    pub fn bytes(&self) -> u64
+        ensures { result ≡ tree_bytes self.now }
+    {
+        self.cells.bytes
+    }
+}
+
+#[cfg(test)]
+impl Tree {
+    /// The number of cells, empty ones among them.
+    pub(crate) fn count_cells(&self) -> usize {
+        let cells = &self.cells;
+        cells.inodes.len() + cells.blocks.len() + cells.entries.len()
+    }
+}
+
+// The entry of a key that names something.
+fn named(found: Option<&Named>, key: (u32, OrderedName)) -> Option<Entry>
+    ensures { result ≡ option_map (entry_of key) (option_copied found.entry) }
+{
+    let Some(named) = found else {
+        return None;
+    };
+    let (dir, name) = key;
+    Some(Entry {
+        dir,
+        name: name.into_name(),
+        ino: named.ino,
+        kind: named.kind,
+    })
+}
