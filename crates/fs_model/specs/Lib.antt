@@ -21,6 +21,7 @@ pub mod Proper
 pub mod Recovery
 pub mod Rename
 pub mod Same
+pub mod Settled
 pub mod Trace
 pub mod Truncation
 pub mod Worked

@@ -1,1 +1,3 @@
+pub mod MainLebs
+pub mod Spaces
 pub mod Sums

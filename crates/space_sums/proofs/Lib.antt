@@ -1,0 +1,4 @@
+pub mod Admitted
+pub mod Full
+pub mod Index
+pub mod Keeps
