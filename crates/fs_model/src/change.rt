@@ -5,7 +5,7 @@ use ubifs_base::{Bytes, Name};
 
 /// A change of a tree, which one leaf node of the journal carries: an inode, an entry, an entry that goes, a block, the
 /// end of a file that is cut off (`UBIFS_TRUN_NODE` of ubifs-media.h), or an inode that goes with its blocks.
-#[derive(Drop)]
+#[derive(Clone, Drop)]
 pub enum Change {
     SetInode {
         ino: u32,

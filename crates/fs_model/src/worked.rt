@@ -36,6 +36,7 @@ pub fn groups_and_trees_are_told()
     ensures group { group_of fresh 1 0 (Create (codes "/f") 420) ≡ new_file_group }
     ensures need { need_of fresh 1 0 (Create (codes "/f") 420) ≡ record { credits = 0; bytes = 384; nodes = 3; class = Ordinary } }
     ensures removal { need_of (files_after fresh (Create (codes "/f") 420 ∷ [])) 1 0 (Unlink (codes "/f")) ≡ record { credits = 0; bytes = 384; nodes = 3; class = Removal } }
+    ensures unlinked { (files_after fresh (Create (codes "/f") 420 ∷ Unlink (codes "/f") ∷ [])).tree ≡ once_used }
     ensures proper { IsProper (files_after fresh changes_of_names).tree }
     ensures orphaned { IsProper (files_after fresh three_orphans).tree }
 {}

@@ -1,6 +1,6 @@
 -- How the bytes of a tree change with its cells.
-use Rattle.std.proofs.Common.{◌≡◌, ℕ, ◌+◌, ◌-◌, ◌*◌, ◌≤◌, max, length, Bool, true, false, cond, not, ◌&&◌, List, [], ◌∷◌, Option, Some, None, refl, sym, ap, subst, ◌∙◌, arith}
-use Rattle.std.specs.Prelude.{is_some, unwrap_or, sum_by, nat_le, ◌==◌, Result, OnOk}
+use Rattle.std.proofs.Common.{◌≡◌, ℕ, suc, ◌+◌, ◌-◌, ◌*◌, ◌≤◌, max, length, Bool, true, false, cond, not, ◌&&◌, List, [], ◌∷◌, Option, Some, None, refl, sym, ap, subst, ◌∙◌, arith}
+use Rattle.std.specs.Prelude.{is_some, unwrap_or, sum_by, filter, nat_le, ◌==◌, Result, OnOk}
 use Rattle.std.specs.List.{AllByRecursion}
 use denote.Bor.{Bor}
 use Rattle.std.specs.Option.{option_map, option_copied}
@@ -16,6 +16,7 @@ use Rattle.std.proofs.lemmas.Cmp.{nat_cmp_total, on_total, then_total, nat_list_
 use Rattle.std.proofs.lemmas.Bool.{false≢true}
 use Rattle.std.proofs.lemmas.Bool.Decides.{nat_tests}
 use Rattle.std.proofs.lemmas.List.Elements.{filter_agree}
+use Rattle.std.proofs.lemmas.List.Sums.{sum_by-cons, sum_by-le-sum_by}
 use Rattle.std.proofs.lemmas.Map.{keys-set_value}
 use Rattle.std.proofs.lemmas.Map.Entries.{sum_by-insert_entry, sum_by-remove_entry}
 use Rattle.std.proofs.lemmas.Map.Lookups.{CmpEqualImpliesEq, exact_unsigned, exact_bytes, exact_pairs}
@@ -26,7 +27,9 @@ use Rattle.fs_model.specs.declared.inode.Entry.{Entry}
 use Rattle.plain_backing.specs.declared.tree_cells.Named.{Named}
 use Rattle.plain_backing.specs.declared.tree_cells.TreeCells.{TreeCells}
 use Rattle.plain_backing.specs.Cells.{seen, has_cell, Keeps}
-use Rattle.fs_model.specs.Cover.{entry_bytes, round_8, inode_bytes, block_bytes}
+use Rattle.fs_model.specs.Cover.{entry_bytes, round_8, inode_bytes, block_bytes, tree_bytes}
+use Rattle.fs_model.specs.Orphan.{nameless}
+use Rattle.plain_backing.specs.Orphans.{orphans_in}
 use Rattle.fs_model.specs.Change.{applied, cut_blocks, without_blocks}
 use Rattle.fs_model.specs.Files.{Tree, Inodes, Blocks, Entries, pair_cmp, name_cmp, with_block}
 use Rattle.plain_backing.specs.TreeCells.{entry_of, entries_of, tree_of, set_bytes, HasRoom, IsCounted, KeepsRoom, Makes}
@@ -126,7 +129,7 @@ room_made r c x y is h = let P : Change → Type 0 = λ z. OnOk r (HasRoom c z) 
 pub entry_made : (c : TreeCells) (m : BTreeMap (ℕ × List ℕ) (Option Named)) (entry : Entry) (r : List ℕ) (old : Option Named) (added freed h : ℕ) → r ≡ entry.name → IsStrictlySortedBy name_cmp (keys_of c.entries.entries)
     → has_cell name_cmp c.entries.entries (entry.dir, entry.name) ≡ true → m.entries ≡ set_value (is_at (name_cmp (entry.dir, r))) c.entries.entries (Some (record { ino = entry.ino; kind = entry.kind }))
     → old ≡ lookup (is_at (name_cmp (entry.dir, r))) (seen c.entries.entries) → added ≡ entry_bytes entry → freed ≡ cond (is_some old) added 0 → IsCounted c → h ≡ max c.highest entry.dir
-    → Makes c (record { inodes = c.inodes; blocks = c.blocks; entries = m; highest = h; bytes = c.bytes + added - freed }) (applied (tree_of c) (SetEntry entry)) (entry_bytes entry)
+    → Makes c (record { inodes = c.inodes; blocks = c.blocks; entries = m; highest = h; bytes = c.bytes + added - freed; orphans = c.orphans }) (applied (tree_of c) (SetEntry entry)) (entry_bytes entry)
 entry_made c m entry r old added freed h name s has told there is gone counted top =
     let named : Named = record { ino = entry.ino; kind = entry.kind } in
     let key : ℕ × List ℕ = (entry.dir, entry.name) in
@@ -137,14 +140,14 @@ entry_made c m entry r old added freed h name s has told there is gone counted t
     let less : freed ≡ cond (is_some old) (round_8 (57 + length entry.name)) 0 = gone ∙ ap (λ n. cond (is_some old) n 0) is in
     record {
       tree = tree_same _ _ _ _ _ _ _ _ refl refl (ap (λ z. entries_of (seen z)) cells ∙ ap entries_of (seen-put name_cmp-total exact_names c.entries.entries key named s has) ∙ entries_of-insert (seen c.entries.entries) key named) top;
-      counted = omega (arith, counts, counted, is, less);
+      counted = (omega (arith, counts, counted.0, is, less), counted.1);
       bytes = omega (arith, is);
       room = record { inodes = λ k g. g; blocks = λ k g. g; entries = keeps_put name_cmp _ _ _ _ cells };
     }
 
 pub entry_dropped : (c : TreeCells) (m : BTreeMap (ℕ × List ℕ) (Option Named)) (dir : ℕ) (name r : List ℕ) (old : Option Named) (size freed h : ℕ) → r ≡ name → IsStrictlySortedBy name_cmp (keys_of c.entries.entries)
     → m.entries ≡ set_value (is_at (name_cmp (dir, r))) c.entries.entries None → old ≡ lookup (is_at (name_cmp (dir, r))) (seen c.entries.entries) → size ≡ round_8 (57 + length name) → freed ≡ cond (is_some old) size 0 → IsCounted c → h ≡ max c.highest dir
-    → (freed ≤ c.bytes) × Makes c (record { inodes = c.inodes; blocks = c.blocks; entries = m; highest = h; bytes = c.bytes - freed }) (applied (tree_of c) (DropEntry dir name)) 0
+    → (freed ≤ c.bytes) × Makes c (record { inodes = c.inodes; blocks = c.blocks; entries = m; highest = h; bytes = c.bytes - freed; orphans = c.orphans }) (applied (tree_of c) (DropEntry dir name)) 0
 entry_dropped c m dir name r old size freed h same s told there is gone counted top =
     let key : ℕ × List ℕ = (dir, name) in
     let P : List ℕ → Type 0 = λ z. m.entries ≡ set_value (is_at (name_cmp (dir, z))) c.entries.entries None in
@@ -152,10 +155,10 @@ entry_dropped c m dir name r old size freed h same s told there is gone counted 
     let cells = subst P same told in
     let counts = drop_entry_counts c.entries.entries m.entries key old s cells (subst Q same there) in
     let less : freed ≡ cond (is_some old) (round_8 (57 + length name)) 0 = gone ∙ ap (λ n. cond (is_some old) n 0) is in (
-      omega (arith, counts, counted, less),
+      omega (arith, counts, counted.0, less),
       record {
         tree = tree_same _ _ _ _ _ _ _ _ refl refl (ap (λ z. entries_of (seen z)) cells ∙ ap entries_of (seen-emptied name_cmp-total c.entries.entries key s) ∙ entries_of-remove (is_at (name_cmp key)) (seen c.entries.entries)) top;
-        counted = omega (arith, counts, counted, less);
+        counted = (omega (arith, counts, counted.0, less), counted.1);
         bytes = omega arith;
         room = record { inodes = λ k g. g; blocks = λ k g. g; entries = keeps_put name_cmp _ _ _ _ cells };
       },
@@ -176,12 +179,12 @@ keeps_keys cmp cells new e = λ key h. has-same (is_at (cmp key)) cells new e �
 
 pub blocks_cut : (c : TreeCells) (m : BTreeMap (ℕ × ℕ) (Option (List ℕ))) (ino old_size size freed h : ℕ) → seen m.entries ≡ cut_blocks (seen c.blocks.entries) ino size → keys_of m.entries ≡ keys_of c.blocks.entries
     → sum_by block_bytes (values_of (seen m.entries)) + freed ≡ sum_by block_bytes (values_of (seen c.blocks.entries)) → IsCounted c → h ≡ max c.highest ino
-    → (freed ≤ c.bytes) × Makes c (record { inodes = c.inodes; blocks = m; entries = c.entries; highest = h; bytes = c.bytes - freed }) (applied (tree_of c) (CutBlocks ino old_size size)) 0
+    → (freed ≤ c.bytes) × Makes c (record { inodes = c.inodes; blocks = m; entries = c.entries; highest = h; bytes = c.bytes - freed; orphans = c.orphans }) (applied (tree_of c) (CutBlocks ino old_size size)) 0
 blocks_cut c m ino old_size size freed h cut keys sum counted top = (
-  omega (arith, sum, counted),
+  omega (arith, sum, counted.0),
   record {
     tree = tree_same _ _ _ _ _ _ _ _ refl cut refl top;
-    counted = omega (arith, sum, counted);
+    counted = (omega (arith, sum, counted.0), counted.1);
     bytes = omega arith;
     room = record { inodes = λ k g. g; blocks = keeps_keys pair_cmp _ _ keys; entries = λ k g. g };
   },
@@ -194,16 +197,75 @@ all_past false n = refl
 cut_all : (bs : Blocks) (ino : ℕ) → cut_blocks bs ino 0 ≡ without_blocks bs ino
 cut_all bs ino = filter_agree (λ b. not ((b.0.0 == ino) && nat_le 0 (4096 * b.0.1))) (λ b. not (b.0.0 == ino)) (λ b. all_past (b.0.0 == ino) (4096 * b.0.1)) bs
 
-pub inode_dropped : (c : TreeCells) (m : BTreeMap ℕ (Option Inode)) (n : BTreeMap (ℕ × ℕ) (Option (List ℕ))) (ino : ℕ) (old : Option Inode) (freed gone h : ℕ) → IsStrictlySortedBy nat_cmp (keys_of c.inodes.entries)
+-- inodes without a name, as a sum
+named_none : (es : Inodes) → length (keys_of (filter (λ e. e.1.nlink == 0) es)) ≡ sum_by orphans_in (values_of es)
+named_none [] = refl
+named_none (e ∷ es) = by (named_none es) (e.1.nlink == 0) ∙ sym (sum_by-cons orphans_in e.1 (values_of es))
+  where
+    by : length (keys_of (filter (λ e. e.1.nlink == 0) es)) ≡ sum_by orphans_in (values_of es) → (b : Bool)
+        → length (keys_of (cond b (e ∷ filter (λ e. e.1.nlink == 0) es) (filter (λ e. e.1.nlink == 0) es))) ≡ cond b 1 0 + sum_by orphans_in (values_of es)
+    by more true = let one : suc (sum_by orphans_in (values_of es)) ≡ 1 + sum_by orphans_in (values_of es) = omega arith in ap suc more ∙ one
+    by more false = let same : sum_by orphans_in (values_of es) ≡ 0 + sum_by orphans_in (values_of es) = omega arith in more ∙ same
+
+-- no more than the bytes of inodes' nodes
+one_of_bytes : (inode : Inode) → orphans_in inode ≤ inode_bytes inode
+one_of_bytes inode = by (inode.nlink == 0)
+  where
+    by : (b : Bool) → cond b 1 0 ≤ inode_bytes inode
+    by true = omega arith
+    by false = omega arith
+
+orphans_of_bytes : (es : List Inode) → sum_by orphans_in es ≤ sum_by inode_bytes es
+orphans_of_bytes es = sum_by-le-sum_by orphans_in inode_bytes es one_of_bytes
+
+-- an inode more without a name is a number still
+pub few_orphans : (c : TreeCells) (inode : Inode) → c.orphans ≡ length (nameless (tree_of c)) → c.bytes ≡ tree_bytes (tree_of c) → c.orphans + orphans_in inode ≤ c.bytes + inode_bytes inode
+few_orphans c inode orphans bytes =
+    let sum = named_none (seen c.inodes.entries) in
+    let few = orphans_of_bytes (values_of (seen c.inodes.entries)) in
+    let one = one_of_bytes inode in
+    omega (arith, orphans, bytes, sum, few, one)
+
+-- an inode set, and the one that it replaces
+pub orphans_set : (cells new : List (ℕ × Option Inode)) (ino : ℕ) (inode : Inode) (old : Option Inode) (lost before : ℕ) → IsStrictlySortedBy nat_cmp (keys_of cells) → has_cell nat_cmp cells ino ≡ true
+    → new ≡ set_value (is_at (nat_cmp ino)) cells (Some inode) → old ≡ lookup (is_at (nat_cmp ino)) (seen cells) → lost ≡ unwrap_or (option_map orphans_in old) 0 → before ≡ length (keys_of (filter (λ e. e.1.nlink == 0) (seen cells)))
+    → (lost ≤ before + orphans_in inode) × (before + orphans_in inode - lost ≡ length (keys_of (filter (λ e. e.1.nlink == 0) (seen new))))
+orphans_set cells new ino inode old lost before s has put there gone told =
+    let counts = set_counts nat_cmp_total exact_unsigned orphans_in cells new ino inode old s has put there in
+    let was = named_none (seen cells) in
+    let is = named_none (seen new) in (
+      omega (arith, counts, was, is, gone, told),
+      omega (arith, counts, was, is, gone, told),
+    )
+
+-- an inode less
+pub orphans_less : (cells new : List (ℕ × Option Inode)) (ino : ℕ) (old : Option Inode) (lost before : ℕ) → IsStrictlySortedBy nat_cmp (keys_of cells)
+    → new ≡ set_value (is_at (nat_cmp ino)) cells None → old ≡ lookup (is_at (nat_cmp ino)) (seen cells) → lost ≡ unwrap_or (option_map orphans_in old) 0 → before ≡ length (keys_of (filter (λ e. e.1.nlink == 0) (seen cells)))
+    → lost ≤ before
+orphans_less cells new ino old lost before s put there gone told =
+    let counts = drop_counts nat_cmp_total orphans_in cells new ino old s put there in
+    let was = named_none (seen cells) in
+    omega (arith, counts, was, gone, told)
+
+orphans_dropped : (cells new : List (ℕ × Option Inode)) (ino : ℕ) (old : Option Inode) (lost before : ℕ) → IsStrictlySortedBy nat_cmp (keys_of cells)
+    → new ≡ set_value (is_at (nat_cmp ino)) cells None → old ≡ lookup (is_at (nat_cmp ino)) (seen cells) → lost ≡ unwrap_or (option_map orphans_in old) 0 → before ≡ length (keys_of (filter (λ e. e.1.nlink == 0) (seen cells)))
+    → before - lost ≡ length (keys_of (filter (λ e. e.1.nlink == 0) (seen new)))
+orphans_dropped cells new ino old lost before s put there gone told =
+    let counts = drop_counts nat_cmp_total orphans_in cells new ino old s put there in
+    let was = named_none (seen cells) in
+    let is = named_none (seen new) in
+    omega (arith, counts, was, is, gone, told)
+
+pub inode_dropped : (c : TreeCells) (m : BTreeMap ℕ (Option Inode)) (n : BTreeMap (ℕ × ℕ) (Option (List ℕ))) (ino : ℕ) (old : Option Inode) (freed gone lost h : ℕ) → IsStrictlySortedBy nat_cmp (keys_of c.inodes.entries)
     → m.entries ≡ set_value (is_at (nat_cmp ino)) c.inodes.entries None → old ≡ lookup (is_at (nat_cmp ino)) (seen c.inodes.entries) → freed ≡ unwrap_or (option_map inode_bytes old) 0
-    → seen n.entries ≡ cut_blocks (seen c.blocks.entries) ino 0 → keys_of n.entries ≡ keys_of c.blocks.entries → sum_by block_bytes (values_of (seen n.entries)) + gone ≡ sum_by block_bytes (values_of (seen c.blocks.entries)) → IsCounted c → h ≡ max c.highest ino
-    → (freed + gone ≤ c.bytes) × Makes c (record { inodes = m; blocks = n; entries = c.entries; highest = h; bytes = c.bytes - freed - gone }) (applied (tree_of c) (DropInode ino)) 0
-inode_dropped c m n ino old freed gone h s put there less cut keys sum counted top =
+    → seen n.entries ≡ cut_blocks (seen c.blocks.entries) ino 0 → keys_of n.entries ≡ keys_of c.blocks.entries → sum_by block_bytes (values_of (seen n.entries)) + gone ≡ sum_by block_bytes (values_of (seen c.blocks.entries)) → lost ≡ unwrap_or (option_map orphans_in old) 0 → IsCounted c → h ≡ max c.highest ino
+    → (freed + gone ≤ c.bytes) × Makes c (record { inodes = m; blocks = n; entries = c.entries; highest = h; bytes = c.bytes - freed - gone; orphans = c.orphans - lost }) (applied (tree_of c) (DropInode ino)) 0
+inode_dropped c m n ino old freed gone lost h s put there less cut keys sum gone_orphans counted top =
     let counts = drop_counts nat_cmp_total inode_bytes c.inodes.entries m.entries ino old s put there in (
-      omega (arith, counts, less, sum, counted),
+      omega (arith, counts, less, sum, counted.0),
       record {
         tree = tree_same _ _ _ _ _ _ _ _ (ap seen put ∙ seen-emptied nat_cmp_total c.inodes.entries ino s) (cut ∙ cut_all (seen c.blocks.entries) ino) refl top;
-        counted = omega (arith, counts, less, sum, counted);
+        counted = (omega (arith, counts, less, sum, counted.0), orphans_dropped c.inodes.entries m.entries ino old lost c.orphans s put there gone_orphans counted.1);
         bytes = omega arith;
         room = record { inodes = keeps_put nat_cmp _ _ _ _ put; blocks = keeps_keys pair_cmp _ _ keys; entries = λ k g. g };
       },

@@ -1,6 +1,8 @@
 pub mod Counted
 pub mod Covered
+pub mod Greatest
 pub mod Listing
+pub mod Orders
 pub mod PlainGoing
 pub mod Seen
 pub mod SoFar

@@ -29,25 +29,27 @@ drop_one xs i j x h e at = drop-cons xs i x h ∙ ap (λ y. y ∷ drop (suc i) x
 pub record PreparedSoFar (old now : TreeCells) (changes copies : List Change) (left total : ℕ) : Type 0 where
   pub tree : tree_of now ≡ tree_of old
   pub bytes : now.bytes ≡ old.bytes
+  pub orphans : now.orphans ≡ old.orphans
   pub copied : reverse copies ≡ drop left changes
   pub within : left ≤ length changes
   pub room : AllByRecursion (HasRoom now) copies
   pub sum : total ≡ old.bytes + sum_by set_bytes copies
-  pub fits : total < 2 ^ 64
+  pub fits : total < 2 ^ 40
 
-pub prepare_begins : (c : TreeCells) (changes copies : List Change) (n : ℕ) → copies ≡ [] → n ≡ length changes → c.bytes < 2 ^ 64 → PreparedSoFar c c changes copies n c.bytes
+pub prepare_begins : (c : TreeCells) (changes copies : List Change) (n : ℕ) → copies ≡ [] → n ≡ length changes → c.bytes < 2 ^ 40 → PreparedSoFar c c changes copies n c.bytes
 prepare_begins c changes copies n none all small =
-    rw (none, all) (record { tree = refl; bytes = refl; copied = sym (drop-length changes); within = omega arith; room = tt; sum = omega arith; fits = small })
+    rw (none, all) (record { tree = refl; bytes = refl; orphans = refl; copied = sym (drop-length changes); within = omega arith; room = tt; sum = omega arith; fits = small })
 
-pub prepared_more : (old now new : TreeCells) (changes copies more : List Change) (left next total grown added : ℕ) (change here : Change) → PreparedSoFar old now changes copies left total → left ≡ suc next → here ≡ get_or changes next here → change ≡ here → added ≡ set_bytes change → grown ≡ total + added → grown < 2 ^ 64
-    → tree_of new ≡ tree_of now → new.bytes ≡ now.bytes → KeepsRoom now new → HasRoom new change → more ≡ copies ++ change ∷ [] → PreparedSoFar old new changes more next grown
-prepared_more old now new changes copies more left next total grown added change here so less at copy size sum small tree bytes keeps made push =
+pub prepared_more : (old now new : TreeCells) (changes copies more : List Change) (left next total grown added : ℕ) (change here : Change) → PreparedSoFar old now changes copies left total → left ≡ suc next → here ≡ get_or changes next here → change ≡ here → added ≡ set_bytes change → grown ≡ total + added → grown < 2 ^ 40
+    → tree_of new ≡ tree_of now → new.bytes ≡ now.bytes → new.orphans ≡ now.orphans → KeepsRoom now new → HasRoom new change → more ≡ copies ++ change ∷ [] → PreparedSoFar old new changes more next grown
+prepared_more old now new changes copies more left next total grown added change here so less at copy size sum small tree bytes orphans keeps made push =
     let sums = ap (sum_by set_bytes) push ∙ sum_by_push set_bytes copies change in
     let before = so.sum in
     let same : change ≡ get_or changes next change = copy ∙ at ∙ ap (get_or changes next) (sym copy) in
     record {
       tree = tree ∙ so.tree;
       bytes = bytes ∙ so.bytes;
+      orphans = orphans ∙ so.orphans;
       copied = ap reverse push ∙ reverse_push copies change ∙ ap (λ xs. change ∷ xs) so.copied ∙ sym (drop_one changes next left change (omega (arith, so.within, less)) less same);
       within = omega (arith, so.within, less);
       room = subst (AllByRecursion (HasRoom new)) (sym push) (all_push (HasRoom new) copies change (rooms_kept now new keeps copies so.room) made);
@@ -59,7 +61,7 @@ prepared_more old now new changes copies more left next total grown added change
 pub record MadeSoFar (old now : TreeCells) (all left : List Change) : Type 0 where
   pub made : apply (tree_of now) (reverse left) ≡ apply (tree_of old) (reverse all)
   pub room : AllByRecursion (HasRoom now) left
-  pub fits : now.bytes + sum_by set_bytes left < 2 ^ 64
+  pub fits : now.bytes + sum_by set_bytes left < 2 ^ 40
   pub counted : IsCounted now
 
 -- what the next change needs

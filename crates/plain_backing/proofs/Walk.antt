@@ -141,7 +141,7 @@ is_before (Some block) number = nat_lt number block
 abbrev pub cut_before : ℕ → ℕ → Option ℕ → ℕ × ℕ → Bool
 cut_before ino size at key = is_cut ino size key && is_before at key.1
 
-at_key : (ino block : ℕ) (k : ℕ × ℕ) → is_at (pair_cmp (ino, block)) k ≡ ((k.0 == ino) && (k.1 == block))
+pub at_key : (ino block : ℕ) (k : ℕ × ℕ) → is_at (pair_cmp (ino, block)) k ≡ ((k.0 == ino) && (k.1 == block))
 at_key ino block k = by (nat_cmp ino k.0) (ranks ino k.0) (nat_cmp block k.1) (ranks block k.1)
   where
     by : (o : Ordering) → MatchOrdering o (ino < k.0) (ino ≡ k.0) (k.0 < ino) → (p : Ordering) → MatchOrdering p (block < k.1) (block ≡ k.1) (k.1 < block) → is_eq (ordering_then o p) ≡ ((k.0 == ino) && (k.1 == block))

@@ -1,5 +1,5 @@
 -- The tree that cells show, and what changes need of them.
-use Rattle.std.specs.Prelude.{◌≡◌, ℕ, ◌+◌, ◌≤◌, ◌==◌, true, List, map, filter, ⊤}
+use Rattle.std.specs.Prelude.{◌≡◌, ℕ, ◌+◌, ◌≤◌, ◌==◌, true, List, map, filter, length, ⊤}
 use Rattle.std.specs.declared.option.Option.{Option}
 use Rattle.std.specs.Ordering.{nat_cmp}
 use Rattle.std.specs.Map.{values_of}
@@ -11,6 +11,7 @@ use Rattle.plain_backing.specs.declared.tree_cells.TreeCells.{TreeCells}
 use Rattle.plain_backing.specs.Cells.{seen, has_cell, Keeps}
 use Rattle.fs_model.specs.Cover.{inode_bytes, block_bytes, entry_bytes, tree_bytes}
 use Rattle.fs_model.specs.Files.{Tree, Entries, pair_cmp, name_cmp}
+use Rattle.fs_model.specs.Orphan.{nameless}
 
 -- the entry of a name, from the inode that it names
 abbrev pub entry_of : ℕ × List ℕ → Named → Entry
@@ -28,9 +29,9 @@ in_directory dir cells = filter (λ e. e.dir == dir) (values_of (entries_of (see
 abbrev pub tree_of : TreeCells → Tree
 tree_of c = record { inodes = seen c.inodes.entries; blocks = seen c.blocks.entries; entries = entries_of (seen c.entries.entries); highest = c.highest }
 
--- the bytes that are kept are those of the tree
+-- the numbers that are kept are those of the tree
 abbrev pub IsCounted : TreeCells → Type 0
-IsCounted c = c.bytes ≡ tree_bytes (tree_of c)
+IsCounted c = (c.bytes ≡ tree_bytes (tree_of c)) × (c.orphans ≡ length (nameless (tree_of c)))
 
 -- what a change sets has its cell
 abbrev pub HasRoom : TreeCells → Change → Type 0

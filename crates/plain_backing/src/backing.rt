@@ -6,12 +6,15 @@ ghost use Rattle.fs_model.specs.declared.backing_answers.StoreFault.TheVariants.
 ghost use Rattle.fs_model.specs.Backing.{page_group};
 ghost use Rattle.fs_model.specs.Cover.{tree_bytes};
 
+use crate::Tree;
 use crate::numbers::Numbers;
 use crate::steps::{
     admit, changing_call, count_call, end, has_weight_for, spend_grant, spend_page, start,
 };
-use crate::{Tree};
-use fs_model::{Backing, Change, Collected, Ended, Entry, Grant, Group, Inode, Mode, Need, NoSpace, PageNode, Space, Started, Stepped, StoreFault};
+use fs_model::{
+    Backing, Change, Collected, Ended, Entry, Grant, Group, Inode, Mode, Need, NoSpace, PageNode,
+    Space, Started, Stepped, StoreFault,
+};
 use std::alloc::Global;
 use ubifs_base::{Arm, Geometry, Memory, Name};
 
@@ -140,7 +143,7 @@ impl Backing for PlainBacking {
 
     fn lookup(&mut self, dir: u32, name: &Name) -> Result<Option<Entry>, StoreFault> {
         count_call(&mut self.numbers)?;
-        copy_entry(self.tree.entry(dir, name)?)
+        Ok(self.tree.entry(self.alloc, dir, name)?)
     }
 
     fn entries(&mut self, dir: u32) -> Result<Vec<Entry>, StoreFault> {
@@ -266,16 +269,6 @@ fn copy_inode(found: Option<&Inode>) -> Result<Option<Inode>, StoreFault>
 {
     match found {
         Some(inode) => Ok(Some(inode.clone()?)),
-        None => Ok(None),
-    }
-}
-
-fn copy_entry(found: Option<&Entry>) -> Result<Option<Entry>, StoreFault>
-    ensures copy { IfOk result (λ copy. copy ≡ option_copied found.entry) }
-    ensures fault { IfErr result (λ fault. fault ≡ NoMemory) }
-{
-    match found {
-        Some(entry) => Ok(Some(entry.clone()?)),
         None => Ok(None),
     }
 }

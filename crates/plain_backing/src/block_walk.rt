@@ -10,9 +10,9 @@ ghost use Rattle.fs_model.specs.Change.{cut_blocks};
 ghost use Rattle.fs_model.specs.Cover.{block_bytes};
 ghost use Rattle.fs_model.specs.Files.{pair_cmp};
 
-use crate::blocks::BLOCK_SIZE;
 use crate::cell::{put, sweep};
 use crate::node_bytes::freed_block;
+use fs_model::BLOCK_SIZE;
 use std::collections::BTreeMap;
 use std::ops::Bound;
 use ubifs_base::Bytes;

@@ -8,7 +8,6 @@
 mod backing;
 mod block_walk;
 mod cell;
-mod copies;
 mod node_bytes;
 mod numbers;
 mod ordered_name;
@@ -16,10 +15,14 @@ mod rounds;
 mod steps;
 mod tree;
 mod tree_cells;
+mod tree_law;
 mod tree_reads;
 
 pub use crate::backing::PlainBacking;
 pub use crate::tree::Tree;
+pub use crate::tree_law::last_blocks_are_greatest;
 
+#[cfg(test)]
+mod tests;
 #[cfg(test)]
 mod tree_tests;

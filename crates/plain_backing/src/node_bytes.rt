@@ -1,8 +1,9 @@
-// The bytes of leaf nodes on the medium.
+// The bytes of leaf nodes on the medium, and inodes without a name.
 
 ghost use Rattle.std.specs.Prelude.{◌≡◌, ◌+◌, unwrap_or, length};
 ghost use Rattle.std.specs.Option.{option_map};
 ghost use Rattle.fs_model.specs.Cover.{round_8, inode_bytes, block_bytes};
+ghost use Rattle.plain_backing.specs.Orphans.{orphans_in};
 
 use fs_model::Inode;
 use ubifs_base::{Bytes, Name};
@@ -44,6 +45,23 @@ pub(crate) fn freed_block(old: &Option<Bytes>) -> u64
 {
     match old {
         Some(bytes) => block_bytes(bytes),
+        None => 0,
+    }
+}
+
+/// One for an inode without a name.
+pub(crate) fn orphans_in(inode: &Inode) -> u64
+    ensures { result ≡ orphans_in inode.now }
+{
+    if inode.nlink == 0 { 1 } else { 0 }
+}
+
+/// One for an inode without a name that there was.
+pub(crate) fn freed_orphans(old: &Option<Inode>) -> u64
+    ensures { result ≡ unwrap_or (option_map orphans_in old.now) 0 }
+{
+    match old {
+        Some(inode) => orphans_in(inode),
         None => 0,
     }
 }

@@ -5,14 +5,16 @@ ghost use Rattle.std.specs.List.{AllByRecursion};
 ghost use Rattle.fs_model.specs.Change.{apply};
 ghost use Rattle.plain_backing.specs.TreeCells.{tree_of, set_bytes, IsCounted, HasRoom};
 
-use fs_model::Change;
 use crate::cell::sweep;
-use crate::copies::copy_change;
 use crate::node_bytes::{block_bytes, inode_bytes, name_bytes};
 use crate::ordered_name::OrderedName;
 use crate::tree_cells::{TreeCells, entry_key, make, make_room, sweep_after};
+use fs_model::Change;
 use std::alloc::Global;
 use ubifs_base::Memory;
+
+/// No tree takes so many bytes.
+const MOST: u64 = 1 << 40;
 
 /// Makes the cells of what the changes set, copies the changes, the last one first, and keeps the keys of the names.
 /// Nothing that is seen changes, whether or not there is memory.
@@ -22,18 +24,20 @@ pub(crate) fn prepare(
     keys: &mut Vec<(u32, OrderedName)>,
     changes: &[Change],
 ) -> Result<Vec<Change>, Memory>
+    requires { cells.old.bytes < 2 ^ 40 }
     ensures tree { tree_of cells.new ≡ tree_of cells.old }
     ensures bytes { cells.new.bytes ≡ cells.old.bytes }
+    ensures orphans { cells.new.orphans ≡ cells.old.orphans }
     ensures copies { IfOk result (λ copies. reverse copies.items ≡ changes.now) }
     ensures room { IfOk result (λ copies. AllByRecursion (HasRoom cells.new) copies.items) }
-    ensures fits { IfOk result (λ copies. cells.old.bytes + sum_by set_bytes copies.items < 2 ^ 64) }
+    ensures fits { IfOk result (λ copies. cells.old.bytes + sum_by set_bytes copies.items < 2 ^ 40) }
 {
     let mut copies = Vec::with_capacity(alloc, changes.len())?;
     let mut total = cells.bytes;
     let mut left = changes.len();
     while left > 0 {
         left -= 1;
-        let change = copy_change(alloc, &changes[left])?;
+        let change = copied(&changes[left])?;
         total = grown(total, set_bytes(&change))?;
         push_key(alloc, keys, &change)?;
         make_room(alloc, cells, &change)?;
@@ -42,13 +46,19 @@ pub(crate) fn prepare(
     Ok(copies)
 }
 
-// A sum of bytes. The error is a sum that is too large to be kept.
+fn copied(change: &Change) -> Result<Change, Memory>
+    ensures { IfOk result (λ copy. copy ≡ change.now) }
+{
+    Ok(change.clone()?)
+}
+
+// A sum of bytes. The error is a sum of 2^40 or more, which no volume has.
 fn grown(total: u64, added: u64) -> Result<u64, Memory>
-    ensures { IfOk result (λ sum. (sum ≡ total + added) × (sum < 2 ^ 64)) }
+    ensures { IfOk result (λ sum. (sum ≡ total + added) × (sum < 2 ^ 40)) }
 {
     match total.checked_add(added) {
-        Some(sum) => Ok(sum),
-        None => Err(Memory),
+        Some(sum) if sum < MOST => Ok(sum),
+        _ => Err(Memory),
     }
 }
 
@@ -91,10 +101,11 @@ fn push_key(
 /// Makes changes whose cells are there, the last one first. Takes no memory.
 pub(crate) fn make_all(cells: &mut TreeCells, mut copies: Vec<Change>)
     requires room { AllByRecursion (HasRoom cells.old) copies.items }
-    requires fits { cells.old.bytes + sum_by set_bytes copies.items < 2 ^ 64 }
+    requires fits { cells.old.bytes + sum_by set_bytes copies.items < 2 ^ 40 }
     requires counted { IsCounted cells.old }
     ensures tree { tree_of cells.new ≡ apply (tree_of cells.old) (reverse copies.items) }
     ensures counted { IsCounted cells.new }
+    ensures few { cells.new.bytes < 2 ^ 40 }
 {
     while let Some(change) = copies.pop() {
         make(cells, change);
@@ -105,6 +116,7 @@ pub(crate) fn make_all(cells: &mut TreeCells, mut copies: Vec<Change>)
 pub(crate) fn sweep_all(cells: &mut TreeCells, keys: &[(u32, OrderedName)], changes: &[Change])
     ensures tree { tree_of cells.new ≡ tree_of cells.old }
     ensures bytes { cells.new.bytes ≡ cells.old.bytes }
+    ensures orphans { cells.new.orphans ≡ cells.old.orphans }
 {
     for change in changes {
         sweep_after(cells, change);

@@ -11,9 +11,9 @@ ghost use Rattle.fs_model.specs.declared.backing_answers.StoreFault.TheVariants.
 ghost use Rattle.fs_model.specs.declared.backing_answers.Started.TheVariants.{Began, Running};
 ghost use Rattle.fs_model.specs.declared.backing_answers.Ended.TheVariants.{Idle, Done};
 
-use space_sums::room;
 use crate::numbers::Numbers;
 use fs_model::{Cause, Ended, Grant, Mode, Need, NoSpace, Space, Started, StoreFault};
+use space_sums::room;
 use ubifs_base::Geometry;
 
 /// Counts a call that may fail, and fails it where it is the one.

@@ -1,20 +1,20 @@
 // A tree of files in memory.
 
-ghost use Rattle.std.specs.Prelude.{◌≡◌, IfOk, OnOk, OnErr, is_some, []};
+ghost use Rattle.std.specs.Prelude.{◌≡◌, ◌<◌, ◌^◌, IfOk, OnOk, OnErr, length, []};
 ghost use Rattle.std.specs.Option.{option_copied, option_map};
-ghost use Rattle.std.specs.BTreeMap.{is_at};
-ghost use Rattle.std.specs.Map.{lookup};
-ghost use Rattle.fs_model.specs.Change.{apply};
+ghost use Rattle.fs_model.specs.Change.{apply, without_inode};
+ghost use Rattle.fs_model.specs.Orphan.{nameless};
 ghost use Rattle.fs_model.specs.Cover.{tree_bytes};
 ghost use Rattle.fs_model.specs.Directory.{entries_in};
-ghost use Rattle.fs_model.specs.Files.{inode_at, entry_at, block_at, pair_cmp};
+ghost use Rattle.fs_model.specs.Files.{inode_at, entry_at, block_at};
 ghost use Rattle.plain_backing.specs.TreeCells.{entry_of};
+ghost use Rattle.plain_backing.specs.TreeReads.{has_block};
 ghost use Rattle.fs_model.specs.Files.{last_block_of};
 
 use crate::cell::held;
 use crate::ordered_name::OrderedName;
 use crate::rounds::{make_all, prepare, sweep_all};
-use crate::tree_cells::{Named, TreeCells, entry_key};
+use crate::tree_cells::{Named, TreeCells, drop_inode, entry_key, sweep_inode};
 use crate::tree_reads::{entries_in, last_block};
 use fs_model::{Entry, Group, Inode};
 use std::alloc::Global;
@@ -34,11 +34,12 @@ impl Model for Tree {
 
     ghost Value = { FilesTree };
 
+    ghost use Rattle.std.specs.Prelude.{◌<◌, ◌^◌};
     ghost use Rattle.plain_backing.specs.TreeCells.{tree_of, IsCounted};
 
     ghost view = { λ b. tree_of b.cells };
 
-    ghost invariant = { λ b. IsCounted b.cells };
+    ghost invariant = { λ b. IsCounted b.cells × (b.cells.bytes < 2 ^ 40) };
 }
 
 impl Tree {
@@ -53,15 +54,17 @@ impl Tree {
                 entries: BTreeMap::new(alloc),
                 highest,
                 bytes: 0,
+                orphans: 0,
             },
         }
     }
 
-    /// Makes a group of changes, all or none: where there is no memory, or the tree's bytes would not fit into 64 bits,
+    /// Makes a group of changes, all or none: where there is no memory, or the tree would have 2^40 bytes,
     /// the tree is as it was.
     pub fn apply(&mut self, alloc: Global, group: &Group) -> Result<(), Memory>
         ensures ok { OnOk result (self.new ≡ apply self.old group.now) }
         ensures err { OnErr result (self.new ≡ self.old) }
+        ensures few { tree_bytes self.new < 2 ^ 40 }
     {
         let mut keys = Vec::new(alloc);
         let changes = group.as_slice();
@@ -112,7 +115,7 @@ impl Tree {
 
     /// Whether an inode has a block of this number.
     pub fn has_block(&self, ino: u32, block: u32) -> bool
-        ensures { result ≡ is_some (lookup (is_at (pair_cmp (ino, block))) self.now.blocks) }
+        ensures { result ≡ has_block self.now.blocks ino block }
     {
         held(&self.cells.blocks, &(ino, block)).is_some()
     }
@@ -124,6 +127,24 @@ impl Tree {
         last_block(&self.cells.blocks, ino)
     }
 
+    /// Drops an inode with its blocks, and leaves the highest number as it is. Takes no memory.
+    pub fn drop_inode(&mut self, ino: u32)
+        ensures dropped { self.new ≡ without_inode self.old ino }
+        ensures few { tree_bytes self.new < 2 ^ 40 }
+    {
+        let highest = self.cells.highest;
+        drop_inode(&mut self.cells, ino);
+        self.cells.highest = highest;
+        sweep_inode(&mut self.cells, ino);
+    }
+
+    /// How many inodes have no name. They are kept count of.
+    pub fn orphans(&self) -> u64
+        ensures { result ≡ length (nameless self.now) }
+    {
+        self.cells.orphans
+    }
+
     /// The highest inode number that was ever used.
     pub fn highest(&self) -> u32
         ensures { result ≡ self.now.highest }
@@ -133,7 +154,8 @@ impl Tree {
 
     /// The bytes of the tree's leaf nodes, each rounded up to 8. They are kept, not counted.
     pub fn bytes(&self) -> u64
-        ensures { result ≡ tree_bytes self.now }
+        ensures bytes { result ≡ tree_bytes self.now }
+        ensures few { result < 2 ^ 40 }
     {
         self.cells.bytes
     }
@@ -141,10 +163,10 @@ impl Tree {
 
 #[cfg(test)]
 impl Tree {
-    /// The number of cells, empty ones among them.
-    pub(crate) fn count_cells(&self) -> usize {
+    /// The numbers of cells of inodes, blocks and entries, empty ones among them.
+    pub(crate) fn count_cells(&self) -> (usize, usize, usize) {
         let cells = &self.cells;
-        cells.inodes.len() + cells.blocks.len() + cells.entries.len()
+        (cells.inodes.len(), cells.blocks.len(), cells.entries.len())
     }
 }
 

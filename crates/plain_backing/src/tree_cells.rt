@@ -12,7 +12,9 @@ ghost use Rattle.plain_backing.specs.TreeCells.{tree_of, set_bytes, IsCounted, H
 
 use crate::block_walk::{clear_blocks, sweep_blocks};
 use crate::cell::{held, make_cell, put, sweep};
-use crate::node_bytes::{block_bytes, freed_block, freed_inode, inode_bytes, name_bytes};
+use crate::node_bytes::{
+    block_bytes, freed_block, freed_inode, freed_orphans, inode_bytes, name_bytes, orphans_in,
+};
 use crate::ordered_name::OrderedName;
 use fs_model::{Change, Entry, Inode, Kind};
 use std::alloc::Global;
@@ -26,7 +28,7 @@ pub(crate) struct Named {
     pub(crate) kind: Kind,
 }
 
-/// The cells of a tree, and the bytes of its leaf nodes.
+/// The cells of a tree, the bytes of its leaf nodes, and the number of its inodes without a name.
 #[derive(Drop)]
 pub(crate) struct TreeCells {
     pub(crate) inodes: BTreeMap<u32, Option<Inode>>,
@@ -34,6 +36,7 @@ pub(crate) struct TreeCells {
     pub(crate) entries: BTreeMap<(u32, OrderedName), Option<Named>>,
     pub(crate) highest: u32,
     pub(crate) bytes: u64,
+    pub(crate) orphans: u64,
 }
 
 /// Makes a change whose cell is there. Takes no memory.
@@ -64,8 +67,10 @@ fn set_inode(cells: &mut TreeCells, ino: u32, inode: Inode)
     ensures { Makes cells.old cells.new (applied (tree_of cells.old) (SetInode ino inode)) (inode_bytes inode) }
 {
     let added = inode_bytes(&inode);
+    let more = orphans_in(&inode);
     let old = put(&mut cells.inodes, &ino, Some(inode));
     cells.bytes = cells.bytes + added - freed_inode(&old);
+    cells.orphans = cells.orphans + more - freed_orphans(&old);
     cells.highest = cells.highest.max(ino);
 }
 
@@ -130,13 +135,15 @@ fn cut_blocks(cells: &mut TreeCells, ino: u32, size: u64)
     cells.highest = cells.highest.max(ino);
 }
 
-fn drop_inode(cells: &mut TreeCells, ino: u32)
+/// Drops an inode with its blocks. Takes no memory.
+pub(crate) fn drop_inode(cells: &mut TreeCells, ino: u32)
     requires counted { IsCounted cells.old }
     ensures { Makes cells.old cells.new (applied (tree_of cells.old) (DropInode ino)) 0 }
 {
     let bytes = cells.bytes;
     let old = put(&mut cells.inodes, &ino, None);
     cells.bytes = bytes - freed_inode(&old) - clear_blocks(&mut cells.blocks, ino, 0);
+    cells.orphans -= freed_orphans(&old);
     cells.highest = cells.highest.max(ino);
 }
 
@@ -144,6 +151,7 @@ fn drop_inode(cells: &mut TreeCells, ino: u32)
 pub(crate) fn make_room(alloc: Global, cells: &mut TreeCells, change: &Change) -> Result<(), Memory>
     ensures tree { tree_of cells.new ≡ tree_of cells.old }
     ensures bytes { cells.new.bytes ≡ cells.old.bytes }
+    ensures orphans { cells.new.orphans ≡ cells.old.orphans }
     ensures keeps { KeepsRoom cells.old cells.new }
     ensures made { OnOk result (HasRoom cells.new change.now) }
 {
@@ -174,6 +182,7 @@ pub(crate) fn entry_key(alloc: Global, dir: u32, name: &Name) -> Result<(u32, Or
 pub(crate) fn sweep_after(cells: &mut TreeCells, change: &Change)
     ensures tree { tree_of cells.new ≡ tree_of cells.old }
     ensures bytes { cells.new.bytes ≡ cells.old.bytes }
+    ensures orphans { cells.new.orphans ≡ cells.old.orphans }
 {
     match change {
         Change::SetInode { ino, inode: _ } => sweep(&mut cells.inodes, ino),
@@ -187,10 +196,17 @@ pub(crate) fn sweep_after(cells: &mut TreeCells, change: &Change)
             old_size: _,
             new_size: _,
         } => sweep_blocks(&mut cells.blocks, *ino),
-        Change::DropInode { ino } => {
-            sweep(&mut cells.inodes, ino);
-            sweep_blocks(&mut cells.blocks, *ino);
-        }
+        Change::DropInode { ino } => sweep_inode(cells, *ino),
         _ => {}
     }
+}
+
+/// Takes out the empty cells of an inode and its blocks. Nothing that is seen changes.
+pub(crate) fn sweep_inode(cells: &mut TreeCells, ino: u32)
+    ensures tree { tree_of cells.new ≡ tree_of cells.old }
+    ensures bytes { cells.new.bytes ≡ cells.old.bytes }
+    ensures orphans { cells.new.orphans ≡ cells.old.orphans }
+{
+    sweep(&mut cells.inodes, &ino);
+    sweep_blocks(&mut cells.blocks, ino);
 }

@@ -7,9 +7,9 @@ ghost use Rattle.fs_model.specs.Files.{pair_cmp, name_cmp};
 ghost use Rattle.plain_backing.specs.TreeCells.{in_directory};
 ghost use Rattle.fs_model.specs.Files.{last_block_of};
 
-use fs_model::Entry;
 use crate::ordered_name::OrderedName;
 use crate::tree_cells::Named;
+use fs_model::Entry;
 use std::alloc::Global;
 use std::collections::BTreeMap;
 use std::ops::Bound;

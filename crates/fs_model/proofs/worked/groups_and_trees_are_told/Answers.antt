@@ -16,3 +16,6 @@ returns-clause-proper c = record { inodes_ascend = refl; blocks_ascend = refl; e
 
 pub returns-clause-orphaned : goal.returns-clause-orphaned
 returns-clause-orphaned c = record { inodes_ascend = refl; blocks_ascend = refl; entries_ascend = refl; inode_nodes = refl; block_nodes = refl; entry_nodes = refl; root = refl; entries = refl; inodes = refl; numbers = refl }
+
+pub returns-clause-unlinked : goal.returns-clause-unlinked
+returns-clause-unlinked c = refl

@@ -6,10 +6,12 @@ abbrev pub invariant-loop-change : goal.invariant-loop-change
 invariant-loop-change l = record {
   tree : tree_of l.cells ≡ tree_of l.fn.cells;
   bytes : l.cells.bytes ≡ l.fn.cells.bytes;
+  orphans : l.cells.orphans ≡ l.fn.cells.orphans;
 }
 
 abbrev pub invariant-loop-key : goal.invariant-loop-key
 invariant-loop-key l = record {
   tree : tree_of l.cells ≡ tree_of l.fn.cells;
   bytes : l.cells.bytes ≡ l.fn.cells.bytes;
+  orphans : l.cells.orphans ≡ l.fn.cells.orphans;
 }

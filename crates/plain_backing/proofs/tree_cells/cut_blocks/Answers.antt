@@ -3,7 +3,7 @@ use Rattle.plain_backing.proofs.Counted.{blocks_cut}
 use Rattle.plain_backing.proofs.tree_cells.cut_blocks.Goals as goal
 
 pub clear_blocks-requires : goal.clear_blocks-requires
-clear_blocks-requires c = omega (arith, c.requires.counted)
+clear_blocks-requires c = omega (arith, c.requires.counted.0)
 
 pub returns : goal.returns
 returns c = λ old_size.

@@ -10,7 +10,7 @@ pub overflow_sub-cells : goal.overflow_sub-cells
 overflow_sub-cells c =
     let put = c.put-old.ensures in
     let counts = set_counts pair_cmp-total exact_blocks block_bytes c.args.cells.now.blocks.entries c.put-old.new.map.entries (c.args.ino, c.args.block) c.args.bytes c.put-old.result put.ordered c.requires.room put.cells put.old in
-    omega (arith, counts, c.requires.counted, c.block_bytes-added.ensures, c.freed_block.ensures)
+    omega (arith, counts, c.requires.counted.0, c.block_bytes-added.ensures, c.freed_block.ensures)
 
 pub returns : goal.returns
 returns c =
@@ -21,7 +21,7 @@ returns c =
     let counts = set_counts pair_cmp-total exact_blocks block_bytes old c.put-old.new.map.entries key c.args.bytes c.put-old.result put.ordered c.requires.room put.cells put.old in
     record {
       tree = block_set c.args.cells.now c.args.ino c.args.block c.max-cells.result c.args.bytes _ there (ap seen put.cells ∙ seen-put pair_cmp-total exact_blocks old key c.args.bytes put.ordered c.requires.room) c.max-cells.ensures;
-      counted = omega (arith, counts, c.requires.counted, c.block_bytes-added.ensures, c.freed_block.ensures);
+      counted = (omega (arith, counts, c.requires.counted.0, c.block_bytes-added.ensures, c.freed_block.ensures), c.requires.counted.1);
       bytes = omega (arith, c.block_bytes-added.ensures);
       room = record { inodes = λ key h. h; blocks = keeps_put _ _ _ _ _ put.cells; entries = λ key h. h };
     }
