@@ -1,7 +1,8 @@
 //! Times the scan of LEBs full of nodes. With no word it prints how many nodes are found in three blocks, and in three
 //! truncations. With a number of MiB it prints a line for so many MiB of blocks of 4096 bytes, and one for so many MiB of
-//! truncations, the shortest nodes of the journal: how many nodes were found, the nanoseconds of the best of five scans,
-//! those of the best of five turns of the checksum over the bytes of the same nodes, and a sum of those checksums.
+//! truncations, the shortest nodes of the journal: how many nodes were found, the nanoseconds of the best of 25 scans,
+//! those of the best of as many turns of the checksum over the bytes of the same nodes, in turns with the scans, and a sum
+//! of those checksums.
 #![tactic(auto)]
 
 ghost use Rattle.std.specs.Prelude.{◌≤◌, length};
@@ -23,7 +24,7 @@ const MOST: usize = 1024;
 const LEB: usize = 131_072;
 
 /// How often each is done.
-const TURNS: u32 = 5;
+const TURNS: u32 = 25;
 
 /// The bytes of the node of a block of 4096 bytes.
 const BLOCK: usize = 4144;
@@ -55,16 +56,14 @@ fn time(rt: &HostRuntime, image: &[u8], len: usize) -> io::Result<()>
     requires { 8 ≤ len }
 {
     let leb_len = LEB / len * len;
-    let mut scanned = Duration::MAX;
     let mut nodes = 0;
+    let mut scanned = Duration::MAX;
+    let mut sum = 0u32;
+    let mut summed = Duration::MAX;
     for _ in 0..TURNS {
         let start = Instant::now(rt)?;
         nodes = nodes_of(rt.alloc(), image, leb_len);
         scanned = scanned.min(start.elapsed(rt)?);
-    }
-    let mut summed = Duration::MAX;
-    let mut sum = 0u32;
-    for _ in 0..TURNS {
         let start = Instant::now(rt)?;
         sum = sum.wrapping_add(checksums(image, len));
         summed = summed.min(start.elapsed(rt)?);

@@ -20,11 +20,20 @@ pub fn is_leaf(kind: u8, body: &[u8]) -> bool
     passes_a_test(kind, body)
 }
 
+#[tactic(auto, unfolding(
+    crate::specs::Data::is_data,
+    crate::specs::Entry::is_entry,
+    crate::specs::Inode::is_inode,
+    crate::specs::Truncation::is_truncation
+))]
 fn passes_a_test(kind: u8, body: &[u8]) -> bool
     ensures { result ≡ (is_data kind body.now || is_inode kind body.now || is_entry kind body.now || is_truncation kind body.now) }
 {
-    is_data_body(kind, body)
-        || is_inode_body(kind, body)
-        || is_entry_body(kind, body)
-        || is_truncation_body(kind, body)
+    match kind {
+        0 => is_inode_body(kind, body),
+        1 => is_data_body(kind, body),
+        2 | 3 => is_entry_body(kind, body),
+        4 => is_truncation_body(kind, body),
+        _ => false,
+    }
 }
