@@ -18,7 +18,7 @@ module _ {A : Type 0} where
 
   pub sum_there : (f : A → ℕ) (l : List A) (k : ℕ) (a b : A) → get_elem? l k ≡ some a → sum_by f (set l k b) + f a ≡ sum_by f l + f b
   sum_there f l k a b e =
-    let p = at_place l k a a e in subst (λ (x : A). sum_by f (set l k b) + f x ≡ sum_by f l + f b) p.1 (sum_by-set f l k b a p.0)
+      let p = at_place l k a a e in subst (λ (x : A). sum_by f (set l k b) + f x ≡ sum_by f l + f b) p.1 (sum_by-set f l k b a p.0)
 
   pub of_all : (P : A → Type 0) (l : List A) (k : ℕ) (a : A) → get_elem? l k ≡ some a → All P l → P a
   of_all P l k a e all = let p = at_place l k a a e in subst P p.1 (all k a p.0)
@@ -37,13 +37,13 @@ taken_out c (y ∷ ys) h =
     dite (ℕ_discrete y c)
     (λ same. (ys, omega arith, λ x. let e = sum_by-cons (f x) y ys in let t : one (y == x) ≡ one (c == x) = ap (λ (z : ℕ). one (z == x)) same in omega arith))
     (λ other.
-        let e = sum_by-cons (f c) y ys in
-        let t : one (y == c) ≡ 0 = ap one (ne_eqb y c other) in
-        let r = taken_out c ys (omega arith) in (
-          y ∷ r.0,
-          (let l = r.1 in omega arith),
-          λ x. let a = sum_by-cons (f x) y ys in let b = sum_by-cons (f x) y r.0 in let i = r.2 x in omega arith,
-        ))
+    let e = sum_by-cons (f c) y ys in
+    let t : one (y == c) ≡ 0 = ap one (ne_eqb y c other) in
+    let r = taken_out c ys (omega arith) in (
+      y ∷ r.0,
+      (let l = r.1 in omega arith),
+      λ x. let a = sum_by-cons (f x) y ys in let b = sum_by-cons (f x) y r.0 in let i = r.2 x in omega arith,
+    ))
 
 -- a seat is spent and holds nothing, or its caller is taken out of those who are out
 bound_more : (h : SeatView) (hs : List SeatView) (out : List ℕ) → h.held ≤ most_held h → ((x : ℕ) → seats_of x (h ∷ hs) ≤ times_out x out)
@@ -54,7 +54,7 @@ bound_more h hs out here fits more true is =
     let none : h.held ≤ 0 = subst (λ (b : Bool). h.held ≤ cond b 0 17) is here in
     let f : ℕ → SeatView → ℕ = λ x s. one (not s.spent && s.caller == x) in
     let r = more out (λ x.
-      let t = sum_by-cons (f x) h hs in let z = fits x in omega arith) in
+    let t = sum_by-cons (f x) h hs in let z = fits x in omega arith) in
     omega arith
 bound_more h hs out here fits more false is =
     let e = sum_by-cons (λ (s : SeatView). s.held) h hs in
@@ -83,10 +83,10 @@ not_out c [] none = refl
 not_out c (y ∷ ys) none = dite (ℕ_discrete y c)
     (λ same. absurd (none (0, omega arith, same)))
     (λ other.
-        let e = sum_by-cons (λ (z : ℕ). one (z == c)) y ys in
-        let t : one (y == c) ≡ 0 = ap one (ne_eqb y c other) in
-        let r = not_out c ys (λ p. none (suc p.0, omega (arith, p.1), p.2)) in
-        omega arith)
+    let e = sum_by-cons (λ (z : ℕ). one (z == c)) y ys in
+    let t : one (y == c) ≡ 0 = ap one (ne_eqb y c other) in
+    let r = not_out c ys (λ p. none (suc p.0, omega (arith, p.1), p.2)) in
+    omega arith)
 
 is_out : (c : ℕ) (out : List ℕ) (k : ℕ) → k < length out → get_or out k c ≡ c → 1 ≤ times_out c out
 is_out c [] k lt e = absurd (omega arith)

@@ -56,9 +56,9 @@ seat_added room m n seats w kept away empty live issued held out =
     let o : ℕ → ℕ → ℕ = λ x c. one (c == x) in
     let new : (x : ℕ) → f x w ≡ one (w.caller == x) = λ x. ap (λ (b : Bool). one (not b && w.caller == x)) live in
     let more : (x : ℕ) → seats_of x (seats ++ w ∷ []) ≡ seats_of x seats + one (w.caller == x) = λ x.
-      let a = sum_by-append (f x) seats (w ∷ []) in let b = sum_by-cons (f x) w [] in let c = new x in omega arith in
+    let a = sum_by-append (f x) seats (w ∷ []) in let b = sum_by-cons (f x) w [] in let c = new x in omega arith in
     let later : (x : ℕ) → times_out x n.out ≡ times_out x m.out + one (w.caller == x) = λ x.
-      let a = sum_by-append (o x) m.out (w.caller ∷ []) in let b = sum_by-cons (o x) w.caller [] in ap (times_out x) out ∙ omega arith in
+    let a = sum_by-append (o x) m.out (w.caller ∷ []) in let b = sum_by-cons (o x) w.caller [] in ap (times_out x) out ∙ omega arith in
     let a = sum_by-append (λ (s : SeatView). s.held) seats (w ∷ []) in
     let b = sum_by-cons (λ (s : SeatView). s.held) w [] in
     let balanced = kept.balanced in
@@ -68,9 +68,9 @@ seat_added room m n seats w kept away empty live issued held out =
       bounded = omega arith;
       capped = All-append (λ (s : SeatView). s.held ≤ most_held s) seats (w ∷ []) kept.capped (All-cons (λ (s : SeatView). s.held ≤ most_held s) w [] (omega arith) (All-nil (λ (s : SeatView). s.held ≤ most_held s)));
       different = λ x. dite (ℕ_discrete w.caller x)
-        (λ same. let c = more x in let d = kept.seated w.caller in let e : one (w.caller == x) ≡ 1 = ap one (eq-eqb w.caller x same) in
+          (λ same. let c = more x in let d = kept.seated w.caller in let e : one (w.caller == x) ≡ 1 = ap one (eq-eqb w.caller x same) in
           let g : seats_of w.caller seats ≡ seats_of x seats = ap (λ (y : ℕ). seats_of y seats) same in omega arith)
-        (λ other. let c = more x in let d = kept.different x in let e : one (w.caller == x) ≡ 0 = ap one (ne_eqb w.caller x other) in omega arith);
+          (λ other. let c = more x in let d = kept.different x in let e : one (w.caller == x) ≡ 0 = ap one (ne_eqb w.caller x other) in omega arith);
       seated = λ x. let c = more x in let d = kept.seated x in let e = later x in omega arith;
     }
 
@@ -82,7 +82,7 @@ seat_spent room m n seats k v w kept at live empty spent issued held out =
     let old : (x : ℕ) → f x v ≡ one (v.caller == x) = λ x. ap (λ (b : Bool). one (not b && v.caller == x)) live in
     let new : (x : ℕ) → f x w ≡ 0 = λ x. ap (λ (b : Bool). one (not b && w.caller == x)) spent in
     let fewer : (x : ℕ) → seats_of x (set seats k w) + one (v.caller == x) ≡ seats_of x seats = λ x.
-      let t = sum_there (f x) seats k v w at in let a = old x in let b = new x in omega arith in
+    let t = sum_there (f x) seats k v w at in let a = old x in let b = new x in omega arith in
     let h = sum_there (λ (s : SeatView). s.held) seats k v w at in
     let balanced = kept.balanced in
     let bounded = kept.bounded in
@@ -93,8 +93,8 @@ seat_spent room m n seats k v w kept at live empty spent issued held out =
       capped = All-set (λ (s : SeatView). s.held ≤ most_held s) seats k w cap kept.capped;
       different = λ x. let a = fewer x in let d = kept.different x in omega arith;
       seated = λ x. dite (ℕ_discrete v.caller x)
-        (λ same. let a = fewer x in let d = kept.different x in let e : one (v.caller == x) ≡ 1 = ap one (eq-eqb v.caller x same) in omega arith)
-        (λ other. let a = fewer x in let d = kept.seated x in let e : one (v.caller == x) ≡ 0 = ap one (ne_eqb v.caller x other) in
+          (λ same. let a = fewer x in let d = kept.different x in let e : one (v.caller == x) ≡ 1 = ap one (eq-eqb v.caller x same) in omega arith)
+          (λ other. let a = fewer x in let d = kept.seated x in let e : one (v.caller == x) ≡ 0 = ap one (ne_eqb v.caller x other) in
           let u = others_stay v.caller x m.out (λ is. other (sym is)) in
           let z = ap (times_out x) out in omega arith);
     }

@@ -161,7 +161,7 @@ drains_at slots id m t kept _ at _ =
     let all = covered n m kept.2 r in
     let bounded = r.bounded in
     let w : MasterView = with_numbers (m.issued - n) m.held m in
-    (Master w, keeps, tt, master_steps t kept id 0 m w at (renumbered n 0 m w kept.2 r (omega arith) (omega arith) refl), (refl, (all, outstanding n m kept.2 r)))
+    (Master w, keeps, tt, master_steps t kept id 0 m w at (renumbered n 0 m w kept.2 r (omega arith) (omega arith) refl), (refl, (all, outstanding n m kept.2 r, (kept.2, renumbered n n m (record { issued = m.issued; held = m.held; out = m.out; next = 0 }) kept.2 r refl bounded refl))))
 
 pub drains : (slots id : ℕ) (me : Knows) (m : MasterView) → me ≡ (Master m, []) → Allows Keeps slots id me 0 (λ _. 0) (Drains (step slots 0 0 0 none) me)
 drains slots id me m is = subst (λ (m : Knows). Allows Keeps slots id m 0 (λ _. 0) (Drains (step slots 0 0 0 none) m)) (sym is) (drains_at slots id m)
@@ -237,7 +237,7 @@ returns_at id m other v live t kept at apart there =
     let n : MasterView = record { issued = m.issued; held = m.held + v.held; out = without v.caller m.out; next = m.next } in
     let room_same : IsKept kept.0 m kept.2 = subst (λ (k : ℕ). IsKept k m kept.2) (room_is t kept) r in
     let views : set t.views id (Master n) ≡ Master n ∷ map Seat kept.2 =
-      ap (λ (vs : List View). set vs id (Master n)) kept.4 ∙ ap (λ (i : ℕ). set (Master kept.1 ∷ map Seat kept.2) i (Master n)) (master_at t kept id m at).0 in
+    ap (λ (vs : List View). set vs id (Master n)) kept.4 ∙ ap (λ (i : ℕ). set (Master kept.1 ∷ map Seat kept.2) i (Master n)) (master_at t kept id m at).0 in
     let p = behind n kept.2 other v (subst (λ (vs : List View). get_elem? vs other ≡ some (Seat v)) views there) in
     let k = p.0 in (
       kept.0,

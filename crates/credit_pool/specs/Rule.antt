@@ -31,6 +31,10 @@ pub record IsKept (room : ℕ) (master : MasterView) (seats : List SeatView) : T
   pub different : (caller : ℕ) → seats_of caller seats ≤ 1
   pub seated : (caller : ℕ) → seats_of caller seats ≤ times_out caller master.out
 
+-- there are seats with which the rule holds of this room, and of what the master has
+abbrev pub Accounts : ℕ → ℕ → ℕ → List ℕ → Type 0
+Accounts room issued held out = (seats : List SeatView) × IsKept room (record { issued = issued; held = held; out = out; next = 0 }) seats
+
 -- the table has the room for its one word, and what the master knows before what the seats know
 abbrev pub Keeps : State (Unit {0}) View → Type 0
 Keeps table = (room : ℕ) × (master : MasterView) × (seats : List SeatView) × (table.words ≡ room ∷ []) × (table.views ≡ Master master ∷ map Seat seats) × IsKept room master seats

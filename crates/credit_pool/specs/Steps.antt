@@ -6,6 +6,7 @@ use Rattle.credit_pool.specs.declared.view.MasterView.{MasterView}
 use Rattle.credit_pool.specs.declared.view.View.{View}
 use Rattle.credit_pool.specs.declared.view.View.TheVariants.{Master, Seat}
 use Rattle.credit_pool.specs.States.{without}
+use Rattle.credit_pool.specs.Rule.{Accounts}
 
 abbrev Knows : Type 0
 Knows = Me (Unit {0}) View
@@ -59,11 +60,11 @@ Gives kind me room new = new ≡ (by_seat (λ s. with_held (s.held - kind.first)
 abbrev pub Refills : Kind → Knows → ℕ → Knows → Type 0
 Refills kind me room new = new ≡ (by_master (λ m. with_numbers (m.issued + kind.first) m.held m) me.0, me.1)
 
--- drain: the room isn't issued any more. It and what the master holds were together at most issued; issued is then at most what the master holds, and 17 for each caller that is out
+-- drain: the room isn't issued any more. It and what the master holds were together at most issued, and issued was at most these and 17 for each caller that is out, since the rule held
 abbrev pub Drains : Kind → Knows → ℕ → Knows → Type 0
 Drains kind me room new =
     (new ≡ (by_master (λ m. with_numbers (m.issued - room) m.held m) me.0, me.1))
-    × OfMaster (λ m. (room + m.held ≤ m.issued) × (m.issued ≤ room + m.held + 17 * length m.out)) me.0
+    × OfMaster (λ m. (room + m.held ≤ m.issued) × (m.issued ≤ room + m.held + 17 * length m.out) × Accounts room m.issued m.held m.out) me.0
 
 -- settle: the number named is neither held by the master nor issued any more. It was issued
 abbrev pub Settles : Kind → Knows → ℕ → Knows → Type 0

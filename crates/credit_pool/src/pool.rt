@@ -2,6 +2,7 @@
 
 ghost use Rattle.std.specs.Prelude.{◌≡◌, ◌≢◌, ℕ, ◌+◌, ◌-◌, ◌*◌, ◌^◌, ◌<◌, ◌≤◌, ◌++◌, [], ◌∷◌, length, Contains, OnOk, OnErr, IfOk, IfErr};
 ghost use Rattle.credit_pool.specs.States.{looked, holding, without, MasterState, SeatState};
+ghost use Rattle.credit_pool.specs.Rule.{Accounts};
 ghost use Rattle.credit_pool.specs.Draws.{drawn, TakeFails, DrawFails};
 
 use crate::fault::DrawFault;
@@ -15,6 +16,9 @@ use std::marker::Model;
 use ubifs_base::Memory;
 
 /// The credits that nobody holds, on a word that all callers share. Contracts see it as which pool it is.
+///
+/// A credit stands for the room on the volume that a dirty page needs when it is written back, granted in advance (Hunter
+/// 2008, on budgeting). No call waits for another, and each seat and master is of the pool that it is used with.
 #[derive(Drop)]
 pub struct Pool {
     table: Table<(), View, (), Credits, Global>,
@@ -48,7 +52,7 @@ impl Pool {
         ))
     }
 
-    /// The room.
+    /// The room: how many credits nobody holds at this moment.
     pub fn look(&self, seat: &mut Seat) -> u64
         requires { seat.old.pool ≡ self.now }
         ensures { seat.new ≡ looked result seat.old }
@@ -56,13 +60,17 @@ impl Pool {
         self.table.shared.load::<Look>(&mut seat.token, 0)
     }
 
-    /// Draws `n` credits where the room is `seen`.
+    /// Draws `n` credits by one exchange, where the room is `seen`.
+    ///
+    /// `Raced` exactly where the exchange found another room; then nothing changes.
     pub fn take(&self, seat: &mut Seat, seen: u64, n: u64) -> Result<(), DrawFault>
         requires pool { seat.old.pool ≡ self.now }
         requires enough { n ≤ seen }
         requires limit { seat.old.held + n ≤ 17 }
         ensures ok { OnOk result (seat.new ≡ drawn seen n seat.old) }
         ensures raced { IfErr result (TakeFails seen seat.old seat.new) }
+        ensures same { (seat.new.pool ≡ self.now) × (seat.new.caller ≡ seat.old.caller) }
+        ensures unchanged { OnErr result (seat.new.held ≡ seat.old.held) }
     {
         let found = self
             .table
@@ -78,13 +86,18 @@ impl Pool {
         }
     }
 
-    /// Draws `n` credits: looks once, and takes once where there are enough.
+    /// Draws `n` credits: looks once, and takes once where the look saw enough. It doesn't try again.
+    ///
+    /// `Short` exactly where the look saw fewer, and `Raced` exactly where the exchange found another room than the look.
+    /// Then nothing changes.
     pub fn draw(&self, seat: &mut Seat, n: u64) -> Result<(), DrawFault>
         requires pool { seat.old.pool ≡ self.now }
         requires limit { seat.old.held + n ≤ 17 }
         ensures enough { OnOk result (n ≤ seat.new.found) }
         ensures ok { OnOk result (seat.new ≡ drawn seat.new.found n (looked seat.new.found seat.old)) }
         ensures err { IfErr result (DrawFails n seat.old seat.new) }
+        ensures same { (seat.new.pool ≡ self.now) × (seat.new.caller ≡ seat.old.caller) }
+        ensures unchanged { OnErr result (seat.new.held ≡ seat.old.held) }
     {
         let seen = self.look(seat);
         if seen < n {
@@ -93,7 +106,7 @@ impl Pool {
         self.take(seat, seen, n)
     }
 
-    /// Gives `n` credits of the seat back.
+    /// Gives `n` credits of the seat back to the room.
     pub fn give(&self, seat: &mut Seat, n: u64)
         requires pool { seat.old.pool ≡ self.now }
         requires held { n ≤ seat.old.held }
@@ -102,19 +115,22 @@ impl Pool {
         self.table.shared.fetch_add::<Give>(&mut seat.token, 0, n);
     }
 
-    /// Issues `n` credits into the room.
+    /// Issues `n` credits, and puts them into the room.
     pub fn refill(&self, master: &mut Master, n: u64)
         requires pool { master.old.pool ≡ self.now }
         requires limit { master.old.issued + n < 2 ^ 63 }
         ensures { master.new ≡ record { pool = self.now; issued = master.old.issued + n; held = master.old.held; out = master.old.out } }
     {
-        self.table.shared.fetch_add::<Refill>(&mut master.token, 0, n);
+        self.table
+            .shared
+            .fetch_add::<Refill>(&mut master.token, 0, n);
     }
 
     /// Takes all credits out of the room, and answers how many. They aren't issued any more.
     pub fn drain(&self, master: &mut Master) -> u64
         requires { master.old.pool ≡ self.now }
         ensures drained { master.new ≡ record { pool = self.now; issued = master.old.issued - result; held = master.old.held; out = master.old.out } }
+        ensures kept { Accounts result master.old.issued master.old.held master.old.out }
         ensures issued { result + master.old.held ≤ master.old.issued }
         ensures left { master.new.issued ≤ master.new.held + 17 * length master.new.out }
     {

@@ -5,6 +5,8 @@ use std::marker::Model;
 
 /// A caller's seat at a pool. Contracts see it as a `SeatState`: its pool and caller, what it holds, the room that its
 /// last load or exchange found, and the count of these.
+///
+/// It holds at most 17 credits. Where it is dropped and not joined, they stay issued, and its caller stays out.
 #[derive(Drop)]
 pub struct Seat {
     pub(crate) token: atomic_table::Seat<(), View>,
