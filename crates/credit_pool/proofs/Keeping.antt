@@ -1,5 +1,5 @@
 -- The rule after a change of one seat, of the master, or of both.
-use Rattle.std.proofs.Common.{◌≡◌, ℕ, ◌+◌, ◌*◌, ◌-◌, ◌^◌, ◌<◌, ◌≤◌, ◌==◌, ◌&&◌, Bool, true, false, cond, not, List, [], ◌∷◌, ◌++◌, length, set, sum_by, count_by, All, filter, refl, ap, sym, ◌∙◌, subst, arith, eq-eqb, ne_eqb}
+use Rattle.std.proofs.Common.{◌≡◌, ℕ, ◌+◌, ◌*◌, ◌^◌, ◌<◌, ◌≤◌, ◌==◌, ◌&&◌, Bool, true, false, not, List, [], ◌∷◌, ◌++◌, length, set, ap, sym, ◌∙◌, subst, arith, eq-eqb, ne_eqb}
 use Rattle.std.proofs.lemmas.List.Sums.{sum_by-cons, sum_by-append}
 use Rattle.std.proofs.lemmas.List.Elements.{All-set, All-append, All-cons, All-nil}
 use mathlib.Core.Option.{some}
@@ -9,8 +9,8 @@ use lib.ListN.{get_elem?}
 use Rattle.credit_pool.specs.declared.view.SeatView.{SeatView}
 use Rattle.credit_pool.specs.declared.view.MasterView.{MasterView}
 use Rattle.credit_pool.specs.States.{without}
-use Rattle.credit_pool.specs.Rule.{most_held, held_by, seats_of, times_out, IsKept}
-use Rattle.credit_pool.proofs.Counting.{one, sum_there, of_all, held_bound, others_stay}
+use Rattle.credit_pool.specs.Rule.{most_held, seats_of, times_out, IsKept}
+use Rattle.credit_pool.proofs.Counting.{one, sum_there, held_bound, others_stay}
 
 -- what the master holds and the room are together at most issued
 pub covered : (room : ℕ) (m : MasterView) (seats : List SeatView) → IsKept room m seats → room + m.held ≤ m.issued

@@ -1,5 +1,5 @@
 -- Each kind of step keeps the rule.
-use Rattle.std.proofs.Common.{◌≡◌, ℕ, zero, suc, ◌+◌, ◌*◌, ◌-◌, ◌%◌, ◌^◌, ◌<◌, ◌≤◌, ◌==◌, Bool, true, false, cond, List, [], ◌∷◌, ◌++◌, length, set, map, get_or, refl, ap, sym, ◌∙◌, subst, arith, eq-eqb, ne_eqb, slice_index}
+use Rattle.std.proofs.Common.{◌≡◌, ℕ, zero, suc, ◌+◌, ◌-◌, ◌%◌, ◌^◌, ◌<◌, ◌≤◌, ◌==◌, Bool, true, false, cond, List, [], ◌∷◌, ◌++◌, set, map, refl, ap, sym, ◌∙◌, subst, arith, slice_index}
 use mathlib.Core.Option.{none, some, some-ne-none}
 use lib.ListN.{get_elem?}
 use lib.Seq.{map-set}
@@ -12,8 +12,8 @@ use Rattle.credit_pool.specs.declared.view.SeatView.{SeatView}
 use Rattle.credit_pool.specs.declared.view.MasterView.{MasterView}
 use Rattle.credit_pool.specs.declared.view.View.{View}
 use Rattle.credit_pool.specs.declared.view.View.TheVariants.{Master, Seat}
-use Rattle.credit_pool.specs.Rule.{most_held, times_out, IsKept, Keeps, opened}
-use Rattle.credit_pool.specs.Steps.{seen, with_held, tried, with_numbers, by_seat, by_master, Looks, Takes, Gives, Refills, Drains, Settles, Calls, Weighs, with_seat_out, new_seat, with_seat_back, spent_seat}
+use Rattle.credit_pool.specs.Rule.{most_held, times_out, IsKept, Keeps}
+use Rattle.credit_pool.specs.Steps.{seen, with_held, tried, with_numbers, Looks, Takes, Gives, Refills, Drains, Settles, Calls, Weighs, with_seat_out, new_seat, with_seat_back, spent_seat}
 use Rattle.credit_pool.proofs.Counting.{of_all}
 use Rattle.credit_pool.proofs.Keeping.{covered, outstanding, reseated, renumbered, seat_added, seat_spent}
 

@@ -1,5 +1,5 @@
 -- The master's fields, as contracts see them.
-use Rattle.std.specs.Prelude.{◌≡◌, ℕ, []}
+use Rattle.std.specs.Prelude.{◌≡◌, []}
 use Rattle.credit_pool.specs.declared.master.Master.TheInside.{Inside}
 use Rattle.credit_pool.specs.declared.view.MasterView.{MasterView}
 use Rattle.credit_pool.specs.declared.view.View.{View}

@@ -1,5 +1,5 @@
 -- The rule of credits: the room plus what all seats and the master hold is what was issued.
-use Rattle.std.specs.Prelude.{◌≡◌, ℕ, ◌+◌, ◌^◌, ◌<◌, ◌≤◌, ◌==◌, ◌&&◌, Bool, not, if◌then◌else◌, List, [], ◌∷◌, map, sum_by, count_by, All}
+use Rattle.std.specs.Prelude.{◌≡◌, ℕ, ◌+◌, ◌^◌, ◌<◌, ◌≤◌, ◌==◌, ◌&&◌, not, if◌then◌else◌, List, [], ◌∷◌, map, sum_by, count_by, All}
 use Rattle.atomic_table.specs.Table.{State}
 use Rattle.credit_pool.specs.declared.view.SeatView.{SeatView}
 use Rattle.credit_pool.specs.declared.view.MasterView.{MasterView}

@@ -1,5 +1,5 @@
 -- A seat's fields, as contracts see them.
-use Rattle.std.specs.Prelude.{◌≡◌, ℕ, false, []}
+use Rattle.std.specs.Prelude.{◌≡◌, false, []}
 use Rattle.credit_pool.specs.declared.seat.Seat.TheInside.{Inside}
 use Rattle.credit_pool.specs.declared.view.SeatView.{SeatView}
 use Rattle.credit_pool.specs.declared.view.View.{View}

@@ -1,5 +1,5 @@
 -- What contracts see of a seat and of the master.
-use Rattle.std.specs.Prelude.{ℕ, Bool, not, ◌+◌, ◌==◌, List, filter}
+use Rattle.std.specs.Prelude.{ℕ, not, ◌+◌, ◌==◌, List, filter}
 use Rattle.atomic_table.specs.Seated.{TableId}
 
 -- a seat: which pool it is of, whose it is, what it holds, what its last load or exchange found, and how many it has made

@@ -1,11 +1,10 @@
-use Rattle.std.proofs.Common.{◌≡◌, ℕ, ◌∙◌, rules, ap, sym, subst, arith, List, [], Contains}
+use Rattle.std.proofs.Common.{ℕ, ◌∙◌, rules, ap, sym, subst, List, [], Contains}
 use Rattle.atomic_table.specs.Table.{Me}
 use Rattle.credit_pool.specs.declared.view.View.{View}
 use Rattle.credit_pool.specs.declared.view.View.TheVariants.{Master}
 use Rattle.credit_pool.specs.States.{SeatState, without}
 use Rattle.credit_pool.specs.Steps.{with_seat_back}
 use Rattle.credit_pool.specs.Masters.{of_master}
-use Rattle.credit_pool.specs.Seats.{of_seat}
 use Rattle.credit_pool.proofs.Counting.{is_gone}
 use Rattle.credit_pool.proofs.Moves.{returns, weighs}
 use Rattle.credit_pool.proofs.pool.Pool.join.Goals as goal

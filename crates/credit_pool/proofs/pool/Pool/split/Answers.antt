@@ -1,6 +1,5 @@
-use Rattle.std.proofs.Common.{◌≡◌, ℕ, ◌∙◌, rules, ap, sym, subst, arith, List, Contains}
+use Rattle.std.proofs.Common.{◌≡◌, ℕ, ◌∙◌, rules, ap, sym, subst, List, Contains}
 use Rattle.atomic_table.specs.Table.{Me}
-use Rattle.credit_pool.specs.declared.view.MasterView.{MasterView}
 use Rattle.credit_pool.specs.declared.view.View.{View}
 use Rattle.credit_pool.specs.States.{MasterState}
 use Rattle.credit_pool.specs.Masters.{of_master}
