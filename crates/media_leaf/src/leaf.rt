@@ -20,12 +20,7 @@ pub fn is_leaf(kind: u8, body: &[u8]) -> bool
     passes_a_test(kind, body)
 }
 
-#[tactic(auto, unfolding(
-    crate::specs::Data::is_data,
-    crate::specs::Entry::is_entry,
-    crate::specs::Inode::is_inode,
-    crate::specs::Truncation::is_truncation
-))]
+#[tactic(auto, unfolding(crate::specs::Data::is_data, crate::specs::Entry::is_entry, crate::specs::Inode::is_inode, crate::specs::Truncation::is_truncation))]
 fn passes_a_test(kind: u8, body: &[u8]) -> bool
     ensures { result ≡ (is_data kind body.now || is_inode kind body.now || is_entry kind body.now || is_truncation kind body.now) }
 {
