@@ -6,12 +6,16 @@ use Rattle.std.specs.List.{last_or}
 use Rattle.std.proofs.lemmas.Bool.Decides.{nat_tests}
 use Rattle.std.proofs.lemmas.List.Elements.{filter-append}
 use Rattle.index_tree.specs.declared.leaf.Leaf.{Leaf}
+use Rattle.index_tree.specs.declared.node.Node.{Node}
+use Rattle.index_tree.specs.declared.node.Node.TheViews.{out-Node}
+use Rattle.index_tree.specs.Tree.{below, row}
+use Rattle.index_tree.specs.TreeLaws.{below-contents, below-filled}
 use Rattle.index_tree.specs.InsertLaws.{fits-filled}
 use Rattle.index_tree.specs.Keyed.{HaveKeys}
 use Rattle.index_tree.specs.LastBlock.{is_block_of, last_block, last_rank, up_to}
-use Rattle.index_tree.specs.LastBlockLaws.{block_alone, last_block-is, last_block-greatest, last_block-none, up_to-some, up_to-later, last-right}
+use Rattle.index_tree.specs.LastBlockLaws.{block_alone, last_block-is, last_block-greatest, last_block-none, up_to-some, up_to-none, up_to-later, last-right}
 use Rattle.index_tree.specs.Order.{leaf_rank, ordered_from}
-use Rattle.index_tree.specs.OrderLaws.{ordered_head, ordered-right}
+use Rattle.index_tree.specs.OrderLaws.{ordered_head, ordered_cons, ordered-right}
 use Rattle.index_tree.specs.SearchLaws.{node_filled, begins-starts}
 use Rattle.index_tree.specs.Shape.{Shape, leaf, node, contents, filled, begins_within}
 
@@ -76,3 +80,45 @@ pub no_leaf : (ino at : ℕ) (xs : List Leaf) (r : Option Leaf) → ordered_from
 no_leaf ino at xs r s k top e is =
     let last : last_or None (up_to (last_rank ino) xs) ≡ None = ap (λ n. last_or None (up_to n xs)) (sym top) ∙ sym e ∙ is in
     sym (last_block-is ino xs s k ∙ ap (λ o. block_alone ino o) last)
+
+last_is : (y : Leaf) (ys : List Leaf) → (z : Leaf) × (last_or (Some y) ys ≡ Some z)
+last_is y [] = (y, refl)
+last_is y (z ∷ ys) = last_is z ys
+
+-- the last of a leaf and those behind it
+pub last_after_none : (x : Leaf) (ys : List Leaf) → None ≡ last_or None ys → last_or (Some x) ys ≡ Some x
+last_after_none x [] h = refl
+last_after_none x (y ∷ ys) h = let p = last_is y ys in let e = h ∙ p.1 in absurd cc
+
+pub last_after_some : (x y : Leaf) (ys : List Leaf) → Some y ≡ last_or None ys → last_or (Some x) ys ≡ Some y
+last_after_some x y [] h = absurd cc
+last_after_some x y (z ∷ ys) h = sym h
+
+pub last_cons : (k : ℕ) (x : Leaf) (rest : List Leaf) → leaf_rank x ≤ k → last_or None (up_to k (x ∷ rest)) ≡ last_or (Some x) (up_to k rest)
+last_cons k x rest h =
+    let e : nat_le (leaf_rank x) k ≡ true = grind (arith, nat_tests) in
+    rw e refl
+
+pub last_above : (k : ℕ) (x : Leaf) (rest : List Leaf) → k < leaf_rank x → ordered_from 0 (x ∷ rest) ≡ true → up_to k (x ∷ rest) ≡ []
+last_above k x rest h o =
+    let p = ordered_head 0 x rest o in
+    up_to-none (leaf_rank x) k (x ∷ rest) h (ordered_cons (leaf_rank x) x rest (omega arith) p.others)
+
+-- where the last leaf up to a rank stands below a node
+pub record LastBelow (k : ℕ) (n : Node) : Type 0 where
+  pub behind : begins_within k (row (out-Node n).nodes.items) ≡ true → last_or None (up_to k (contents (below n))) ≡ last_or None (up_to k (contents (row (out-Node n).nodes.items)))
+  pub own : begins_within k (row (out-Node n).nodes.items) ≡ false → last_or None (up_to k (contents (below n))) ≡ last_or None (up_to k (out-Node n).leaves.items)
+
+pub last_below : (k : ℕ) (n : Node) → filled (below n) ≡ true → ordered_from 0 (contents (below n)) ≡ true → LastBelow k n
+last_below k n f o =
+    let xs = (out-Node n).leaves.items in
+    let rest = row (out-Node n).nodes.items in
+    let both : ordered_from 0 (xs ++ contents rest) ≡ true = rw (below-contents n) at o in
+    let starts = begins-starts k rest (sym (below-filled n) ∙ f) in
+    let apart = ap (λ v. up_to k v) (below-contents n) ∙ filter-append (λ x. nat_le (leaf_rank x) k) xs (contents rest) in
+    record {
+      behind = λ b. ap (λ v. last_or None v) apart ∙ last-right None None (up_to k xs) (up_to k (contents rest)) (up_to-some k (contents rest) (sym starts ∙ b));
+      own = λ b.
+          let later = up_to-later 0 k (contents rest) (ordered-right 0 xs (contents rest) both) (sym starts ∙ b) in
+          ap (λ v. last_or None v) (apart ∙ ap (λ v. up_to k xs ++ v) later ∙ append-nil (up_to k xs));
+    }

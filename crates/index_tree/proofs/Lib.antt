@@ -1,10 +1,10 @@
-pub mod KeptNumbers
 pub mod Search
+pub mod Inserting
 pub mod Rooting
+pub mod Sweeping
 pub mod Removing
-pub mod Pruning
 pub mod Replacing
 pub mod LastLeaf
-pub mod Keeping
+pub mod Pruning
 pub mod NodeList
 pub mod Rebuilding

@@ -1,20 +1,23 @@
 -- The steps of a removal.
-use Rattle.std.proofs.Common.{◌≡◌, ℕ, ◌+◌, ◌≤◌, true, false, ap, subst, ◌∙◌, arith}
+use Rattle.std.proofs.Common.{◌≡◌, ◌≢◌, ℕ, ◌+◌, ◌<◌, ◌≤◌, ◌⊎◌, inl, inr, refl, List, [], ◌∷◌, ◌++◌, length, length-append, true, false, ap, subst, ◌∙◌, arith, if◌then◌else◌}
 use Rattle.index_tree.specs.Order.{leaf_rank, ordered_from}
-use Rattle.index_tree.specs.Shape.{Shape, leaf, node, contents, node_count, shape_weight, fits}
-use Rattle.index_tree.specs.Removal.{holds, removed}
+use Rattle.index_tree.specs.Shape.{Shape, done, leaf, node, lone, contents, node_count, shape_weight, fits}
+use Rattle.index_tree.specs.Removal.{holds, removed, collapsed}
 use Rattle.std.proofs.lemmas.Bool.Decides.{nat_tests}
 use Rattle.index_tree.specs.declared.leaf.Leaf.{Leaf}
+use Rattle.index_tree.specs.declared.node.Node.{Node}
+use Rattle.index_tree.specs.declared.node.Node.TheViews.{out-Node}
+use Rattle.index_tree.specs.Tree.{below, row, leaves_before}
+use Rattle.index_tree.specs.TreeLaws.{below-contents, below_is, no_items}
 use Rattle.index_tree.specs.GrowthLaws.{node_fits, below-full}
 use Rattle.index_tree.specs.OrderLaws.{ordered_head, ordered-weaken, ordered-left, ordered-right}
-use Rattle.index_tree.specs.KeptLaws.{kept_parts}
 use Rattle.index_tree.specs.InsertLaws.{fits-filled, lone-whole}
 use Rattle.index_tree.specs.CollapseLaws.{lone-count, removed-whole, without_leaf-is, without_leaf-laws, without_leaf-ordered, without-absent}
 use Rattle.index_tree.specs.RemovalLaws.{holds-append, removed-absent, absent_left, absent_right, absent_behind, removed-shrunk, full-falls, empty}
 
 pub ruleset removing = (nat_tests, empty, below-full)
 
-pub ruleset removal = (nat_tests, kept_parts, node_fits, ordered_head, ordered-weaken, ordered-left, ordered-right, fits-filled, holds-append, removed-absent, absent_left, absent_right, absent_behind, full-falls, removed-shrunk)
+pub ruleset removal = (nat_tests, node_fits, ordered_head, ordered-weaken, ordered-left, ordered-right, fits-filled, holds-append, removed-absent, absent_left, absent_right, absent_behind, full-falls, removed-shrunk)
 
 pub ruleset collapsing = (nat_tests, empty, below-full, lone-whole, lone-count)
 
@@ -72,3 +75,32 @@ still_ready f n w m v gone c d rest absent is nodes weight r =
       nodes_there = omega (arith, r.nodes_there);
       weight_there = omega (arith, r.weight_there);
     }
+
+-- whether a leaf stands below a node
+pub holds-below : (gone : Leaf) (n : Node) → holds gone (contents (below n)) ≡ (if holds gone (out-Node n).leaves.items then true else holds gone (contents (row (out-Node n).nodes.items)))
+holds-below gone n = ap (λ v. holds gone v) (below-contents n) ∙ holds-append gone (out-Node n).leaves.items (contents (row (out-Node n).nodes.items))
+
+no_lone : (xs : List Leaf) (ns : List Node) → (0 < length xs) ⊎ (length ns ≢ 1) → lone (leaves_before xs (row ns)) ≡ false
+no_lone (x ∷ xs) ns h = refl
+no_lone [] [] h = refl
+no_lone [] (m ∷ []) (inl h) = absurd (omega arith)
+no_lone [] (m ∷ []) (inr h) = absurd (h refl)
+no_lone [] (m ∷ (k ∷ ns)) h = grind (arith, nat_tests)
+
+-- a node with leaves, or with another number of nodes than one, isn't collapsed
+pub stays : (n : Node) → (0 < length (out-Node n).leaves.items) ⊎ (length (out-Node n).nodes.items ≢ 1) → node (below n) done ≡ collapsed (node (below n) done)
+stays n h =
+    let e = ap lone (below_is n) ∙ no_lone (out-Node n).leaves.items (out-Node n).nodes.items h in
+    rw e refl
+
+only_one : (x : Node) (ms ns : List Node) → ns ≡ ms ++ (x ∷ []) → length ns ≡ 1 → ns ≡ x ∷ []
+only_one x [] ns e h = e
+only_one x (m ∷ ms) ns e h = absurd (omega (arith, ap length e, length-append ms (x ∷ [])))
+
+-- the one child of a node
+pub one_child : (n child : Node) (ms : List Node) → length (out-Node n).nodes.items ≡ 1 → (out-Node n).nodes.items ≡ ms ++ (child ∷ []) → (out-Node n).nodes.items ≡ child ∷ []
+one_child n child ms h e = only_one child ms (out-Node n).nodes.items e h
+
+pub lone_child : (n child : Node) → length (out-Node n).leaves.items ≡ 0 → (out-Node n).nodes.items ≡ child ∷ [] → below n ≡ node (below child) done
+lone_child n child none one =
+    below_is n ∙ ap (λ v. leaves_before v (row (out-Node n).nodes.items)) (no_items (out-Node n).leaves.items none) ∙ ap row one

@@ -7,8 +7,11 @@ use Rattle.std.proofs.lemmas.List.Elements.{filter-append}
 use Rattle.index_tree.specs.declared.leaf.Leaf.{Leaf}
 use Rattle.index_tree.specs.Order.{leaf_rank, ordered_from, of_rank}
 use Rattle.index_tree.specs.OrderLaws.{ordered_head, ordered-weaken, ordered-left, ordered-right, none_before, none_within, none_above}
-use Rattle.index_tree.specs.KeptLaws.{kept_parts, kept-filled}
 use Rattle.index_tree.specs.SearchLaws.{node_filled, begins-starts}
+use Rattle.index_tree.specs.declared.node.Node.{Node}
+use Rattle.index_tree.specs.declared.node.Node.TheViews.{out-Node}
+use Rattle.index_tree.specs.Tree.{below, row}
+use Rattle.index_tree.specs.TreeLaws.{below-contents}
 use Rattle.index_tree.specs.Shape.{Shape, leaf, node, contents, filled, begins_within}
 
 -- what is known of the parts of a row that begins with a leaf
@@ -63,7 +66,7 @@ get_right [] ys i j h = ap (λ n. slice_get ys n) (omega arith)
 get_right (z ∷ xs) ys zero j h = absurd (omega arith)
 get_right (z ∷ xs) ys (suc i) j h = get_right xs ys i j (omega arith)
 
-pub ruleset searching = (nat_tests, kept_parts, kept-filled, at_leaf, at_node, filter-append, get_left, get_right)
+pub ruleset searching = (nat_tests, at_leaf, at_node, filter-append, get_left, get_right)
 
 pub length_apart : (k : ℕ) (s c rest : Shape) → s ≡ node c rest → of_rank k (contents rest) ≡ [] → length (of_rank k (contents c)) ≡ length (of_rank k (contents s))
 length_apart k s c rest is none =
@@ -80,3 +83,12 @@ none_at_leaf k x s rest is h none =
 pub of_rank_behind : (k : ℕ) (s c rest : Shape) → s ≡ node c rest → of_rank k (contents c) ≡ [] → of_rank k (contents s) ≡ of_rank k (contents rest)
 of_rank_behind k s c rest is none =
     ap (λ v. of_rank k (contents v)) is ∙ filter-append (λ x. leaf_rank x == k) (contents c) (contents rest) ∙ ap (λ v. v ++ of_rank k (contents rest)) none
+
+pub none_here : (k : ℕ) (x : Leaf) (rest : List Leaf) → k < leaf_rank x → ordered_from 0 (x ∷ rest) ≡ true → of_rank k (x ∷ rest) ≡ []
+none_here k x rest h o =
+    let other : (leaf_rank x == k) ≡ false = grind (arith, nat_tests) in
+    rw other (none_above (leaf_rank x) k rest h (ordered_head 0 x rest o).others)
+
+-- the leaves of one key below a node are its own and those below its nodes
+pub of_rank_below : (k : ℕ) (n : Node) → of_rank k (contents (below n)) ≡ of_rank k (out-Node n).leaves.items ++ of_rank k (contents (row (out-Node n).nodes.items))
+of_rank_below k n = ap (λ v. of_rank k v) (below-contents n) ∙ filter-append (λ x. leaf_rank x == k) (out-Node n).leaves.items (contents (row (out-Node n).nodes.items))

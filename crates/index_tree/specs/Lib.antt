@@ -1,11 +1,15 @@
 pub mod Order
 pub mod Shape
 pub mod Tree
+pub mod TreeLaws
+pub mod Places
+pub mod PlaceLaws
 pub mod GrowthLaws
 pub mod OrderLaws
 pub mod SearchLaws
 pub mod InsertLaws
 pub mod Removal
+pub mod Sweep
 pub mod RemovalLaws
 pub mod CollapseLaws
 pub mod RangeRemoval
@@ -15,7 +19,6 @@ pub mod Keyed
 pub mod LastBlock
 pub mod LastBlockLaws
 pub mod KeyedLaws
-pub mod KeptLaws
 pub mod RangeSkips
 pub mod SameLeaf
 pub mod Listing

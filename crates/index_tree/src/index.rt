@@ -12,19 +12,22 @@ ghost use Rattle.index_tree.specs.LastBlock.{last_block, blocks_of};
 ghost use Rattle.index_tree.specs.Levels.{is_levelled};
 ghost use Rattle.index_tree.specs.Listing.{listed_node, listed};
 ghost use Rattle.index_tree.specs.Rebuild.{IsIndex};
-ghost use Rattle.index_tree.specs.Tree.{shape, kept};
+ghost use Rattle.index_tree.specs.Tree.{shape, kept_root};
 ghost use Rattle.ubifs_base.specs.Key.{IsKey};
 
 use crate::counts::Counts;
+use crate::find::find_rooted;
 use crate::index_node::IndexNode;
 use crate::insertion::insert_rooted;
-use crate::last::is_block_of;
+use crate::last::{is_block_of, last_rooted};
 use crate::leaf::Leaf;
+use crate::listing::{height_rooted, push_rooted};
+use crate::node::Node;
 use crate::range_removal::prune_rooted;
 use crate::rank::{last_rank, rank};
-use crate::rebuild::{join, parts_of};
+use crate::rebuild::{parts_of, root_of, tally_rooted};
 use crate::removal::remove_rooted;
-use crate::row::Row;
+use crate::replacement::replace_rooted;
 use std::alloc::Global;
 use ubifs_base::{Key, Memory};
 
@@ -39,13 +42,13 @@ const MOST_LEVELS: u32 = 65_535;
 /// Contracts see it as `shape self.root`, and what it contains as `contents (shape self.root)`.
 #[derive(Drop)]
 pub struct Index {
-    root: Row,
+    root: Option<Node>,
     fanout: u32,
     counts: Counts,
     ghost least: { 3 ≤ fanout },
     ghost most: { fanout ≤ 256 },
     ghost whole: { is_whole (shape root) ≡ true },
-    ghost first_keys: { kept root ≡ true },
+    ghost first_keys: { kept_root root ≡ true },
     ghost sound: { fits fanout (shape root) ≡ true },
     ghost ordered: { ordered_from 0 (contents (shape root)) ≡ true },
     ghost levels: { is_levelled (shape root) ≡ true },
@@ -63,7 +66,7 @@ impl Index {
         ensures fanout { IfOk result (λ made. made.fanout ≡ fanout) }
     {
         Ok(Index {
-            root: Row::End,
+            root: None,
             fanout,
             counts: Counts {
                 nodes: 0,
@@ -84,12 +87,12 @@ impl Index {
         ensures fanout { IfOk result (λ made. made.fanout ≡ fanout) }
     {
         let mut parts = parts_of(alloc, nodes.as_slice())?;
-        let root = join(alloc, &mut parts, 1)?;
+        let root = root_of(&mut parts);
         let mut counts = Counts {
             nodes: 0,
             weight: 0,
         };
-        root.tally(fanout, &mut counts)?;
+        tally_rooted(&root, fanout, &mut counts)?;
         Ok(Index {
             root,
             fanout,
@@ -128,7 +131,7 @@ impl Index {
         ensures as_heavy { shape_weight self.old.fanout (shape self.new.root) ≡ shape_weight self.old.fanout (shape self.old.root) }
         ensures fanout { self.new.fanout ≡ self.old.fanout }
     {
-        self.root.replace(old, new)
+        replace_rooted(&mut self.root, old, new)
     }
 
     /// Takes the leaf out, with the nodes that this empties; false exactly where it isn't there.
@@ -169,15 +172,14 @@ impl Index {
         ensures nodes { IfOk result (λ nodes. map listed_node nodes.items ≡ listed (shape self.now.root)) }
         ensures of_an_index { IsIndex self.now.fanout (shape self.now.root) }
     {
-        let high = self.root.height();
+        let high = height_rooted(&self.root);
         if high > MOST_LEVELS {
             return Err(Memory);
         }
         let high = high as u16;
         let mut nodes = Vec::new(alloc);
         for level in 0..high {
-            self.root
-                .push_level(alloc, level, high, self.fanout, &mut nodes)?;
+            push_rooted(&self.root, alloc, level, high, self.fanout, &mut nodes)?;
         }
         Ok(nodes)
     }
@@ -211,7 +213,7 @@ impl Index {
     pub fn find(&self, key: &Key, nth: u32) -> Option<Leaf>
         ensures { result ≡ slice_get (of_rank (key_rank key.now) (contents (shape self.now.root))) nth }
     {
-        match self.root.find(rank(key), nth) {
+        match find_rooted(&self.root, rank(key), nth) {
             Ok(leaf) => Some(leaf),
             Err(_) => None,
         }
@@ -224,7 +226,7 @@ impl Index {
         ensures greatest { IfSome result (λ x. All (λ y. leaf_rank y ≤ leaf_rank x) (blocks_of ino (contents (shape self.now.root)))) }
         ensures none { IfNone result (blocks_of ino (contents (shape self.now.root)) ≡ []) }
     {
-        let leaf = self.root.last_within(last_rank(ino))?;
+        let leaf = last_rooted(&self.root, last_rank(ino))?;
         if is_block_of(&leaf.key, ino) {
             return Some(leaf);
         }

@@ -1,14 +1,13 @@
 //! The index: an ordered list of leaves in the shape of a tree. It answers where a leaf of a key
 //! stands, and how many nodes the tree would take on the medium.
 //!
-//! A tree is kept as rows of siblings: a row has leaves, or nodes, each of which has a row of children
-//! of its own; the whole is a row of one node, the root, or of none. `specs/Shape.antt` says what such
-//! a shape is, what it contains and what an insertion makes of it, `specs/Removal.antt` what a removal
-//! does, and `specs/Listing.antt` in which order the nodes are listed. The invariant: each node has 1
-//! to `fanout` children and keeps the key of its first leaf, so that a call goes down one path; all
-//! leaves stand at one depth and in the order of their keys; the kept numbers are those of the shape.
-//! An insertion takes all memory that it may need on its way down, and changes the tree on its way
-//! back, so that after `Memory` all is as before.
+//! The children of a node stand side by side: its leaves on the lowest level, its nodes above, each with the key of
+//! its first leaf, so that a call goes down one path and reads few lines of memory on it. `specs/Tree.antt` sees a
+//! node as its shape. `specs/Shape.antt` says what such a shape is, what it contains and what an insertion makes of
+//! it, `specs/Removal.antt` what a removal does, and `specs/Listing.antt` in which order the nodes are listed. The
+//! invariant: each node has 1 to `fanout` children and keeps the key of its first leaf; all leaves stand at one depth
+//! and in the order of their keys; the kept numbers are those of the shape. An insertion takes all memory that it may
+//! need on its way down, and changes the tree on its way back, so that after `Memory` all is as before.
 #![tactic(auto)]
 
 mod counts;
@@ -19,12 +18,12 @@ mod insertion;
 mod last;
 mod leaf;
 mod listing;
+mod node;
 mod range_removal;
 mod rank;
 mod rebuild;
 mod removal;
 mod replacement;
-mod row;
 
 pub use crate::index::Index;
 pub use crate::index_node::IndexNode;

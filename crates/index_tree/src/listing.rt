@@ -2,95 +2,124 @@
 
 ghost use Rattle.std.specs.Prelude.{◌≡◌, ◌≤◌, ◌-◌, ◌^◌, ◌++◌, true, min, map, IfOk, OnOk};
 ghost use Rattle.index_tree.specs.Listing.{ListedNode, listed_node, height, row_leaves, level_nodes};
-ghost use Rattle.index_tree.specs.Shape.{count, fits};
-ghost use Rattle.index_tree.specs.Tree.{shape};
+ghost use Rattle.index_tree.specs.Shape.{done, node, count, fits};
+ghost use Rattle.index_tree.specs.Tree.{shape, below, row};
 
 use crate::index_node::IndexNode;
-use crate::leaf::Leaf;
-use crate::row::Row;
+use crate::node::Node;
 use std::alloc::Global;
 use ubifs_base::Memory;
 
-impl Row {
-    /// How many levels of nodes there are; `u32::MAX` stands for more as well.
+impl Node {
+    /// How many levels of nodes there are below; `u32::MAX` stands for more as well.
     pub fn height(&self) -> u32
-        ensures { result ≡ min (height (shape self.now)) (2 ^ 32 - 1) }
+        ensures { result ≡ min (height (below self.now)) (2 ^ 32 - 1) }
     {
-        match self {
-            Row::End => 0,
-            Row::Entry(_, _) => 0,
-            Row::Node(_, children, _) => children.height().saturating_add(1),
+        if !self.leaves.is_empty() {
+            return 0;
+        }
+        match self.nodes.as_slice().split_first() {
+            None => 0,
+            Some((one, _)) => one.height().saturating_add(1),
         }
     }
 
-    /// How many siblings the row has.
-    pub fn length(&self) -> u32
-        requires { count (shape self.now) ≤ 256 }
-        ensures { result ≡ count (shape self.now) }
-    {
-        match self {
-            Row::End => 0,
-            Row::Entry(_, rest) => rest.length() + 1,
-            Row::Node(_, _, rest) => rest.length() + 1,
-        }
-    }
-
-    /// Puts the row's own leaves behind those that are there.
-    pub fn push_leaves(&self, leaves: &mut Vec<Leaf>) -> Result<(), Memory>
-        ensures { OnOk result (leaves.new.items ≡ leaves.old.items ++ row_leaves (shape self.now)) }
-    {
-        match self {
-            Row::End => Ok(()),
-            Row::Entry(x, rest) => {
-                leaves.push(*x)?;
-                rest.push_leaves(leaves)
-            }
-            Row::Node(_, _, rest) => rest.push_leaves(leaves),
-        }
-    }
-
-    /// The node of this level that has the row as its children.
+    /// The node as it is listed on this level.
     pub fn as_node(&self, alloc: Global, level: u16) -> Result<IndexNode, Memory>
-        requires { count (shape self.now) ≤ 256 }
+        requires { count (below self.now) ≤ 256 }
         ensures { IfOk result
-            (λ made. listed_node made ≡ record { level = level; count = count (shape self.now); leaves = row_leaves (shape self.now) }) }
+            (λ made. listed_node made ≡ record { level = level; count = count (below self.now); leaves = row_leaves (below self.now) }) }
     {
-        let mut leaves = Vec::new(alloc);
-        self.push_leaves(&mut leaves)?;
+        let leaves = Vec::from_slice(alloc, self.leaves.as_slice())?;
+        let count = (self.leaves.len() + self.nodes.len()) as u32;
         Ok(IndexNode {
             level,
-            count: self.length(),
+            count,
             leaves,
         })
     }
+}
 
-    /// Puts the nodes of a level behind those that are there; the row has `high` levels.
-    #[tactic(auto, using(crate::proofs::NodeList::listing))]
-    pub fn push_level(
-        &self,
-        alloc: Global,
-        level: u16,
-        high: u16,
-        fanout: u32,
-        nodes: &mut Vec<IndexNode>,
-    ) -> Result<(), Memory>
-        requires most { fanout ≤ 256 }
-        requires sound { fits fanout (shape self.now) ≡ true }
-        ensures { OnOk result
-            (map listed_node nodes.new.items ≡ map listed_node nodes.old.items ++ level_nodes level high (shape self.now)) }
-    {
-        match self {
-            Row::End => Ok(()),
-            Row::Entry(_, _) => Ok(()),
-            Row::Node(_, children, rest) => {
-                let below = high.saturating_sub(1);
-                if below == level {
-                    nodes.push(children.as_node(alloc, level)?)?;
-                } else {
-                    children.push_level(alloc, level, below, fanout, nodes)?;
-                }
-                rest.push_level(alloc, level, high, fanout, nodes)
-            }
+/// How many levels of nodes a tree has; `u32::MAX` stands for more as well.
+pub fn height_rooted(root: &Option<Node>) -> u32
+    ensures { result ≡ min (height (shape root.now)) (2 ^ 32 - 1) }
+{
+    match root {
+        None => 0,
+        Some(top) => top.height().saturating_add(1),
+    }
+}
+
+/// Puts the nodes of a level, of these and of those below, behind those that are there; the row has `high` levels.
+#[cycle(listing)]
+#[tactic(auto, using(crate::proofs::NodeList::listing))]
+fn push_level(
+    nodes: &[Node],
+    alloc: Global,
+    level: u16,
+    high: u16,
+    fanout: u32,
+    list: &mut Vec<IndexNode>,
+) -> Result<(), Memory>
+    requires most { fanout ≤ 256 }
+    requires sound { fits fanout (row nodes.now) ≡ true }
+    ensures { OnOk result
+        (map listed_node list.new.items ≡ map listed_node list.old.items ++ level_nodes level high (row nodes.now)) }
+{
+    match nodes.split_first() {
+        None => Ok(()),
+        Some((one, rest)) => {
+            push_node(one, alloc, level, high, fanout, list)?;
+            push_level(rest, alloc, level, high, fanout, list)
         }
+    }
+}
+
+/// The same of one node.
+#[cycle(listing)]
+#[tactic(auto, using(crate::proofs::NodeList::listing))]
+fn push_node(
+    one: &Node,
+    alloc: Global,
+    level: u16,
+    high: u16,
+    fanout: u32,
+    list: &mut Vec<IndexNode>,
+) -> Result<(), Memory>
+    requires most { fanout ≤ 256 }
+    requires sound { fits fanout (node (below one.now) done) ≡ true }
+    ensures { OnOk result
+        (map listed_node list.new.items ≡ map listed_node list.old.items ++ level_nodes level high (node (below one.now) done)) }
+{
+    let under = high.saturating_sub(1);
+    if under == level {
+        list.push(one.as_node(alloc, level)?)?;
+        return Ok(());
+    }
+    if one.leaves.is_empty() {
+        push_level(one.nodes.as_slice(), alloc, level, under, fanout, list)?;
+        return Ok(());
+    }
+    Ok(())
+}
+
+/// The same of a tree.
+#[tactic(auto, using(crate::proofs::NodeList::listing))]
+pub fn push_rooted(
+    root: &Option<Node>,
+    alloc: Global,
+    level: u16,
+    high: u16,
+    fanout: u32,
+    list: &mut Vec<IndexNode>,
+) -> Result<(), Memory>
+    requires most { fanout ≤ 256 }
+    requires sound { fits fanout (shape root.now) ≡ true }
+    ensures { OnOk result
+        (map listed_node list.new.items ≡ map listed_node list.old.items ++ level_nodes level high (shape root.now)) }
+{
+    match root {
+        None => Ok(()),
+        Some(top) => push_node(top, alloc, level, high, fanout, list),
     }
 }

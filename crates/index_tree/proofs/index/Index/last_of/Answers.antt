@@ -9,12 +9,12 @@ pub returns-then-is_block_of-clause-greatest : goal.returns-then-is_block_of-cla
 returns-then-is_block_of-clause-greatest c =
     let xs = contents (shape c.args.self.now.root) in
     let x = c.in_ok-leaf.leaf in
-    let e = found_block c.args.ino _ xs _ x c.args.self.now.ordered c.args.self.now.keyed c.last_rank.ensures c.last_within.ensures c.in_ok-leaf.was (sym c.is_block_of.ensures ∙ c.if-is_block_of.true) in
+    let e = found_block c.args.ino _ xs _ x c.args.self.now.ordered c.args.self.now.keyed c.last_rank.ensures c.last_rooted.ensures c.in_ok-leaf.was (sym c.is_block_of.ensures ∙ c.if-is_block_of.true) in
     last_block-greatest c.args.ino xs (Some x) c.args.self.now.ordered e
 
 pub returns-clause-none : goal.returns-clause-none
 returns-clause-none c =
     let xs = contents (shape c.args.self.now.root) in
     let x = c.in_ok-leaf.leaf in
-    let e = no_block c.args.ino _ xs _ x c.args.self.now.ordered c.args.self.now.keyed c.last_rank.ensures c.last_within.ensures c.in_ok-leaf.was (sym c.is_block_of.ensures ∙ c.if-is_block_of.false) in
+    let e = no_block c.args.ino _ xs _ x c.args.self.now.ordered c.args.self.now.keyed c.last_rank.ensures c.last_rooted.ensures c.in_ok-leaf.was (sym c.is_block_of.ensures ∙ c.if-is_block_of.false) in
     last_block-none c.args.ino xs None e
