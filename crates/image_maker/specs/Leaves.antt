@@ -1,16 +1,14 @@
 -- The live leaf nodes of a tree, in order of key.
-use Rattle.std.specs.Prelude.{ℕ, ◌+◌, ◌==◌, if◌then◌else◌, Bool, true, false, List, [], ◌∷◌, ◌++◌, map, filter, fold, count_by, sum_by}
+use Rattle.std.specs.Prelude.{ℕ, ◌+◌, ◌==◌, if◌then◌else◌, false, List, ◌∷◌, ◌++◌, map, filter}
 use Rattle.std.specs.List.{flat_map}
-use Rattle.std.specs.Map.{values_of}
-use Rattle.std.specs.BTreeMap.{insert_entry}
-use Rattle.ubifs_base.specs.R5.{r5_of}
 use Rattle.media_leaf.specs.LeafNode.{LeafNode, inode, block, entry}
 use Rattle.fs_model.specs.declared.inode.Inode.{Inode}
 use Rattle.fs_model.specs.declared.inode.Entry.{Entry}
 use Rattle.fs_model.specs.declared.inode.Kind.{Kind}
 use Rattle.fs_model.specs.declared.inode.Kind.TheVariants.{File, Dir, Symlink, Block, Char, Fifo, Socket}
-use Rattle.fs_model.specs.Files.{Tree, name_cmp}
-use Rattle.fs_model.specs.Cover.{entry_bytes}
+use Rattle.fs_model.specs.Directory.{entries_in, by_hash, links_of, dir_size}
+use Rattle.fs_model.specs.Files.{Tree}
+use Rattle.fs_model.specs.Path.{is_dir}
 
 -- the file type bits of a mode
 abbrev pub type_bits : Kind → ℕ
@@ -32,25 +30,9 @@ entry_type Char = 4
 entry_type Fifo = 5
 entry_type Socket = 6
 
-abbrev pub is_dir : Kind → Bool
-is_dir Dir = true
-is_dir _ = false
-
--- the entries of a directory, in order of name
-abbrev pub entries_in : Tree → ℕ → List Entry
-entries_in tree dir = filter (λ e. e.dir == dir) (values_of tree.entries)
-
--- the same, by the hash of the name, and then by name
-abbrev pub by_hash : List Entry → List Entry
-by_hash entries = values_of (fold (λ sorted e. insert_entry name_cmp sorted (r5_of e.name, e.name) e) [] entries)
-
--- a directory has 2 links and one for each directory in it
-abbrev pub links_of : Tree → ℕ → Inode → ℕ
-links_of tree ino node = if is_dir node.kind then 2 + count_by (λ e. is_dir e.kind) (entries_in tree ino) else node.nlink
-
--- a directory has 160 bytes and those of its entries' nodes
+-- the size that an inode's node has; a directory's is reckoned
 abbrev pub stored_size : Tree → ℕ → Inode → ℕ
-stored_size tree ino node = if is_dir node.kind then 160 + sum_by entry_bytes (entries_in tree ino) else node.size
+stored_size tree ino node = if is_dir node.kind then dir_size tree ino else node.size
 
 -- the node of an inode
 abbrev pub inode_leaf : Tree → ℕ → Inode → LeafNode
