@@ -1,5 +1,5 @@
 -- A new mode.
-use Rattle.std.proofs.Common.{ℕ, ◌<◌, ◌^◌, List, [], ◌∷◌, Ok, Err, refl}
+use Rattle.std.proofs.Common.{ℕ, ◌<◌, ◌^◌, List, [], ◌∷◌, Ok, Err, refl, arith}
 use Rattle.std.proofs.lemmas.Bool.{ltb-false}
 use Rattle.fs_model.specs.declared.change.Change.TheVariants.{SetInode}
 use Rattle.fs_model.specs.declared.inode.Inode.{Inode}
@@ -15,6 +15,7 @@ use Rattle.fs_laws.specs.Sound.{IsSound, KeepsSound}
 use Rattle.fs_laws.proofs.Groups.{keeps_nothing, node_at, set_keeps}
 use Rattle.fs_laws.proofs.Nodes.{node_moded, node_touched}
 use Rattle.fs_laws.proofs.Plans.{refuse_to, found_to, some_to}
+use Rattle.fs_laws.proofs.Sizes.{cap_most}
 
 pub mode_keeps : (files : Files) (now : ℕ) (path : List ℕ) (mode : ℕ) → IsSound files → now < 2 ^ 64 → KeepsSound files (group_in (mode_set files now path mode))
 mode_keeps files now path mode sound moment =
@@ -27,4 +28,5 @@ mode_keeps files now path mode sound moment =
     some_to P (inode_at files.tree at.ino) Enoent (last at) none (λ inode g.
     let small = ltb-false 4095 mode good in
     let node = node_touched at.ino (record inode { mode = mode }) now moment (node_moded at.ino inode mode small (node_at files.tree sound.proper at.ino inode g)) in
-    set_keeps files at.ino inode (touched now (record inode { mode = mode })) [] sound g refl refl node refl refl refl)))
+    let most = cap_most (SetInode at.ino (touched now (record inode { mode = mode }))) in
+    set_keeps files at.ino inode (touched now (record inode { mode = mode })) [] sound g refl refl node refl (omega (arith, most)) refl refl)))

@@ -15,8 +15,8 @@ use Rattle.fs_model.specs.Files.{Tree, name_cmp}
 use Rattle.fs_model.specs.Path.{is_dir, is_same_name}
 use Rattle.fs_model.specs.Proper.{IsProper, climbs, names_of, is_sound_entry, is_sound_dir, is_sound_inode, is_name, are_words, is_entry_node}
 use Rattle.fs_laws.proofs.Local.{IsLocal}
-use Rattle.fs_laws.proofs.Maps.{IsOrder, all_at, all_from, found_any, values_all}
-use Rattle.fs_laws.proofs.Orders.{numbers, named}
+use Rattle.fs_laws.specs.Maps.{IsOrder, all_at, all_from, found_any, values_all}
+use Rattle.fs_laws.specs.Orders.{numbers, named}
 use Rattle.fs_laws.proofs.Rel.{Rel, SoundInode, Step, Up, Any, Reaches, there_of, inode_in, entry_in, sound_entry_from}
 
 length_filter : {X : Type 0} (p : X → Bool) (xs : List X) → length (filter p xs) ≤ length xs

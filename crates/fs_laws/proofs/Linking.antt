@@ -18,6 +18,7 @@ use Rattle.fs_model.specs.Proper.{are_bytes, same_kind}
 use Rattle.fs_laws.specs.Sound.{IsSound, KeepsSound}
 use Rattle.fs_laws.proofs.Groups.{keeps_nothing, node_at}
 use Rattle.fs_laws.proofs.InodeKinds.{is_dir_same}
+use Rattle.fs_laws.proofs.Linked.{plain_linked}
 use Rattle.fs_laws.proofs.Local.{local_of}
 use Rattle.fs_laws.proofs.Makes.{naming_keeps, none_of}
 use Rattle.fs_laws.proofs.Names.{last_is_name}
@@ -78,4 +79,5 @@ linked_keeps files now old new sound moment bytes =
     } in
     naming_keeps files e (touched now linked_inode) now sound moment comes (last_is_name new bytes paths.1 lengths.1)
     (node_touched entry.ino linked_inode now moment (node_linked entry.ino inode (inode.nlink + 1) (omega (arith, small)) (node_at tree sound.proper entry.ino inode found)))
+    (plain_linked entry.ino (touched now linked_inode) (kind ∙ file))
     (λ same. false≢true (sym file ∙ dir_agrees tree.inodes entry.ino entry.kind Dir was.ino (subst (λ n. kind_is tree.inodes n Dir ≡ true) same up_dir)))))))))))

@@ -13,8 +13,8 @@ use Rattle.fs_model.specs.Backing.{is_node}
 use Rattle.fs_model.specs.Change.{applied, apply}
 use Rattle.fs_model.specs.Files.{Tree, Blocks, Inodes, inode_at, pair_cmp, name_cmp, with_block}
 use Rattle.fs_model.specs.Proper.{IsProper, ascends, is_inode_node, is_entry_node, is_block_node}
-use Rattle.fs_laws.proofs.Maps.{all_insert, all_remove, all_filter, all_weaken, insert_ascends, remove_ascends, filter_ascends}
-use Rattle.fs_laws.proofs.Orders.{numbers, pairs, named}
+use Rattle.fs_laws.specs.Maps.{all_insert, all_remove, all_filter, all_weaken, insert_ascends, remove_ascends, filter_ascends}
+use Rattle.fs_laws.specs.Orders.{numbers, pairs, named}
 
 -- what is said of each leaf by itself
 pub record IsLocal (tree : Tree) : Type 0 where

@@ -13,8 +13,8 @@ use Rattle.fs_model.specs.declared.inode.Kind.TheVariants.{Dir}
 use Rattle.fs_model.specs.Files.{Inodes, Entries, name_cmp}
 use Rattle.fs_model.specs.Path.{is_dir}
 use Rattle.fs_model.specs.Proper.{ascends}
-use Rattle.fs_laws.proofs.Maps.{count_found, count_remove, key_cases, removed_here, removed_other, set_here, set_other}
-use Rattle.fs_laws.proofs.Orders.{numbers, named}
+use Rattle.fs_laws.specs.Maps.{count_found, count_remove, key_cases, removed_here, removed_other, set_here, set_other}
+use Rattle.fs_laws.specs.Orders.{numbers, named}
 use Rattle.fs_laws.proofs.Rel.{Rel, SoundInode, Step, Up, Any, inode_in, entry_in, kind_is, names}
 use Rattle.fs_laws.proofs.Steps.{keeps_kinds, some_same, sound_entry_kept}
 use Rattle.fs_laws.proofs.Walks.{IsIn}
@@ -26,20 +26,20 @@ IsChildless entries ino = (key : ℕ × List ℕ) (x : Entry) → entry_in entri
 abbrev pub without : Entries → Entry → Entries
 without entries e = remove_entry (is_at (name_cmp (e.dir, e.name))) entries
 
-still_there : (entries : Entries) (e : Entry) → IsIn entries e → (key : ℕ × List ℕ) (x : Entry) → entry_in entries key ≡ Some x → (x.ino ≡ e.ino → ⊥) → entry_in (without entries e) key ≡ Some x
+pub still_there : (entries : Entries) (e : Entry) → IsIn entries e → (key : ℕ × List ℕ) (x : Entry) → entry_in entries key ≡ Some x → (x.ino ≡ e.ino → ⊥) → entry_in (without entries e) key ≡ Some x
 still_there entries e here key x f other = removed_other name_cmp named entries (e.dir, e.name) key (λ same.
     let g = subst (λ k. entry_in entries k ≡ Some x) same f in
     let is : x ≡ e = some_same (sym g ∙ here) in other (ap (λ (y : Entry). y.ino) is)) ∙ f
 
-up_less : (entries : Entries) (e : Entry) → IsIn entries e → IsChildless entries e.ino → (n ino : ℕ) → (ino ≡ e.ino → ⊥) → Up Any entries n ino → Up Any (without entries e) n ino
-up_less entries e here none zero ino other up = up
-up_less entries e here none (suc n) ino other up = by (λ dir o u. up_less entries e here none n dir o u) up
+pub up_less : (P : ℕ → Type 0) (entries : Entries) (e : Entry) → IsIn entries e → IsChildless entries e.ino → (n ino : ℕ) → (ino ≡ e.ino → ⊥) → Up P entries n ino → Up P (without entries e) n ino
+up_less P entries e here none zero ino other up = up
+up_less P entries e here none (suc n) ino other up = by (λ dir o u. up_less P entries e here none n dir o u) up
   where
-    by : ((dir : ℕ) → (dir ≡ e.ino → ⊥) → Up Any entries n dir → Up Any (without entries e) n dir) → (ino ≡ 1) ⊎ ((step : Step Any entries ino) × Up Any entries n step.entry.dir) → Up Any (without entries e) (suc n) ino
+    by : ((dir : ℕ) → (dir ≡ e.ino → ⊥) → Up P entries n dir → Up P (without entries e) n dir) → (ino ≡ 1) ⊎ ((step : Step P entries ino) × Up P entries n step.entry.dir) → Up P (without entries e) (suc n) ino
     by more (inl root) = inl root
-    by more (inr s) = inr (record { key = s.0.key; entry = s.0.entry; found = still_there entries e here s.0.key s.0.entry s.0.found (λ same. other (sym s.0.named ∙ same)); named = s.0.named; allowed = tt }, more s.0.entry.dir (none s.0.key s.0.entry s.0.found) s.1)
+    by more (inr s) = inr (record { key = s.0.key; entry = s.0.entry; found = still_there entries e here s.0.key s.0.entry s.0.found (λ same. other (sym s.0.named ∙ same)); named = s.0.named; allowed = s.0.allowed }, more s.0.entry.dir (none s.0.key s.0.entry s.0.found) s.1)
 
-names_less_here : (entries : Entries) (e : Entry) → IsIn entries e → 1 + names (without entries e) e.ino ≡ names entries e.ino
+pub names_less_here : (entries : Entries) (e : Entry) → IsIn entries e → 1 + names (without entries e) e.ino ≡ names entries e.ino
 names_less_here entries e here =
     let it = count_remove name_cmp (λ (x : Entry). x.ino == e.ino) entries (e.dir, e.name) e here in
     rw (eq-eqb e.ino e.ino refl) at it
@@ -82,7 +82,7 @@ rel_dropped inodes entries e hi h here none one rel =
             record {
               plain = λ d. sound.plain d ∙ sym (names_less_other entries e x here other);
               one = λ d r. names_less_other entries e x here other ∙ sound.one d r;
-              reaches = λ d. let up = sound.reaches d in (up.0, up_less entries e here none up.0 x other up.1);
+              reaches = λ d. let up = sound.reaches d in (up.0, up_less Any entries e here none up.0 x other up.1);
             }
       ];
     }
@@ -110,7 +110,7 @@ rel_unlinked inodes entries e old new h here none found kind plain links rel =
             record {
               plain = λ d. sound.plain d ∙ sym (names_less_other entries e x here other);
               one = λ d r. names_less_other entries e x here other ∙ sound.one d r;
-              reaches = λ d. let up = sound.reaches d in (up.0, up_less entries e here none up.0 x other up.1);
+              reaches = λ d. let up = sound.reaches d in (up.0, up_less Any entries e here none up.0 x other up.1);
             }
       ];
     }

@@ -27,13 +27,15 @@ use Rattle.fs_laws.specs.Sound.{IsSound, KeepsSound}
 use Rattle.fs_laws.proofs.Climb.{numbered}
 use Rattle.fs_laws.proofs.Groups.{keeps_nothing, keeps_sound, node_at, touching_is}
 use Rattle.fs_laws.proofs.InodeKinds.{same_self}
+use Rattle.fs_laws.proofs.Linked.{has_links, linked_same, linked_set}
 use Rattle.fs_laws.proofs.Local.{IsLocal, local_of}
-use Rattle.fs_laws.proofs.Maps.{set_other, count_none}
+use Rattle.fs_laws.specs.Maps.{set_other, count_none}
 use Rattle.fs_laws.proofs.Names.{last_is_name}
 use Rattle.fs_laws.proofs.Nodes.{node_from, node_number, node_touched}
-use Rattle.fs_laws.proofs.Orders.{numbers, named, bytes_same}
+use Rattle.fs_laws.specs.Orders.{numbers, named, bytes_same}
 use Rattle.fs_laws.proofs.Plans.{refuse_to, found_to}
 use Rattle.fs_laws.proofs.Rel.{Rel, there_of, rel_of, inode_in, entry_in, kind_is, names}
+use Rattle.fs_laws.proofs.Sizes.{cap_most, cap_plain}
 use Rattle.fs_laws.proofs.Steps.{KeepsKinds, keeps_kinds, some_same, Comes, rel_named, rel_touched}
 use Rattle.fs_laws.proofs.Walks.{parent_in}
 
@@ -79,11 +81,12 @@ not_zero n = elim (eqb_tells (n + 1) 0) [ inl same ↦ (let e = same.1 in absurd
 pub record IsNew (inode : Inode) : Type 0 where
   pub node : (number : ℕ) → not (number == 0) ≡ true → nat_lt number (2 ^ 32) ≡ true → is_inode_node (number, inode) ≡ true
   pub link : is_dir inode.kind ≡ false → inode.nlink ≡ 1
+  pub links : not (is_dir inode.kind && (inode.nlink == 0)) ≡ true
 
 -- a name comes with its inode, and its directory changes
-pub naming_keeps : (files : Files) (e : Entry) (new : Inode) (now : ℕ) → IsSound files → now < 2 ^ 64 → Comes files.tree.inodes files.tree.entries e new → is_name e.name ≡ true → is_inode_node (e.ino, new) ≡ true → (e.dir ≡ e.ino → ⊥)
+pub naming_keeps : (files : Files) (e : Entry) (new : Inode) (now : ℕ) → IsSound files → now < 2 ^ 64 → Comes files.tree.inodes files.tree.entries e new → is_name e.name ≡ true → is_inode_node (e.ino, new) ≡ true → has_links (e.ino, new) ≡ true → (e.dir ≡ e.ino → ⊥)
     → KeepsSound files (SetEntry e ∷ SetInode e.ino new ∷ touching files.tree e.dir now)
-naming_keeps files e new now sound moment comes good node apart =
+naming_keeps files e new now sound moment comes good node links apart =
     let tree : Tree = files.tree in
     let rel = rel_of tree sound.proper in
     let it = there_of tree.inodes e.dir Dir comes.dir in
@@ -99,8 +102,10 @@ naming_keeps files e new now sound moment comes good node apart =
     and_from (is_entry_node ((e.dir, e.name), e)) (list_all is_node (SetInode e.ino new ∷ SetInode e.dir (touched now it.inode) ∷ [])) (entry_node_from e good (node_number e.dir it.inode dir_node) (node_number e.ino new node))
     (and_from (is_inode_node (e.ino, new)) (list_all is_node (SetInode e.dir (touched now it.inode) ∷ [])) node
     (and_from (is_inode_node (e.dir, touched now it.inode)) true (node_touched e.dir it.inode now moment dir_node) refl)) in
+    let most = cap_most (SetInode e.ino new) in
+    let plain = cap_plain e.dir (touched now it.inode) Dir refl it.same in
     let P : List Change → Type 0 = λ rest. KeepsSound files (SetEntry e ∷ SetInode e.ino new ∷ rest) in
-    subst P (sym (touching_is tree e.dir now it.inode it.found)) (keeps_sound files group sound nodes last kept)
+    subst P (sym (touching_is tree e.dir now it.inode it.found)) (keeps_sound files group sound nodes (omega (arith, most, plain)) last kept (λ h. linked_same (insert_entry nat_cmp tree.inodes e.ino new) e.dir it.inode (touched now it.inode) at refl refl (linked_set tree.inodes e.ino new links h)))
 
 making_keeps : (files : Files) (dir : ℕ) (name : List ℕ) (inode : Inode) (now : ℕ) → IsSound files → now < 2 ^ 64 → IsNew inode → is_name name ≡ true → kind_is files.tree.inodes dir Dir ≡ true → entry_in files.tree.entries (dir, name) ≡ None → files.tree.highest < inode_limit
     → KeepsSound files (making files.tree dir name inode now)
@@ -125,7 +130,7 @@ making_keeps files dir name inode now sound moment new good isdir free room =
       links = λ d. new.link d ∙ ap (λ n. 1 + n) (sym unnamed);
       none = λ d. unnamed;
     } in
-    naming_keeps files e inode now sound moment comes good (new.node ino (not_zero tree.highest) small) (apart_by_none tree.inodes dir ino it.inode it.found fresh)
+    naming_keeps files e inode now sound moment comes good (new.node ino (not_zero tree.highest) small) new.links (apart_by_none tree.inodes dir ino it.inode it.found fresh)
 
 pub made_keeps : (files : Files) (now : ℕ) (path : List ℕ) (inode : Inode) → IsSound files → now < 2 ^ 64 → are_bytes path ≡ true → not (is_name_path path) ≡ false → IsNew inode → KeepsSound files (group_in (made files now path inode))
 made_keeps files now path inode sound moment bytes good new =
@@ -168,6 +173,7 @@ created_keeps files now path mode sound moment bytes =
     made_keeps files now path (new_file mode now) sound moment bytes parts.1 (record {
       node = node_new File mode 1 0 [] now (ltb-false 4095 mode parts.0) (omega arith) (omega arith) moment refl (omega arith) refl;
       link = λ d. refl;
+      links = refl;
     }))
 
 pub dir_made_keeps : (files : Files) (now : ℕ) (path : List ℕ) (mode : ℕ) → IsSound files → now < 2 ^ 64 → are_bytes path ≡ true → KeepsSound files (group_in (dir_made files now path mode))
@@ -178,6 +184,7 @@ dir_made_keeps files now path mode sound moment bytes =
     made_keeps files now path (new_dir mode now) sound moment bytes parts.1 (record {
       node = node_new Dir mode 2 160 [] now (ltb-false 4095 mode parts.0) (omega arith) (omega arith) moment refl (omega arith) refl;
       link = λ d. absurd (false≢true (sym d));
+      links = refl;
     }))
 
 pub symlink_keeps : (files : Files) (now : ℕ) (path target : List ℕ) → IsSound files → now < 2 ^ 64 → are_bytes path ≡ true → are_bytes target ≡ true → KeepsSound files (group_in (symlink_made files now path target))
@@ -189,4 +196,5 @@ symlink_keeps files now path target sound moment bytes letters =
     made_keeps files now path (new_symlink target now) sound moment bytes parts.1 (record {
       node = node_new Symlink 511 1 (length target) target now (omega arith) (omega arith) (omega (arith, short)) moment letters (omega (arith, short)) (or_right (is_empty target) true refl);
       link = λ d. refl;
+      links = refl;
     }))

@@ -10,8 +10,8 @@ use Rattle.fs_model.specs.Files.{Inodes, Entries, name_cmp}
 use Rattle.fs_model.specs.Path.{is_dir}
 use Rattle.fs_model.specs.Proper.{ascends}
 use Rattle.fs_laws.proofs.InodeKinds.{dir_same}
-use Rattle.fs_laws.proofs.Maps.{count_insert, count_remove, insert_ascends, key_cases, removed_here, removed_other, set_here, set_other}
-use Rattle.fs_laws.proofs.Orders.{numbers, named}
+use Rattle.fs_laws.specs.Maps.{count_insert, count_remove, insert_ascends, key_cases, removed_here, removed_other, set_here, set_other}
+use Rattle.fs_laws.specs.Orders.{numbers, named}
 use Rattle.fs_laws.proofs.Rel.{Rel, SoundEntry, Step, Up, Any, Reaches, entry_in, kind_is, names}
 use Rattle.fs_laws.proofs.Removals.{dir_agrees}
 use Rattle.fs_laws.proofs.Steps.{new_keeps, some_same}

@@ -6,7 +6,7 @@ use Rattle.std.proofs.lemmas.Bool.{false≢true, and_parts, and_from, or_parts, 
 use Rattle.fs_model.specs.Making.{is_name_path}
 use Rattle.fs_model.specs.Path.{with_first, between_slashes, components, is_empty, is_absolute, is_dots, is_root, has_long_name, last_of}
 use Rattle.fs_model.specs.Proper.{are_bytes, is_name}
-use Rattle.fs_laws.proofs.Maps.{all_weaken}
+use Rattle.fs_laws.specs.Maps.{all_weaken}
 
 -- a byte below 256 that is neither zero nor a slash
 abbrev is_letter : ℕ → Bool

@@ -1,11 +1,11 @@
--- Inodes that a node can carry.
+-- Inodes and blocks that a node can carry.
 use Rattle.std.proofs.Common.{◌≡◌, ℕ, ◌<◌, ◌≤◌, ◌^◌, Bool, true, not, ◌&&◌, ◌||◌, List, [], ◌∷◌, length, refl, arith}
 use Rattle.std.specs.Prelude.{◌==◌, nat_le, nat_lt}
-use Rattle.std.proofs.lemmas.Bool.{and_parts, and_from, lt-ltb, ltb-true}
+use Rattle.std.proofs.lemmas.Bool.{and_parts, and_from, lt-ltb, ltb-true, le-leb, leb-true}
 use Rattle.fs_model.specs.declared.inode.Inode.{Inode}
 use Rattle.fs_model.specs.Making.{touched}
 use Rattle.fs_model.specs.Path.{is_empty}
-use Rattle.fs_model.specs.Proper.{are_bytes, are_words, are_long_words, has_data, is_inode_node}
+use Rattle.fs_model.specs.Proper.{are_bytes, are_words, are_long_words, has_data, is_inode_node, is_block_node}
 
 abbrev pub words_of : ℕ → Inode → List ℕ
 words_of ino i = ino ∷ i.uid ∷ i.gid ∷ i.flags ∷ i.nlink ∷ []
@@ -111,3 +111,31 @@ node_number number i t =
 pub node_size : (number : ℕ) (i : Inode) → is_inode_node (number, i) ≡ true → i.size < 2 ^ 64
 node_size number i t =
     let n = node_of number i t in ltb-true i.size (2 ^ 64) (and_parts (nat_lt i.size (2 ^ 64)) (are_long_words (i.atime ∷ i.ctime ∷ i.mtime ∷ [])) n.longs).0
+
+-- the parts of the test of a block
+pub record BlockNode (e : (ℕ × ℕ) × List ℕ) : Type 0 where
+  pub ino : nat_lt e.0.0 (2 ^ 32) ≡ true
+  pub block : e.0.1 < 536870912
+  pub full : not (is_empty e.1) ≡ true
+  pub short : length e.1 ≤ 4096
+  pub bytes : are_bytes e.1 ≡ true
+
+pub block_node_of : (e : (ℕ × ℕ) × List ℕ) → is_block_node e ≡ true → BlockNode e
+block_node_of e h =
+    let a : Bool = nat_lt e.0.0 (2 ^ 32) in
+    let b : Bool = nat_lt e.0.1 (2 ^ 29) in
+    let c : Bool = not (is_empty e.1) in
+    let d : Bool = nat_le (length e.1) 4096 in
+    let p4 = and_parts (a && b && c && d) (are_bytes e.1) h in
+    let p3 = and_parts (a && b && c) d p4.0 in
+    let p2 = and_parts (a && b) c p3.0 in
+    let p1 = and_parts a b p2.0 in
+    record { ino = p1.0; block = ltb-true e.0.1 536870912 p1.1; full = p2.1; short = leb-true (length e.1) 4096 p3.1; bytes = p4.1 }
+
+pub block_node_from : (e : (ℕ × ℕ) × List ℕ) → BlockNode e → is_block_node e ≡ true
+block_node_from e n =
+    let a : Bool = nat_lt e.0.0 (2 ^ 32) in
+    let b : Bool = nat_lt e.0.1 (2 ^ 29) in
+    let c : Bool = not (is_empty e.1) in
+    let d : Bool = nat_le (length e.1) 4096 in
+    and_from (a && b && c && d) (are_bytes e.1) (and_from (a && b && c) d (and_from (a && b) c (and_from a b n.ino (lt-ltb e.0.1 536870912 n.block)) n.full) (le-leb (length e.1) 4096 n.short)) n.bytes

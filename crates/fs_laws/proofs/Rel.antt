@@ -16,8 +16,8 @@ use Rattle.fs_model.specs.Files.{Tree, Inodes, Entries, name_cmp}
 use Rattle.fs_model.specs.Path.{is_dir}
 use Rattle.fs_model.specs.Proper.{IsProper, ascends, same_kind, climbs, names_of, has_kind, is_sound_entry, is_sound_dir, is_sound_inode}
 use Rattle.fs_laws.proofs.InodeKinds.{dir_is}
-use Rattle.fs_laws.proofs.Maps.{all_at, any_found, found_any, values_all, count_in}
-use Rattle.fs_laws.proofs.Orders.{numbers, named}
+use Rattle.fs_laws.specs.Maps.{all_at, any_found, found_any, values_all, count_in}
+use Rattle.fs_laws.specs.Orders.{numbers, named}
 
 abbrev Key : Type 0
 Key = ℕ × List ℕ

@@ -27,15 +27,17 @@ use Rattle.fs_model.specs.Path.{has_long_name, walked, is_dir, is_empty}
 use Rattle.fs_model.specs.Proper.{is_inode_node, is_entry_node, is_name, are_words}
 use Rattle.fs_laws.specs.Sound.{IsSound, KeepsSound}
 use Rattle.fs_laws.proofs.Climb.{proper_of}
-use Rattle.fs_laws.proofs.Groups.{keeps_nothing, keeps_sound, node_at, touching_is}
+use Rattle.fs_laws.proofs.Groups.{bytes_few, keeps_nothing, keeps_sound, node_at, touching_is}
 use Rattle.fs_laws.proofs.InodeKinds.{is_dir_same}
+use Rattle.fs_laws.proofs.Linked.{linked_same, linked_left, linked_set, plain_linked}
 use Rattle.fs_laws.proofs.Local.{local_of, local_group}
 use Rattle.fs_laws.proofs.Losses.{IsChildless, without, rel_dropped, rel_unlinked, kind_left}
-use Rattle.fs_laws.proofs.Maps.{all_at, count_found, removed_other, set_other}
+use Rattle.fs_laws.specs.Maps.{all_at, count_found, removed_other, set_other}
 use Rattle.fs_laws.proofs.Nodes.{node_of, node_number, node_touched, node_linked, node_links}
-use Rattle.fs_laws.proofs.Orders.{numbers, named}
+use Rattle.fs_laws.specs.Orders.{numbers, named}
 use Rattle.fs_laws.proofs.Plans.{refuse_to, found_to, some_to}
 use Rattle.fs_laws.proofs.Rel.{Rel, There, there_of, rel_of, inode_in, kind_is, names}
+use Rattle.fs_laws.proofs.Sizes.{cap_most, cap_plain}
 use Rattle.fs_laws.proofs.Steps.{KeepsKinds, keeps_kinds, some_same, rel_touched}
 use Rattle.fs_laws.proofs.Walks.{IsIn, entry_node_of, walked_in}
 
@@ -105,8 +107,11 @@ drop_keeps files e inode left now it one closed =
     let after : Inodes = insert_entry nat_cmp left_inodes e.dir (touched now up.inode) in
     let kept : (x : ℕ) (k : Kind) → (x ≡ e.ino → ⊥) → kind_is tree.inodes x k ≡ true → kind_is after x k ≡ true = λ x k o h.
     keeps_kinds left_inodes e.dir (touched now up.inode) (λ i f. ap (λ (j : Inode). j.kind) (some_same (sym at ∙ f))) x k (kind_left tree.inodes e.ino x k o h) in
+    let plain = cap_plain e.dir (touched now up.inode) Dir refl up.same in
     let all : KeepsSound files group = record {
       nodes = nodes;
+      limit = bytes_few files group it.sound nodes (omega (arith, plain));
+      linked = λ h. linked_same left_inodes e.dir up.inode (touched now up.inode) at refl refl (linked_left tree.inodes e.ino h);
       proper = proper_of (apply tree group) (local_group group tree nodes (local_of tree it.sound.proper)) last;
       handles = handles_left tree.inodes after e.ino kept files.handles it.sound.handles closed;
     } in
@@ -132,11 +137,15 @@ unlink_keeps files e inode left now it plain links =
     let kept : KeepsKinds tree.inodes (insert_entry nat_cmp left_inodes e.dir (touched now up.inode)) = λ x k h.
     keeps_kinds left_inodes e.dir (touched now up.inode) (λ i f. ap (λ (j : Inode). j.kind) (some_same (sym at ∙ f))) x k
     (keeps_kinds tree.inodes e.ino left (λ o f. it.kind ∙ ap (λ (j : Inode). j.kind) (some_same (sym it.found ∙ f))) x k h) in
+    let most = cap_most (SetInode e.ino left) in
+    let dir = cap_plain e.dir (touched now up.inode) Dir refl up.same in
     let P : List Change → Type 0 = λ rest. KeepsSound files (DropEntry e.dir e.name ∷ SetInode e.ino left ∷ rest) in
-    subst P (sym (touching_is tree e.dir now up.inode up.found)) (keeps_sound files group it.sound nodes last kept)
+    subst P (sym (touching_is tree e.dir now up.inode up.found)) (keeps_sound files group it.sound nodes (omega (arith, most, dir)) last kept (λ h. linked_same left_inodes e.dir up.inode (touched now up.inode) at refl refl (linked_set tree.inodes e.ino left (plain_linked e.ino left (ap is_dir it.kind ∙ plain)) h)))
 
-leaving_keeps : (files : Files) (e : Entry) (inode left : Inode) (now : ℕ) → Leaves files e inode left now → KeepsSound files (DropEntry e.dir e.name ∷ cond ((left.nlink == 0) && not (is_open files e.ino)) (DropInode e.ino) (SetInode e.ino left) ∷ touching files.tree e.dir now)
-leaving_keeps files e inode left now it = by (is_dir inode.kind) refl (left.nlink == 0) refl (is_open files e.ino) refl
+-- either the inode goes, or it stays with a link less
+pub leaving_cases : (files : Files) (e : Entry) (inode left : Inode) (now : ℕ) → Leaves files e inode left now → (P : Change → Type 0) → (names files.tree.entries e.ino ≡ 1 → is_open files e.ino ≡ false → P (DropInode e.ino)) → (is_dir inode.kind ≡ false → left.nlink + 1 ≡ names files.tree.entries e.ino → P (SetInode e.ino left))
+    → P (cond ((left.nlink == 0) && not (is_open files e.ino)) (DropInode e.ino) (SetInode e.ino left))
+leaving_cases files e inode left now it P drops sets = by (is_dir inode.kind) refl (left.nlink == 0) refl (is_open files e.ino) refl
   where
     rel : Rel files.tree.inodes files.tree.entries
     rel = rel_of files.tree it.sound.proper
@@ -144,17 +153,16 @@ leaving_keeps files e inode left now it = by (is_dir inode.kind) refl (left.nlin
     some : 1 ≤ names files.tree.entries e.ino
     some = count_found name_cmp (λ (x : Entry). x.ino == e.ino) files.tree.entries (e.dir, e.name) e it.here (eq-eqb e.ino e.ino refl)
 
-    by : (d : Bool) → is_dir inode.kind ≡ d → (z : Bool) → (left.nlink == 0) ≡ z → (o : Bool) → is_open files e.ino ≡ o → KeepsSound files (DropEntry e.dir e.name ∷ cond (z && not o) (DropInode e.ino) (SetInode e.ino left) ∷ touching files.tree e.dir now)
-    by true d true z false o = drop_keeps files e inode left now it ((rel.inode e.ino inode it.found).one d (rel.entry (e.dir, e.name) e it.here).root) o
+    by : (d : Bool) → is_dir inode.kind ≡ d → (z : Bool) → (left.nlink == 0) ≡ z → (o : Bool) → is_open files e.ino ≡ o → P (cond (z && not o) (DropInode e.ino) (SetInode e.ino left))
+    by true d true z false o = drops ((rel.inode e.ino inode it.found).one d (rel.entry (e.dir, e.name) e it.here).root) o
     by false d true z false o =
         let n = eqb-true left.nlink 0 z in
         let m = it.plain d in
         let links = (rel.inode e.ino inode it.found).plain d in
         let few = some in
-        drop_keeps files e inode left now it (omega (arith, n, m, links, few)) o
+        drops (omega (arith, n, m, links, few)) o
     by true d true z true o =
         let file = open_file files.tree.inodes e.ino files.handles it.sound.handles o in
-        let kind = (rel.entry (e.dir, e.name) e it.here).ino in
         let a = there_of files.tree.inodes e.ino File file in
         let is = some_same (sym a.found ∙ it.found) in
         absurd (false≢true (sym (is_dir_same a.inode.kind File a.same) ∙ ap (λ (i : Inode). is_dir i.kind) is ∙ d))
@@ -163,22 +171,27 @@ leaving_keeps files e inode left now it = by (is_dir inode.kind) refl (left.nlin
         let m = it.plain d in
         let links = (rel.inode e.ino inode it.found).plain d in
         let few = some in
-        unlink_keeps files e inode left now it d (omega (arith, m, links, few))
+        sets d (omega (arith, m, links, few))
     by false d false z o p =
         let m = it.plain d in
         let links = (rel.inode e.ino inode it.found).plain d in
         let few = some in
-        unlink_keeps files e inode left now it d (omega (arith, m, links, few))
+        sets d (omega (arith, m, links, few))
+
+leaving_keeps : (files : Files) (e : Entry) (inode left : Inode) (now : ℕ) → Leaves files e inode left now → KeepsSound files (DropEntry e.dir e.name ∷ cond ((left.nlink == 0) && not (is_open files e.ino)) (DropInode e.ino) (SetInode e.ino left) ∷ touching files.tree e.dir now)
+leaving_keeps files e inode left now it =
+    let P : Change → Type 0 = λ change. KeepsSound files (DropEntry e.dir e.name ∷ change ∷ touching files.tree e.dir now) in
+    leaving_cases files e inode left now it P (λ one closed. drop_keeps files e inode left now it one closed) (λ plain links. unlink_keeps files e inode left now it plain links)
 
 less_small : (b : Bool) (n : ℕ) → n < 2 ^ 32 → (if b then 0 else n - 1) < 2 ^ 32
 less_small true n h = omega arith
 less_small false n h = omega (arith, h)
 
-pub removing_keeps : (files : Files) (e : Entry) (inode : Inode) (now : ℕ) → IsSound files → now < 2 ^ 64 → IsIn files.tree.entries e → IsChildless files.tree.entries e.ino → inode_at files.tree e.ino ≡ Some inode → KeepsSound files (removing files e inode now)
-removing_keeps files e inode now sound moment here childless found =
+pub leaves_less : (files : Files) (e : Entry) (inode : Inode) (now : ℕ) → IsSound files → now < 2 ^ 64 → IsIn files.tree.entries e → IsChildless files.tree.entries e.ino → inode_at files.tree e.ino ≡ Some inode → Leaves files e inode (less_linked now inode) now
+leaves_less files e inode now sound moment here childless found =
     let node = node_at files.tree sound.proper e.ino inode found in
     let nlink : ℕ = if is_dir inode.kind then 0 else inode.nlink - 1 in
-    leaving_keeps files e inode (less_linked now inode) now (record {
+    record {
       sound = sound;
       moment = moment;
       here = here;
@@ -188,7 +201,17 @@ removing_keeps files e inode now sound moment here childless found =
       node = node_touched e.ino (record inode { nlink = nlink }) now moment (node_linked e.ino inode nlink (less_small (is_dir inode.kind) inode.nlink (node_links e.ino inode node)) node);
       dir = λ d. rw d refl;
       plain = λ d. rw d refl;
-    })
+    }
+
+pub removing_keeps : (files : Files) (e : Entry) (inode : Inode) (now : ℕ) → IsSound files → now < 2 ^ 64 → IsIn files.tree.entries e → IsChildless files.tree.entries e.ino → inode_at files.tree e.ino ≡ Some inode → KeepsSound files (removing files e inode now)
+removing_keeps files e inode now sound moment here childless found = leaving_keeps files e inode (less_linked now inode) now (leaves_less files e inode now sound moment here childless found)
+
+-- nothing stands in what is no directory
+pub plain_childless : (files : Files) (e : Entry) → IsSound files → IsIn files.tree.entries e → is_dir e.kind ≡ false → IsChildless files.tree.entries e.ino
+plain_childless files e sound here file key x f same =
+    let rel = rel_of files.tree sound.proper in
+    let a = subst (λ n. kind_is files.tree.inodes n Dir ≡ true) same (rel.entry key x f).dir in
+    false≢true (sym file ∙ dir_agrees files.tree.inodes e.ino e.kind Dir (rel.entry (e.dir, e.name) e here).ino a)
 
 pub unlinked_keeps : (files : Files) (now : ℕ) (path : List ℕ) → IsSound files → now < 2 ^ 64 → KeepsSound files (group_in (unlinked files now path))
 unlinked_keeps files now path sound moment =
@@ -211,7 +234,7 @@ unlinked_keeps files now path sound moment =
     let b = (rel.entry (e.dir, e.name) e here).ino in
     false≢true (sym file ∙ dir_agrees tree.inodes e.ino e.kind Dir b a)) found)))))
 
-no_entry_childless : (tree : Tree) (ino : ℕ) → not (has_no_entry tree ino) ≡ false → IsChildless tree.entries ino
+pub no_entry_childless : (tree : Tree) (ino : ℕ) → not (has_no_entry tree ino) ≡ false → IsChildless tree.entries ino
 no_entry_childless tree ino none key x f same =
     let some = count_found name_cmp (λ (y : Entry). y.dir == ino) tree.entries key x f (eq-eqb x.dir ino same) in
     by (entries_in tree ino) none some

@@ -1,10 +1,11 @@
--- A file's name that moves, to a free place or over another file.
-use Rattle.std.proofs.Common.{◌≡◌, ℕ, ◌<◌, ◌^◌, Bool, true, false, cond, not, ◌&&◌, ◌||◌, List, [], ◌∷◌, ◌++◌, Some, Ok, Err, refl, sym, ap, subst, ◌∙◌}
-use Rattle.std.specs.Prelude.{◌==◌, Option, if◌then◌else◌}
+-- A name that moves to a free place, and the directories that change with it.
+use Rattle.std.proofs.Common.{◌≡◌, ℕ, ◌<◌, ◌≤◌, ◌^◌, Bool, true, false, cond, ◌&&◌, List, [], ◌∷◌, ◌++◌, Some, refl, sym, ap, subst, ◌∙◌, arith}
+use Rattle.std.specs.Prelude.{◌==◌, sum_by, if◌then◌else◌}
 use Rattle.std.specs.List.{list_all}
 use Rattle.std.specs.BTreeMap.{insert_entry}
 use Rattle.std.specs.Ordering.{nat_cmp}
-use Rattle.std.proofs.lemmas.Bool.{false≢true, and_parts, and_from, or_parts, eq-eqb}
+use Rattle.std.proofs.lemmas.List.Sums.{sum_by-append}
+use Rattle.std.proofs.lemmas.Bool.{false≢true, and_parts, and_from, eq-eqb}
 use Rattle.fs_model.specs.declared.change.Change.{Change}
 use Rattle.fs_model.specs.declared.change.Change.TheVariants.{SetInode, SetEntry, DropEntry}
 use Rattle.fs_model.specs.declared.inode.Inode.{Inode}
@@ -12,31 +13,24 @@ use Rattle.fs_model.specs.declared.inode.Entry.{Entry}
 use Rattle.fs_model.specs.declared.inode.Kind.TheVariants.{File, Dir}
 use Rattle.fs_model.specs.Backing.{is_node}
 use Rattle.fs_model.specs.Change.{applied, apply}
-use Rattle.fs_model.specs.Files.{Tree, Files, inode_at, entry_at}
-use Rattle.fs_model.specs.declared.refusal.Refusal.{Refusal}
-use Rattle.fs_model.specs.declared.refusal.Refusal.TheVariants.{Enametoolong, Einval, Emlink}
-use Rattle.fs_model.specs.declared.reply.Reply.TheVariants.{Done}
-use Rattle.fs_model.specs.Making.{is_name_path, touched, touching}
-use Rattle.fs_model.specs.Outcome.{Plan, refuse, with_found, group_in}
-use Rattle.fs_model.specs.Path.{has_long_name, components, last_of, walked, parent_of}
-use Rattle.fs_model.specs.Proper.{are_bytes, is_inode_node, is_entry_node, is_name, are_words}
-use Rattle.fs_model.specs.Rename.{is_under, comes_linked_out, moving, moved, renamed}
-use Rattle.fs_laws.specs.Sound.{IsSound, KeepsSound, IsNoDir, IsFree}
+use Rattle.fs_model.specs.Files.{Tree, Files, inode_at}
+use Rattle.fs_model.specs.Making.{touched, touching}
+use Rattle.fs_model.specs.Proper.{same_kind, is_inode_node, is_entry_node, is_name, are_words}
+use Rattle.fs_model.specs.Rename.{moving}
+use Rattle.fs_laws.specs.Sound.{IsSound, KeepsSound}
 use Rattle.fs_laws.proofs.Climb.{proper_of}
-use Rattle.fs_laws.proofs.Groups.{keeps_nothing, node_at, touching_is}
-use Rattle.fs_laws.proofs.Linking.{both_paths}
+use Rattle.fs_laws.proofs.Groups.{KeepsLinks, bytes_few, node_at, touching_is}
+use Rattle.fs_laws.proofs.Linked.{are_linked, linked_same}
 use Rattle.fs_laws.proofs.Local.{local_of, local_group}
 use Rattle.fs_laws.proofs.Makes.{entry_node_from}
-use Rattle.fs_laws.proofs.Maps.{all_weaken, set_other}
+use Rattle.fs_laws.specs.Maps.{all_weaken, set_other}
 use Rattle.fs_laws.proofs.Moves.{Moves, placed_at, rel_moved}
-use Rattle.fs_laws.proofs.Names.{last_is_name}
 use Rattle.fs_laws.proofs.Nodes.{node_number, node_touched}
-use Rattle.fs_laws.proofs.Orders.{numbers}
-use Rattle.fs_laws.proofs.Plans.{refuse_to, found_to}
+use Rattle.fs_laws.specs.Orders.{numbers}
 use Rattle.fs_laws.proofs.Rel.{Rel, there_of, rel_of, inode_in, kind_is}
 use Rattle.fs_laws.proofs.Removals.{drop_node, parent_of_entry}
+use Rattle.fs_laws.proofs.Sizes.{cap, cap_plain}
 use Rattle.fs_laws.proofs.Steps.{KeepsKinds, keeps_kinds, rel_touched, some_same}
-use Rattle.fs_laws.proofs.Walks.{walked_in, parent_in}
 
 apply_append : (a b : List Change) (t : Tree) → apply t (a ++ b) ≡ apply (apply t a) b
 apply_append [] b t = refl
@@ -49,17 +43,23 @@ nodes_append (c ∷ a) b x y = let q = and_parts (is_node c) (list_all is_node a
 -- changes that leave kinds and links
 pub record Touches (t : Tree) (group : List Change) : Type 0 where
   pub nodes : list_all is_node group ≡ true
+  pub few : sum_by cap group ≤ 320
+  pub linked : KeepsLinks t group
   pub rel : Rel (apply t group).inodes (apply t group).entries
   pub kinds : KeepsKinds t.inodes (apply t group).inodes
 
-pub joined_keeps : (files : Files) (front tail : List Change) → IsSound files → list_all is_node front ≡ true → Touches (apply files.tree front) tail → list_all (λ h. kind_is (apply files.tree front).inodes h.1 File) files.handles ≡ true → KeepsSound files (front ++ tail)
-joined_keeps files front tail sound nodes it handles =
+pub joined_keeps : (files : Files) (front tail : List Change) → IsSound files → list_all is_node front ≡ true → sum_by cap front ≤ 4880 → KeepsLinks files.tree front → Touches (apply files.tree front) tail → list_all (λ h. kind_is (apply files.tree front).inodes h.1 File) files.handles ≡ true → KeepsSound files (front ++ tail)
+joined_keeps files front tail sound nodes few linked it handles =
     let same = sym (apply_append front tail files.tree) in
     let all = nodes_append front tail nodes it.nodes in
     let rel = subst (λ (t : Tree). Rel t.inodes t.entries) same it.rel in
     let kinds = subst (λ (t : Tree). KeepsKinds (apply files.tree front).inodes t.inodes) same it.kinds in
+    let more = it.few in
+    let sums = sum_by-append cap front tail in
     record {
       nodes = all;
+      linked = λ h. subst (λ (t : Tree). are_linked t.inodes ≡ true) same (it.linked (linked h));
+      limit = bytes_few files (front ++ tail) sound all (omega (arith, few, more, sums));
       proper = proper_of (apply files.tree (front ++ tail)) (local_group (front ++ tail) files.tree all (local_of files.tree sound.proper)) rel;
       handles = all_weaken (λ h. kind_is (apply files.tree front).inodes h.1 File) (λ h. kind_is (apply files.tree (front ++ tail)).inodes h.1 File) (λ h t. kinds h.1 File t) files.handles handles;
     }
@@ -68,8 +68,8 @@ joined_keeps files front tail sound nodes it handles =
 abbrev pub both : Tree → ℕ → ℕ → ℕ → List Change
 both tree a b now = touching tree a now ++ (if a == b then [] else touching tree b now)
 
-pub both_touch : (tree t : Tree) (a b now : ℕ) (p q : Inode) → now < 2 ^ 64 → inode_at tree a ≡ Some p → inode_at tree b ≡ Some q → inode_in t.inodes a ≡ Some p → inode_in t.inodes b ≡ Some q → is_inode_node (a, p) ≡ true → is_inode_node (b, q) ≡ true → Rel t.inodes t.entries → Touches t (both tree a b now)
-both_touch tree t a b now p q moment fa fb ga gb na nb rel =
+pub both_touch : (tree t : Tree) (a b now : ℕ) (p q : Inode) → now < 2 ^ 64 → inode_at tree a ≡ Some p → inode_at tree b ≡ Some q → inode_in t.inodes a ≡ Some p → inode_in t.inodes b ≡ Some q → same_kind p.kind Dir ≡ true → same_kind q.kind Dir ≡ true → is_inode_node (a, p) ≡ true → is_inode_node (b, q) ≡ true → Rel t.inodes t.entries → Touches t (both tree a b now)
+both_touch tree t a b now p q moment fa fb ga gb da db na nb rel =
     let P : List Change → Type 0 = λ first. Touches t (first ++ (if a == b then [] else touching tree b now)) in
     let Q : List Change → Type 0 = λ second. Touches t (SetInode a (touched now p) ∷ (if a == b then [] else second)) in
     subst P (sym (touching_is tree a now p fa)) (subst Q (sym (touching_is tree b now q fb)) (by (a == b) refl))
@@ -80,13 +80,21 @@ both_touch tree t a b now p q moment fa fb ga gb na nb rel =
     kept : KeepsKinds t.inodes (insert_entry nat_cmp t.inodes a (touched now p))
     kept = keeps_kinds t.inodes a (touched now p) (λ o f. ap (λ (i : Inode). i.kind) (some_same (sym ga ∙ f)))
 
+    first : cap (SetInode a (touched now p)) ≡ 160
+    first = cap_plain a (touched now p) Dir refl da
+
+    second : cap (SetInode b (touched now q)) ≡ 160
+    second = cap_plain b (touched now q) Dir refl db
+
     by : (s : Bool) → (a == b) ≡ s → Touches t (SetInode a (touched now p) ∷ cond s [] (SetInode b (touched now q) ∷ []))
-    by true e = record { nodes = and_from (is_inode_node (a, touched now p)) true (node_touched a p now moment na) refl; rel = one; kinds = kept }
+    by true e = record { nodes = and_from (is_inode_node (a, touched now p)) true (node_touched a p now moment na) refl; few = omega (arith, first); linked = λ h. linked_same t.inodes a p (touched now p) ga refl refl h; rel = one; kinds = kept }
     by false e =
         let apart : b ≡ a → ⊥ = λ same. false≢true (sym e ∙ eq-eqb a b (sym same)) in
         let at : inode_in (insert_entry nat_cmp t.inodes a (touched now p)) b ≡ Some q = set_other nat_cmp numbers t.inodes a (touched now p) b apart ∙ gb in
         record {
           nodes = and_from (is_inode_node (a, touched now p)) (list_all is_node (SetInode b (touched now q) ∷ [])) (node_touched a p now moment na) (and_from (is_inode_node (b, touched now q)) true (node_touched b q now moment nb) refl);
+          few = omega (arith, first, second);
+          linked = λ h. linked_same (insert_entry nat_cmp t.inodes a (touched now p)) b q (touched now q) at refl refl (linked_same t.inodes a p (touched now p) ga refl refl h);
           rel = rel_touched (insert_entry nat_cmp t.inodes a (touched now p)) t.entries b q (touched now q) at refl refl one;
           kinds = λ x k h. keeps_kinds (insert_entry nat_cmp t.inodes a (touched now p)) b (touched now q) (λ o f. ap (λ (i : Inode). i.kind) (some_same (sym at ∙ f))) x k (kept x k h);
         }
@@ -107,37 +115,5 @@ moving_free files from dir name now sound moment m good =
     let nodes : list_all is_node front ≡ true = and_from (is_entry_node ((dir, name), e)) (list_all is_node (DropEntry from.dir from.name ∷ [])) (entry_node_from e good (node_number dir new.inode new_node) word)
     (and_from (are_words (from.dir ∷ []) && is_name from.name) true (drop_node files from sound m.here) refl) in
     let after = rel_moved tree.inodes tree.entries from dir name rel m in
-    joined_keeps files front (both tree from.dir dir now) sound nodes
-    (both_touch tree (apply tree front) from.dir dir now old.inode new.inode moment old.found new.found old.found new.found old_node new_node after) sound.handles
-
--- the name of a file moves to a free place
-pub renamed_free : (files : Files) (now : ℕ) (old new : List ℕ) → IsSound files → now < 2 ^ 64 → are_bytes new ≡ true → IsNoDir files.tree old → IsFree files.tree new → KeepsSound files (group_in (renamed files now old new))
-renamed_free files now old new sound moment bytes file free =
-    let tree : Tree = files.tree in
-    let local = local_of tree sound.proper in
-    let rel = rel_of tree sound.proper in
-    let name : List ℕ = last_of (components new) in
-    let P : Plan → Type 0 = λ plan. KeepsSound files (group_in plan) in
-    let nothing : (e : Refusal) → P (Err e) = λ e. keeps_nothing files sound in
-    let last : Entry → Entry → Plan = λ from parent. moved files now from parent.ino name (entry_at tree parent.ino name) in
-    let under : Entry → Entry → Plan = λ from parent. refuse (is_under (components old) (components new)) Einval (last from parent) in
-    let above : Entry → Plan = λ from. with_found (parent_of tree new) (under from) in
-    refuse_to P (not (is_name_path old && is_name_path new)) Einval (refuse (has_long_name old || has_long_name new) Enametoolong (with_found (walked tree old) above)) nothing (λ good.
-    refuse_to P (has_long_name old || has_long_name new) Enametoolong (with_found (walked tree old) above) nothing (λ short.
-    found_to P (walked tree old) above nothing (λ from at.
-    found_to P (parent_of tree new) (under from) nothing (λ parent up.
-    refuse_to P (is_under (components old) (components new)) Einval (last from parent) nothing (λ apart.
-    let paths = both_paths (is_name_path old) (is_name_path new) good in
-    let lengths = or_parts (has_long_name old) (has_long_name new) short in
-    let none = free parent up in
-    let plain = file from at in
-    let moves : Moves tree.inodes tree.entries from parent.ino name = record {
-      ascend = sound.proper.entries_ascend;
-      here = walked_in tree local old from paths.0 at;
-      free = none;
-      into = parent_in tree local rel new parent up;
-      above = λ d. absurd (false≢true (sym plain ∙ d));
-    } in
-    let Q : Option Entry → Type 0 = λ o. P (moved files now from parent.ino name o) in
-    subst Q (sym none) (refuse_to P (comes_linked_out files from parent.ino) Emlink (Ok (Done, moving files from parent.ino name [] now)) nothing (λ few.
-    moving_free files from parent.ino name now sound moment moves (last_is_name new bytes paths.1 lengths.1))))))))
+    joined_keeps files front (both tree from.dir dir now) sound nodes (omega arith) (λ h. h)
+    (both_touch tree (apply tree front) from.dir dir now old.inode new.inode moment old.found new.found old.found new.found old.same new.same old_node new_node after) sound.handles

@@ -12,8 +12,8 @@ use Rattle.fs_model.specs.declared.inode.Kind.TheVariants.{Dir}
 use Rattle.fs_model.specs.Files.{Inodes, Entries, name_cmp}
 use Rattle.fs_model.specs.Path.{is_dir}
 use Rattle.fs_model.specs.Proper.{same_kind}
-use Rattle.fs_laws.proofs.Maps.{set_here, set_other, key_cases, count_insert}
-use Rattle.fs_laws.proofs.Orders.{numbers, named}
+use Rattle.fs_laws.specs.Maps.{set_here, set_other, key_cases, count_insert}
+use Rattle.fs_laws.specs.Orders.{numbers, named}
 use Rattle.fs_laws.proofs.Rel.{Rel, SoundEntry, SoundInode, Step, Up, Any, there_of, dir_reaches, inode_in, entry_in, kind_is, names}
 
 pub some_same : {X : Type 0} {a b : X} → Some a ≡ Some b → a ≡ b

@@ -17,8 +17,8 @@ use Rattle.fs_model.specs.Path.{root_entry, reached, child, or_missing, only_dir
 use Rattle.fs_model.specs.Making.{is_name_path}
 use Rattle.fs_model.specs.Proper.{is_entry_node, is_name, are_words}
 use Rattle.fs_laws.proofs.Local.{IsLocal}
-use Rattle.fs_laws.proofs.Maps.{all_at}
-use Rattle.fs_laws.proofs.Orders.{named}
+use Rattle.fs_laws.specs.Maps.{all_at}
+use Rattle.fs_laws.specs.Orders.{named}
 use Rattle.fs_laws.proofs.Rel.{Rel, entry_in, kind_is}
 
 is_equal : (o : Ordering) → is_eq o ≡ true → o ≡ Equal
@@ -80,24 +80,24 @@ pub placed_kind : (tree : Tree) → Rel tree.inodes tree.entries → (at : Entry
 placed_kind tree rel at (inl is) = rw is rel.root
 placed_kind tree rel at (inr here) = (rel.entry (at.dir, at.name) at here).ino
 
+pub not_root : (path : List ℕ) → not (is_name_path path) ≡ false → is_root path ≡ false
+not_root path g = turn (is_path path) (is_root path) g
+  where
+    turn : (a b : Bool) → not (a && not b) ≡ false → b ≡ false
+    turn true true t = t
+    turn true false t = refl
+    turn false true t = t
+    turn false false t = refl
+
 -- a path of a name leads to an entry of the tree
 pub walked_in : (tree : Tree) → IsLocal tree → (path : List ℕ) (at : Entry) → not (is_name_path path) ≡ false → walked tree path ≡ Ok at → IsIn tree.entries at
 walked_in tree local path at good h = by (components path) (not_root path good) h
   where
-    not_root : (path : List ℕ) → not (is_name_path path) ≡ false → is_root path ≡ false
-    not_root path g = turn (is_path path) (is_root path) g
-      where
-        turn : (a b : Bool) → not (a && not b) ≡ false → b ≡ false
-        turn true true t = t
-        turn true false t = refl
-        turn false true t = t
-        turn false false t = refl
-
     by : (parts : List (List ℕ)) → is_empty parts ≡ false → reached tree (Ok root_entry) parts ≡ Ok at → IsIn tree.entries at
     by [] e g = absurd (false≢true (sym e))
     by (name ∷ parts) e g = reached_in tree local parts (child tree name (Ok root_entry)) at (λ a f. child_in tree local name (Ok root_entry) a f) g
 
-dir_eq : (kind : Kind) → is_dir kind ≡ true → kind ≡ Dir
+pub dir_eq : (kind : Kind) → is_dir kind ≡ true → kind ≡ Dir
 dir_eq Dir h = refl
 dir_eq kind h = absurd (false≢true h)
 

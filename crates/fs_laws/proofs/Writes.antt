@@ -17,17 +17,19 @@ use Rattle.fs_model.specs.Handles.{is_bad_slot, size_limit, tree_written, bytes_
 use Rattle.fs_model.specs.Making.{touched}
 use Rattle.fs_model.specs.Outcome.{Outcome, refuse, with_some, files_in}
 use Rattle.fs_model.specs.Proper.{ascends, are_bytes, is_inode_node, is_block_node}
-use Rattle.fs_laws.specs.Sound.{IsSound}
+use Rattle.fs_laws.specs.Sound.{IsSound, LeavesSound}
 use Rattle.fs_laws.proofs.Climb.{proper_of, numbered}
+use Rattle.fs_laws.proofs.Closes.{stays_sound}
 use Rattle.fs_laws.proofs.Groups.{node_at}
+use Rattle.fs_laws.proofs.Linked.{linked_same}
 use Rattle.fs_laws.proofs.Local.{IsLocal, local_of}
-use Rattle.fs_laws.proofs.Maps.{all_at, all_insert, all_weaken, insert_ascends}
-use Rattle.fs_laws.proofs.Nodes.{node_number, node_size, node_sized, node_touched}
-use Rattle.fs_laws.proofs.Orders.{numbers, pairs}
+use Rattle.fs_laws.specs.Maps.{all_at, all_insert, all_weaken, insert_ascends}
+use Rattle.fs_laws.proofs.Nodes.{block_node_of, block_node_from, node_number, node_size, node_sized, node_touched}
+use Rattle.fs_laws.specs.Orders.{numbers, pairs}
 use Rattle.fs_laws.proofs.Plans.{refuse_to, some_to}
 use Rattle.fs_laws.proofs.Rel.{rel_of, kind_is}
 use Rattle.fs_laws.proofs.Steps.{keeps_kinds, rel_touched, some_same}
-use Rattle.fs_laws.proofs.Truncates.{block_node_of, block_node_from, ends_low, all_take, full_from}
+use Rattle.fs_laws.proofs.Truncates.{ends_low, all_take, full_from}
 
 -- what is asked of blocks
 record AreSound (blocks : Blocks) (highest : ℕ) : Type 0 where
@@ -117,7 +119,7 @@ blocks_sound blocks highest ino place n byte low word small all some sound =
     pos zero h = absurd (h refl)
     pos (suc n) h = omega arith
 
-written_sound : (files : Files) (ino : ℕ) (inode : Inode) (now offs n byte : ℕ) → IsSound files → now < 2 ^ 64 → byte < 256 → inode_at files.tree ino ≡ Some inode → offs + n ≤ 2199023255552 → (n == 0) ≡ false → IsSound (record files { tree = tree_written files.tree ino inode now offs n byte })
+written_sound : (files : Files) (ino : ℕ) (inode : Inode) (now offs n byte : ℕ) → IsSound files → now < 2 ^ 64 → byte < 256 → inode_at files.tree ino ≡ Some inode → offs + n ≤ 2199023255552 → (n == 0) ≡ false → LeavesSound files (record files { tree = tree_written files.tree ino inode now offs n byte })
 written_sound files ino inode now offs n byte sound moment small found all some =
     let tree : Tree = files.tree in
     let local = local_of tree sound.proper in
@@ -141,14 +143,17 @@ written_sound files ino inode now offs n byte sound moment small found all some 
       block_numbers = blocks.below;
     } in
     record {
-      proper = proper_of (tree_written tree ino inode now offs n byte) after (rel_touched tree.inodes tree.entries ino inode new found refl refl (rel_of tree sound.proper));
-      handles = all_weaken (λ h. kind_is tree.inodes h.1 File) (λ h. kind_is (insert_entry nat_cmp tree.inodes ino new) h.1 File) (λ h t. keeps h.1 File t) files.handles sound.handles;
+      linked = λ h. linked_same tree.inodes ino inode new found refl refl h;
+      sound = record {
+        proper = proper_of (tree_written tree ino inode now offs n byte) after (rel_touched tree.inodes tree.entries ino inode new found refl refl (rel_of tree sound.proper));
+        handles = all_weaken (λ h. kind_is tree.inodes h.1 File) (λ h. kind_is (insert_entry nat_cmp tree.inodes ino new) h.1 File) (λ h t. keeps h.1 File t) files.handles sound.handles;
+      };
     }
 
-pub bytes_written_sound : (files : Files) (caller now slot offs len byte : ℕ) → IsSound files → now < 2 ^ 64 → byte < 256 → IsSound (files_in files (bytes_written files caller now slot offs len byte))
+pub bytes_written_sound : (files : Files) (caller now slot offs len byte : ℕ) → IsSound files → now < 2 ^ 64 → byte < 256 → LeavesSound files (files_in files (bytes_written files caller now slot offs len byte))
 bytes_written_sound files caller now slot offs len byte sound moment small =
-    let P : Outcome → Type 0 = λ outcome. IsSound (files_in files outcome) in
-    let nothing : (e : Refusal) → P (Err e) = λ e. sound in
+    let P : Outcome → Type 0 = λ outcome. LeavesSound files (files_in files outcome) in
+    let nothing : (e : Refusal) → P (Err e) = λ e. stays_sound files sound in
     let last : ℕ → Inode → Outcome = λ ino inode. Ok (Count len, if len == 0 then files else record files { tree = tree_written files.tree ino inode now offs len byte }) in
     let low : ℕ → Inode → Outcome = λ ino inode. refuse (nat_lt size_limit (offs + len)) Efbig (last ino inode) in
     let with_it : ℕ → Outcome = λ ino. with_some (inode_at files.tree ino) Ebadf (low ino) in
@@ -158,6 +163,6 @@ bytes_written_sound files caller now slot offs len byte sound moment small =
     refuse_to P (nat_lt size_limit (offs + len)) Efbig (last ino inode) nothing (λ fits.
     by ino inode found (ltb-false 2199023255552 (offs + len) fits) (len == 0) refl))))
   where
-    by : (ino : ℕ) (inode : Inode) → inode_at files.tree ino ≡ Some inode → offs + len ≤ 2199023255552 → (b : Bool) → (len == 0) ≡ b → IsSound (cond b files (record files { tree = tree_written files.tree ino inode now offs len byte }))
-    by ino inode found all true e = sound
+    by : (ino : ℕ) (inode : Inode) → inode_at files.tree ino ≡ Some inode → offs + len ≤ 2199023255552 → (b : Bool) → (len == 0) ≡ b → LeavesSound files (cond b files (record files { tree = tree_written files.tree ino inode now offs len byte }))
+    by ino inode found all true e = stays_sound files sound
     by ino inode found all false e = written_sound files ino inode now offs len byte sound moment small found all e

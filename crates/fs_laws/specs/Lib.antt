@@ -1,1 +1,5 @@
+pub mod Alike
 pub mod Sound
+pub mod Asked
+pub mod Maps
+pub mod Orders

@@ -344,3 +344,20 @@ none_counted test (x ∷ xs) h = by (none_counted test xs) (test x) refl h
 -- none is counted where none that is found passes
 pub count_none : {K X : Type 0} (cmp : K → K → Ordering) → IsOrder cmp → (test : X → Bool) (es : List (K × X)) → ascends cmp (keys_of es) ≡ true → ((k : K) (v : X) → lookup (is_at (cmp k)) es ≡ Some v → test v ≡ false) → count_in test es ≡ 0
 count_none cmp order test es h each = none_counted test (values_of es) (values_all (λ x. not (test x)) es ∙ all_from cmp order (λ e. not (test e.1)) es h (λ k v f. rw (each k v f) refl))
+
+-- an insertion at a key that is there is the one after its removal
+insert_first : {K X : Type 0} (cmp : K → K → Ordering) → IsOrder cmp → (es : List (K × X)) (e : K × X) (k : K) (v : X) → ascends cmp (keys_of (e ∷ es)) ≡ true → k ≡ e.0 → insert_entry cmp es k v ≡ (k, v) ∷ es
+insert_first cmp order [] e k v h same = refl
+insert_first cmp order (f ∷ es) e k v h same =
+    let less = lt_is (cmp e.0 f.0) (and_parts (is_lt (cmp e.0 f.0)) (ascends cmp (keys_of (f ∷ es))) h).0 in
+    let l = subst (λ q. cmp q f.0 ≡ Less) (sym same) less in rw l refl
+
+pub insert_again : {K X : Type 0} (cmp : K → K → Ordering) → IsOrder cmp → (es : List (K × X)) (k : K) (old v : X) → ascends cmp (keys_of es) ≡ true → lookup (is_at (cmp k)) es ≡ Some old → insert_entry cmp (remove_entry (is_at (cmp k)) es) k v ≡ insert_entry cmp es k v
+insert_again cmp order [] k old v h f = absurd cc
+insert_again {K} {X} cmp order (e ∷ es) k old v h f = by (insert_again cmp order es k old v (tail_ascends cmp es e h)) (cmp k e.0) refl f
+  where
+    by : (lookup (is_at (cmp k)) es ≡ Some old → insert_entry cmp (remove_entry (is_at (cmp k)) es) k v ≡ insert_entry cmp es k v) → (o : Ordering) → cmp k e.0 ≡ o → cond (is_eq o) (Some e.1) (lookup (is_at (cmp k)) es) ≡ Some old
+        → insert_entry cmp (cond (is_eq o) es (e ∷ remove_entry (is_at (cmp k)) es)) k v ≡ match_ordering o ((k, v) ∷ e ∷ es) ((e.0, v) ∷ es) (e ∷ insert_entry cmp es k v)
+    by more Less x g = let none = missing_before cmp order es e k h x in absurd cc
+    by more Equal x g = let same = order.exact k e.0 x in insert_first cmp order es e k v h same ∙ ap (λ (q : K). (q, v) ∷ es) same
+    by more Greater x g = rw x (ap (λ z. e ∷ z) (more g))

@@ -7,7 +7,7 @@ use Rattle.std.specs.declared.cmp.Ordering.TheVariants.{Equal}
 use Rattle.std.proofs.lemmas.Cmp.{nat_cmp_total, on_total, then_total}
 use Rattle.std.proofs.lemmas.Map.Lookups.{exact_unsigned, exact_bytes, exact_pairs}
 use Rattle.fs_model.specs.Files.{pair_cmp, name_cmp}
-use Rattle.fs_laws.proofs.Maps.{IsOrder}
+use Rattle.fs_laws.specs.Maps.{IsOrder}
 
 nat_same : (x : ℕ) → nat_cmp x x ≡ Equal
 nat_same x = sym (nat_cmp_is x x Equal refl)
