@@ -1,5 +1,5 @@
 -- What the calls of a backing in memory keep to.
-use Rattle.std.proofs.Common.{◌≡◌, ◌⊎◌, ℕ, zero, suc, ◌+◌, ◌-◌, ◌*◌, ◌≤◌, ◌<◌, refl, sym, ap, subst, ◌∙◌, inl, inr, arith, Result, Ok, Err, Option, Some, None}
+use Rattle.std.proofs.Common.{◌≡◌, ℕ, zero, suc, ◌+◌, ◌-◌, ◌≤◌, refl, sym, ap, subst, ◌∙◌, inl, inr, arith, Result, Ok, Err, Option, Some, None}
 use Rattle.std.specs.Prelude.{min, max, OnOk, IfErr, ◌≢◌}
 use Rattle.ubifs_base.specs.declared.raw_geometry.RawGeometry.{RawGeometry}
 use Rattle.fs_model.specs.declared.backing_answers.Mode.{Mode}
@@ -7,10 +7,9 @@ use Rattle.fs_model.specs.declared.backing_answers.Mode.TheVariants.{ReadWrite, 
 use Rattle.fs_model.specs.declared.backing_answers.StoreFault.{StoreFault}
 use Rattle.fs_model.specs.declared.backing_answers.StoreFault.TheVariants.{Memory, Volume, ReadOnly as IsReadOnly}
 use Rattle.plain_backing.specs.declared.numbers.Numbers.{Numbers}
-use Rattle.fs_model.specs.declared.refusal.Cause.TheVariants.{Faulted}
-use Rattle.fs_model.specs.Backing.{Goes, ModeGoes, IsLost, Rose, Strikes, StaysSure}
+use Rattle.fs_model.specs.Backing.{Goes, ModeGoes, Rose, Strikes, StaysSure}
 use Rattle.fs_model.specs.Files.{Tree}
-use Rattle.plain_backing.specs.PlainBacking.{state_with, outlook_with, failed, counted, ended_as, faulted, IsRefused}
+use Rattle.plain_backing.specs.PlainBacking.{state_with, outlook_with, failed, counted, ended_as, IsRefused}
 
 rose : (f : ℕ) → Rose f (min (f + 1) 18446744073709551615)
 rose f = grind arith

@@ -1,5 +1,4 @@
 -- What a backing in memory always keeps.
-use Rattle.std.specs.Prelude.{ℕ, ◌<◌, ◌^◌}
 use Rattle.std.proofs.Common.{arith}
 use Rattle.plain_backing.specs.declared.backing.PlainBacking.{PlainBacking}
 use Rattle.fs_model.specs.Backing.{IsSmall}

@@ -1,6 +1,6 @@
 // A tree that groups make, and a group that is refused memory.
 
-use crate::{Files, Handles, Tree};
+use crate::Tree;
 use fs_model::{Change, Entry, Group, Inode, Kind};
 use std::alloc::Global;
 use std::test::Fail;
@@ -193,29 +193,5 @@ fn a_refused_group_changes_nothing(rt: HostRuntime) -> Result<(), Fail> {
         (tree.highest(), tree.bytes(), tree.count_cells()),
         (70, 408, (1, 1, 3))
     );
-    Ok(())
-}
-
-// A slot is opened, opened again and closed.
-#[test]
-fn slots_are_opened_and_closed(rt: HostRuntime) -> Result<(), Fail> {
-    let alloc = rt.alloc();
-    let mut files = Files {
-        tree: Tree::new(alloc, 64),
-        handles: Handles::new(alloc),
-    };
-    files.handles.insert(1, 0, 65)?;
-    files.handles.insert(2, 0, 66)?;
-    files.handles.insert(1, 0, 67)?;
-    assert_eq!(rt;
-        (files.handles.get(1, 0), files.handles.get(1, 1)),
-        (Some(67), None)
-    );
-    assert_eq!(rt; files.handles.remove(1, 0), Some(67));
-    assert_eq!(rt;
-        (files.handles.get(1, 0), files.handles.get(2, 0)),
-        (None, Some(66))
-    );
-    assert_eq!(rt; files.tree.highest(), 64);
     Ok(())
 }

@@ -1,4 +1,4 @@
-use Rattle.std.proofs.Common.{◌≡◌, ◌≤◌, ◌+◌, ◌<◌, ◌^◌, ℕ, ap, sym, subst, refl, ◌∙◌, arith}
+use Rattle.std.proofs.Common.{◌≤◌, ◌+◌, ◌<◌, ◌^◌, ℕ, subst, refl}
 use Rattle.ubifs_base.specs.RawOf.{raw_of}
 use Rattle.fs_model.specs.Cover.{needed}
 use Rattle.plain_backing.proofs.Covered.{few_credits}
