@@ -1,0 +1,5 @@
+use Rattle.page_cache.proofs.Putting.{Adding}
+use Rattle.page_cache.proofs.cache.Cache.put_new.Given as goal
+
+abbrev pub invariant-loop-block : goal.invariant-loop-block
+invariant-loop-block l = Adding l.fn.self l.self l.ino l.block-iterator.rest.items l.fn.pages.items
