@@ -1,0 +1,46 @@
+-- A group that was put and followed, after which credits were given back.
+use Rattle.std.proofs.Common.{◌≡◌, ℕ, List, sym, ap, subst, ◌∙◌}
+use Rattle.std.specs.Prelude.{filter}
+use Rattle.fs_model.specs.declared.change.Change.{Change}
+use Rattle.fs_model.specs.declared.space.Grant.{Grant}
+use Rattle.fs_model.specs.Backing.{BackingState, FitsGroup, Goes, IsGroupPut, given_back}
+use Rattle.fs_model.specs.Change.{apply}
+use Rattle.fs_model.specs.Files.{Tree}
+use Rattle.cached_files.specs.declared.kept.Kept.{Kept}
+use Rattle.cached_files.specs.Follow.{followed, is_of_inode, AreOfNames}
+use Rattle.cached_files.specs.Present.{covered, present, IsKept}
+use Rattle.cached_files.proofs.Following.{followed_inodes, followed_is, fits_of, kept_of}
+
+-- what is kept fits, and callers see the group's changes and no others
+pub record GroupPut (old new : Tree) (kept after : Kept) (group : List Change) : Type 0 where
+  pub fits : IsKept new after
+  pub seen : present new after ≡ record (present old kept) { tree = apply (present old kept).tree group }
+
+tree_put : (tree : Tree) (kept : Kept) (group : List Change) (grant : Grant) → IsKept tree kept → AreOfNames kept group → FitsGroup tree grant group → GroupPut tree (apply tree group) kept (followed kept group) group
+tree_put tree kept group grant is names fits =
+    let it = followed_is group tree kept (fits_of tree kept is) fits.are_nodes names in
+    record {
+      fits = kept_of (apply tree group) (followed kept group) fits.proper it.fits;
+      seen = ap (λ z. record { tree = z; handles = (followed kept group).handles }) it.seen ∙ ap (λ z. record { tree = apply (covered tree kept.inodes kept.pages.dirty) group; handles = z }) it.handles;
+    }
+
+pub group_put : (old put new : BackingState) (kept after : Kept) (group copies : List Change) (grant : Grant) (credits : ℕ) → IsKept old.tree kept → AreOfNames kept group → FitsGroup old.tree grant group → IsGroupPut old put group
+    → copies ≡ filter is_of_inode group → after ≡ followed kept copies → new ≡ given_back put credits → GroupPut old.tree new.tree kept after group
+group_put old put new kept after group copies grant credits is names fits made copied follow given =
+    let tree : new.tree ≡ apply old.tree group = ap (λ s. s.tree) given ∙ made.tree in
+    let whole : after ≡ followed kept group = follow ∙ ap (λ c. followed kept c) copied ∙ followed_inodes group kept in
+    subst (λ t. GroupPut old.tree t kept after group) (sym tree)
+    (subst (λ k. GroupPut old.tree (apply old.tree group) kept k group) (sym whole) (tree_put old.tree kept group grant is names fits))
+
+-- to give credits back puts nothing
+pub goes_given : (nodes : ℕ) (old put new : BackingState) (credits : ℕ) → Goes nodes old put → new ≡ given_back put credits → Goes nodes old new
+goes_given nodes old put new credits goes given = subst (λ s. Goes nodes old s) (sym given) record {
+  geometry = goes.geometry;
+  orphan_limit = goes.orphan_limit;
+  mode = goes.mode;
+  faults = goes.faults;
+  weight = goes.weight;
+  index = goes.index;
+  nodes_put = goes.nodes_put;
+  told = goes.told;
+}

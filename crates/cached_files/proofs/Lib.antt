@@ -1,0 +1,15 @@
+pub mod Alike
+pub mod Applied
+pub mod Counts
+pub mod Covers
+pub mod Ending
+pub mod Ends
+pub mod Following
+pub mod GroupPut
+pub mod Inserts
+pub mod Nodes
+pub mod Overlays
+pub mod Putting
+pub mod Reading
+pub mod Throughs
+pub mod Written

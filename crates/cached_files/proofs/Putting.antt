@@ -1,0 +1,375 @@
+-- What a put leaves of what callers see.
+use Rattle.std.proofs.Common.{◌≡◌, ℕ, ◌+◌, ◌-◌, ◌*◌, ◌≤◌, ◌⊎◌, inl, inr, length-append, length-drop, Bool, true, false, cond, max, ◌&&◌, List, [], ◌∷◌, ◌++◌, length, Some, refl, sym, ap, subst, ◌∙◌, arith}
+use Rattle.std.specs.Prelude.{◌==◌, IsTrue, nat_le, None, fold, replicate, slice_get, drop, not, nat_lt, zero, suc}
+use Rattle.std.specs.List.{list_all, AllByRecursion}
+use Rattle.std.specs.Option.{option_map}
+use Rattle.std.specs.Map.{lookup, remove_entry}
+use Rattle.std.specs.BTreeMap.{insert_entry, is_at}
+use Rattle.std.specs.Ordering.{nat_cmp, match_ordering}
+use Rattle.std.specs.declared.cmp.Ordering.{Ordering}
+use Rattle.std.specs.declared.cmp.Ordering.TheVariants.{Less, Equal, Greater}
+use Rattle.std.proofs.lemmas.Bool.{and_parts, and_from}
+use Rattle.std.proofs.lemmas.List.{length-replicate}
+use Rattle.std.proofs.lemmas.List.Folds.{list_all-append}
+use Rattle.std.proofs.lemmas.Bool.Decides.{nat_tests}
+use Rattle.fs_model.specs.declared.inode.Inode.{Inode}
+use Rattle.fs_model.specs.declared.inode.Kind.TheVariants.{File}
+use Rattle.fs_model.specs.declared.page_node.PageNode.{PageNode}
+use Rattle.cached_files.specs.Alike.{IsAlike}
+use Rattle.cached_files.specs.Calls.{SureGoes}
+use Rattle.fs_model.specs.Backing.{BackingState, Outlook, Goes, page_group, IsPagePut}
+use Rattle.fs_model.specs.Change.{apply}
+use Rattle.fs_model.specs.Files.{Tree, Files, Blocks, inode_at, pair_cmp, with_block, blocks_end}
+use Rattle.fs_model.specs.Path.{is_empty}
+use Rattle.fs_model.specs.Proper.{IsProper, is_block_node, are_bytes}
+use Rattle.fs_model.specs.Same.{trimmed, before_zeros, trimmed_blocks}
+use Rattle.fs_laws.specs.Sound.{IsFilePage}
+use Rattle.page_cache.specs.Pages.{Pages, is_page, dirty_at, oldest_of, is_current, without_dirty}
+use Rattle.page_cache.specs.declared.dirty_page.DirtyPage.{DirtyPage}
+use Rattle.page_cache.specs.declared.ticket.Ticket.{Ticket}
+use Rattle.cached_files.specs.declared.kept.Kept.{Kept}
+use Rattle.cached_files.specs.Present.{DirtyPages, with_page, present, has_dirty, IsKept, FitsFile, FitsPages, page_of, filled, bytes_before_end}
+use Rattle.cached_files.specs.CallLaws.{Goes-none, Goes-then, Sure-none, Sure-then}
+use Rattle.cached_files.proofs.Ends.{insert_ends, filled_ends}
+use Rattle.cached_files.proofs.Inserts.{set_later, set_same}
+use Rattle.fs_laws.specs.Maps.{all_at, set_here, set_other, key_cases}
+use Rattle.fs_laws.specs.Orders.{numbers}
+
+-- zeros at the end are told of no bytes
+trimmed-zeros : (n : ℕ) → trimmed (replicate n 0) ≡ []
+trimmed-zeros zero = refl
+trimmed-zeros (suc n) = rw (trimmed-zeros n) refl
+
+trimmed-filled : (bytes : List ℕ) (n : ℕ) → trimmed (bytes ++ replicate n 0) ≡ trimmed bytes
+trimmed-filled [] n = trimmed-zeros n
+trimmed-filled (byte ∷ bytes) n = ap (λ z. before_zeros byte z) (trimmed-filled bytes n)
+
+pub trimmed-insert : (blocks : Blocks) (k : ℕ × ℕ) (v : List ℕ) → trimmed_blocks (insert_entry pair_cmp blocks k v) ≡ insert_entry pair_cmp (trimmed_blocks blocks) k (trimmed v)
+trimmed-insert [] k v = refl
+trimmed-insert (e ∷ blocks) k v = by (trimmed-insert blocks k v) (pair_cmp k e.0)
+  where
+    by : trimmed_blocks (insert_entry pair_cmp blocks k v) ≡ insert_entry pair_cmp (trimmed_blocks blocks) k (trimmed v) → (o : Ordering)
+        → trimmed_blocks (match_ordering o ((k, v) ∷ e ∷ blocks) ((e.0, v) ∷ blocks) (e ∷ insert_entry pair_cmp blocks k v))
+        ≡ match_ordering o ((k, trimmed v) ∷ (e.0, trimmed e.1) ∷ trimmed_blocks blocks) ((e.0, trimmed v) ∷ trimmed_blocks blocks) ((e.0, trimmed e.1) ∷ insert_entry pair_cmp (trimmed_blocks blocks) k (trimmed v))
+    by more Less = refl
+    by more Equal = refl
+    by more Greater = ap (λ z. (e.0, trimmed e.1) ∷ z) more
+
+-- pages cover blocks that are the same alike
+covered_alike : (dirty : DirtyPages) (a b : Blocks) → trimmed_blocks a ≡ trimmed_blocks b → trimmed_blocks (fold with_page a dirty) ≡ trimmed_blocks (fold with_page b dirty)
+covered_alike [] a b h = h
+covered_alike (e ∷ dirty) a b h =
+    covered_alike dirty (with_page a e) (with_page b e)
+    (trimmed-insert a e.0 e.1.bytes ∙ ap (λ z. insert_entry pair_cmp z e.0 (trimmed e.1.bytes)) h ∙ sym (trimmed-insert b e.0 e.1.bytes))
+
+-- what is known of the page that became dirty first
+pub record Oldest (pages : Pages) (ticket : Ticket) : Type 0 where
+  pub page : DirtyPage
+  pub rest : DirtyPages
+  pub dirty : pages.dirty ≡ ((ticket.ino, ticket.block), page) ∷ rest
+  pub version : ticket.version ≡ page.version
+
+pub oldest_is : (pages : Pages) (ticket : Ticket) → oldest_of pages ≡ Some ticket → Oldest pages ticket
+oldest_is pages ticket h = by pages.dirty refl h
+  where
+    by : (dirty : DirtyPages) → pages.dirty ≡ dirty → option_map {U = Ticket} (λ e. record { ino = e.0.0; block = e.0.1; version = e.1.version }) (slice_get dirty 0) ≡ Some ticket → Oldest pages ticket
+    by [] d g = absurd cc
+    by (e ∷ rest) d g =
+        let t : ticket ≡ record { ino = e.0.0; block = e.0.1; version = e.1.version } = cc g in
+        record { page = e.1; rest = rest; dirty = rw t d; version = rw t refl }
+
+same_page : (a : ℕ × ℕ) → is_page a a ≡ true
+same_page a = grind (arith, nat_tests)
+
+-- it is found under its name
+pub oldest_found : (pages : Pages) (ticket : Ticket) (o : Oldest pages ticket) → dirty_at pages ticket.ino ticket.block ≡ Some o.page
+oldest_found pages ticket o = rw (o.dirty, same_page (ticket.ino, ticket.block)) refl
+
+-- and the others stay when it goes
+pub oldest_gone : (pages : Pages) (ticket : Ticket) (o : Oldest pages ticket) → remove_entry (is_page (ticket.ino, ticket.block)) pages.dirty ≡ o.rest
+oldest_gone pages ticket o = rw (o.dirty, same_page (ticket.ino, ticket.block)) refl
+
+-- numbers that differ
+differ : (a b : ℕ) → (a ≡ b → ⊥) → (a == b) ≡ false
+differ a b h = by (a == b) refl
+  where
+    by : (t : Bool) → (a == b) ≡ t → t ≡ false
+    by true e = absurd (h (grind (arith, nat_tests)))
+    by false e = refl
+
+-- a number that an inode has isn't above the highest
+pub numbered : (tree : Tree) (ino : ℕ) (inode : Inode) → IsProper tree → inode_at tree ino ≡ Some inode → ino ≤ tree.highest
+numbered tree ino inode proper found =
+    let parts = and_parts (list_all (λ e. nat_le e.0 tree.highest) tree.inodes && list_all (λ e. nat_le e.0.0 tree.highest) tree.blocks) (list_all (λ e. nat_le e.0.0 tree.highest && nat_le e.1.ino tree.highest) tree.entries) proper.numbers in
+    let more = and_parts (list_all (λ e. nat_le e.0 tree.highest) tree.inodes) (list_all (λ e. nat_le e.0.0 tree.highest) tree.blocks) parts.0 in
+    let le : nat_le ino tree.highest ≡ true = all_at nat_cmp numbers (λ e. nat_le e.0 tree.highest) tree.inodes ino inode more.0 found in
+    grind (arith, nat_tests)
+
+-- the tree once a page of a file that is there was put
+pub put_tree : (tree : Tree) (page : PageNode) (old : Inode) → IsProper tree → inode_at tree page.ino ≡ Some old
+    → apply tree (page_group page) ≡ record tree { inodes = insert_entry nat_cmp tree.inodes page.ino page.inode; blocks = with_block tree.blocks page.ino page.block page.bytes }
+put_tree tree page old proper found =
+    let here = set_here nat_cmp numbers tree.inodes page.ino page.inode in
+    let le = numbered tree page.ino old proper found in
+    let m : max (max tree.highest page.ino) page.ino ≡ tree.highest = omega (arith, le) in
+    rw (here, m) refl
+
+-- what is kept once its first page was put
+abbrev pub kept_after : Kept → DirtyPages → Kept
+kept_after kept rest = record kept { pages = record kept.pages { dirty = rest } }
+
+-- a page that is put, with what is known of it and of what is kept
+pub record Putting (tree : Tree) (kept : Kept) (ticket : Ticket) (o : Oldest kept.pages ticket) : Type 0 where
+  pub inode : Inode
+  pub found : lookup (is_at (nat_cmp ticket.ino)) kept.inodes ≡ Some inode
+  pub fits : FitsFile tree ticket.ino inode
+  pub block : IsTrue (is_block_node ((ticket.ino, ticket.block), o.page.bytes))
+  pub inside : 4096 * ticket.block + length o.page.bytes ≤ inode.size
+  pub others : AllByRecursion (FitsPages kept.inodes) o.rest
+
+pub putting_of : (tree : Tree) (kept : Kept) (ticket : Ticket) (o : Oldest kept.pages ticket) → IsKept tree kept → Putting tree kept ticket o
+putting_of tree kept ticket o is =
+    let P : DirtyPages → Type 0 = λ dirty. AllByRecursion (FitsPages kept.inodes) dirty in
+    let all = subst P o.dirty is.pages in
+    record {
+      inode = all.0.0;
+      found = all.0.1;
+      fits = is.inodes ticket.ino all.0.0 all.0.1;
+      block = all.0.2;
+      inside = all.0.3;
+      others = all.1;
+    }
+
+-- callers see the same after the put
+pub same_after : (tree : Tree) (kept : Kept) (ticket : Ticket) (o : Oldest kept.pages ticket) (p : Putting tree kept ticket o) → IsKept tree kept
+    → IsAlike (present tree kept) (present (apply tree (page_group (page_of ((ticket.ino, ticket.block), o.page) p.inode))) (kept_after kept o.rest))
+same_after tree kept ticket o p is =
+    let page = page_of ((ticket.ino, ticket.block), o.page) p.inode in
+    let len = bytes_before_end p.inode.size ticket.block in
+    let t = put_tree tree page p.fits.below.0 is.proper p.fits.below.1 in
+    let P : Tree → Type 0 = λ after. IsAlike (present tree kept) (present after (kept_after kept o.rest)) in
+    subst P (sym t)
+    record {
+      inodes = sym (set_later nat_cmp numbers kept.inodes tree.inodes ticket.ino p.inode is.ascends p.found);
+      blocks = rw o.dirty (covered_alike o.rest (insert_entry pair_cmp tree.blocks (ticket.ino, ticket.block) o.page.bytes) (insert_entry pair_cmp tree.blocks (ticket.ino, ticket.block) (filled o.page.bytes len))
+          (trimmed-insert tree.blocks (ticket.ino, ticket.block) o.page.bytes
+          ∙ ap (λ z. insert_entry pair_cmp (trimmed_blocks tree.blocks) (ticket.ino, ticket.block) z) (sym (trimmed-filled o.page.bytes (len - length o.page.bytes)))
+          ∙ sym (trimmed-insert tree.blocks (ticket.ino, ticket.block) (filled o.page.bytes len))));
+      entries = refl;
+      highest = refl;
+      handles = refl;
+    }
+
+-- what is kept fits the tree after the put
+pub kept_still : (tree : Tree) (kept : Kept) (ticket : Ticket) (o : Oldest kept.pages ticket) (p : Putting tree kept ticket o) → IsKept tree kept
+    → IsProper (apply tree (page_group (page_of ((ticket.ino, ticket.block), o.page) p.inode)))
+    → IsKept (apply tree (page_group (page_of ((ticket.ino, ticket.block), o.page) p.inode))) (kept_after kept o.rest)
+kept_still tree kept ticket o p is proper = record {
+  proper = proper;
+  ascends = is.ascends;
+  inodes = λ ino inode found. fits_still ino inode found (key_cases nat_cmp numbers ino ticket.ino);
+  ends = λ ino inode found. ends_still ino inode found;
+  pages = p.others;
+  settled = λ ino inode found none. settled_still ino inode found none (key_cases nat_cmp numbers ino ticket.ino);
+}
+  where
+    after : Tree
+    after = apply tree (page_group (page_of ((ticket.ino, ticket.block), o.page) p.inode))
+
+    at : (ino : ℕ) → inode_at after ino ≡ lookup (is_at (nat_cmp ino)) (insert_entry nat_cmp tree.inodes ticket.ino p.inode)
+    at ino = ap (λ t. inode_at t ino) (put_tree tree (page_of ((ticket.ino, ticket.block), o.page) p.inode) p.fits.below.0 is.proper p.fits.below.1)
+
+    here : (ino : ℕ) (inode : Inode) → lookup (is_at (nat_cmp ino)) kept.inodes ≡ Some inode → ino ≡ ticket.ino → inode_at after ino ≡ Some inode
+    here ino inode found same = ap (λ n. inode_at after n) same ∙ at ticket.ino ∙ set_here nat_cmp numbers tree.inodes ticket.ino p.inode ∙ sym (sym found ∙ ap (λ n. lookup (is_at (nat_cmp n)) kept.inodes) same ∙ p.found)
+
+    there : (ino : ℕ) → (ino ≡ ticket.ino → ⊥) → inode_at after ino ≡ inode_at tree ino
+    there ino other = at ino ∙ set_other nat_cmp numbers tree.inodes ticket.ino p.inode ino other
+
+    ends_still : (ino : ℕ) (inode : Inode) → lookup (is_at (nat_cmp ino)) kept.inodes ≡ Some inode → blocks_end after.blocks ino ≤ inode.size
+    ends_still ino inode found =
+        let page = page_of ((ticket.ino, ticket.block), o.page) p.inode in
+        let t = ap (λ q. q.blocks) (put_tree tree page p.fits.below.0 is.proper p.fits.below.1) in
+        let P : Blocks → Type 0 = λ blocks. blocks_end blocks ino ≤ inode.size in
+        subst P (sym t) (insert_ends tree.blocks (ticket.ino, ticket.block) page.bytes ino inode.size (is.ends ino inode found)
+        (λ same. let one : Some p.inode ≡ Some inode = sym p.found ∙ ap (λ n. lookup (is_at (nat_cmp n)) kept.inodes) same ∙ found in
+        let alike : p.inode ≡ inode = cc one in
+        subst (λ i. 4096 * ticket.block + length page.bytes ≤ i.size) alike (filled_ends o.page.bytes ticket.block p.inode.size p.inside)))
+
+    settled_still : (ino : ℕ) (inode : Inode) → lookup (is_at (nat_cmp ino)) kept.inodes ≡ Some inode → has_dirty o.rest ino ≡ false → (ino ≡ ticket.ino) ⊎ (ino ≡ ticket.ino → ⊥) → inode_at after ino ≡ Some inode
+    settled_still ino inode found none (inl same) = here ino inode found same
+    settled_still ino inode found none (inr other) =
+        let none_before : has_dirty kept.pages.dirty ino ≡ false = rw (o.dirty, differ ticket.ino ino (λ e. other (sym e))) none in
+        there ino other ∙ is.settled ino inode found none_before
+
+    fits_still : (ino : ℕ) (inode : Inode) → lookup (is_at (nat_cmp ino)) kept.inodes ≡ Some inode → (ino ≡ ticket.ino) ⊎ (ino ≡ ticket.ino → ⊥) → FitsFile after ino inode
+    fits_still ino inode found (inl same) =
+        let fits = is.inodes ino inode found in
+        record { node = fits.node; kind = fits.kind; below = (inode, here ino inode found same, fits.kind, refl) }
+    fits_still ino inode found (inr other) =
+        let fits = is.inodes ino inode found in
+        record { node = fits.node; kind = fits.kind; below = (fits.below.0, there ino other ∙ fits.below.1, fits.below.2, fits.below.3) }
+
+-- its ticket is current
+pub current_oldest : (pages : Pages) (ticket : Ticket) (o : Oldest pages ticket) → is_current pages ticket ≡ true
+current_oldest pages ticket o = rw (oldest_found pages ticket o, o.version) (same_number o.page.version)
+  where
+    same_number : (n : ℕ) → (n == n) ≡ true
+    same_number n = grind (arith, nat_tests)
+
+-- what marking it clean leaves
+pub cleaned : (pages new : Pages) (ticket : Ticket) (o : Oldest pages ticket) (result : Bool) → result ≡ is_current pages ticket → new ≡ cond result (without_dirty pages ticket.ino ticket.block) pages → new ≡ record pages { dirty = o.rest }
+cleaned pages new ticket o result r n =
+    let t : result ≡ true = r ∙ current_oldest pages ticket o in
+    let m : new ≡ without_dirty pages ticket.ino ticket.block = rw t at n in
+    m ∙ ap (λ dirty. record pages { dirty = dirty }) (oldest_gone pages ticket o)
+
+-- no page is dirty
+pub none_dirty : (pages : Pages) → oldest_of pages ≡ None → false ≡ nat_lt 0 (length pages.dirty)
+none_dirty pages h = by pages.dirty h
+  where
+    by : (dirty : DirtyPages) → option_map {U = Ticket} (λ e. record { ino = e.0.0; block = e.0.1; version = e.1.version }) (slice_get dirty 0) ≡ None → false ≡ nat_lt 0 (length dirty)
+    by [] g = refl
+    by (e ∷ rest) g = absurd cc
+
+-- what holds once a page was put
+pub record AfterPut (old new : BackingState) (kept after : Kept) : Type 0 where
+  pub fits : IsKept new.tree after
+  pub same : IsAlike (present old.tree kept) (present new.tree after)
+  pub pages : after.pages.dirty ≡ drop 1 kept.pages.dirty
+  pub paid : length kept.pages.dirty ≤ old.space.credits → length after.pages.dirty ≤ new.space.credits
+
+pub after_put : (old new : BackingState) (kept : Kept) (pages : Pages) (ticket : Ticket) (page : PageNode) (o : Oldest kept.pages ticket) (p : Putting old.tree kept ticket o) → IsKept old.tree kept
+    → page ≡ page_of ((ticket.ino, ticket.block), o.page) p.inode → IsPagePut old new page → IsProper (apply old.tree (page_group page)) → pages ≡ record kept.pages { dirty = o.rest }
+    → AfterPut old new kept (record kept { pages = pages })
+after_put old new kept pages ticket page o p is shown put proper left =
+    let made = page_of ((ticket.ino, ticket.block), o.page) p.inode in
+    let t : new.tree ≡ apply old.tree (page_group made) = put.tree ∙ ap (λ q. apply old.tree (page_group q)) shown in
+    let whole : IsProper (apply old.tree (page_group made)) = subst (λ q. IsProper (apply old.tree (page_group q))) shown proper in
+    let k : IsKept new.tree (kept_after kept o.rest) = subst (λ tree. IsKept tree (kept_after kept o.rest)) (sym t) (kept_still old.tree kept ticket o p is whole) in
+    let s : IsAlike (present old.tree kept) (present new.tree (kept_after kept o.rest)) = subst (λ tree. IsAlike (present old.tree kept) (present tree (kept_after kept o.rest))) (sym t) (same_after old.tree kept ticket o p is) in
+    let d : o.rest ≡ drop 1 kept.pages.dirty = rw o.dirty refl in
+    let n : length kept.pages.dirty ≡ suc (length o.rest) = ap (λ dirty. length dirty) o.dirty in
+    let spent = put.credits in
+    let whole_after : AfterPut old new kept (kept_after kept o.rest) = record { fits = k; same = s; pages = d; paid = λ le. omega (arith, le, n, spent) } in
+    subst (λ q. AfterPut old new kept (record kept { pages = q })) (sym left) whole_after
+
+filled_length : (bytes : List ℕ) (len : ℕ) → length bytes ≤ 4096 → len ≤ 4096 → length (filled bytes len) ≤ 4096
+filled_length bytes len a b =
+    let n = length-append bytes (replicate (len - length bytes) 0) in
+    let m = length-replicate {A = ℕ} (len - length bytes) 0 in
+    omega (arith, a, b, n, m)
+
+zeros_are_bytes : (n : ℕ) → are_bytes (replicate n 0) ≡ true
+zeros_are_bytes zero = refl
+zeros_are_bytes (suc n) = zeros_are_bytes n
+
+filled_bytes : (bytes : List ℕ) (len : ℕ) → are_bytes bytes ≡ true → are_bytes (filled bytes len) ≡ true
+filled_bytes bytes len h = list_all-append (λ b. nat_lt b 256) bytes (replicate (len - length bytes) 0) ∙ and_from (are_bytes bytes) (are_bytes (replicate (len - length bytes) 0)) h (zeros_are_bytes (len - length bytes))
+
+filled_some : (bytes : List ℕ) (len : ℕ) → not (is_empty bytes) ≡ true → not (is_empty (filled bytes len)) ≡ true
+filled_some [] len h = absurd cc
+filled_some (b ∷ bytes) len h = refl
+
+pub le_from : (a b : ℕ) → a ≤ b → nat_le a b ≡ true
+le_from a b h = grind (arith, nat_tests)
+
+le_to : (a b : ℕ) → nat_le a b ≡ true → a ≤ b
+le_to a b h = grind (arith, nat_tests)
+
+-- a page up to its file's end is a block
+pub filled_block : (k : ℕ × ℕ) (bytes : List ℕ) (size : ℕ) → is_block_node (k, bytes) ≡ true → is_block_node (k, filled bytes (bytes_before_end size k.1)) ≡ true
+filled_block k bytes size h =
+    let len = bytes_before_end size k.1 in
+    let a = and_parts (nat_lt k.0 4294967296 && nat_lt k.1 536870912 && not (is_empty bytes) && nat_le (length bytes) 4096) (are_bytes bytes) h in
+    let b = and_parts (nat_lt k.0 4294967296 && nat_lt k.1 536870912 && not (is_empty bytes)) (nat_le (length bytes) 4096) a.0 in
+    let d = and_parts (nat_lt k.0 4294967296 && nat_lt k.1 536870912) (not (is_empty bytes)) b.0 in
+    let short : len ≤ 4096 = omega arith in
+    let long = filled_length bytes len (le_to (length bytes) 4096 b.1) short in
+    and_from (nat_lt k.0 4294967296 && nat_lt k.1 536870912 && not (is_empty (filled bytes len)) && nat_le (length (filled bytes len)) 4096) (are_bytes (filled bytes len))
+    (and_from (nat_lt k.0 4294967296 && nat_lt k.1 536870912 && not (is_empty (filled bytes len))) (nat_le (length (filled bytes len)) 4096)
+    (and_from (nat_lt k.0 4294967296 && nat_lt k.1 536870912) (not (is_empty (filled bytes len))) d.0 (filled_some bytes len d.1))
+    (le_from (length (filled bytes len)) 4096 long))
+    (filled_bytes bytes len a.1)
+
+-- without a dirty page the inodes that are kept are those of the tree
+pub let_go : (tree : Tree) (kept : Kept) → IsKept tree kept → kept.pages.dirty ≡ [] → present tree (record kept { inodes = [] }) ≡ present tree kept
+let_go tree kept is none =
+    let same = set_same nat_cmp numbers kept.inodes tree.inodes is.proper.inodes_ascend is.ascends (λ ino inode found. is.settled ino inode found (rw none refl)) in
+    ap (λ inodes. record { tree = record tree { inodes = inodes; blocks = fold with_page tree.blocks kept.pages.dirty }; handles = kept.handles }) (sym same)
+
+pub let_go_still : (tree : Tree) (kept : Kept) → IsKept tree kept → kept.pages.dirty ≡ [] → IsKept tree (record kept { inodes = [] })
+let_go_still tree kept is none = record {
+  proper = is.proper;
+  ascends = refl;
+  inodes = λ ino inode found. absurd cc;
+  ends = λ ino inode found. absurd cc;
+  pages = rw none tt;
+  settled = λ ino inode found no. absurd cc;
+}
+
+pub same-then : (a b c : Files) → IsAlike a b → IsAlike b c → IsAlike a c
+same-then a b c f g = record {
+  inodes = f.inodes ∙ g.inodes;
+  blocks = f.blocks ∙ g.blocks;
+  entries = f.entries ∙ g.entries;
+  highest = f.highest ∙ g.highest;
+  handles = f.handles ∙ g.handles;
+}
+
+pub same-none : (a : Files) → IsAlike a a
+same-none a = record { inodes = refl; blocks = refl; entries = refl; highest = refl; handles = refl }
+
+-- what holds while dirty pages are put, with so many left
+pub record Written (x y : Outlook) (old now : BackingState) (kept still : Kept) (left : ℕ) : Type 0 where
+  pub fits : IsKept now.tree still
+  pub same : IsAlike (present old.tree kept) (present now.tree still)
+  pub paid : length still.pages.dirty ≤ now.space.credits
+  pub count : length still.pages.dirty ≡ left
+  pub few : left ≤ length kept.pages.dirty
+  pub goes : Goes (2 * (length kept.pages.dirty - left)) old now
+  pub sure : SureGoes x y old now
+
+pub written_begins : (x : Outlook) (old : BackingState) (kept : Kept) (n : ℕ) → IsKept old.tree kept → length kept.pages.dirty ≤ old.space.credits → n ≡ length kept.pages.dirty → Written x x old old kept kept n
+written_begins x old kept n is paid same =
+    let zero_more : 2 * (length kept.pages.dirty - n) ≡ 0 = omega (arith, same) in
+    record { fits = is; same = same-none (present old.tree kept); paid = paid; count = sym same; few = omega (arith, same); goes = subst (λ k. Goes k old old) (sym zero_more) (Goes-none old); sure = Sure-none x old }
+
+pub written_more : (x y z : Outlook) (old now new : BackingState) (kept still after : Kept) (left next : ℕ) → Written x y old now kept still left → next + 1 ≡ left → IsKept new.tree after
+    → IsAlike (present now.tree still) (present new.tree after) → length after.pages.dirty ≤ new.space.credits → after.pages.dirty ≡ drop 1 still.pages.dirty → Goes 2 now new → SureGoes y z now new → Written x z old new kept after next
+written_more x y z old now new kept still after left next w one fits same paid pages goes sure =
+    let n : length after.pages.dirty ≡ length still.pages.dirty - 1 = ap (λ dirty. length dirty) pages ∙ length-drop 1 still.pages.dirty in
+    let count = w.count in
+    let few = w.few in
+    let more : 2 * (length kept.pages.dirty - left) + 2 ≡ 2 * (length kept.pages.dirty - next) = omega (arith, one, few) in
+    record {
+      fits = fits;
+      same = same-then (present old.tree kept) (present now.tree still) (present new.tree after) w.same same;
+      paid = paid;
+      count = omega (arith, n, count, one);
+      few = omega (arith, few, one);
+      goes = subst (λ k. Goes k old new) more (Goes-then (2 * (length kept.pages.dirty - left)) 2 old now new w.goes goes);
+      sure = Sure-then x y z old now new w.sure sure;
+    }
+
+pub none_left : (dirty : DirtyPages) (n : ℕ) → length dirty ≡ n → n ≡ 0 → dirty ≡ []
+none_left [] n h z = refl
+none_left (e ∷ dirty) n h z = absurd (omega (arith, h, z))
+
+-- the page is one that fits its file
+pub is_file_page : (tree : Tree) (kept : Kept) (ticket : Ticket) (page : PageNode) (o : Oldest kept.pages ticket) (p : Putting tree kept ticket o) → page ≡ page_of ((ticket.ino, ticket.block), o.page) p.inode → IsFilePage tree page
+is_file_page tree kept ticket page o p shown = subst (λ q. IsFilePage tree q) (sym shown) record {
+  file = rw (p.fits.below.1, p.fits.below.2) refl;
+  kind = λ old found. p.fits.kind ∙ sym (kind_of old found);
+  links = λ old found. links_of old found;
+  inode = p.fits.node;
+  block = filled_block (ticket.ino, ticket.block) o.page.bytes p.inode.size p.block;
+}
+  where
+    one : (old : Inode) → inode_at tree ticket.ino ≡ Some old → p.fits.below.0 ≡ old
+    one old found = let e : Some p.fits.below.0 ≡ Some old = sym p.fits.below.1 ∙ found in cc e
+
+    kind_of : (old : Inode) → inode_at tree ticket.ino ≡ Some old → old.kind ≡ File
+    kind_of old found = ap (λ i. i.kind) (sym (one old found)) ∙ p.fits.below.2
+
+    links_of : (old : Inode) → inode_at tree ticket.ino ≡ Some old → p.inode.nlink ≡ old.nlink
+    links_of old found = sym p.fits.below.3 ∙ ap (λ i. i.nlink) (one old found)

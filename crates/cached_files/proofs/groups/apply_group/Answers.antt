@@ -1,0 +1,33 @@
+use Rattle.std.proofs.Common.{◌*◌, length}
+use Rattle.fs_model.specs.declared.space.Grant.{Grant}
+use Rattle.cached_files.specs.Present.{present}
+use Rattle.cached_files.proofs.Applied.{built_alike, bytes_alike, all_names_later, alike_put}
+use Rattle.cached_files.specs.CallLaws.{Goes-then}
+use Rattle.cached_files.proofs.groups.apply_group.Goals as goal
+
+pub put_group-requires-clause-granted : goal.put_group-requires-clause-granted
+put_group-requires-clause-granted g c =
+    let now = g.B.Backing.state c.admit.new.backing in
+    let before = present (g.B.Backing.state c.args.backing.now).tree c.args.kept.now in
+    let seen = present now.tree c.admit.new.kept in
+    let alike = c.admit.ensures.same in
+    let grant : Grant = record { bytes = c.args.need.now.bytes; nodes = c.args.need.now.nodes } in
+    let proper = c.present_files_are_sound.ensures.proper now.tree c.admit.new.kept c.admit.ensures.kept in
+    (grant, c.in_ok-admit.ensures.grant, c.groups_fit_trees_built_alike.ensures before.tree seen.tree grant c.args.group.now (built_alike before seen alike) (bytes_alike before seen alike) proper c.requires.fits)
+
+pub put_group-requires-clause-names : goal.put_group-requires-clause-names
+put_group-requires-clause-names g c = all_names_later c.args.kept.now c.admit.new.kept c.args.group.now c.in_ok-admit.ensures.inodes c.requires.names
+
+pub returns-in-Ok-clause-ok : goal.returns-in-Ok-clause-ok
+returns-in-Ok-clause-ok g c =
+    let before = present (g.B.Backing.state c.args.backing.now).tree c.args.kept.now in
+    let seen = present (g.B.Backing.state c.admit.new.backing).tree c.admit.new.kept in
+    alike_put c.args.kept.now c.args.group.now before seen (present (g.B.Backing.state c.put_group.new.backing).tree c.put_group.new.kept) c.requires.names c.admit.ensures.same c.in-Ok.ensures.ok
+
+pub returns-in-Ok-clause-goes : goal.returns-in-Ok-clause-goes
+returns-in-Ok-clause-goes g c =
+    Goes-then (2 * length c.args.kept.now.pages.dirty) (length c.args.group.now) (g.B.Backing.state c.args.backing.now) (g.B.Backing.state c.admit.new.backing) (g.B.Backing.state c.put_group.new.backing) c.admit.ensures.goes c.put_group.ensures.goes
+
+pub returns-in-Err-clause-goes : goal.returns-in-Err-clause-goes
+returns-in-Err-clause-goes g c =
+    Goes-then (2 * length c.args.kept.now.pages.dirty) (length c.args.group.now) (g.B.Backing.state c.args.backing.now) (g.B.Backing.state c.admit.new.backing) (g.B.Backing.state c.put_group.new.backing) c.admit.ensures.goes c.put_group.ensures.goes

@@ -1,0 +1,12 @@
+use Rattle.cached_files.specs.Present.{present}
+use Rattle.cached_files.proofs.Alike.{tree_alike, present_nodes}
+use Rattle.cached_files.proofs.law.present_files_are_sound.Goals as goal
+
+pub returns-clause-proper : goal.returns-clause-proper
+returns-clause-proper c tree kept is = c.trees_built_alike_are_proper.ensures.proper tree (present tree kept).tree is.proper (tree_alike tree kept is) (present_nodes tree kept is)
+
+pub returns-clause-sound : goal.returns-clause-sound
+returns-clause-sound c tree kept is files = record {
+  proper = c.trees_built_alike_are_proper.ensures.proper tree (present tree kept).tree is.proper (tree_alike tree kept is) (present_nodes tree kept is);
+  handles = c.trees_built_alike_are_proper.ensures.handles tree (present tree kept).tree kept.handles (tree_alike tree kept is) files;
+}

@@ -1,0 +1,23 @@
+use Rattle.std.proofs.Common.{◌≡◌, length, min, sym, subst, ◌∙◌}
+use Rattle.fs_model.specs.Files.{Tree, block_at}
+use Rattle.cached_files.proofs.Ends.{found_end, no_end}
+use Rattle.cached_files.specs.CallLaws.{Goes-then}
+use Rattle.cached_files.proofs.Reading.{Reads-tree}
+use Rattle.cached_files.proofs.reads.blocks_end.Goals as goal
+
+pub returns-in_ok-stored-in-Some-clause-end : goal.returns-in_ok-stored-in-Some-clause-end
+returns-in_ok-stored-in-Some-clause-end g c =
+    let old = g.B.Backing.state c.args.backing.now in
+    let blocks = old.tree.blocks in
+    let P : Tree → Type 0 = λ tree. c.in_ok-stored-in-Some.stored ≡ min (length (block_at tree.blocks c.args.ino c.in-Some.block)) 4096 in
+    let stored = subst P (Reads-tree old (g.B.Backing.state c.last_block.new.self) c.last_block.ensures.reads) c.in_ok-stored-in-Some.ensures.found.0 in
+    sym (found_end blocks c.args.ino c.in-Some.block c.in_ok-stored-in-Some.stored c.requires.blocks_ascend c.requires.block_nodes (sym c.in_ok-block.ensures.found ∙ c.in-Some.is) stored)
+
+pub returns-in_ok-stored-in-Some-clause-goes : goal.returns-in_ok-stored-in-Some-clause-goes
+returns-in_ok-stored-in-Some-clause-goes g c =
+    Goes-then 0 0 (g.B.Backing.state c.args.backing.now) (g.B.Backing.state c.last_block.new.self) (g.B.Backing.state c.read_block.new.self) c.last_block.ensures.goes c.read_block.ensures.goes
+
+pub returns-in-None-clause-end : goal.returns-in-None-clause-end
+returns-in-None-clause-end g c =
+    let blocks = (g.B.Backing.state c.args.backing.now).tree.blocks in
+    sym (no_end blocks c.args.ino c.requires.blocks_ascend c.requires.block_nodes (sym c.in_ok-block.ensures.found ∙ c.in-None.is))

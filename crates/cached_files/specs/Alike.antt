@@ -1,0 +1,12 @@
+-- When pages were put between two states of the files, and nothing else was done.
+use Rattle.std.specs.Prelude.{◌≡◌}
+use Rattle.fs_model.specs.Files.{Files}
+use Rattle.fs_model.specs.Same.{trimmed_blocks}
+
+-- Nothing differs but zeros at the ends of blocks, which are read where nothing stands. Such files are the same to every caller.
+pub record IsAlike (a b : Files) : Type 0 where
+  pub inodes : a.tree.inodes ≡ b.tree.inodes
+  pub blocks : trimmed_blocks a.tree.blocks ≡ trimmed_blocks b.tree.blocks
+  pub entries : a.tree.entries ≡ b.tree.entries
+  pub highest : a.tree.highest ≡ b.tree.highest
+  pub handles : a.handles ≡ b.handles

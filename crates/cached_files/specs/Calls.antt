@@ -1,0 +1,42 @@
+-- What several calls of a backing, one after another, answer and leave.
+use Rattle.std.specs.Prelude.{◌≡◌, ◌⊎◌, ◌<◌, None, Result, Err, []}
+use Rattle.fs_model.specs.declared.backing_answers.Mode.TheVariants.{ReadOnly}
+use Rattle.fs_model.specs.declared.backing_answers.StoreFault.{StoreFault}
+use Rattle.fs_model.specs.declared.backing_answers.StoreFault.TheVariants.{Memory, Volume, ReadOnly as IsReadOnly}
+use Rattle.fs_model.specs.declared.refusal.Refusal.{Refusal}
+use Rattle.fs_model.specs.declared.refusal.Refusal.TheVariants.{Enospc, Erofs, Eio, Enomem}
+use Rattle.fs_model.specs.declared.space.Need.{Need}
+use Rattle.fs_model.specs.Backing.{BackingState, Outlook, Rose}
+use Rattle.fs_model.specs.Cover.{needed, room_for}
+use Rattle.cached_files.specs.declared.kept.Kept.{Kept}
+
+-- an answer that the backing is read-only tells its mode
+abbrev pub TellsMode : {T : Type 0} → BackingState → Result T StoreFault → Type 0
+TellsMode new (Err (IsReadOnly cause)) = new.mode ≡ ReadOnly cause
+TellsMode new result = Unit {0}
+
+-- where the volume was sure it still is, and didn't fail; or it is spent now
+pub record SureGoes (before after : Outlook) (old new : BackingState) : Type 0 where
+  pub sure : before.sure → after.spent ⊎ (after.sure × (new.faults ≡ old.faults))
+  pub spent : before.spent → after.spent
+
+-- a commit has ended that began after all else was put: none runs, and no node was put since its start
+pub record HasCommitted (state : BackingState) : Type 0 where
+  pub running : state.journal.running ≡ None
+  pub nodes : state.journal.nodes ≡ 0
+
+-- Why nothing was admitted: the test fails, with no page dirty and a commit ended; or a call of the backing failed.
+abbrev pub IsWithoutRoom : BackingState → BackingState → Kept → Need → Refusal → Type 0
+IsWithoutRoom old new kept need (Enospc space) =
+    (space.need ≡ needed new.space need) × (space.room ≡ room_for new.geometry new.space need) × (space.room < space.need)
+    × (kept.pages.dirty ≡ []) × HasCommitted new
+IsWithoutRoom old new kept need (Eio count) = Rose old.faults new.faults × (count ≡ new.faults)
+IsWithoutRoom old new kept need (Erofs cause) = new.mode ≡ ReadOnly cause
+IsWithoutRoom old new kept need Enomem = Unit {0}
+IsWithoutRoom old new kept need refusal = ⊥
+
+-- the refusal that tells a backing's fault
+abbrev pub refusal_of : StoreFault → Refusal
+refusal_of Memory = Enomem
+refusal_of (Volume count) = Eio count
+refusal_of (IsReadOnly cause) = Erofs cause

@@ -1,0 +1,43 @@
+-- What is kept follows the changes that a backing made of its tree.
+use Rattle.std.specs.Prelude.{◌≡◌, Bool, true, false, Some, List, fold}
+use Rattle.std.specs.List.{AllByRecursion}
+use Rattle.std.specs.BTreeMap.{is_at}
+use Rattle.std.specs.Map.{lookup, set_value, remove_entry}
+use Rattle.std.specs.Ordering.{nat_cmp}
+use Rattle.fs_model.specs.declared.change.Change.{Change}
+use Rattle.fs_model.specs.declared.change.Change.TheVariants.{SetInode, SetBlock, CutBlocks, DropInode}
+use Rattle.fs_model.specs.declared.inode.Inode.{Inode}
+use Rattle.page_cache.specs.Pages.{without_cut}
+use Rattle.cached_files.specs.declared.kept.Kept.{Kept}
+
+-- whether an inode is set or goes
+abbrev pub is_of_inode : Change → Bool
+is_of_inode (SetInode ino inode) = true
+is_of_inode (DropInode ino) = true
+is_of_inode change = false
+
+-- an inode that is kept is set, and one that goes is let go with its pages
+abbrev pub follow : Kept → Change → Kept
+follow kept (SetInode ino inode) = record kept { inodes = set_value (is_at (nat_cmp ino)) kept.inodes inode }
+follow kept (DropInode ino) = record kept { inodes = remove_entry (is_at (nat_cmp ino)) kept.inodes; pages = without_cut kept.pages ino 0 }
+follow kept change = kept
+
+-- what is kept after a group
+abbrev pub followed : Kept → List Change → Kept
+followed kept group = fold follow kept group
+
+-- an inode that is kept is set to one of its kind and size
+pub record KeepsSize (old new : Inode) : Type 0 where
+  pub kind : new.kind ≡ old.kind
+  pub size : new.size ≡ old.size
+
+-- a change of inodes or names that leaves the kind and the size of each inode that is kept
+abbrev pub IsOfNames : Kept → Change → Type 0
+IsOfNames kept (SetInode ino inode) = (old : Inode) → lookup (is_at (nat_cmp ino)) kept.inodes ≡ Some old → KeepsSize old inode
+IsOfNames kept (SetBlock ino block bytes) = ⊥
+IsOfNames kept (CutBlocks ino old_size new_size) = ⊥
+IsOfNames kept change = Unit {0}
+
+-- a group of such changes
+abbrev pub AreOfNames : Kept → List Change → Type 0
+AreOfNames kept group = AllByRecursion (IsOfNames kept) group

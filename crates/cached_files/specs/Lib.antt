@@ -1,0 +1,5 @@
+pub mod Alike
+pub mod Calls
+pub mod Follow
+pub mod Present
+pub mod CallLaws

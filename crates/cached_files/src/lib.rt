@@ -1,0 +1,30 @@
+//! What are the files, where pages of them are written in memory and not yet put? A backing keeps a tree; in front of it
+//! stand the dirty pages with the inodes of their files, and who has which file open. The present files are the backing's
+//! tree under what is kept here. The idea: a write changes what is kept and leaves the backing alone, a put moves a page
+//! down without a change that a caller sees, and what is kept follows a group of changes that is put. The invariant
+//! (`IsKept`): each dirty page has its file's inode beside it, that inode fits the file in the tree, and each dirty page
+//! is paid by a credit that the backing covers.
+#![tactic(auto)]
+
+mod admission;
+mod commits;
+mod dirty_inodes;
+mod groups;
+mod handles;
+mod kept;
+mod law;
+mod put;
+mod reads;
+mod writes;
+mod written_pages;
+
+pub use crate::admission::{admit, make_room, refusal_of};
+pub use crate::commits::commit;
+pub use crate::dirty_inodes::DirtyInodes;
+pub use crate::groups::{apply_group, put_group};
+pub use crate::handles::Handles;
+pub use crate::kept::Kept;
+pub use crate::law::{alike_files_are_the_same, present_files_are_sound};
+pub use crate::put::{put_oldest, write_back};
+pub use crate::reads::{bytes, inode, size};
+pub use crate::writes::{newly, write};

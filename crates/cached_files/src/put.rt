@@ -1,0 +1,110 @@
+// Dirty pages are put.
+
+ghost use Rattle.std.specs.Prelude.{◌≡◌, ◌*◌, [], ◌<◌, ◌≤◌, nat_lt, is_some, true, Some, IfOk, OnOk, OnErr, length, drop};
+ghost use Rattle.std.specs.Map.{lookup};
+ghost use Rattle.std.specs.BTreeMap.{is_at};
+ghost use Rattle.std.specs.Ordering.{nat_cmp};
+ghost use Rattle.page_cache.specs.Pages.{dirty_at};
+ghost use Rattle.fs_model.specs.Backing.{Goes, HasCause};
+ghost use Rattle.cached_files.specs.Alike.{IsAlike};
+ghost use Rattle.cached_files.specs.Calls.{SureGoes, TellsMode};
+ghost use Rattle.cached_files.specs.Present.{IsKept, present, page_of, filled};
+
+use crate::kept::Kept;
+use fs_laws::a_page_keeps_trees_proper;
+use fs_model::{Backing, PageNode, StoreFault};
+use page_cache::Ticket;
+use std::alloc::Global;
+use ubifs_base::{Bytes, Memory};
+
+/// Puts the page that became dirty first, with its bytes up to the file's end and the inode as it is now, and answers
+/// whether there was one. After a fault the page is dirty and paid as before.
+pub fn put_oldest<B: Backing>(
+    alloc: Global,
+    backing: &mut B,
+    kept: &mut Kept,
+) -> Result<bool, StoreFault>
+    requires kept { IsKept (B.state backing.old).tree kept.old }
+    requires paid { length kept.old.pages.dirty ≤ (B.state backing.old).space.credits }
+    ensures kept { IsKept (B.state backing.new).tree kept.new }
+    ensures paid { length kept.new.pages.dirty ≤ (B.state backing.new).space.credits }
+    ensures same { IsAlike (present (B.state backing.old).tree kept.old) (present (B.state backing.new).tree kept.new) }
+    ensures put { IfOk result (λ put. put ≡ nat_lt 0 (length kept.old.pages.dirty)) }
+    ensures pages { OnOk result (kept.new.pages.dirty ≡ drop 1 kept.old.pages.dirty) }
+    ensures err { OnErr result (kept.new ≡ kept.old) }
+    ensures goes { Goes 2 (B.state backing.old) (B.state backing.new) }
+    ensures cause { HasCause (B.state backing.old) (B.state backing.new) result }
+    ensures mode { TellsMode (B.state backing.new) result }
+    ensures sure { SureGoes (B.outlook backing.old) (B.outlook backing.new) (B.state backing.old) (B.state backing.new) }
+{
+    match kept.pages.oldest() {
+        Some(ticket) => {
+            let page = page_node(alloc, kept, &ticket)?;
+            a_page_keeps_trees_proper();
+            backing.put_page(&page)?;
+            kept.pages.mark_clean(&ticket);
+            Ok(true)
+        }
+        None => Ok(false),
+    }
+}
+
+/// Puts all dirty pages, the one that became dirty first in front. After a fault those that weren't put are dirty and paid
+/// as before.
+pub fn write_back<B: Backing>(
+    alloc: Global,
+    backing: &mut B,
+    kept: &mut Kept,
+) -> Result<(), StoreFault>
+    requires kept { IsKept (B.state backing.old).tree kept.old }
+    requires paid { length kept.old.pages.dirty ≤ (B.state backing.old).space.credits }
+    ensures kept { IsKept (B.state backing.new).tree kept.new }
+    ensures paid { length kept.new.pages.dirty ≤ (B.state backing.new).space.credits }
+    ensures same { IsAlike (present (B.state backing.old).tree kept.old) (present (B.state backing.new).tree kept.new) }
+    ensures pages { OnOk result (kept.new.pages.dirty ≡ []) }
+    ensures inodes { OnOk result (kept.new.inodes ≡ []) }
+    ensures goes { Goes (2 * length kept.old.pages.dirty) (B.state backing.old) (B.state backing.new) }
+    ensures cause { HasCause (B.state backing.old) (B.state backing.new) result }
+    ensures mode { TellsMode (B.state backing.new) result }
+    ensures sure { SureGoes (B.outlook backing.old) (B.outlook backing.new) (B.state backing.old) (B.state backing.new) }
+{
+    let mut left = kept.pages.dirty();
+    while left > 0 {
+        left -= 1;
+        put_oldest(alloc, backing, kept)?;
+    }
+    kept.inodes.clear();
+    Ok(())
+}
+
+// The page of a ticket as it is put.
+fn page_node(alloc: Global, kept: &Kept, ticket: &Ticket) -> Result<PageNode, Memory>
+    requires inode { is_some (lookup (is_at (nat_cmp ticket.now.ino)) kept.now.inodes) ≡ true }
+    requires page { is_some (dirty_at kept.now.pages ticket.now.ino ticket.now.block) ≡ true }
+    ensures { IfOk result (λ page. (inode : _) (dirty : _) → lookup (is_at (nat_cmp ticket.now.ino)) kept.now.inodes ≡ Some inode → dirty_at kept.now.pages ticket.now.ino ticket.now.block ≡ Some dirty
+        → page ≡ page_of ((ticket.now.ino, ticket.now.block), dirty) inode) }
+{
+    let inode = kept.inodes.get(ticket.ino).unwrap();
+    let dirty = kept.pages.dirty_page(ticket.ino, ticket.block).unwrap();
+    let start = 4096 * (ticket.block as u64);
+    let len = inode.size.saturating_sub(start).min(4096) as usize;
+    Ok(PageNode {
+        ino: ticket.ino,
+        block: ticket.block,
+        bytes: filled(alloc, &dirty.bytes, len)?,
+        inode: inode.clone()?,
+    })
+}
+
+// Bytes with zeros up to this length.
+fn filled(alloc: Global, bytes: &Bytes, len: usize) -> Result<Bytes, Memory>
+    ensures { IfOk result (λ new. new ≡ filled bytes.now len) }
+{
+    let old = bytes.as_slice();
+    let mut new = Vec::with_capacity(alloc, len.max(old.len()))?;
+    new.extend_from_slice(old)?;
+    if old.len() < len {
+        new.resize(len, 0)?;
+    }
+    Ok(Bytes::from_vec(new))
+}

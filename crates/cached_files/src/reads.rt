@@ -1,0 +1,186 @@
+// Files are read: what is kept of them, and else what the backing has.
+
+ghost use Rattle.std.specs.Prelude.{◌≡◌, ◌+◌, ◌^◌, ◌<◌, ◌≤◌, ◌%◌, ◌++◌, Some, IfOk, OnOk, length};
+ghost use Rattle.fs_model.specs.Backing.{Goes, HasCause, IsNotReadOnly, Reads};
+ghost use Rattle.fs_model.specs.Files.{block_at, blocks_end, bytes_from, inode_at, size_of};
+ghost use Rattle.fs_model.specs.Proper.{IsProper};
+ghost use Rattle.cached_files.specs.Calls.{SureGoes};
+ghost use Rattle.cached_files.specs.Present.{IsKept, filled, present};
+
+use crate::kept::Kept;
+use fs_model::{BLOCK_SIZE, Backing, Inode, StoreFault};
+use std::alloc::{AllocError, Global};
+use ubifs_base::Bytes;
+
+/// The inode of a number: the one that is kept, else the backing's.
+pub fn inode<B: Backing>(
+    backing: &mut B,
+    kept: &Kept,
+    ino: u32,
+) -> Result<Option<Inode>, StoreFault>
+    requires { IsKept (B.state backing.old).tree kept.now }
+    ensures found { IfOk result (λ found. found ≡ inode_at (present (B.state backing.old).tree kept.now).tree ino) }
+    ensures reads { Reads (B.state backing.old) (B.state backing.new) }
+    ensures goes { Goes 0 (B.state backing.old) (B.state backing.new) }
+    ensures cause { HasCause (B.state backing.old) (B.state backing.new) result }
+    ensures mode { IsNotReadOnly result }
+    ensures sure { SureGoes (B.outlook backing.old) (B.outlook backing.new) (B.state backing.old) (B.state backing.new) }
+{
+    match kept.inodes.get(ino) {
+        Some(inode) => Ok(Some(copy_of(inode)?)),
+        None => backing.inode(ino),
+    }
+}
+
+// An inode, once more.
+pub(crate) fn copy_of(inode: &Inode) -> Result<Inode, AllocError>
+    ensures { IfOk result (λ copy. copy ≡ inode.now) }
+{
+    inode.clone()
+}
+
+/// The size of a file in bytes, of which this is the inode: the greater of the inode's size and the end of its last block.
+pub fn size<B: Backing>(
+    backing: &mut B,
+    kept: &Kept,
+    ino: u32,
+    inode: &Inode,
+) -> Result<u64, StoreFault>
+    requires kept { IsKept (B.state backing.old).tree kept.now }
+    requires present { inode_at (present (B.state backing.old).tree kept.now).tree ino ≡ Some inode.now }
+    ensures size { IfOk result (λ size. size ≡ size_of (present (B.state backing.old).tree kept.now).tree ino inode.now) }
+    ensures reads { Reads (B.state backing.old) (B.state backing.new) }
+    ensures goes { Goes 0 (B.state backing.old) (B.state backing.new) }
+    ensures cause { HasCause (B.state backing.old) (B.state backing.new) result }
+    ensures mode { IsNotReadOnly result }
+    ensures sure { SureGoes (B.outlook backing.old) (B.outlook backing.new) (B.state backing.old) (B.state backing.new) }
+{
+    match kept.inodes.get(ino) {
+        Some(_) => Ok(inode.size),
+        None => {
+            let end = blocks_end(backing, ino)?;
+            Ok(inode.size.max(end))
+        }
+    }
+}
+
+// Where the last block of an inode ends in the backing.
+fn blocks_end<B: Backing>(backing: &mut B, ino: u32) -> Result<u64, StoreFault>
+    requires { IsProper (B.state backing.old).tree }
+    ensures end { IfOk result (λ end. end ≡ blocks_end (B.state backing.old).tree.blocks ino) }
+    ensures reads { Reads (B.state backing.old) (B.state backing.new) }
+    ensures goes { Goes 0 (B.state backing.old) (B.state backing.new) }
+    ensures cause { HasCause (B.state backing.old) (B.state backing.new) result }
+    ensures mode { IsNotReadOnly result }
+    ensures sure { SureGoes (B.outlook backing.old) (B.outlook backing.new) (B.state backing.old) (B.state backing.new) }
+{
+    match backing.last_block(ino)? {
+        Some(block) => {
+            let mut page = [0; 4096];
+            let stored = backing.read_block(ino, block, &mut page)?;
+            Ok(BLOCK_SIZE * block as u64 + stored as u64)
+        }
+        None => Ok(0),
+    }
+}
+
+/// Reads a block of a file into 4,096 bytes, with zeros past its end, and answers how many bytes it has: none where there
+/// is no such block.
+pub(crate) fn read_page<B: Backing>(
+    backing: &mut B,
+    kept: &Kept,
+    ino: u32,
+    block: u64,
+    out: &mut [u8],
+) -> Result<u32, StoreFault>
+    requires kept { IsKept (B.state backing.old).tree kept.now }
+    requires out { length out.old ≡ 4096 }
+    ensures stored { IfOk result (λ stored. stored ≡ length (block_at (present (B.state backing.old).tree kept.now).tree.blocks ino block)) }
+    ensures few { IfOk result (λ stored. stored ≤ 4096) }
+    ensures bytes { OnOk result (out.new ≡ filled (block_at (present (B.state backing.old).tree kept.now).tree.blocks ino block) 4096) }
+    ensures reads { Reads (B.state backing.old) (B.state backing.new) }
+    ensures goes { Goes 0 (B.state backing.old) (B.state backing.new) }
+    ensures cause { HasCause (B.state backing.old) (B.state backing.new) result }
+    ensures mode { IsNotReadOnly result }
+    ensures sure { SureGoes (B.outlook backing.old) (B.outlook backing.new) (B.state backing.old) (B.state backing.new) }
+{
+    // Its proof knows from this that no page is dirty twice.
+    let _dirty = kept.pages.dirty();
+    if block > u32::MAX as u64 {
+        fill_with(out, &[]);
+        return Ok(0);
+    }
+    let block = block as u32;
+    match kept.pages.dirty_page(ino, block) {
+        Some(dirty) => {
+            let bytes = dirty.bytes.as_slice();
+            fill_with(out, bytes);
+            Ok(bytes.len() as u32)
+        }
+        None => backing.read_block(ino, block, out),
+    }
+}
+
+// The bytes, and zeros behind them.
+fn fill_with(out: &mut [u8], bytes: &[u8])
+    requires { length bytes.now ≤ length out.old }
+    ensures { out.new ≡ filled bytes.now (length out.old) }
+{
+    let (front, back) = out.split_at_mut(bytes.len());
+    front.copy_from_slice(bytes);
+    back.fill(0);
+}
+
+/// Reads so many bytes from a place of a file on, with zeros where no block has one.
+pub fn bytes<B: Backing>(
+    alloc: Global,
+    backing: &mut B,
+    kept: &Kept,
+    ino: u32,
+    offs: u64,
+    n: u32,
+) -> Result<Bytes, StoreFault>
+    requires kept { IsKept (B.state backing.old).tree kept.now }
+    requires range { offs + n < 2 ^ 64 }
+    ensures bytes { IfOk result (λ bytes. bytes ≡ bytes_from (present (B.state backing.old).tree kept.now).tree.blocks ino offs n) }
+    ensures reads { Reads (B.state backing.old) (B.state backing.new) }
+    ensures goes { Goes 0 (B.state backing.old) (B.state backing.new) }
+    ensures cause { HasCause (B.state backing.old) (B.state backing.new) result }
+    ensures mode { IsNotReadOnly result }
+    ensures sure { SureGoes (B.outlook backing.old) (B.outlook backing.new) (B.state backing.old) (B.state backing.new) }
+{
+    let n = n as usize;
+    let mut out = Vec::with_capacity(alloc, n)?;
+    let mut place = offs;
+    while out.len() < n {
+        let count = (BLOCK_SIZE - place % BLOCK_SIZE).min((n - out.len()) as u64);
+        push_bytes(backing, kept, ino, place, count as usize, &mut out)?;
+        place += count;
+    }
+    Ok(Bytes::from_vec(out))
+}
+
+// Appends so many bytes of one page, from a place of the file on.
+fn push_bytes<B: Backing>(
+    backing: &mut B,
+    kept: &Kept,
+    ino: u32,
+    place: u64,
+    count: usize,
+    out: &mut Vec<u8>,
+) -> Result<(), StoreFault>
+    requires kept { IsKept (B.state backing.old).tree kept.now }
+    requires page { place % 4096 + count ≤ 4096 }
+    ensures bytes { OnOk result (out.new.items ≡ out.old.items ++ bytes_from (present (B.state backing.old).tree kept.now).tree.blocks ino place count) }
+    ensures reads { Reads (B.state backing.old) (B.state backing.new) }
+    ensures goes { Goes 0 (B.state backing.old) (B.state backing.new) }
+    ensures cause { HasCause (B.state backing.old) (B.state backing.new) result }
+    ensures mode { IsNotReadOnly result }
+    ensures sure { SureGoes (B.outlook backing.old) (B.outlook backing.new) (B.state backing.old) (B.state backing.new) }
+{
+    let from = (place % BLOCK_SIZE) as usize;
+    let mut page = [0; 4096];
+    read_page(backing, kept, ino, place / BLOCK_SIZE, &mut page)?;
+    out.extend_from_slice(&page[from..from + count])?;
+    Ok(())
+}
