@@ -1,0 +1,119 @@
+// Paths are walked.
+
+ghost use Rattle.std.specs.Prelude.{◌≡◌, ◌⊎◌, Ok, Err, IfOk, IfErr};
+ghost use Rattle.fs_model.specs.Path.{child, components, last_of, only_dir, parent_of, reached, root_entry, walked};
+ghost use Rattle.cached_files.specs.Present.{present};
+ghost use Rattle.vfs_plans.specs.Answers.{IsRefused, Looks};
+
+use crate::faults::or_memory;
+use crate::place::Place;
+use cached_files::{Kept, refusal_of};
+use fs_model::{Backing, Entry, Kind, Refusal};
+use op_plans::{components, pop_last};
+use std::alloc::Global;
+use ubifs_base::Name;
+
+/// The entry to which names lead from the root, each in the directory before it; the root's own entry where there are none.
+pub fn walk<B: Backing>(
+    alloc: Global,
+    backing: &mut B,
+    kept: &Kept,
+    names: &[Name],
+) -> Result<Entry, Refusal>
+    ensures found { IfOk result (λ entry. reached (present (B.state backing.old).tree kept.now).tree (Ok root_entry) names.now ≡ Ok entry) }
+    ensures refused { IfErr result (IsRefused (B.state backing.old) (B.state backing.new) (reached (present (B.state backing.old).tree kept.now).tree (Ok root_entry) names.now)) }
+    ensures looks { Looks (B.outlook backing.old) (B.outlook backing.new) (B.state backing.old) (B.state backing.new) }
+{
+    let mut at = root(alloc);
+    let mut done = 0;
+    while done < names.len() {
+        at = child(backing, kept, &at, &names[done])?;
+        done += 1;
+    }
+    Ok(at)
+}
+
+/// The directory to which names lead.
+pub fn parent_of<B: Backing>(
+    alloc: Global,
+    backing: &mut B,
+    kept: &Kept,
+    names: &[Name],
+) -> Result<Entry, Refusal>
+    ensures found { IfOk result (λ entry. only_dir (reached (present (B.state backing.old).tree kept.now).tree (Ok root_entry) names.now) ≡ Ok entry) }
+    ensures refused { IfErr result (IsRefused (B.state backing.old) (B.state backing.new) (only_dir (reached (present (B.state backing.old).tree kept.now).tree (Ok root_entry) names.now))) }
+    ensures looks { Looks (B.outlook backing.old) (B.outlook backing.new) (B.state backing.old) (B.state backing.new) }
+{
+    let at = walk(alloc, backing, kept, names)?;
+    match at.kind {
+        Kind::Dir => Ok(at),
+        _ => Err(Refusal::Enotdir),
+    }
+}
+
+/// The entry that a path names.
+pub fn walked<B: Backing>(
+    alloc: Global,
+    backing: &mut B,
+    kept: &Kept,
+    path: &Name,
+) -> Result<Entry, Refusal>
+    ensures found { IfOk result (λ entry. walked (present (B.state backing.old).tree kept.now).tree path.now ≡ Ok entry) }
+    ensures refused { IfErr result (IsRefused (B.state backing.old) (B.state backing.new) (walked (present (B.state backing.old).tree kept.now).tree path.now)) }
+    ensures looks { Looks (B.outlook backing.old) (B.outlook backing.new) (B.state backing.old) (B.state backing.new) }
+{
+    let names = or_memory(components(alloc, path))?;
+    walk(alloc, backing, kept, &names)
+}
+
+/// The place of a path: the directory in which its last component stands, and that component.
+pub(crate) fn place_of<B: Backing>(
+    alloc: Global,
+    backing: &mut B,
+    kept: &Kept,
+    path: &Name,
+) -> Result<Place, Refusal>
+    ensures found { IfOk result (λ place. parent_of (present (B.state backing.old).tree kept.now).tree path.now ≡ Ok place.parent) }
+    ensures last { IfOk result (λ place. place.name ≡ last_of (components path.now)) }
+    ensures refused { IfErr result (IsRefused (B.state backing.old) (B.state backing.new) (parent_of (present (B.state backing.old).tree kept.now).tree path.now)) }
+    ensures looks { Looks (B.outlook backing.old) (B.outlook backing.new) (B.state backing.old) (B.state backing.new) }
+{
+    let mut names = or_memory(components(alloc, path))?;
+    let name = pop_last(&mut names).unwrap_or(Name::from_vec(Vec::new(alloc)));
+    let parent = parent_of(alloc, backing, kept, &names)?;
+    Ok(Place { parent, name })
+}
+
+// The entry that `/` stands for.
+fn root(alloc: Global) -> Entry
+    ensures { result ≡ root_entry }
+{
+    Entry {
+        dir: 1,
+        name: Name::from_vec(Vec::new(alloc)),
+        ino: 1,
+        kind: Kind::Dir,
+    }
+}
+
+// One name further, below a directory.
+fn child<B: Backing>(
+    backing: &mut B,
+    kept: &Kept,
+    at: &Entry,
+    name: &Name,
+) -> Result<Entry, Refusal>
+    ensures found { IfOk result (λ entry. child (present (B.state backing.old).tree kept.now).tree name.now (Ok at.now) ≡ Ok entry) }
+    ensures refused { IfErr result (IsRefused (B.state backing.old) (B.state backing.new) (child (present (B.state backing.old).tree kept.now).tree name.now (Ok at.now))) }
+    ensures looks { Looks (B.outlook backing.old) (B.outlook backing.new) (B.state backing.old) (B.state backing.new) }
+{
+    match at.kind {
+        Kind::Dir => {}
+        _ => return Err(Refusal::Enotdir),
+    }
+    match backing.lookup(at.ino, name) {
+        Ok(Some(entry)) => Ok(entry),
+        Ok(None) => Err(Refusal::Enoent),
+        Err(fault) => Err(refusal_of(fault)),
+    }
+}
