@@ -1,0 +1,142 @@
+use Rattle.std.proofs.Common.{◌≡◌, ◌∙◌, rules, refl, true, length, sym, ap, subst, List}
+use Rattle.std.specs.Prelude.{◌==◌}
+use Rattle.fs_model.specs.declared.change.Change.{Change}
+use Rattle.fs_model.specs.declared.space.Grant.{Grant}
+use Rattle.fs_model.specs.Backing.{FitsGroup, IsModest}
+use Rattle.fs_model.specs.Need.{need_of}
+use Rattle.fs_model.specs.Operation.{group_of, outcome_of}
+use Rattle.cached_files.specs.Present.{present}
+use Rattle.vfs_ops.proofs.Groups.{AreFitting, group_fits, leaves, names_kept}
+use Rattle.vfs_ops.proofs.States.{both, tree_on}
+use Rattle.vfs_ops.proofs.Takes.{alike_on, alike_sound, sound_done, sound_on, fits_on, goes_looked, goes_whole, group_is, need_whole, none_done, not_truncate, pays_whole, refused_whole}
+use Rattle.vfs_ops.proofs.changes.change.Given.{Over}
+use Rattle.vfs_ops.proofs.changes.change.Goals as goal
+
+-- the group of the plan is that of the operation, and fits
+fitting : (g : Over) (c : goal.After-class_of g) → AreFitting (present (g.B.Backing.state c.args.backing.now).tree c.args.kept.now).tree c.in_ok-reply.group
+fitting g c =
+    let tree = (g.B.Backing.state c.args.backing.now).tree in
+    let files = present tree c.args.kept.now in
+    let made = group_is files c.args.caller c.args.now c.args.op.now c.in_ok-reply.reply c.in_ok-reply.group c.in_ok-reply.ensures.found in
+    subst (λ group. AreFitting files.tree group) made (group_fits files c.args.caller c.args.now c.args.op.now c.requires.sound.proper c.requires.op)
+
+-- a backing takes it, under a grant of what the operation asks for
+taken : (g : Over) (c : goal.After-class_of g) → FitsGroup (present (g.B.Backing.state c.args.backing.now).tree c.args.kept.now).tree
+    (record { bytes = (need_of (present (g.B.Backing.state c.args.backing.now).tree c.args.kept.now) c.args.caller c.args.now c.args.op.now).bytes; nodes = (need_of (present (g.B.Backing.state c.args.backing.now).tree c.args.kept.now) c.args.caller c.args.now c.args.op.now).nodes })
+    (group_of (present (g.B.Backing.state c.args.backing.now).tree c.args.kept.now) c.args.caller c.args.now c.args.op.now)
+taken g c =
+    let tree = (g.B.Backing.state c.args.backing.now).tree in
+    let files = present tree c.args.kept.now in
+    let whole = need_of files c.args.caller c.args.now c.args.op.now in
+    let sound = c.requires.sound in
+    c.an_operation_fits_its_grant.ensures files c.args.caller c.args.now c.args.op.now (record { bytes = whole.bytes; nodes = whole.nodes }) sound c.ranges.now.fits c.requires.call (pays_whole whole whole refl)
+
+-- what was reckoned is what the operation asks for
+asked : (g : Over) (c : goal.After-need-2-1 g) → c.in_ok-need.need ≡ need_of (present (g.B.Backing.state c.args.backing.now).tree c.args.kept.now) c.args.caller c.args.now c.args.op.now
+asked g c =
+    let tree = (g.B.Backing.state c.args.backing.now).tree in
+    let files = present tree c.args.kept.now in
+    let made = group_is files c.args.caller c.args.now c.args.op.now c.in_ok-reply.reply c.in_ok-reply.group c.in_ok-reply.ensures.found in
+    need_whole (g.B.Backing.state c.plan.new.backing).tree tree c.args.kept.now c.args.caller c.args.now c.args.op.now c.in_ok-reply.group c.class_of.result c.in_ok-need.need
+    c.requires.op (tree_on c.plan.ensures.looks) made c.class_of.ensures c.in_ok-need.ensures.need
+
+pub plan-requires-clause-op : goal.plan-requires-clause-op
+plan-requires-clause-op g c = not_truncate c.args.op.now c.requires.op
+
+pub returns-then-is_empty-clause-done : goal.returns-then-is_empty-clause-done
+returns-then-is_empty-clause-done g c =
+    let tree = (g.B.Backing.state c.args.backing.now).tree in
+    let files = present tree c.args.kept.now in
+    let none : (length c.in_ok-reply.group == 0) ≡ true = ap (λ (group : List Change). length group == 0) (sym c.as_slice.ensures) ∙ sym c.is_empty.ensures ∙ c.if-is_empty.true in
+    (files, none_done files c.args.caller c.args.now c.args.op.now c.in_ok-reply.reply c.in_ok-reply.group c.requires.op c.in_ok-reply.ensures.found none, alike_on (g.B.Backing.state c.plan.new.backing).tree tree c.args.kept.now (tree_on c.plan.ensures.looks))
+
+pub need_of-requires-clause-gone : goal.need_of-requires-clause-gone
+need_of-requires-clause-gone g c =
+    let fits = fitting g c in
+    (fits.gone, leaves (present (g.B.Backing.state c.args.backing.now).tree c.args.kept.now).tree fits.gone c.in_ok-reply.group fits.all)
+
+pub need_of-requires-clause-limit : goal.need_of-requires-clause-limit
+need_of-requires-clause-limit g c =
+    let tree = (g.B.Backing.state c.args.backing.now).tree in
+    let files = present tree c.args.kept.now in
+    let whole = need_of files c.args.caller c.args.now c.args.op.now in
+    let made = group_is files c.args.caller c.args.now c.args.op.now c.in_ok-reply.reply c.in_ok-reply.group c.in_ok-reply.ensures.found in
+    (fits_on (g.B.Backing.state c.plan.new.backing).tree tree c.args.kept.now (record { bytes = whole.bytes; nodes = whole.nodes }) (group_of files c.args.caller c.args.now c.args.op.now) c.in_ok-reply.group (tree_on c.plan.ensures.looks) made (taken g c)).limit
+
+pub returns-in_err-need-clause-goes : goal.returns-in_err-need-clause-goes
+returns-in_err-need-clause-goes g c = goes_looked (both c.plan.ensures.looks c.need_of.ensures.looks) _
+
+pub apply_group-requires-clause-modest : goal.apply_group-requires-clause-modest
+apply_group-requires-clause-modest g c =
+    let tree = (g.B.Backing.state c.args.backing.now).tree in
+    let files = present tree c.args.kept.now in
+    let sound = c.requires.sound in
+    subst (λ need. IsModest need) (sym (asked g c)) (c.an_operation_asks_for_little.ensures files c.args.caller c.args.now c.args.op.now sound c.ranges.now.fits c.requires.call)
+
+pub apply_group-requires-clause-fits : goal.apply_group-requires-clause-fits
+apply_group-requires-clause-fits g c =
+    let tree = (g.B.Backing.state c.args.backing.now).tree in
+    let files = present tree c.args.kept.now in
+    let made = group_is files c.args.caller c.args.now c.args.op.now c.in_ok-reply.reply c.in_ok-reply.group c.in_ok-reply.ensures.found in
+    let grant : Grant = record { bytes = c.in_ok-need.need.bytes; nodes = c.in_ok-need.need.nodes } in
+    let sound = c.requires.sound in
+    let pays = pays_whole c.in_ok-need.need (need_of files c.args.caller c.args.now c.args.op.now) (asked g c) in
+    let fits = c.an_operation_fits_its_grant.ensures files c.args.caller c.args.now c.args.op.now grant sound c.ranges.now.fits c.requires.call pays in
+    fits_on (g.B.Backing.state c.need_of.new.backing).tree tree c.args.kept.now grant (group_of files c.args.caller c.args.now c.args.op.now) c.in_ok-reply.group
+    (tree_on (both c.plan.ensures.looks c.need_of.ensures.looks)) made fits
+
+pub apply_group-requires-clause-names : goal.apply_group-requires-clause-names
+apply_group-requires-clause-names g c =
+    let tree = (g.B.Backing.state c.args.backing.now).tree in
+    let files = present tree c.args.kept.now in
+    let made = group_is files c.args.caller c.args.now c.args.op.now c.in_ok-reply.reply c.in_ok-reply.group c.in_ok-reply.ensures.found in
+    let fits = subst (λ group. AreFitting files.tree group) made (group_fits files c.args.caller c.args.now c.args.op.now c.requires.sound.proper c.requires.op) in
+    names_kept tree c.args.kept.now fits.gone c.in_ok-reply.group c.requires.kept fits.all
+
+pub returns-in_err-apply_group-clause-refused : goal.returns-in_err-apply_group-clause-refused
+returns-in_err-apply_group-clause-refused g c =
+    let tree = (g.B.Backing.state c.args.backing.now).tree in
+    let files = present tree c.args.kept.now in
+    let whole = need_of files c.args.caller c.args.now c.args.op.now in
+    let made = group_is files c.args.caller c.args.now c.args.op.now c.in_ok-reply.reply c.in_ok-reply.group c.in_ok-reply.ensures.found in
+    let is : c.in_ok-need.need ≡ whole = need_whole (g.B.Backing.state c.plan.new.backing).tree tree c.args.kept.now c.args.caller c.args.now c.args.op.now c.in_ok-reply.group c.class_of.result c.in_ok-need.need c.requires.op (tree_on c.plan.ensures.looks) made c.class_of.ensures c.in_ok-need.ensures.need in
+    let refused = refused_whole (both c.plan.ensures.looks c.need_of.ensures.looks) (g.B.Backing.state c.apply_group.new.backing) c.apply_group.new.kept c.in_ok-need.need whole c.in_err-apply_group.field-0.0 (outcome_of files c.args.caller c.args.now c.args.op.now) is c.in_err-apply_group.ensures.refused in
+    search (rules, refused)
+
+pub returns-in_err-apply_group-clause-goes : goal.returns-in_err-apply_group-clause-goes
+returns-in_err-apply_group-clause-goes g c =
+    let files = present (g.B.Backing.state c.args.backing.now).tree c.args.kept.now in
+    let made = group_is files c.args.caller c.args.now c.args.op.now c.in_ok-reply.reply c.in_ok-reply.group c.in_ok-reply.ensures.found in
+    goes_whole (both c.plan.ensures.looks c.need_of.ensures.looks) (g.B.Backing.state c.apply_group.new.backing) (length c.args.kept.now.pages.dirty) (group_of files c.args.caller c.args.now c.args.op.now) c.in_ok-reply.group made c.apply_group.ensures.goes
+
+pub returns-clause-goes : goal.returns-clause-goes
+returns-clause-goes g c =
+    let files = present (g.B.Backing.state c.args.backing.now).tree c.args.kept.now in
+    let made = group_is files c.args.caller c.args.now c.args.op.now c.in_ok-reply.reply c.in_ok-reply.group c.in_ok-reply.ensures.found in
+    goes_whole (both c.plan.ensures.looks c.need_of.ensures.looks) (g.B.Backing.state c.apply_group.new.backing) (length c.args.kept.now.pages.dirty) (group_of files c.args.caller c.args.now c.args.op.now) c.in_ok-reply.group made c.apply_group.ensures.goes
+
+pub returns-in_err-reply-clause-sound : goal.returns-in_err-reply-clause-sound
+returns-in_err-reply-clause-sound g c = sound_on (g.B.Backing.state c.plan.new.backing).tree (g.B.Backing.state c.args.backing.now).tree c.args.kept.now (tree_on c.plan.ensures.looks) c.requires.sound
+
+pub returns-then-is_empty-clause-sound : goal.returns-then-is_empty-clause-sound
+returns-then-is_empty-clause-sound g c = sound_on (g.B.Backing.state c.plan.new.backing).tree (g.B.Backing.state c.args.backing.now).tree c.args.kept.now (tree_on c.plan.ensures.looks) c.requires.sound
+
+pub returns-in_err-need-clause-sound : goal.returns-in_err-need-clause-sound
+returns-in_err-need-clause-sound g c = sound_on (g.B.Backing.state c.need_of.new.backing).tree (g.B.Backing.state c.args.backing.now).tree c.args.kept.now (tree_on (both c.plan.ensures.looks c.need_of.ensures.looks)) c.requires.sound
+
+pub returns-in_err-apply_group-clause-sound : goal.returns-in_err-apply_group-clause-sound
+returns-in_err-apply_group-clause-sound g c =
+    let tree = (g.B.Backing.state c.args.backing.now).tree in
+    let later = (g.B.Backing.state c.need_of.new.backing).tree in
+    let last = (g.B.Backing.state c.apply_group.new.backing).tree in
+    alike_sound (present later c.args.kept.now) (present last c.apply_group.new.kept) c.in_err-apply_group.ensures.same (c.present_files_are_sound.ensures.proper last c.apply_group.new.kept c.apply_group.ensures.kept)
+    (sound_on later tree c.args.kept.now (tree_on (both c.plan.ensures.looks c.need_of.ensures.looks)) c.requires.sound)
+
+pub returns-clause-sound : goal.returns-clause-sound
+returns-clause-sound g c =
+    let tree = (g.B.Backing.state c.args.backing.now).tree in
+    let later = (g.B.Backing.state c.need_of.new.backing).tree in
+    let last = (g.B.Backing.state c.apply_group.new.backing).tree in
+    let leaves = c.an_operation_leaves_files_sound.ensures (present tree c.args.kept.now) c.args.caller c.args.now c.args.op.now c.requires.sound c.ranges.now.fits c.requires.call in
+    sound_done later tree c.args.kept.now c.args.caller c.args.now c.args.op.now c.in_ok-reply.reply c.in_ok-reply.group (present last c.apply_group.new.kept) c.requires.op
+    (tree_on (both c.plan.ensures.looks c.need_of.ensures.looks)) c.in_ok-reply.ensures.found leaves c.in_ok-apply_group.ensures.ok (c.present_files_are_sound.ensures.proper last c.apply_group.new.kept c.apply_group.ensures.kept)

@@ -1,0 +1,44 @@
+-- Operations whose changes are one group of inodes and names, and what such a group asks for.
+use Rattle.std.specs.Prelude.{◌≡◌, ℕ, Bool, true, false, Option, Some, None, List, [], ◌∷◌}
+use Rattle.fs_model.specs.declared.change.Change.{Change}
+use Rattle.fs_model.specs.declared.change.Change.TheVariants.{DropInode}
+use Rattle.std.specs.Option.{option_map_or}
+use Rattle.fs_model.specs.Cover.{inode_bytes}
+use Rattle.fs_model.specs.Files.{Tree, inode_at}
+use Rattle.fs_model.specs.declared.op.Op.{Op}
+use Rattle.fs_model.specs.declared.op.Op.TheVariants.{Create, Mkdir, Symlink, Link, Unlink, Rmdir, Rename, Chmod}
+use Rattle.fs_model.specs.declared.space.Class.{Class}
+use Rattle.fs_model.specs.declared.space.Class.TheVariants.{Ordinary, Removal}
+
+-- whether its changes are one group of inodes and names
+abbrev pub is_of_names : Op → Bool
+is_of_names (Create path mode) = true
+is_of_names (Mkdir path mode) = true
+is_of_names (Symlink path target) = true
+is_of_names (Link old new) = true
+is_of_names (Unlink path) = true
+is_of_names (Rmdir path) = true
+is_of_names (Rename old new) = true
+is_of_names (Chmod path mode) = true
+is_of_names op = false
+
+-- the class of who asks: what takes a name away may use the last room
+abbrev pub class_of : Op → Class
+class_of (Unlink path) = Removal
+class_of (Rmdir path) = Removal
+class_of op = Ordinary
+
+-- the first inode that goes with a group
+abbrev pub gone_in : List Change → Option ℕ
+gone_in [] = None
+gone_in (DropInode ino ∷ group) = Some ino
+gone_in (change ∷ group) = gone_in group
+
+-- no inode goes but this one
+abbrev pub LeavesOthers : ℕ → Change → Type 0
+LeavesOthers ino (DropInode other) = other ≡ ino
+LeavesOthers ino change = Unit {0}
+
+-- the bytes of the node of an inode that goes with a group; those of one without data where none goes
+abbrev pub gone_bytes : Tree → List Change → ℕ
+gone_bytes tree group = option_map_or (λ ino. option_map_or inode_bytes (inode_at tree ino) 160) (gone_in group) 160

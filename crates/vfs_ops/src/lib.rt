@@ -1,0 +1,13 @@
+//! What does a caller's operation answer and leave, over any backing with dirty pages in front of it? An operation is planned
+//! over the present files, its group of changes is admitted, and then it is put. The idea: the plan is the definition's own,
+//! the laws of groups say that a backing takes it, and what is kept in memory follows. Whatever comes, the present files are
+//! those of the definition, or as they were.
+#![tactic(auto)]
+
+mod changes;
+mod needs;
+
+pub use crate::changes::change;
+
+#[cfg(test)]
+mod tests;
