@@ -1,5 +1,6 @@
 pub mod Attributes
 pub mod Backing
+pub mod CallFaults
 pub mod Change
 pub mod ChangeLaw
 pub mod Cover

@@ -1,8 +1,10 @@
 // A caller of several calls, proved from the trait alone.
 
-ghost use Rattle.std.specs.Prelude.{◌≡◌, ◌-◌, ◌≤◌, ◌++◌, ◌∷◌, [], length, min, take, replicate, IfOk, OnOk};
+ghost use Rattle.std.specs.Prelude.{◌≡◌, ◌-◌, ◌<◌, ◌≤◌, ◌↔◌, ◌++◌, ◌∷◌, [], length, min, take, replicate, IfErr, IfOk, OnOk};
 ghost use Rattle.fs_model.specs.Backing.{IsModest, FitsGroup, FitsPage, LeavesTree, page_group, page_puts};
+ghost use Rattle.fs_model.specs.CallFaults.{IsCallFault, IsNoSpace};
 ghost use Rattle.fs_model.specs.Change.{apply};
+ghost use Rattle.fs_model.specs.Cover.{needed, room_for};
 ghost use Rattle.fs_model.specs.Journal.{Leaves, base_head};
 ghost use Rattle.fs_model.specs.Proper.{IsProper};
 
@@ -55,6 +57,8 @@ pub fn make_and_read<B: Backing>(
     ensures stored { IfOk result (λ stored. stored ≡ min (length page.now.bytes) 4096) }
     ensures left { OnOk result (LeavesTree (B.state backing.new)) }
     ensures cut { OnOk result (Leaves (B.state backing.old).journal (B.state backing.new).journal ((base_head, group.now) ∷ page_puts page.now)) }
+    ensures full { IsNoSpace result ↔ (room_for (B.state backing.old).geometry (B.state backing.old).space need.now < needed (B.state backing.old).space need.now) }
+    ensures refused { IfErr result (IsCallFault (B.state backing.old) (B.state backing.new) need.now) }
 {
     backing.admit(need)?;
     backing.put_group(group)?;

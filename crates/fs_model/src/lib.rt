@@ -17,6 +17,7 @@ mod group;
 mod inode;
 mod law;
 mod op;
+mod ordered_name;
 mod page_node;
 mod refusal;
 mod reply;
@@ -35,6 +36,7 @@ pub use crate::law::{
     changes_are_seen, groups_make_the_changes, reads_are_what_was_written, writes_are_kept,
 };
 pub use crate::op::Op;
+pub use crate::ordered_name::OrderedName;
 pub use crate::page_node::PageNode;
 pub use crate::refusal::{Cause, NoSpace, Refusal, Scarce, Table};
 pub use crate::reply::Reply;

@@ -1,5 +1,11 @@
 // Reasons to refuse an operation.
 
+ghost use Rattle.std.specs.Prelude.{◌≡◌};
+
+use crate::StoreFault;
+use std::alloc::AllocError;
+use ubifs_base::Memory as NoMemory;
+
 /// Why an operation is refused, by the names of errno(3).
 #[derive(Clone, Copy, Debug, PartialEq, Eq)]
 pub enum Refusal {
@@ -49,4 +55,38 @@ pub enum Scarce {
     Empty,
     Index,
     Area,
+}
+
+impl From<StoreFault> for Refusal {
+    ghost use Rattle.fs_model.specs.CallFaults.{refusal_of};
+
+    ghost from_gives = { λ fault e. e ≡ refusal_of fault };
+
+    fn from(fault: StoreFault) -> Refusal {
+        match fault {
+            StoreFault::Memory => Refusal::Enomem,
+            StoreFault::Volume { count } => Refusal::Eio { count },
+            StoreFault::ReadOnly { cause } => Refusal::Erofs { cause },
+        }
+    }
+}
+
+impl From<NoMemory> for Refusal {
+    ghost use Rattle.fs_model.specs.declared.refusal.Refusal.TheVariants.{Enomem};
+
+    ghost from_gives = { λ _ e. e ≡ Enomem };
+
+    fn from(_fault: NoMemory) -> Refusal {
+        Refusal::Enomem
+    }
+}
+
+impl From<AllocError> for Refusal {
+    ghost use Rattle.fs_model.specs.declared.refusal.Refusal.TheVariants.{Enomem};
+
+    ghost from_gives = { λ _ e. e ≡ Enomem };
+
+    fn from(_fault: AllocError) -> Refusal {
+        Refusal::Enomem
+    }
 }

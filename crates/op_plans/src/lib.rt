@@ -16,6 +16,7 @@ mod names;
 mod needs;
 mod parent;
 mod paths;
+mod rows;
 mod sizes;
 mod words;
 
@@ -33,6 +34,7 @@ pub use crate::names::{front_of, is_same_name, is_under, last_of, pop_last};
 pub use crate::needs::{group_need, inode_bytes, truncation_need};
 pub use crate::parent::Parent;
 pub use crate::paths::{components, has_long_name, is_name_path, is_path, is_root, root_entry};
+pub use crate::rows::by_hash;
 pub use crate::sizes::size_of;
 pub use crate::words::{
     ends_too_far, is_bad_len, is_bad_mode, is_bad_slot, is_bad_target, is_too_big,
