@@ -6,4 +6,5 @@ pub mod Orders
 pub mod PlainGoing
 pub mod Seen
 pub mod SoFar
+pub mod Visits
 pub mod Walk

@@ -48,7 +48,7 @@ in_range a b p q = rw (p, q) refl
 names_in : (dir : ℕ) (end : Bound (ℕ × List ℕ)) → ((k : ℕ × List ℕ) → k.0 ≡ dir → is_past_end name_cmp end k ≡ false) → (k : ℕ × List ℕ) → k.0 ≡ dir → range_contains name_cmp (Included (dir, [])) end k ≡ true
 names_in dir end past k same = in_range _ _ (name_from dir k same) (past k same)
 
-blocks_in : (ino : ℕ) (end : Bound (ℕ × ℕ)) → ((k : ℕ × ℕ) → k.0 ≡ ino → is_past_end pair_cmp end k ≡ false) → (k : ℕ × ℕ) → k.0 ≡ ino → range_contains pair_cmp (Included (ino, 0)) end k ≡ true
+pub blocks_in : (ino : ℕ) (end : Bound (ℕ × ℕ)) → ((k : ℕ × ℕ) → k.0 ≡ ino → is_past_end pair_cmp end k ≡ false) → (k : ℕ × ℕ) → k.0 ≡ ino → range_contains pair_cmp (Included (ino, 0)) end k ≡ true
 blocks_in ino end past k same = in_range _ _ (le_from ino 0 k same (omega arith)) (past k same)
 
 -- a range ends where it begins or later

@@ -3,5 +3,7 @@ pub mod Cells
 pub mod Orphans
 pub mod PlainBacking
 pub mod PlainBackingLaws
+pub mod Spending
 pub mod TreeCells
 pub mod TreeReads
+pub mod TreeRows

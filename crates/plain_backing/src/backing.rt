@@ -1,10 +1,11 @@
 // A backing in memory.
 
-ghost use Rattle.std.specs.Prelude.{◌≡◌, ◌<◌, ◌≤◌, ◌^◌, ◌++◌, ◌-◌, length, take, min, replicate, IfOk, IfErr};
+ghost use Rattle.std.specs.Prelude.{◌≡◌, ◌<◌, ◌≤◌, ◌^◌, ◌++◌, ◌-◌, false, length, take, min, replicate, IfOk, IfErr};
 ghost use Rattle.std.specs.Option.{option_copied};
 ghost use Rattle.fs_model.specs.declared.backing_answers.StoreFault.TheVariants.{Memory as NoMemory};
 ghost use Rattle.fs_model.specs.Backing.{page_group};
 ghost use Rattle.fs_model.specs.Cover.{tree_bytes};
+ghost use Rattle.plain_backing.specs.Spending.{is_spent};
 
 use crate::Tree;
 use crate::numbers::Numbers;
@@ -31,6 +32,7 @@ pub struct PlainBacking {
     ghost light: { numbers.weight < 2 ^ 40 },
     ghost light_base: { numbers.base ≤ numbers.weight },
     ghost later_of: { numbers.later ≤ numbers.nodes },
+    ghost unspent: { is_spent numbers.mode ≡ false },
 }
 
 impl PlainBacking {
@@ -86,6 +88,13 @@ impl PlainBacking {
         ensures strike { (outlook_of self.new).strike ≡ Some call }
     {
         self.numbers.strike = call;
+    }
+
+    /// Gives the tree back. Takes no memory.
+    pub fn into_tree(self) -> Tree
+        ensures { result ≡ (state_of self).tree }
+    {
+        self.tree
     }
 }
 

@@ -10,17 +10,18 @@ mod block_walk;
 mod cell;
 mod node_bytes;
 mod numbers;
-mod ordered_name;
 mod rounds;
 mod steps;
 mod tree;
 mod tree_cells;
 mod tree_law;
 mod tree_reads;
+mod tree_rows;
 
 pub use crate::backing::PlainBacking;
 pub use crate::tree::Tree;
 pub use crate::tree_law::last_blocks_are_greatest;
+pub use crate::tree_rows::{BlockRows, InodeRows};
 
 #[cfg(test)]
 mod tests;

@@ -7,9 +7,8 @@ ghost use Rattle.plain_backing.specs.TreeCells.{tree_of, set_bytes, IsCounted, H
 
 use crate::cell::sweep;
 use crate::node_bytes::{block_bytes, inode_bytes, name_bytes};
-use crate::ordered_name::OrderedName;
 use crate::tree_cells::{TreeCells, entry_key, make, make_room, sweep_after};
-use fs_model::Change;
+use fs_model::{Change, OrderedName};
 use std::alloc::Global;
 use ubifs_base::Memory;
 

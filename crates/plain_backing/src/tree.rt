@@ -1,6 +1,6 @@
 // A tree of files in memory.
 
-ghost use Rattle.std.specs.Prelude.{◌≡◌, ◌<◌, ◌^◌, IfOk, OnOk, OnErr, length, []};
+ghost use Rattle.std.specs.Prelude.{◌≡◌, ◌<◌, ◌^◌, ◌==◌, IfOk, OnOk, OnErr, filter, length, []};
 ghost use Rattle.std.specs.Option.{option_copied, option_map};
 ghost use Rattle.fs_model.specs.Change.{apply, without_inode};
 ghost use Rattle.fs_model.specs.Orphan.{nameless};
@@ -12,11 +12,11 @@ ghost use Rattle.plain_backing.specs.TreeReads.{has_block};
 ghost use Rattle.fs_model.specs.Files.{last_block_of};
 
 use crate::cell::held;
-use crate::ordered_name::OrderedName;
 use crate::rounds::{make_all, prepare, sweep_all};
 use crate::tree_cells::{Named, TreeCells, drop_inode, entry_key, sweep_inode};
 use crate::tree_reads::{entries_in, last_block};
-use fs_model::{Entry, Group, Inode};
+use crate::tree_rows::{BlockRows, InodeRows};
+use fs_model::{Entry, Group, Inode, OrderedName};
 use std::alloc::Global;
 use std::collections::BTreeMap;
 use std::marker::Model;
@@ -101,6 +101,20 @@ impl Tree {
         ensures { IfOk result (λ entries. entries.items ≡ entries_in self.now dir) }
     {
         entries_in(alloc, &self.cells.entries, dir)
+    }
+
+    /// The inodes, in order of number. Takes no memory.
+    pub fn inodes(&self) -> InodeRows<'_>
+        ensures { result ≡ self.now.inodes }
+    {
+        InodeRows::new(&self.cells.inodes)
+    }
+
+    /// The blocks of an inode, in order of number. Takes no memory.
+    pub fn blocks_of(&self, ino: u32) -> BlockRows<'_>
+        ensures { result ≡ filter (λ stored. stored.0.0 == ino) self.now.blocks }
+    {
+        BlockRows::new(&self.cells.blocks, ino)
     }
 
     /// The stored bytes of a block; a missing one has none.

@@ -15,8 +15,7 @@ use crate::cell::{held, make_cell, put, sweep};
 use crate::node_bytes::{
     block_bytes, freed_block, freed_inode, freed_orphans, inode_bytes, name_bytes, orphans_in,
 };
-use crate::ordered_name::OrderedName;
-use fs_model::{Change, Entry, Inode, Kind};
+use fs_model::{Change, Entry, Inode, Kind, OrderedName};
 use std::alloc::Global;
 use std::collections::BTreeMap;
 use ubifs_base::{Bytes, Memory, Name};

@@ -7,9 +7,8 @@ ghost use Rattle.fs_model.specs.Files.{pair_cmp, name_cmp};
 ghost use Rattle.plain_backing.specs.TreeCells.{in_directory};
 ghost use Rattle.fs_model.specs.Files.{last_block_of};
 
-use crate::ordered_name::OrderedName;
 use crate::tree_cells::Named;
-use fs_model::Entry;
+use fs_model::{Entry, OrderedName};
 use std::alloc::Global;
 use std::collections::BTreeMap;
 use std::ops::Bound;
@@ -80,8 +79,8 @@ pub(crate) fn last_block(map: &BTreeMap<(u32, u32), Option<Bytes>>, ino: u32) ->
     None
 }
 
-// Where the blocks of an inode end.
-fn blocks_end(ino: u32) -> Bound<(u32, u32)>
+/// Where the blocks of an inode end.
+pub(crate) fn blocks_end(ino: u32) -> Bound<(u32, u32)>
     ensures { (k : ℕ × ℕ) → k.0 ≡ ino → is_past_end pair_cmp result k ≡ false }
 {
     match ino.checked_add(1) {
