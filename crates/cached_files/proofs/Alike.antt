@@ -114,7 +114,7 @@ pages_pass tree kept is test each [] all blocks h = h
 pages_pass tree kept is test each (e ∷ dirty) all blocks h =
     pages_pass tree kept is test each dirty all.1 (with_page blocks e) (all_insert pair_cmp pairs test blocks e.0 e.1.bytes (each e all.0) h)
 
-block_numbers : (tree : Tree) → IsProper tree → list_all (λ e. nat_le e.0.0 tree.highest) tree.blocks ≡ true
+pub block_numbers : (tree : Tree) → IsProper tree → list_all (λ e. nat_le e.0.0 tree.highest) tree.blocks ≡ true
 block_numbers tree proper =
     let parts = and_parts (list_all (λ e. nat_le e.0 tree.highest) tree.inodes && list_all (λ e. nat_le e.0.0 tree.highest) tree.blocks) (list_all (λ e. nat_le e.0.0 tree.highest && nat_le e.1.ino tree.highest) tree.entries) proper.numbers in
     (and_parts (list_all (λ e. nat_le e.0 tree.highest) tree.inodes) (list_all (λ e. nat_le e.0.0 tree.highest) tree.blocks) parts.0).1

@@ -19,11 +19,22 @@ use Rattle.fs_model.specs.Proper.{IsProper, ascends, is_inode_node}
 use Rattle.page_cache.specs.Pages.{is_cut, cut_list}
 use Rattle.page_cache.specs.declared.dirty_page.DirtyPage.{DirtyPage}
 use Rattle.cached_files.specs.declared.kept.Kept.{Kept}
-use Rattle.cached_files.specs.Follow.{follow, followed, is_of_inode, KeepsSize, IsOfNames, AreOfNames}
+use Rattle.cached_files.specs.Follow.{follow, followed, is_of_inode, KeepsSize}
 use Rattle.cached_files.specs.Present.{DirtyPages, with_page, covered, has_dirty, IsKept, FitsFile, FitsPages}
 use Rattle.fs_laws.specs.Maps.{key_cases, set_here, set_other, removed_here, removed_other, insert_ascends, remove_ascends, filter_ascends}
 use Rattle.fs_laws.specs.Orders.{numbers, pairs}
 use Rattle.cached_files.proofs.Throughs.{set_through, remove_through, filter_insert, filter_insert_gone, set_value_here, set_value_other, WasSet, was_set}
+
+-- a change of inodes or names that leaves the kind and the size of each inode that is kept
+abbrev pub IsOfKept : Kept → Change → Type 0
+IsOfKept kept (SetInode ino inode) = (old : Inode) → lookup (is_at (nat_cmp ino)) kept.inodes ≡ Some old → KeepsSize old inode
+IsOfKept kept (SetBlock ino block bytes) = ⊥
+IsOfKept kept (CutBlocks ino old_size new_size) = ⊥
+IsOfKept kept change = Unit {0}
+
+-- a group of such changes
+abbrev pub AreOfKept : Kept → List Change → Type 0
+AreOfKept kept group = AllByRecursion (IsOfKept kept) group
 
 -- changes of inodes alone are followed
 pub followed_inodes : (group : List Change) (kept : Kept) → followed kept (filter is_of_inode group) ≡ followed kept group
@@ -102,7 +113,7 @@ fits_of tree kept is = record {
 }
 
 -- callers see a change that is followed
-covered_follow : (tree : Tree) (kept : Kept) (change : Change) → Fits tree kept → IsOfNames kept change
+covered_follow : (tree : Tree) (kept : Kept) (change : Change) → Fits tree kept → IsOfKept kept change
     → covered (applied tree change) (follow kept change).inodes (follow kept change).pages.dirty ≡ applied (covered tree kept.inodes kept.pages.dirty) change
 covered_follow tree kept (SetInode ino inode) fits names =
     ap (λ inodes. record (applied (covered tree kept.inodes kept.pages.dirty) (SetInode ino inode)) { inodes = inodes }) (set_through nat_cmp numbers kept.inodes tree.inodes ino inode fits.ascends)
@@ -186,7 +197,7 @@ fewer_ends stays ino most (e ∷ blocks) h = by (fewer_ends stays ino most block
     by rest false t true = rw t rest
 
 -- what is kept fits the tree after a change that is followed
-fits_follow : (tree : Tree) (kept : Kept) (change : Change) → Fits tree kept → is_node change ≡ true → IsOfNames kept change → Fits (applied tree change) (follow kept change)
+fits_follow : (tree : Tree) (kept : Kept) (change : Change) → Fits tree kept → is_node change ≡ true → IsOfKept kept change → Fits (applied tree change) (follow kept change)
 fits_follow tree kept (SetInode ino inode) fits node names = record {
   tree_inodes = insert_ascends nat_cmp numbers tree.inodes ino inode fits.tree_inodes;
   tree_blocks = fits.tree_blocks;
@@ -277,7 +288,7 @@ fits_follow tree kept (DropInode ino) fits node names = record {
         there q was.0 ∙ fits.settled q x was.1 before
 
 -- the kinds and sizes of what is kept stay, for the rest of a group
-names_follow : (kept : Kept) (change next : Change) → ascends nat_cmp (keys_of kept.inodes) ≡ true → IsOfNames kept change → IsOfNames kept next → IsOfNames (follow kept change) next
+names_follow : (kept : Kept) (change next : Change) → ascends nat_cmp (keys_of kept.inodes) ≡ true → IsOfKept kept change → IsOfKept kept next → IsOfKept (follow kept change) next
 names_follow kept change (SetEntry entry) h names later = tt
 names_follow kept change (DropEntry dir name) h names later = tt
 names_follow kept change (SetBlock ino block bytes) h names later = later
@@ -306,7 +317,7 @@ names_follow kept (DropInode gone) (SetInode ino inode) h names later = λ x fou
         absurd cc
     by x found (inr two) = later x (sym (removed_other nat_cmp numbers kept.inodes gone ino two) ∙ found)
 
-all_names : (kept : Kept) (change : Change) (group : List Change) → ascends nat_cmp (keys_of kept.inodes) ≡ true → IsOfNames kept change → AreOfNames kept group → AreOfNames (follow kept change) group
+all_names : (kept : Kept) (change : Change) (group : List Change) → ascends nat_cmp (keys_of kept.inodes) ≡ true → IsOfKept kept change → AreOfKept kept group → AreOfKept (follow kept change) group
 all_names kept change [] h names all = all
 all_names kept change (next ∷ group) h names all = (names_follow kept change next h names all.0, all_names kept change group h names all.1)
 
@@ -324,7 +335,7 @@ follow_handles (SetBlock ino block bytes) kept = refl
 follow_handles (CutBlocks ino old_size new_size) kept = refl
 follow_handles (DropInode ino) kept = refl
 
-pub followed_is : (group : List Change) (tree : Tree) (kept : Kept) → Fits tree kept → list_all is_node group ≡ true → AreOfNames kept group → Followed tree kept group
+pub followed_is : (group : List Change) (tree : Tree) (kept : Kept) → Fits tree kept → list_all is_node group ≡ true → AreOfKept kept group → Followed tree kept group
 followed_is [] tree kept fits nodes names = record { fits = fits; seen = refl; handles = refl }
 followed_is (change ∷ group) tree kept fits nodes names =
     let parts = and_parts (is_node change) (list_all is_node group) nodes in

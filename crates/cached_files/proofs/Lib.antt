@@ -1,7 +1,9 @@
 pub mod Alike
 pub mod Applied
+pub mod Besides
 pub mod Counts
 pub mod Covers
+pub mod Dropping
 pub mod Ending
 pub mod Ends
 pub mod Following
@@ -13,3 +15,4 @@ pub mod Putting
 pub mod Reading
 pub mod Throughs
 pub mod Written
+pub mod WrittenAlike

@@ -1,6 +1,6 @@
 -- What a put leaves of what callers see.
 use Rattle.std.proofs.Common.{◌≡◌, ℕ, ◌+◌, ◌-◌, ◌*◌, ◌≤◌, ◌⊎◌, inl, inr, length-append, length-drop, Bool, true, false, cond, max, ◌&&◌, List, [], ◌∷◌, ◌++◌, length, Some, refl, sym, ap, subst, ◌∙◌, arith}
-use Rattle.std.specs.Prelude.{◌==◌, IsTrue, nat_le, None, fold, replicate, slice_get, drop, not, nat_lt, zero, suc}
+use Rattle.std.specs.Prelude.{◌==◌, IsTrue, nat_le, Option, None, fold, replicate, slice_get, drop, not, nat_lt, zero, suc}
 use Rattle.std.specs.List.{list_all, AllByRecursion}
 use Rattle.std.specs.Option.{option_map}
 use Rattle.std.specs.Map.{lookup, remove_entry}
@@ -19,7 +19,7 @@ use Rattle.cached_files.specs.Alike.{IsAlike}
 use Rattle.cached_files.specs.Calls.{SureGoes}
 use Rattle.fs_model.specs.Backing.{BackingState, Outlook, Goes, page_group, IsPagePut}
 use Rattle.fs_model.specs.Change.{apply}
-use Rattle.fs_model.specs.Files.{Tree, Files, Blocks, inode_at, pair_cmp, with_block, blocks_end}
+use Rattle.fs_model.specs.Files.{Tree, Files, Blocks, inode_at, pair_cmp, with_block, blocks_end, size_of}
 use Rattle.fs_model.specs.Path.{is_empty}
 use Rattle.fs_model.specs.Proper.{IsProper, is_block_node, are_bytes}
 use Rattle.fs_model.specs.Same.{trimmed, before_zeros, trimmed_blocks}
@@ -30,8 +30,10 @@ use Rattle.page_cache.specs.declared.ticket.Ticket.{Ticket}
 use Rattle.cached_files.specs.declared.kept.Kept.{Kept}
 use Rattle.cached_files.specs.Present.{DirtyPages, with_page, present, has_dirty, IsKept, FitsFile, FitsPages, page_of, filled, bytes_before_end}
 use Rattle.cached_files.specs.CallLaws.{Goes-none, Goes-then, Sure-none, Sure-then}
-use Rattle.cached_files.proofs.Ends.{insert_ends, filled_ends}
+use Rattle.cached_files.proofs.Covers.{other_ends}
+use Rattle.cached_files.proofs.Ends.{insert_ends, insert_other_ends, filled_ends}
 use Rattle.cached_files.proofs.Inserts.{set_later, set_same}
+use Rattle.cached_files.proofs.Reading.{kept_size}
 use Rattle.fs_laws.specs.Maps.{all_at, set_here, set_other, key_cases}
 use Rattle.fs_laws.specs.Orders.{numbers}
 
@@ -140,26 +142,6 @@ putting_of tree kept ticket o is =
       others = all.1;
     }
 
--- callers see the same after the put
-pub same_after : (tree : Tree) (kept : Kept) (ticket : Ticket) (o : Oldest kept.pages ticket) (p : Putting tree kept ticket o) → IsKept tree kept
-    → IsAlike (present tree kept) (present (apply tree (page_group (page_of ((ticket.ino, ticket.block), o.page) p.inode))) (kept_after kept o.rest))
-same_after tree kept ticket o p is =
-    let page = page_of ((ticket.ino, ticket.block), o.page) p.inode in
-    let len = bytes_before_end p.inode.size ticket.block in
-    let t = put_tree tree page p.fits.below.0 is.proper p.fits.below.1 in
-    let P : Tree → Type 0 = λ after. IsAlike (present tree kept) (present after (kept_after kept o.rest)) in
-    subst P (sym t)
-    record {
-      inodes = sym (set_later nat_cmp numbers kept.inodes tree.inodes ticket.ino p.inode is.ascends p.found);
-      blocks = rw o.dirty (covered_alike o.rest (insert_entry pair_cmp tree.blocks (ticket.ino, ticket.block) o.page.bytes) (insert_entry pair_cmp tree.blocks (ticket.ino, ticket.block) (filled o.page.bytes len))
-          (trimmed-insert tree.blocks (ticket.ino, ticket.block) o.page.bytes
-          ∙ ap (λ z. insert_entry pair_cmp (trimmed_blocks tree.blocks) (ticket.ino, ticket.block) z) (sym (trimmed-filled o.page.bytes (len - length o.page.bytes)))
-          ∙ sym (trimmed-insert tree.blocks (ticket.ino, ticket.block) (filled o.page.bytes len))));
-      entries = refl;
-      highest = refl;
-      handles = refl;
-    }
-
 -- what is kept fits the tree after the put
 pub kept_still : (tree : Tree) (kept : Kept) (ticket : Ticket) (o : Oldest kept.pages ticket) (p : Putting tree kept ticket o) → IsKept tree kept
     → IsProper (apply tree (page_group (page_of ((ticket.ino, ticket.block), o.page) p.inode)))
@@ -209,6 +191,48 @@ kept_still tree kept ticket o p is proper = record {
         let fits = is.inodes ino inode found in
         record { node = fits.node; kind = fits.kind; below = (fits.below.0, there ino other ∙ fits.below.1, fits.below.2, fits.below.3) }
 
+-- a file has the size that it had, where its inode is kept still, or none of its pages was put
+sizes_after : (tree after : Tree) (kept : Kept) (rest : DirtyPages) → IsKept tree kept → IsKept after (kept_after kept rest) → (present tree kept).tree.inodes ≡ (present after (kept_after kept rest)).tree.inodes
+    → ((ino : ℕ) → lookup (is_at (nat_cmp ino)) kept.inodes ≡ None → blocks_end after.blocks ino ≡ blocks_end tree.blocks ino)
+    → (ino : ℕ) (inode : Inode) → inode_at (present tree kept).tree ino ≡ Some inode → size_of (present tree kept).tree ino inode ≡ size_of (present after (kept_after kept rest)).tree ino inode
+sizes_after tree after kept rest is still same others ino inode seen = by (lookup (is_at (nat_cmp ino)) kept.inodes) refl
+  where
+    by : (o : Option Inode) → lookup (is_at (nat_cmp ino)) kept.inodes ≡ o → size_of (present tree kept).tree ino inode ≡ size_of (present after (kept_after kept rest)).tree ino inode
+    by (Some found) there =
+        let later : inode_at (present after (kept_after kept rest)).tree ino ≡ Some inode = subst (λ inodes. lookup (is_at (nat_cmp ino)) inodes ≡ Some inode) same seen in
+        sym (kept_size tree kept ino inode found is seen there) ∙ kept_size after (kept_after kept rest) ino inode found still later there
+    by None none =
+        let a = other_ends kept.inodes kept.pages.dirty tree.blocks ino none is.pages in
+        let b = other_ends kept.inodes rest after.blocks ino none still.pages in
+        ap (λ n. max inode.size n) (a ∙ sym (others ino none) ∙ sym b)
+
+-- callers see the same after the put
+pub same_after : (tree : Tree) (kept : Kept) (ticket : Ticket) (o : Oldest kept.pages ticket) (p : Putting tree kept ticket o) → IsKept tree kept → IsKept (apply tree (page_group (page_of ((ticket.ino, ticket.block), o.page) p.inode))) (kept_after kept o.rest)
+    → IsAlike (present tree kept) (present (apply tree (page_group (page_of ((ticket.ino, ticket.block), o.page) p.inode))) (kept_after kept o.rest))
+same_after tree kept ticket o p is still =
+    let page = page_of ((ticket.ino, ticket.block), o.page) p.inode in
+    let len = bytes_before_end p.inode.size ticket.block in
+    let t = put_tree tree page p.fits.below.0 is.proper p.fits.below.1 in
+    let P : Tree → Type 0 = λ after. IsKept after (kept_after kept o.rest) → IsAlike (present tree kept) (present after (kept_after kept o.rest)) in
+    let inodes = sym (set_later nat_cmp numbers kept.inodes tree.inodes ticket.ino p.inode is.ascends p.found) in
+    let put : Tree = record tree { inodes = insert_entry nat_cmp tree.inodes ticket.ino p.inode; blocks = with_block tree.blocks ticket.ino ticket.block page.bytes } in
+    subst P (sym t)
+    (λ fits. record {
+      inodes = inodes;
+      blocks = rw o.dirty (covered_alike o.rest (insert_entry pair_cmp tree.blocks (ticket.ino, ticket.block) o.page.bytes) (insert_entry pair_cmp tree.blocks (ticket.ino, ticket.block) (filled o.page.bytes len))
+          (trimmed-insert tree.blocks (ticket.ino, ticket.block) o.page.bytes
+          ∙ ap (λ z. insert_entry pair_cmp (trimmed_blocks tree.blocks) (ticket.ino, ticket.block) z) (sym (trimmed-filled o.page.bytes (len - length o.page.bytes)))
+          ∙ sym (trimmed-insert tree.blocks (ticket.ino, ticket.block) (filled o.page.bytes len))));
+      entries = refl;
+      highest = refl;
+      handles = refl;
+      sizes = sizes_after tree put kept o.rest is fits inodes (λ ino none. insert_other_ends tree.blocks (ticket.ino, ticket.block) page.bytes ino (λ e. other ino none e));
+    })
+    still
+  where
+    other : (ino : ℕ) → lookup (is_at (nat_cmp ino)) kept.inodes ≡ None → ticket.ino ≡ ino → ⊥
+    other ino none e = let some : lookup (is_at (nat_cmp ino)) kept.inodes ≡ Some p.inode = ap (λ n. lookup (is_at (nat_cmp n)) kept.inodes) (sym e) ∙ p.found in absurd cc
+
 -- its ticket is current
 pub current_oldest : (pages : Pages) (ticket : Ticket) (o : Oldest pages ticket) → is_current pages ticket ≡ true
 current_oldest pages ticket o = rw (oldest_found pages ticket o, o.version) (same_number o.page.version)
@@ -237,6 +261,7 @@ pub record AfterPut (old new : BackingState) (kept after : Kept) : Type 0 where
   pub same : IsAlike (present old.tree kept) (present new.tree after)
   pub pages : after.pages.dirty ≡ drop 1 kept.pages.dirty
   pub paid : length kept.pages.dirty ≤ old.space.credits → length after.pages.dirty ≤ new.space.credits
+  pub issued : new.space.credits + length kept.pages.dirty ≡ old.space.credits + length after.pages.dirty
 
 pub after_put : (old new : BackingState) (kept : Kept) (pages : Pages) (ticket : Ticket) (page : PageNode) (o : Oldest kept.pages ticket) (p : Putting old.tree kept ticket o) → IsKept old.tree kept
     → page ≡ page_of ((ticket.ino, ticket.block), o.page) p.inode → IsPagePut old new page → IsProper (apply old.tree (page_group page)) → pages ≡ record kept.pages { dirty = o.rest }
@@ -246,11 +271,11 @@ after_put old new kept pages ticket page o p is shown put proper left =
     let t : new.tree ≡ apply old.tree (page_group made) = put.tree ∙ ap (λ q. apply old.tree (page_group q)) shown in
     let whole : IsProper (apply old.tree (page_group made)) = subst (λ q. IsProper (apply old.tree (page_group q))) shown proper in
     let k : IsKept new.tree (kept_after kept o.rest) = subst (λ tree. IsKept tree (kept_after kept o.rest)) (sym t) (kept_still old.tree kept ticket o p is whole) in
-    let s : IsAlike (present old.tree kept) (present new.tree (kept_after kept o.rest)) = subst (λ tree. IsAlike (present old.tree kept) (present tree (kept_after kept o.rest))) (sym t) (same_after old.tree kept ticket o p is) in
+    let s : IsAlike (present old.tree kept) (present new.tree (kept_after kept o.rest)) = subst (λ tree. IsAlike (present old.tree kept) (present tree (kept_after kept o.rest))) (sym t) (same_after old.tree kept ticket o p is (kept_still old.tree kept ticket o p is whole)) in
     let d : o.rest ≡ drop 1 kept.pages.dirty = rw o.dirty refl in
     let n : length kept.pages.dirty ≡ suc (length o.rest) = ap (λ dirty. length dirty) o.dirty in
     let spent = put.credits in
-    let whole_after : AfterPut old new kept (kept_after kept o.rest) = record { fits = k; same = s; pages = d; paid = λ le. omega (arith, le, n, spent) } in
+    let whole_after : AfterPut old new kept (kept_after kept o.rest) = record { fits = k; same = s; pages = d; paid = λ le. omega (arith, le, n, spent); issued = omega (arith, n, spent) } in
     subst (λ q. AfterPut old new kept (record kept { pages = q })) (sym left) whole_after
 
 filled_length : (bytes : List ℕ) (len : ℕ) → length bytes ≤ 4096 → len ≤ 4096 → length (filled bytes len) ≤ 4096
@@ -314,16 +339,18 @@ same-then a b c f g = record {
   entries = f.entries ∙ g.entries;
   highest = f.highest ∙ g.highest;
   handles = f.handles ∙ g.handles;
+  sizes = λ ino inode found. f.sizes ino inode found ∙ g.sizes ino inode (subst (λ inodes. lookup (is_at (nat_cmp ino)) inodes ≡ Some inode) f.inodes found);
 }
 
 pub same-none : (a : Files) → IsAlike a a
-same-none a = record { inodes = refl; blocks = refl; entries = refl; highest = refl; handles = refl }
+same-none a = record { inodes = refl; blocks = refl; entries = refl; highest = refl; handles = refl; sizes = λ ino inode found. refl }
 
 -- what holds while dirty pages are put, with so many left
 pub record Written (x y : Outlook) (old now : BackingState) (kept still : Kept) (left : ℕ) : Type 0 where
   pub fits : IsKept now.tree still
   pub same : IsAlike (present old.tree kept) (present now.tree still)
   pub paid : length still.pages.dirty ≤ now.space.credits
+  pub issued : now.space.credits + length kept.pages.dirty ≡ old.space.credits + length still.pages.dirty
   pub count : length still.pages.dirty ≡ left
   pub few : left ≤ length kept.pages.dirty
   pub goes : Goes (2 * (length kept.pages.dirty - left)) old now
@@ -332,11 +359,11 @@ pub record Written (x y : Outlook) (old now : BackingState) (kept still : Kept) 
 pub written_begins : (x : Outlook) (old : BackingState) (kept : Kept) (n : ℕ) → IsKept old.tree kept → length kept.pages.dirty ≤ old.space.credits → n ≡ length kept.pages.dirty → Written x x old old kept kept n
 written_begins x old kept n is paid same =
     let zero_more : 2 * (length kept.pages.dirty - n) ≡ 0 = omega (arith, same) in
-    record { fits = is; same = same-none (present old.tree kept); paid = paid; count = sym same; few = omega (arith, same); goes = subst (λ k. Goes k old old) (sym zero_more) (Goes-none old); sure = Sure-none x old }
+    record { fits = is; same = same-none (present old.tree kept); paid = paid; issued = refl; count = sym same; few = omega (arith, same); goes = subst (λ k. Goes k old old) (sym zero_more) (Goes-none old); sure = Sure-none x old }
 
 pub written_more : (x y z : Outlook) (old now new : BackingState) (kept still after : Kept) (left next : ℕ) → Written x y old now kept still left → next + 1 ≡ left → IsKept new.tree after
-    → IsAlike (present now.tree still) (present new.tree after) → length after.pages.dirty ≤ new.space.credits → after.pages.dirty ≡ drop 1 still.pages.dirty → Goes 2 now new → SureGoes y z now new → Written x z old new kept after next
-written_more x y z old now new kept still after left next w one fits same paid pages goes sure =
+    → IsAlike (present now.tree still) (present new.tree after) → length after.pages.dirty ≤ new.space.credits → new.space.credits + length still.pages.dirty ≡ now.space.credits + length after.pages.dirty → after.pages.dirty ≡ drop 1 still.pages.dirty → Goes 2 now new → SureGoes y z now new → Written x z old new kept after next
+written_more x y z old now new kept still after left next w one fits same paid issued pages goes sure =
     let n : length after.pages.dirty ≡ length still.pages.dirty - 1 = ap (λ dirty. length dirty) pages ∙ length-drop 1 still.pages.dirty in
     let count = w.count in
     let few = w.few in
@@ -345,6 +372,7 @@ written_more x y z old now new kept still after left next w one fits same paid p
       fits = fits;
       same = same-then (present old.tree kept) (present now.tree still) (present new.tree after) w.same same;
       paid = paid;
+      issued = let before = w.issued in omega (arith, before, issued);
       count = omega (arith, n, count, one);
       few = omega (arith, few, one);
       goes = subst (λ k. Goes k old new) more (Goes-then (2 * (length kept.pages.dirty - left)) 2 old now new w.goes goes);

@@ -1,12 +1,13 @@
 -- What several calls of a backing, one after another, answer and leave.
-use Rattle.std.specs.Prelude.{◌≡◌, ◌⊎◌, ◌<◌, None, Result, Err, []}
+use Rattle.std.specs.Prelude.{◌≡◌, ◌⊎◌, ◌<◌, ◌≤◌, None, Result, Err, []}
 use Rattle.fs_model.specs.declared.backing_answers.Mode.TheVariants.{ReadOnly}
 use Rattle.fs_model.specs.declared.backing_answers.StoreFault.{StoreFault}
-use Rattle.fs_model.specs.declared.backing_answers.StoreFault.TheVariants.{Memory, Volume, ReadOnly as IsReadOnly}
+use Rattle.fs_model.specs.declared.backing_answers.StoreFault.TheVariants.{ReadOnly as IsReadOnly}
 use Rattle.fs_model.specs.declared.refusal.Refusal.{Refusal}
 use Rattle.fs_model.specs.declared.refusal.Refusal.TheVariants.{Enospc, Erofs, Eio, Enomem}
 use Rattle.fs_model.specs.declared.space.Need.{Need}
-use Rattle.fs_model.specs.Backing.{BackingState, Outlook, Rose}
+use Rattle.fs_model.specs.Backing.{BackingState, Outlook, Rose, granted}
+pub use Rattle.fs_model.specs.CallFaults.{refusal_of}
 use Rattle.fs_model.specs.Cover.{needed, room_for}
 use Rattle.cached_files.specs.declared.kept.Kept.{Kept}
 
@@ -25,6 +26,13 @@ pub record HasCommitted (state : BackingState) : Type 0 where
   pub running : state.journal.running ≡ None
   pub nodes : state.journal.nodes ≡ 0
 
+-- Why a need was admitted: the test of admission held, on the backing as it was, or with no page dirty and a commit ended; and it is granted now.
+pub record IsCoveredBy (old new : BackingState) (kept : Kept) (need : Need) : Type 0 where
+  pub state : BackingState
+  pub covered : needed state.space need ≤ room_for state.geometry state.space need
+  pub granted : new ≡ granted state need
+  pub when : (state ≡ old) ⊎ (HasCommitted state × (kept.pages.dirty ≡ []))
+
 -- Why nothing was admitted: the test fails, with no page dirty and a commit ended; or a call of the backing failed.
 abbrev pub IsWithoutRoom : BackingState → BackingState → Kept → Need → Refusal → Type 0
 IsWithoutRoom old new kept need (Enospc space) =
@@ -34,9 +42,3 @@ IsWithoutRoom old new kept need (Eio count) = Rose old.faults new.faults × (cou
 IsWithoutRoom old new kept need (Erofs cause) = new.mode ≡ ReadOnly cause
 IsWithoutRoom old new kept need Enomem = Unit {0}
 IsWithoutRoom old new kept need refusal = ⊥
-
--- the refusal that tells a backing's fault
-abbrev pub refusal_of : StoreFault → Refusal
-refusal_of Memory = Enomem
-refusal_of (Volume count) = Eio count
-refusal_of (IsReadOnly cause) = Erofs cause

@@ -1,12 +1,13 @@
 -- What is kept follows the changes that a backing made of its tree.
-use Rattle.std.specs.Prelude.{◌≡◌, Bool, true, false, Some, List, fold}
+use Rattle.std.specs.Prelude.{◌≡◌, ◌⊎◌, ◌<◌, Bool, true, false, Some, List, fold}
 use Rattle.std.specs.List.{AllByRecursion}
 use Rattle.std.specs.BTreeMap.{is_at}
-use Rattle.std.specs.Map.{lookup, set_value, remove_entry}
+use Rattle.std.specs.Map.{set_value, remove_entry}
 use Rattle.std.specs.Ordering.{nat_cmp}
 use Rattle.fs_model.specs.declared.change.Change.{Change}
 use Rattle.fs_model.specs.declared.change.Change.TheVariants.{SetInode, SetBlock, CutBlocks, DropInode}
 use Rattle.fs_model.specs.declared.inode.Inode.{Inode}
+use Rattle.fs_model.specs.Files.{Tree, inode_at}
 use Rattle.page_cache.specs.Pages.{without_cut}
 use Rattle.cached_files.specs.declared.kept.Kept.{Kept}
 
@@ -26,18 +27,18 @@ follow kept change = kept
 abbrev pub followed : Kept → List Change → Kept
 followed kept group = fold follow kept group
 
--- an inode that is kept is set to one of its kind and size
+-- an inode of the same kind and size
 pub record KeepsSize (old new : Inode) : Type 0 where
   pub kind : new.kind ≡ old.kind
   pub size : new.size ≡ old.size
 
--- a change of inodes or names that leaves the kind and the size of each inode that is kept
-abbrev pub IsOfNames : Kept → Change → Type 0
-IsOfNames kept (SetInode ino inode) = (old : Inode) → lookup (is_at (nat_cmp ino)) kept.inodes ≡ Some old → KeepsSize old inode
-IsOfNames kept (SetBlock ino block bytes) = ⊥
-IsOfNames kept (CutBlocks ino old_size new_size) = ⊥
-IsOfNames kept change = Unit {0}
+-- A change of inodes or names over a tree: an inode that is there keeps its kind and its size, and a new one has a number above all that were used. No block changes, but for those of an inode that goes.
+abbrev pub IsOfNames : Tree → Change → Type 0
+IsOfNames tree (SetInode ino inode) = ((old : Inode) × (inode_at tree ino ≡ Some old) × KeepsSize old inode) ⊎ (tree.highest < ino)
+IsOfNames tree (SetBlock ino block bytes) = ⊥
+IsOfNames tree (CutBlocks ino old_size new_size) = ⊥
+IsOfNames tree change = Unit {0}
 
 -- a group of such changes
-abbrev pub AreOfNames : Kept → List Change → Type 0
-AreOfNames kept group = AllByRecursion (IsOfNames kept) group
+abbrev pub AreOfNames : Tree → List Change → Type 0
+AreOfNames tree group = AllByRecursion (IsOfNames tree) group

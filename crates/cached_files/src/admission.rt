@@ -4,7 +4,7 @@ ghost use Rattle.std.specs.Prelude.{◌≡◌, ◌⊎◌, ◌+◌, ◌*◌, ◌�
 ghost use Rattle.fs_model.specs.Backing.{Goes, HasCause, IsModest, KeepsFiles, granted};
 ghost use Rattle.fs_model.specs.Cover.{needed, room_for};
 ghost use Rattle.cached_files.specs.Alike.{IsAlike};
-ghost use Rattle.cached_files.specs.Calls.{HasCommitted, IsWithoutRoom, refusal_of, SureGoes, TellsMode};
+ghost use Rattle.cached_files.specs.Calls.{HasCommitted, IsCoveredBy, IsWithoutRoom, SureGoes, TellsMode};
 ghost use Rattle.cached_files.specs.Present.{IsKept, present};
 
 use crate::commits::commit;
@@ -14,8 +14,9 @@ use fs_model::{Backing, Need, Refusal, StoreFault};
 use std::alloc::Global;
 
 /// Admits a need. Where it isn't covered as the backing is, all dirty pages are put, synced and committed, and it is tested
-/// again; `Enospc` comes exactly where that second test fails, with its two sides. Other refusals are faults of the
-/// backing. After a refusal some pages may have been put.
+/// again. What is answered is what the last test says: the need is granted where it holds, and `Enospc` comes where the
+/// second one fails, with its two sides. Other refusals are faults of the backing. After a refusal some pages may have
+/// been put.
 pub fn admit<B: Backing>(
     alloc: Global,
     backing: &mut B,
@@ -28,8 +29,11 @@ pub fn admit<B: Backing>(
     ensures kept { IsKept (B.state backing.new).tree kept.new }
     ensures paid { OnOk result (length kept.new.pages.dirty + need.now.credits ≤ (B.state backing.new).space.credits) }
     ensures still_paid { OnErr result (length kept.new.pages.dirty ≤ (B.state backing.new).space.credits) }
+    ensures issued { OnOk result ((B.state backing.new).space.credits + length kept.old.pages.dirty ≡ (B.state backing.old).space.credits + length kept.new.pages.dirty + need.now.credits) }
+    ensures still_issued { OnErr result ((B.state backing.new).space.credits + length kept.old.pages.dirty ≡ (B.state backing.old).space.credits + length kept.new.pages.dirty) }
     ensures same { IsAlike (present (B.state backing.old).tree kept.old) (present (B.state backing.new).tree kept.new) }
     ensures grant { OnOk result ((B.state backing.new).grant ≡ Some (record { bytes = need.now.bytes; nodes = need.now.nodes })) }
+    ensures admitted { OnOk result (IsCoveredBy (B.state backing.old) (B.state backing.new) kept.new need.now) }
     ensures inodes { OnOk result ((kept.new.inodes ≡ kept.old.inodes) ⊎ (kept.new.inodes ≡ [])) }
     ensures covered { needed (B.state backing.old).space need.now ≤ room_for (B.state backing.old).geometry (B.state backing.old).space need.now
         → (result ≡ Ok tt) × (B.state backing.new ≡ granted (B.state backing.old) need.now) × (kept.new ≡ kept.old) }
@@ -56,8 +60,11 @@ fn admit_again<B: Backing>(
     ensures kept { IsKept (B.state backing.new).tree kept.new }
     ensures paid { OnOk result (length kept.new.pages.dirty + need.now.credits ≤ (B.state backing.new).space.credits) }
     ensures still_paid { OnErr result (length kept.new.pages.dirty ≤ (B.state backing.new).space.credits) }
+    ensures issued { OnOk result ((B.state backing.new).space.credits + length kept.old.pages.dirty ≡ (B.state backing.old).space.credits + length kept.new.pages.dirty + need.now.credits) }
+    ensures still_issued { OnErr result ((B.state backing.new).space.credits + length kept.old.pages.dirty ≡ (B.state backing.old).space.credits + length kept.new.pages.dirty) }
     ensures same { IsAlike (present (B.state backing.old).tree kept.old) (present (B.state backing.new).tree kept.new) }
     ensures grant { OnOk result ((B.state backing.new).grant ≡ Some (record { bytes = need.now.bytes; nodes = need.now.nodes })) }
+    ensures admitted { OnOk result (IsCoveredBy (B.state backing.old) (B.state backing.new) kept.new need.now) }
     ensures inodes { OnOk result (kept.new.inodes ≡ []) }
     ensures refused { IfErr result (IsWithoutRoom (B.state backing.old) (B.state backing.new) kept.new need.now) }
     ensures goes { Goes (2 * length kept.old.pages.dirty) (B.state backing.old) (B.state backing.new) }
@@ -68,7 +75,7 @@ fn admit_again<B: Backing>(
             Ok(()) => Ok(()),
             Err(space) => Err(Refusal::Enospc { space }),
         },
-        Err(fault) => Err(refusal_of(fault)),
+        Err(fault) => Err(Refusal::from(fault)),
     }
 }
 
@@ -83,6 +90,7 @@ pub fn make_room<B: Backing>(
     ensures kept { IsKept (B.state backing.new).tree kept.new }
     ensures paid { length kept.new.pages.dirty ≤ (B.state backing.new).space.credits }
     ensures same { IsAlike (present (B.state backing.old).tree kept.old) (present (B.state backing.new).tree kept.new) }
+    ensures issued { (B.state backing.new).space.credits + length kept.old.pages.dirty ≡ (B.state backing.old).space.credits + length kept.new.pages.dirty }
     ensures pages { OnOk result (kept.new.pages.dirty ≡ []) }
     ensures inodes { OnOk result (kept.new.inodes ≡ []) }
     ensures done { OnOk result (HasCommitted (B.state backing.new)) }
@@ -105,15 +113,4 @@ fn sync_all<B: Backing>(backing: &mut B) -> Result<(), StoreFault>
     ensures sure { SureGoes (B.outlook backing.old) (B.outlook backing.new) (B.state backing.old) (B.state backing.new) }
 {
     backing.sync()
-}
-
-/// The refusal that tells a backing's fault.
-pub fn refusal_of(fault: StoreFault) -> Refusal
-    ensures { result ≡ refusal_of fault }
-{
-    match fault {
-        StoreFault::Memory => Refusal::Enomem,
-        StoreFault::Volume { count } => Refusal::Eio { count },
-        StoreFault::ReadOnly { cause } => Refusal::Erofs { cause },
-    }
 }

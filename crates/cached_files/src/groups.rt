@@ -9,7 +9,7 @@ ghost use Rattle.cached_files.specs.Calls.{IsWithoutRoom, SureGoes, TellsMode};
 ghost use Rattle.cached_files.specs.Follow.{AreOfNames, follow, followed, is_of_inode};
 ghost use Rattle.cached_files.specs.Present.{IsKept, present};
 
-use crate::admission::{admit, refusal_of};
+use crate::admission::admit;
 use crate::kept::Kept;
 use crate::law::present_files_are_sound;
 use fs_laws::groups_fit_trees_built_alike;
@@ -29,7 +29,7 @@ pub fn put_group<B: Backing>(
     requires kept { IsKept (B.state backing.old).tree kept.old }
     requires paid { length kept.old.pages.dirty ≤ (B.state backing.old).space.credits }
     requires granted { (grant : Grant) × ((B.state backing.old).grant ≡ Some grant) × FitsGroup (present (B.state backing.old).tree kept.old).tree grant group.now }
-    requires names { AreOfNames kept.old group.now }
+    requires names { AreOfNames (present (B.state backing.old).tree kept.old).tree group.now }
     ensures kept { IsKept (B.state backing.new).tree kept.new }
     ensures paid { length kept.new.pages.dirty ≤ (B.state backing.new).space.credits }
     ensures ok { OnOk result (present (B.state backing.new).tree kept.new ≡ record (present (B.state backing.old).tree kept.old) { tree = apply (present (B.state backing.old).tree kept.old).tree group.now }) }
@@ -64,10 +64,11 @@ pub fn apply_group<B: Backing>(
     requires kept { IsKept (B.state backing.old).tree kept.old }
     requires paid { length kept.old.pages.dirty ≤ (B.state backing.old).space.credits }
     requires fits { FitsGroup (present (B.state backing.old).tree kept.old).tree (record { bytes = need.now.bytes; nodes = need.now.nodes }) group.now }
-    requires names { AreOfNames kept.old group.now }
+    requires names { AreOfNames (present (B.state backing.old).tree kept.old).tree group.now }
     ensures kept { IsKept (B.state backing.new).tree kept.new }
     ensures paid { length kept.new.pages.dirty ≤ (B.state backing.new).space.credits }
     ensures ok { OnOk result (IsAlike (record (present (B.state backing.old).tree kept.old) { tree = apply (present (B.state backing.old).tree kept.old).tree group.now }) (present (B.state backing.new).tree kept.new)) }
+    ensures issued { (B.state backing.new).space.credits + length kept.old.pages.dirty ≡ (B.state backing.old).space.credits + length kept.new.pages.dirty }
     ensures same { OnErr result (IsAlike (present (B.state backing.old).tree kept.old) (present (B.state backing.new).tree kept.new)) }
     ensures refused { IfErr result (IsWithoutRoom (B.state backing.old) (B.state backing.new) kept.new need.now) }
     ensures goes { Goes (2 * length kept.old.pages.dirty + length group.now) (B.state backing.old) (B.state backing.new) }
@@ -78,7 +79,7 @@ pub fn apply_group<B: Backing>(
     admit(alloc, backing, kept, need)?;
     match put_group(alloc, backing, kept, group) {
         Ok(()) => Ok(()),
-        Err(fault) => Err(refusal_of(fault)),
+        Err(fault) => Err(Refusal::from(fault)),
     }
 }
 

@@ -1,6 +1,6 @@
 // Open files.
 
-ghost use Rattle.std.specs.Prelude.{◌≡◌, ◌==◌, ℕ, List, [], IfOk, OnOk, OnErr};
+ghost use Rattle.std.specs.Prelude.{◌≡◌, ◌==◌, ℕ, List, [], Some, IfOk, OnOk, OnErr, filter, length};
 ghost use Rattle.std.specs.List.{list_any};
 ghost use Rattle.std.specs.Map.{lookup, remove_entry};
 ghost use Rattle.std.specs.BTreeMap.{is_at, insert_entry};
@@ -48,6 +48,14 @@ impl Handles {
         holds(&self.map, ino)
     }
 
+    /// Whether an inode that is open in a slot of a caller is open in another slot too. Takes no memory.
+    pub fn is_open_beside(&self, caller: u16, slot: u8, ino: u32) -> bool
+        requires { lookup (is_at (pair_cmp (caller, slot))) self.now ≡ Some ino }
+        ensures { result ≡ list_any (λ handle. handle.1 == ino) (remove_entry (is_at (pair_cmp (caller, slot))) self.now) }
+    {
+        holds_beside(&self.map, caller, slot, ino)
+    }
+
     /// Opens an inode in a slot of a caller, in place of what was open there. Where there is no memory all is as it was.
     pub fn insert(&mut self, caller: u16, slot: u8, ino: u32) -> Result<(), Memory>
         ensures ok { OnOk result (self.new ≡ insert_entry pair_cmp self.old (caller, slot) ino) }
@@ -75,6 +83,20 @@ fn holds(map: &BTreeMap<(u16, u8), u32>, ino: u32) -> bool
     ensures { result ≡ list_any (λ handle. handle.1 == ino) map.now.entries }
 {
     map.iter().any(|(_, held)| *held == ino)
+}
+
+fn holds_beside(map: &BTreeMap<(u16, u8), u32>, caller: u16, slot: u8, ino: u32) -> bool
+    requires { lookup (is_at (pair_cmp (caller, slot))) map.now.entries ≡ Some ino }
+    ensures { result ≡ list_any (λ handle. handle.1 == ino) (remove_entry (is_at (pair_cmp (caller, slot))) map.now.entries) }
+{
+    count_of(map, ino) > 1
+}
+
+// How many slots have an inode open.
+fn count_of(map: &BTreeMap<(u16, u8), u32>, ino: u32) -> usize
+    ensures { result ≡ length (filter (λ handle. handle.1 == ino) map.now.entries) }
+{
+    map.iter().filter(|(_, held)| **held == ino).count()
 }
 
 fn put(map: &mut BTreeMap<(u16, u8), u32>, caller: u16, slot: u8, ino: u32) -> Result<(), Memory>

@@ -1,7 +1,10 @@
 // Laws of the present files.
 
+ghost use Rattle.std.specs.Prelude.{◌≡◌, ℕ, ◌<◌, [], Some};
 ghost use Rattle.fs_laws.specs.Sound.{AreFiles, IsSound};
-ghost use Rattle.fs_model.specs.Files.{Files, Tree};
+ghost use Rattle.fs_model.specs.declared.inode.Inode.{Inode};
+ghost use Rattle.fs_model.specs.Files.{Files, Tree, inode_at};
+ghost use Rattle.fs_model.specs.Handles.{tree_written};
 ghost use Rattle.fs_model.specs.Proper.{IsProper};
 ghost use Rattle.fs_model.specs.Same.{IsSame};
 ghost use Rattle.cached_files.specs.declared.kept.Kept.{Kept as AnyKept};
@@ -15,6 +18,11 @@ pub fn alike_files_are_the_same()
     ensures { (a b : Files) → IsAlike a b → IsSame a b }
 {}
 
+/// A write leaves files alike that were alike.
+pub fn written_files_stay_alike()
+    ensures { (a b : Files) (ino : ℕ) (inode : Inode) (now offs n byte : ℕ) → 0 < n → inode_at a.tree ino ≡ Some inode → IsAlike a b → IsAlike (record a { tree = tree_written a.tree ino inode now offs n byte }) (record b { tree = tree_written b.tree ino inode now offs n byte }) }
+{}
+
 /// The present tree is proper, and the present files are sound where each handle names a regular file of the tree below.
 pub fn present_files_are_sound()
     ensures proper { (tree : Tree) (kept : AnyKept) → IsKept tree kept → IsProper (present tree kept).tree }
@@ -22,3 +30,8 @@ pub fn present_files_are_sound()
 {
     trees_built_alike_are_proper();
 }
+
+/// Where no page is dirty, the present tree is the backing's own.
+pub fn clean_files_are_those_of_the_backing()
+    ensures { (tree : Tree) (kept : AnyKept) → IsKept tree kept → kept.pages.dirty ≡ [] → (present tree kept).tree ≡ tree }
+{}

@@ -13,18 +13,23 @@ mod groups;
 mod handles;
 mod kept;
 mod law;
+mod orphans;
 mod put;
 mod reads;
 mod writes;
 mod written_pages;
 
-pub use crate::admission::{admit, make_room, refusal_of};
+pub use crate::admission::{admit, make_room};
 pub use crate::commits::commit;
 pub use crate::dirty_inodes::DirtyInodes;
 pub use crate::groups::{apply_group, put_group};
 pub use crate::handles::Handles;
 pub use crate::kept::Kept;
-pub use crate::law::{alike_files_are_the_same, present_files_are_sound};
+pub use crate::law::{
+    alike_files_are_the_same, clean_files_are_those_of_the_backing, present_files_are_sound,
+    written_files_stay_alike,
+};
+pub use crate::orphans::drop_orphan;
 pub use crate::put::{put_oldest, write_back};
 pub use crate::reads::{bytes, inode, size};
 pub use crate::writes::{newly, write};

@@ -1,6 +1,6 @@
 // Dirty pages are put.
 
-ghost use Rattle.std.specs.Prelude.{◌≡◌, ◌*◌, [], ◌<◌, ◌≤◌, nat_lt, is_some, true, Some, IfOk, OnOk, OnErr, length, drop};
+ghost use Rattle.std.specs.Prelude.{◌≡◌, ◌+◌, ◌*◌, [], ◌<◌, ◌≤◌, nat_lt, is_some, true, Some, IfOk, OnOk, OnErr, length, drop};
 ghost use Rattle.std.specs.Map.{lookup};
 ghost use Rattle.std.specs.BTreeMap.{is_at};
 ghost use Rattle.std.specs.Ordering.{nat_cmp};
@@ -29,6 +29,7 @@ pub fn put_oldest<B: Backing>(
     ensures kept { IsKept (B.state backing.new).tree kept.new }
     ensures paid { length kept.new.pages.dirty ≤ (B.state backing.new).space.credits }
     ensures same { IsAlike (present (B.state backing.old).tree kept.old) (present (B.state backing.new).tree kept.new) }
+    ensures issued { (B.state backing.new).space.credits + length kept.old.pages.dirty ≡ (B.state backing.old).space.credits + length kept.new.pages.dirty }
     ensures put { IfOk result (λ put. put ≡ nat_lt 0 (length kept.old.pages.dirty)) }
     ensures pages { OnOk result (kept.new.pages.dirty ≡ drop 1 kept.old.pages.dirty) }
     ensures err { OnErr result (kept.new ≡ kept.old) }
@@ -61,6 +62,7 @@ pub fn write_back<B: Backing>(
     ensures kept { IsKept (B.state backing.new).tree kept.new }
     ensures paid { length kept.new.pages.dirty ≤ (B.state backing.new).space.credits }
     ensures same { IsAlike (present (B.state backing.old).tree kept.old) (present (B.state backing.new).tree kept.new) }
+    ensures issued { (B.state backing.new).space.credits + length kept.old.pages.dirty ≡ (B.state backing.old).space.credits + length kept.new.pages.dirty }
     ensures pages { OnOk result (kept.new.pages.dirty ≡ []) }
     ensures inodes { OnOk result (kept.new.inodes ≡ []) }
     ensures goes { Goes (2 * length kept.old.pages.dirty) (B.state backing.old) (B.state backing.new) }

@@ -8,11 +8,10 @@ ghost use Rattle.vfs_plans.specs.Answers.{IsRefused, Looks};
 use crate::faults::or_memory;
 use crate::kinds::{is_dir, is_symlink};
 use crate::lookups::{entries, inode};
-use crate::rows::by_hash;
 use crate::walks::walked;
 use cached_files::Kept;
 use fs_model::{Backing, Entry, Group, Refusal, Reply};
-use op_plans::{has_long_name, is_bad_mode, is_path, setting_mode};
+use op_plans::{by_hash, has_long_name, is_bad_mode, is_path, setting_mode};
 use std::alloc::Global;
 use ubifs_base::Name;
 

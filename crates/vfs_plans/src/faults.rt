@@ -6,7 +6,6 @@ ghost use Rattle.cached_files.specs.Calls.{refusal_of};
 ghost use Rattle.fs_model.specs.declared.backing_answers.StoreFault.{StoreFault as AnyFault};
 ghost use Rattle.std.specs.Prelude.{Err};
 
-use cached_files::refusal_of;
 use fs_model::{Refusal, StoreFault};
 use ubifs_base::Memory;
 
@@ -28,6 +27,6 @@ pub(crate) fn or_fault<T>(found: Result<T, StoreFault>) -> Result<T, Refusal>
 {
     match found {
         Ok(found) => Ok(found),
-        Err(fault) => Err(refusal_of(fault)),
+        Err(fault) => Err(Refusal::from(fault)),
     }
 }

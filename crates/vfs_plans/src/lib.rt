@@ -13,9 +13,7 @@ mod lookups;
 mod makes;
 mod moves;
 mod opens;
-mod ordered_name;
 mod place;
-mod rows;
 mod stats;
 mod walks;
 

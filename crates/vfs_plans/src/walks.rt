@@ -7,7 +7,7 @@ ghost use Rattle.vfs_plans.specs.Answers.{IsRefused, Looks};
 
 use crate::faults::or_memory;
 use crate::place::Place;
-use cached_files::{Kept, refusal_of};
+use cached_files::Kept;
 use fs_model::{Backing, Entry, Kind, Refusal};
 use op_plans::{components, pop_last};
 use std::alloc::Global;
@@ -114,6 +114,6 @@ fn child<B: Backing>(
     match backing.lookup(at.ino, name) {
         Ok(Some(entry)) => Ok(entry),
         Ok(None) => Err(Refusal::Enoent),
-        Err(fault) => Err(refusal_of(fault)),
+        Err(fault) => Err(Refusal::from(fault)),
     }
 }

@@ -1,7 +1,7 @@
 use Rattle.std.proofs.Common.{◌*◌, length}
 use Rattle.fs_model.specs.declared.space.Grant.{Grant}
 use Rattle.cached_files.specs.Present.{present}
-use Rattle.cached_files.proofs.Applied.{built_alike, bytes_alike, all_names_later, alike_put}
+use Rattle.cached_files.proofs.Applied.{built_alike, bytes_alike, names_alike, alike_put}
 use Rattle.cached_files.specs.CallLaws.{Goes-then}
 use Rattle.cached_files.proofs.groups.apply_group.Goals as goal
 
@@ -16,13 +16,18 @@ put_group-requires-clause-granted g c =
     (grant, c.in_ok-admit.ensures.grant, c.groups_fit_trees_built_alike.ensures before.tree seen.tree grant c.args.group.now (built_alike before seen alike) (bytes_alike before seen alike) proper c.requires.fits)
 
 pub put_group-requires-clause-names : goal.put_group-requires-clause-names
-put_group-requires-clause-names g c = all_names_later c.args.kept.now c.admit.new.kept c.args.group.now c.in_ok-admit.ensures.inodes c.requires.names
+put_group-requires-clause-names g c =
+    let before = present (g.B.Backing.state c.args.backing.now).tree c.args.kept.now in
+    let seen = present (g.B.Backing.state c.admit.new.backing).tree c.admit.new.kept in
+    names_alike before seen c.args.group.now c.admit.ensures.same c.requires.names
 
 pub returns-in-Ok-clause-ok : goal.returns-in-Ok-clause-ok
 returns-in-Ok-clause-ok g c =
     let before = present (g.B.Backing.state c.args.backing.now).tree c.args.kept.now in
     let seen = present (g.B.Backing.state c.admit.new.backing).tree c.admit.new.kept in
-    alike_put c.args.kept.now c.args.group.now before seen (present (g.B.Backing.state c.put_group.new.backing).tree c.put_group.new.kept) c.requires.names c.admit.ensures.same c.in-Ok.ensures.ok
+    let proper = c.present_files_are_sound.ensures.proper (g.B.Backing.state c.args.backing.now).tree c.args.kept.now c.requires.kept in
+    let later = c.present_files_are_sound.ensures.proper (g.B.Backing.state c.admit.new.backing).tree c.admit.new.kept c.admit.ensures.kept in
+    alike_put c.args.group.now before seen (present (g.B.Backing.state c.put_group.new.backing).tree c.put_group.new.kept) proper later c.requires.names c.admit.ensures.same c.in-Ok.ensures.ok
 
 pub returns-in-Ok-clause-goes : goal.returns-in-Ok-clause-goes
 returns-in-Ok-clause-goes g c =

@@ -44,3 +44,6 @@ returns-in_ok-put_page-in-Some-clause-pages g c = (made g c).pages
 
 pub returns-in-None-clause-put : goal.returns-in-None-clause-put
 returns-in-None-clause-put g c = none_dirty c.args.kept.now.pages (sym c.oldest.ensures ∙ c.in-None.is)
+
+pub returns-in_ok-put_page-in-Some-clause-issued : goal.returns-in_ok-put_page-in-Some-clause-issued
+returns-in_ok-put_page-in-Some-clause-issued g c = (made g c).issued
