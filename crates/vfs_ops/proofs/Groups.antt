@@ -1,13 +1,8 @@
 -- What the group of an operation on names does to inodes: those that are there keep kind and size, and one goes at most.
-use Rattle.std.proofs.Common.{◌≡◌, ℕ, ◌+◌, ◌≤◌, ◌⊎◌, inl, inr, Bool, true, false, cond, ◌&&◌, ◌||◌, not, List, [], ◌∷◌, ◌++◌, Option, Some, None, Ok, Err, refl, sym, subst, ◌∙◌, arith}
-use Rattle.std.specs.Prelude.{◌==◌, nat_le, is_some, fold}
-use Rattle.std.specs.List.{list_all, AllByRecursion}
-use Rattle.std.specs.Map.{lookup, keys_of}
-use Rattle.std.specs.BTreeMap.{insert_entry, is_at}
+use Rattle.std.proofs.Common.{◌≡◌, ℕ, ◌+◌, ◌<◌, ◌⊎◌, inl, inr, Bool, true, false, cond, ◌&&◌, ◌||◌, not, List, [], ◌∷◌, ◌++◌, Option, Some, None, Ok, Err, refl, arith}
+use Rattle.std.specs.Prelude.{◌==◌, nat_le, is_some}
+use Rattle.std.specs.List.{AllByRecursion}
 use Rattle.std.specs.Option.{option_map_or}
-use Rattle.std.specs.Ordering.{nat_cmp}
-use Rattle.std.proofs.lemmas.Bool.{and_parts}
-use Rattle.std.proofs.lemmas.Bool.Decides.{nat_tests}
 use Rattle.fs_model.specs.declared.change.Change.{Change}
 use Rattle.fs_model.specs.declared.change.Change.TheVariants.{SetInode, SetEntry, DropEntry, SetBlock, CutBlocks, DropInode}
 use Rattle.fs_model.specs.declared.inode.Inode.{Inode}
@@ -20,7 +15,7 @@ use Rattle.fs_model.specs.declared.refusal.Table.TheVariants.{Inodes as InodeTab
 use Rattle.fs_model.specs.declared.reply.Reply.TheVariants.{Done, Ino}
 use Rattle.fs_model.specs.Attributes.{found, mode_set}
 use Rattle.fs_model.specs.Directory.{dir_links, has_no_entry, is_linked_out}
-use Rattle.fs_model.specs.Files.{Tree, Files, Inodes, inode_at, entry_at}
+use Rattle.fs_model.specs.Files.{Tree, Files, inode_at, entry_at}
 use Rattle.fs_model.specs.Links.{less_linked, linking, losing, removing, linked, unlinked, dir_removed}
 use Rattle.fs_model.specs.Making.{inode_limit, is_bad_mode, is_bad_target, is_name_path, touched, touching, making, made, new_file, new_dir, new_symlink}
 use Rattle.fs_model.specs.Need.{group_need, need_of}
@@ -28,19 +23,14 @@ use Rattle.fs_model.specs.Operation.{plan_of, group_of, outcome_of}
 use Rattle.fs_model.specs.Orphan.{is_open}
 use Rattle.fs_model.specs.Outcome.{Plan, done_by, group_in, refuse, with_found, with_some}
 use Rattle.fs_model.specs.Path.{has_long_name, components, last_of, walked, parent_of, is_dir}
-use Rattle.fs_model.specs.Proper.{IsProper, ascends}
 use Rattle.fs_model.specs.Rename.{is_under, moved, moving, comes_linked_out, renamed}
-use Rattle.fs_laws.specs.Maps.{apart, missing_first, tail_ascends, all_at, set_here, set_other, key_cases}
-use Rattle.fs_laws.specs.Orders.{numbers}
-use Rattle.cached_files.specs.declared.kept.Kept.{Kept}
 use Rattle.cached_files.specs.Follow.{KeepsSize, AreOfNames}
-use Rattle.cached_files.specs.Present.{IsKept, present, with_inode}
 use Rattle.vfs_ops.specs.Operations.{is_of_names, class_of, LeavesOthers}
 use Rattle.vfs_ops.proofs.Plans.{refuse_to, found_to, some_to}
 
--- an inode that is there keeps kind and size, and no inode goes but this one
+-- an inode that is there keeps kind and size, a new one has a number above all that were used, and no inode goes but this one
 abbrev pub FitsNames : Tree → ℕ → Change → Type 0
-FitsNames tree gone (SetInode ino inode) = (old : Inode) → inode_at tree ino ≡ Some old → KeepsSize old inode
+FitsNames tree gone (SetInode ino inode) = ((old : Inode) × (inode_at tree ino ≡ Some old) × KeepsSize old inode) ⊎ (tree.highest < ino)
 FitsNames tree gone (DropInode ino) = ino ≡ gone
 FitsNames tree gone (SetBlock ino block bytes) = ⊥
 FitsNames tree gone (CutBlocks ino old_size new_size) = ⊥
@@ -55,42 +45,25 @@ append : (tree : Tree) (gone : ℕ) (front back : List Change) → AllByRecursio
 append tree gone [] back f b = b
 append tree gone (change ∷ front) back f b = (f.0, append tree gone front back f.1 b)
 
-same_keeps : (at : Option Inode) (inode old new : Inode) → at ≡ Some inode → at ≡ Some old → KeepsSize inode new → KeepsSize old new
-same_keeps at inode old new a b keeps =
-    let e : Some inode ≡ Some old = sym a ∙ b in
-    let same : inode ≡ old = cc e in
-    subst (λ i. KeepsSize i new) same keeps
-
 touching_fits : (tree : Tree) (ino now gone : ℕ) → AllByRecursion (FitsNames tree gone) (touching tree ino now)
 touching_fits tree ino now gone = by (inode_at tree ino) refl
   where
     by : (at : Option Inode) → inode_at tree ino ≡ at → AllByRecursion (FitsNames tree gone) (option_map_or (λ inode. SetInode ino (touched now inode) ∷ []) at [])
     by None e = tt
-    by (Some inode) e = (λ old f. same_keeps (inode_at tree ino) inode old (touched now inode) e f (record { kind = refl; size = refl }), tt)
+    by (Some inode) e = (inl (inode, e, record { kind = refl; size = refl }), tt)
 
 losing_fits : (files : Files) (ino now : ℕ) (inode : Inode) → inode_at files.tree ino ≡ Some inode → FitsNames files.tree ino (losing files ino now inode)
 losing_fits files ino now inode e = by (((less_linked now inode).nlink == 0) && not (is_open files ino))
   where
     by : (b : Bool) → FitsNames files.tree ino (cond b (DropInode ino) (SetInode ino (less_linked now inode)))
     by true = refl
-    by false = λ old f. same_keeps (inode_at files.tree ino) inode old (less_linked now inode) e f (record { kind = refl; size = refl })
+    by false = inl (inode, e, record { kind = refl; size = refl })
 
--- a number that no inode has yet
-new_number : (tree : Tree) (inode : Inode) → IsProper tree → inode_at tree (tree.highest + 1) ≡ Some inode → ⊥
-new_number tree inode proper found =
-    let parts = and_parts (list_all (λ e. nat_le e.0 tree.highest) tree.inodes && list_all (λ e. nat_le e.0.0 tree.highest) tree.blocks) (list_all (λ e. nat_le e.0.0 tree.highest && nat_le e.1.ino tree.highest) tree.entries) proper.numbers in
-    let more = and_parts (list_all (λ e. nat_le e.0 tree.highest) tree.inodes) (list_all (λ e. nat_le e.0.0 tree.highest) tree.blocks) parts.0 in
-    let le : nat_le (tree.highest + 1) tree.highest ≡ true = all_at nat_cmp numbers (λ e. nat_le e.0 tree.highest) tree.inodes (tree.highest + 1) inode more.0 found in
-    let below : tree.highest + 1 ≤ tree.highest = grind (arith, nat_tests) in
-    omega (arith, below)
-
-making_fits : (tree : Tree) (dir : ℕ) (name : List ℕ) (inode : Inode) (now : ℕ) → IsProper tree → AreFitting tree (making tree dir name inode now)
-making_fits tree dir name inode now proper = record { gone = 0; all = (tt, (λ old f. absurd (new_number tree old proper f), touching_fits tree dir now 0)) }
+making_fits : (tree : Tree) (dir : ℕ) (name : List ℕ) (inode : Inode) (now : ℕ) → AreFitting tree (making tree dir name inode now)
+making_fits tree dir name inode now = record { gone = 0; all = (tt, (inr (omega arith), touching_fits tree dir now 0)) }
 
 linking_fits : (tree : Tree) (entry : Entry) (inode : Inode) (dir : ℕ) (name : List ℕ) (now : ℕ) → inode_at tree entry.ino ≡ Some inode → AreFitting tree (linking tree entry inode dir name now)
-linking_fits tree entry inode dir name now e =
-    let one : Inode = touched now (record inode { nlink = inode.nlink + 1 }) in
-    record { gone = 0; all = (tt, (λ old f. same_keeps (inode_at tree entry.ino) inode old one e f (record { kind = refl; size = refl }), touching_fits tree dir now 0)) }
+linking_fits tree entry inode dir name now e = record { gone = 0; all = (tt, (inl (inode, e, record { kind = refl; size = refl }), touching_fits tree dir now 0)) }
 
 removing_fits : (files : Files) (entry : Entry) (inode : Inode) (now : ℕ) → inode_at files.tree entry.ino ≡ Some inode → AreFitting files.tree (removing files entry inode now)
 removing_fits files entry inode now e = record { gone = entry.ino; all = (tt, (losing_fits files entry.ino now inode e, touching_fits files.tree entry.dir now entry.ino)) }
@@ -119,8 +92,8 @@ Fits files plan = AreFitting files.tree (group_in plan)
 nothing : (files : Files) (e : Refusal) → Fits files (Err e)
 nothing files e = record { gone = 0; all = tt }
 
-made_fits : (files : Files) (now : ℕ) (path : List ℕ) (inode : Inode) → IsProper files.tree → Fits files (made files now path inode)
-made_fits files now path inode proper =
+made_fits : (files : Files) (now : ℕ) (path : List ℕ) (inode : Inode) → Fits files (made files now path inode)
+made_fits files now path inode =
     let P : Plan → Type 0 = λ plan. Fits files plan in
     let tree : Tree = files.tree in
     let name = last_of (components path) in
@@ -133,7 +106,7 @@ made_fits files now path inode proper =
     refuse_to P (is_some (entry_at tree parent.ino name)) Eexist (room parent) (nothing files) (λ absent.
     refuse_to P (is_dir inode.kind && is_linked_out (dir_links tree parent.ino)) Emlink (few parent) (nothing files) (λ low.
     refuse_to P (nat_le inode_limit tree.highest) (Enfile InodeTable inode_limit) (last parent) (nothing files) (λ left.
-    making_fits tree parent.ino name inode now proper)))))
+    making_fits tree parent.ino name inode now)))))
 
 linked_fits : (files : Files) (now : ℕ) (old new : List ℕ) → Fits files (linked files now old new)
 linked_fits files now old new =
@@ -240,23 +213,23 @@ mode_set_fits files now path mode =
     found_to P (found files path) with_it (nothing files) (λ at is.
     some_to P (inode_at tree at.ino) Enoent (last at) (nothing files) (λ inode there.
     let new : Inode = touched now (record inode { mode = mode }) in
-    record { gone = 0; all = (λ old f. same_keeps (inode_at tree at.ino) inode old new there f (record { kind = refl; size = refl }), tt) })))
+    record { gone = 0; all = (inl (inode, there, record { kind = refl; size = refl }), tt) })))
 
 -- the group of an operation on names
-pub group_fits : (files : Files) (caller now : ℕ) (op : Op) → IsProper files.tree → is_of_names op ≡ true → AreFitting files.tree (group_of files caller now op)
-group_fits files caller now (Create path mode) proper is =
-    refuse_to (λ plan. Fits files plan) (is_bad_mode mode || not (is_name_path path)) Einval (made files now path (new_file mode now)) (nothing files) (λ good. made_fits files now path (new_file mode now) proper)
-group_fits files caller now (Mkdir path mode) proper is =
-    refuse_to (λ plan. Fits files plan) (is_bad_mode mode || not (is_name_path path)) Einval (made files now path (new_dir mode now)) (nothing files) (λ good. made_fits files now path (new_dir mode now) proper)
-group_fits files caller now (Symlink path target) proper is =
-    refuse_to (λ plan. Fits files plan) (is_bad_target target || not (is_name_path path)) Einval (made files now path (new_symlink target now)) (nothing files) (λ good. made_fits files now path (new_symlink target now) proper)
-group_fits files caller now (Link old new) proper is = linked_fits files now old new
-group_fits files caller now (Unlink path) proper is = unlinked_fits files now path
-group_fits files caller now (Rmdir path) proper is = dir_removed_fits files now path
-group_fits files caller now (Rename old new) proper is = renamed_fits files now old new
-group_fits files caller now (Chmod path mode) proper is = mode_set_fits files now path mode
-group_fits files caller now (Truncate slot size) proper is = absurd cc
-group_fits files caller now op proper is = record { gone = 0; all = tt }
+pub group_fits : (files : Files) (caller now : ℕ) (op : Op) → is_of_names op ≡ true → AreFitting files.tree (group_of files caller now op)
+group_fits files caller now (Create path mode) is =
+    refuse_to (λ plan. Fits files plan) (is_bad_mode mode || not (is_name_path path)) Einval (made files now path (new_file mode now)) (nothing files) (λ good. made_fits files now path (new_file mode now))
+group_fits files caller now (Mkdir path mode) is =
+    refuse_to (λ plan. Fits files plan) (is_bad_mode mode || not (is_name_path path)) Einval (made files now path (new_dir mode now)) (nothing files) (λ good. made_fits files now path (new_dir mode now))
+group_fits files caller now (Symlink path target) is =
+    refuse_to (λ plan. Fits files plan) (is_bad_target target || not (is_name_path path)) Einval (made files now path (new_symlink target now)) (nothing files) (λ good. made_fits files now path (new_symlink target now))
+group_fits files caller now (Link old new) is = linked_fits files now old new
+group_fits files caller now (Unlink path) is = unlinked_fits files now path
+group_fits files caller now (Rmdir path) is = dir_removed_fits files now path
+group_fits files caller now (Rename old new) is = renamed_fits files now old new
+group_fits files caller now (Chmod path mode) is = mode_set_fits files now path mode
+group_fits files caller now (Truncate slot size) is = absurd cc
+group_fits files caller now op is = record { gone = 0; all = tt }
 
 -- what such an operation comes to is what its plan does
 pub outcome_is : (files : Files) (caller now : ℕ) (op : Op) → is_of_names op ≡ true → outcome_of files caller now op ≡ done_by files (plan_of files caller now op)
@@ -288,38 +261,12 @@ leaves tree gone (SetBlock ino block bytes ∷ group) all = absurd all.0
 leaves tree gone (CutBlocks ino old_size new_size ∷ group) all = absurd all.0
 leaves tree gone (DropInode ino ∷ group) all = (all.0, leaves tree gone group all.1)
 
-unset : (new es : Inodes) (k : ℕ) → lookup (is_at (nat_cmp k)) new ≡ None → lookup (is_at (nat_cmp k)) (fold with_inode es new) ≡ lookup (is_at (nat_cmp k)) es
-unset [] es k none = refl
-unset (e ∷ new) es k none = by (unset new (insert_entry nat_cmp es e.0 e.1) k) (key_cases nat_cmp numbers k e.0)
-  where
-    by : (lookup (is_at (nat_cmp k)) new ≡ None → lookup (is_at (nat_cmp k)) (fold with_inode (insert_entry nat_cmp es e.0 e.1) new) ≡ lookup (is_at (nat_cmp k)) (insert_entry nat_cmp es e.0 e.1))
-        → (k ≡ e.0) ⊎ (k ≡ e.0 → ⊥) → lookup (is_at (nat_cmp k)) (fold with_inode (insert_entry nat_cmp es e.0 e.1) new) ≡ lookup (is_at (nat_cmp k)) es
-    by more (inl same) =
-        let P : ℕ → Type 0 = λ q. lookup (is_at (nat_cmp q)) (e ∷ new) ≡ Some e.1 in
-        let there : lookup (is_at (nat_cmp k)) (e ∷ new) ≡ Some e.1 = subst P (sym same) (rw (numbers.same e.0) refl) in
-        let never : None ≡ Some e.1 = sym none ∙ there in
-        absurd cc
-    by more (inr other) = more (rw (apart nat_cmp numbers k e.0 other) at none) ∙ set_other nat_cmp numbers es e.0 e.1 k other
-
--- an inode that is kept is the one that callers see
-pub kept_seen : (new es : Inodes) (k : ℕ) (v : Inode) → ascends nat_cmp (keys_of new) ≡ true → lookup (is_at (nat_cmp k)) new ≡ Some v → lookup (is_at (nat_cmp k)) (fold with_inode es new) ≡ Some v
-kept_seen [] es k v h there = absurd cc
-kept_seen (e ∷ new) es k v h there = by (kept_seen new (insert_entry nat_cmp es e.0 e.1) k v (tail_ascends nat_cmp new e h)) (key_cases nat_cmp numbers k e.0)
-  where
-    by : (lookup (is_at (nat_cmp k)) new ≡ Some v → lookup (is_at (nat_cmp k)) (fold with_inode (insert_entry nat_cmp es e.0 e.1) new) ≡ Some v) → (k ≡ e.0) ⊎ (k ≡ e.0 → ⊥) → lookup (is_at (nat_cmp k)) (fold with_inode (insert_entry nat_cmp es e.0 e.1) new) ≡ Some v
-    by more (inl same) =
-        let first : lookup (is_at (nat_cmp e.0)) (e ∷ new) ≡ Some v = subst (λ q. lookup (is_at (nat_cmp q)) (e ∷ new) ≡ Some v) same there in
-        let here : Some e.1 ≡ Some v = rw (numbers.same e.0) at first in
-        subst (λ q. lookup (is_at (nat_cmp q)) (fold with_inode (insert_entry nat_cmp es e.0 e.1) new) ≡ Some v) (sym same)
-        (unset new (insert_entry nat_cmp es e.0 e.1) e.0 (missing_first nat_cmp numbers new e h) ∙ set_here nat_cmp numbers es e.0 e.1 ∙ here)
-    by more (inr other) = more (rw (apart nat_cmp numbers k e.0 other) at there)
-
--- such a group is one of names in front of which anything may be kept
-pub names_kept : (tree : Tree) (kept : Kept) (gone : ℕ) (group : List Change) → IsKept tree kept → AllByRecursion (FitsNames (present tree kept).tree gone) group → AreOfNames kept group
-names_kept tree kept gone [] is all = tt
-names_kept tree kept gone (SetInode ino inode ∷ group) is all = (λ old f. all.0 old (kept_seen kept.inodes tree.inodes ino old is.ascends f), names_kept tree kept gone group is all.1)
-names_kept tree kept gone (SetEntry entry ∷ group) is all = (tt, names_kept tree kept gone group is all.1)
-names_kept tree kept gone (DropEntry dir name ∷ group) is all = (tt, names_kept tree kept gone group is all.1)
-names_kept tree kept gone (SetBlock ino block bytes ∷ group) is all = absurd all.0
-names_kept tree kept gone (CutBlocks ino old_size new_size ∷ group) is all = absurd all.0
-names_kept tree kept gone (DropInode ino ∷ group) is all = (tt, names_kept tree kept gone group is all.1)
+-- such a group is one of names
+pub names_of : (tree : Tree) (gone : ℕ) (group : List Change) → AllByRecursion (FitsNames tree gone) group → AreOfNames tree group
+names_of tree gone [] all = tt
+names_of tree gone (SetInode ino inode ∷ group) all = (all.0, names_of tree gone group all.1)
+names_of tree gone (SetEntry entry ∷ group) all = (tt, names_of tree gone group all.1)
+names_of tree gone (DropEntry dir name ∷ group) all = (tt, names_of tree gone group all.1)
+names_of tree gone (SetBlock ino block bytes ∷ group) all = absurd all.0
+names_of tree gone (CutBlocks ino old_size new_size ∷ group) all = absurd all.0
+names_of tree gone (DropInode ino ∷ group) all = (tt, names_of tree gone group all.1)

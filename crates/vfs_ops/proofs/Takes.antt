@@ -1,5 +1,5 @@
 -- What a backing is asked to take for an operation on names.
-use Rattle.std.proofs.Common.{◌≡◌, ℕ, ◌+◌, ◌*◌, ◌⊎◌, inr, true, false, List, [], ◌∷◌, length, Ok, refl, sym, ap, subst, ◌∙◌, arith, Bool}
+use Rattle.std.proofs.Common.{◌≡◌, ℕ, ◌+◌, ◌*◌, ◌⊎◌, inl, inr, true, false, List, [], ◌∷◌, length, Ok, refl, sym, ap, subst, ◌∙◌, arith, Bool}
 use Rattle.std.specs.Prelude.{◌==◌}
 use Rattle.std.proofs.lemmas.Bool.Decides.{nat_tests}
 use Rattle.std.specs.List.{list_all}
@@ -29,9 +29,11 @@ use Rattle.cached_files.specs.Alike.{IsAlike}
 use Rattle.cached_files.specs.Calls.{IsWithoutRoom}
 use Rattle.cached_files.specs.CallLaws.{Goes-then, Goes-within}
 use Rattle.cached_files.specs.Present.{present}
-use Rattle.vfs_plans.specs.Answers.{Looks, IsRefused}
+use Rattle.vfs_plans.specs.Answers.{Looks, IsFault, IsRefused}
 use Rattle.vfs_plans.specs.Operations.{is_truncate}
 use Rattle.vfs_ops.specs.Operations.{is_of_names, class_of}
+use Rattle.vfs_ops.specs.Steps.{IsLast}
+use Rattle.fs_model.specs.declared.refusal.Refusal.TheVariants.{Enospc}
 use Rattle.vfs_ops.proofs.Groups.{outcome_is, need_is}
 use Rattle.vfs_ops.proofs.States.{room_later}
 
@@ -52,7 +54,7 @@ none_done files caller now op reply (change ∷ group) is found none =
 
 -- files under the same tree are alike
 pub alike_on : (t tree : Tree) (kept : Kept) → t ≡ tree → IsAlike (present tree kept) (present t kept)
-alike_on t tree kept same = subst (λ s. IsAlike (present s kept) (present t kept)) same (record { inodes = refl; blocks = refl; entries = refl; highest = refl; handles = refl })
+alike_on t tree kept same = subst (λ s. IsAlike (present s kept) (present t kept)) same (record { inodes = refl; blocks = refl; entries = refl; highest = refl; handles = refl; sizes = λ ino inode found. refl })
 
 -- what was reckoned is what the operation asks for
 pub need_whole : (t tree : Tree) (kept : Kept) (caller now : ℕ) (op : Op) (group : List Change) (class : Class) (need : Need) → is_of_names op ≡ true → t ≡ tree → group_of (present tree kept) caller now op ≡ group → class ≡ class_of op
@@ -73,8 +75,13 @@ pub fits_on : (t tree : Tree) (kept : Kept) (grant : Grant) (made group : List C
 fits_on t tree kept grant made group same is fits = subst (λ s. FitsGroup (present s kept).tree grant group) (sym same) (subst (λ g. FitsGroup (present tree kept).tree grant g) is fits)
 
 -- want of room, told from before the looks
-pub refused_whole : {x y : Outlook} {a b : BackingState} → Looks x y a b → (c : BackingState) (kept : Kept) (need whole : Need) (r : Refusal) (outcome : Outcome) → need ≡ whole → IsWithoutRoom b c kept need r → IsRefused a c outcome r ⊎ IsWithoutRoom a c kept whole r
-refused_whole {x} {y} {a} {b} looks c kept need whole r outcome same room = inr (subst (λ n. IsWithoutRoom a c kept n r) same (room_later looks c kept need r room))
+pub refused_whole : {x y : Outlook} {a b : BackingState} → Looks x y a b → (c : BackingState) (kept : Kept) (need whole : Need) (r : Refusal) (outcome : Outcome) → need ≡ whole → IsLast outcome r → IsWithoutRoom b c kept need r → IsRefused a c outcome r ⊎ (IsWithoutRoom a c kept whole r × IsLast outcome r)
+refused_whole {x} {y} {a} {b} looks c kept need whole r outcome same last room = inr (subst (λ n. IsWithoutRoom a c kept n r) same (room_later looks c kept need r room), last)
+
+-- nothing else refuses where the plain operation is done
+pub last_done : (plain : Outcome) (done : Reply × Files) (r : Refusal) → plain ≡ Ok done → IsLast plain r
+last_done plain done (Enospc space) e = (done, e)
+last_done plain done r e = tt
 
 -- a look puts no node
 pub goes_looked : {x y : Outlook} {a b : BackingState} → Looks x y a b → (n : ℕ) → Goes n a b
@@ -110,3 +117,8 @@ sound_done t tree kept caller now op reply group b is same found leaves alike pr
     let sound : IsSound after = subst (λ (o : Outcome). IsSound (files_in files o)) out leaves.sound in
     let seen : IsAlike after b = subst (λ s. IsAlike (record (present s kept) { tree = apply (present s kept).tree group }) b) same alike in
     alike_sound after b seen proper sound
+
+-- refused for a fault, or at last for want of room
+pub refused_last : (a c : BackingState) (kept : Kept) (need : Need) (plain : Outcome) (r : Refusal) → IsLast plain r → IsFault a c r ⊎ IsWithoutRoom a c kept need r → IsRefused a c plain r ⊎ (IsWithoutRoom a c kept need r × IsLast plain r)
+refused_last a c kept need plain r last (inl fault) = inl (inr fault)
+refused_last a c kept need plain r last (inr room) = inr (room, last)

@@ -1,10 +1,12 @@
 -- Operations whose changes are one group of inodes and names, and what such a group asks for.
-use Rattle.std.specs.Prelude.{◌≡◌, ℕ, Bool, true, false, Option, Some, None, List, [], ◌∷◌}
+use Rattle.std.specs.Prelude.{◌≡◌, ℕ, Bool, true, false, ◌==◌, ◌&&◌, not, Option, Some, None, List, [], ◌∷◌}
+use Rattle.std.specs.List.{list_any}
 use Rattle.fs_model.specs.declared.change.Change.{Change}
-use Rattle.fs_model.specs.declared.change.Change.TheVariants.{DropInode}
+use Rattle.fs_model.specs.declared.change.Change.TheVariants.{SetInode, DropInode}
 use Rattle.std.specs.Option.{option_map_or}
 use Rattle.fs_model.specs.Cover.{inode_bytes}
 use Rattle.fs_model.specs.Files.{Tree, inode_at}
+use Rattle.fs_model.specs.Path.{is_dir}
 use Rattle.fs_model.specs.declared.op.Op.{Op}
 use Rattle.fs_model.specs.declared.op.Op.TheVariants.{Create, Mkdir, Symlink, Link, Unlink, Rmdir, Rename, Chmod}
 use Rattle.fs_model.specs.declared.space.Class.{Class}
@@ -42,3 +44,12 @@ LeavesOthers ino change = Unit {0}
 -- the bytes of the node of an inode that goes with a group; those of one without data where none goes
 abbrev pub gone_bytes : Tree → List Change → ℕ
 gone_bytes tree group = option_map_or (λ ino. option_map_or inode_bytes (inode_at tree ino) 160) (gone_in group) 160
+
+-- whether an inode is set that has no name, and is no directory
+abbrev pub is_orphaned : Change → Bool
+is_orphaned (SetInode ino inode) = not (is_dir inode.kind) && (inode.nlink == 0)
+is_orphaned change = false
+
+-- whether a group leaves an orphan
+abbrev pub orphans : List Change → Bool
+orphans group = list_any is_orphaned group

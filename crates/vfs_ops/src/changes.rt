@@ -1,30 +1,34 @@
 // Operations whose changes are one group of inodes and names.
 
-ghost use Rattle.std.specs.Prelude.{◌≡◌, ◌⊎◌, ◌+◌, ◌*◌, ◌≤◌, true, Ok, IfOk, OnErr, IfErr, length};
+ghost use Rattle.std.specs.Prelude.{◌≡◌, ◌⊎◌, ◌+◌, ◌-◌, ◌*◌, ◌≤◌, ◌==◌, ◌&&◌, true, Ok, IfOk, OnErr, IfErr, length};
 ghost use Rattle.fs_model.specs.Backing.{Goes};
 ghost use Rattle.fs_model.specs.Files.{Files};
 ghost use Rattle.fs_model.specs.Need.{need_of};
 ghost use Rattle.fs_model.specs.Operation.{group_of, outcome_of};
+ghost use Rattle.fs_model.specs.Orphan.{nameless, within_orphans};
+ghost use Rattle.fs_model.specs.Path.{is_dir};
 ghost use Rattle.fs_laws.specs.Sound.{IsCall, IsSound};
 ghost use Rattle.cached_files.specs.Alike.{IsAlike};
 ghost use Rattle.cached_files.specs.Calls.{IsWithoutRoom, SureGoes};
 ghost use Rattle.cached_files.specs.Present.{present, IsKept};
 ghost use Rattle.vfs_plans.specs.Answers.{IsRefused};
-ghost use Rattle.vfs_ops.specs.Operations.{is_of_names};
+ghost use Rattle.vfs_ops.specs.Operations.{is_of_names, is_orphaned, orphans};
+ghost use Rattle.vfs_ops.specs.Steps.{IsLast};
 
 use crate::needs::{class_of, need_of};
 use cached_files::{Kept, apply_group, present_files_are_sound};
 use fs_laws::{
     an_operation_asks_for_little, an_operation_fits_its_grant, an_operation_leaves_files_sound,
 };
-use fs_model::{Backing, Op, Refusal, Reply};
+use fs_model::{Backing, Change, Group, Kind, Op, Refusal, Reply, Table};
 use std::alloc::Global;
 use vfs_plans::plan;
 
 /// Does a caller's operation at this moment, in seconds since 1970: one that makes, links, takes away or moves a name, or
 /// sets a mode. It answers and leaves what the operation's definition says, but for zeros at the ends of blocks, which nobody
 /// sees. A refusal is the definition's, or tells that there is no room for what the operation asks for, or that the backing
-/// failed; the files are then as they were. Whether one more orphan can be told of isn't asked here.
+/// failed; the files are then as they were. Where the next list of orphans is full, what takes the last name of an open inode
+/// is refused with `Enfile`, after all other refusals of the operation and before want of room.
 pub fn change<B: Backing>(
     alloc: Global,
     backing: &mut B,
@@ -41,10 +45,12 @@ pub fn change<B: Backing>(
     ensures kept { IsKept (B.state backing.new).tree kept.new }
     ensures paid { length kept.new.pages.dirty ≤ (B.state backing.new).space.credits }
     ensures sound { IsSound (present (B.state backing.new).tree kept.new) }
-    ensures done { IfOk result (λ reply. (after : Files) × (outcome_of (present (B.state backing.old).tree kept.old) caller now op.now ≡ Ok (reply, after)) × IsAlike after (present (B.state backing.new).tree kept.new)) }
+    ensures done { IfOk result (λ reply. (after : Files) × (within_orphans ((B.state backing.old).orphan_limit - length (nameless (B.state backing.old).tree)) (B.state backing.old).orphan_limit (present (B.state backing.old).tree kept.old) (outcome_of (present (B.state backing.old).tree kept.old) caller now op.now) ≡ Ok (reply, after)) × IsAlike after (present (B.state backing.new).tree kept.new)) }
     ensures same { OnErr result (IsAlike (present (B.state backing.old).tree kept.old) (present (B.state backing.new).tree kept.new)) }
-    ensures refused { IfErr result (λ refusal. IsRefused (B.state backing.old) (B.state backing.new) (outcome_of (present (B.state backing.old).tree kept.old) caller now op.now) refusal
-        ⊎ IsWithoutRoom (B.state backing.old) (B.state backing.new) kept.new (need_of (present (B.state backing.old).tree kept.old) caller now op.now) refusal) }
+    ensures refused { IfErr result (λ refusal. IsRefused (B.state backing.old) (B.state backing.new) (within_orphans ((B.state backing.old).orphan_limit - length (nameless (B.state backing.old).tree)) (B.state backing.old).orphan_limit (present (B.state backing.old).tree kept.old) (outcome_of (present (B.state backing.old).tree kept.old) caller now op.now)) refusal
+        ⊎ (IsWithoutRoom (B.state backing.old) (B.state backing.new) kept.new (need_of (present (B.state backing.old).tree kept.old) caller now op.now) refusal
+        × IsLast (within_orphans ((B.state backing.old).orphan_limit - length (nameless (B.state backing.old).tree)) (B.state backing.old).orphan_limit (present (B.state backing.old).tree kept.old) (outcome_of (present (B.state backing.old).tree kept.old) caller now op.now)) refusal)) }
+    ensures issued { (B.state backing.new).space.credits + length kept.old.pages.dirty ≡ (B.state backing.old).space.credits + length kept.new.pages.dirty }
     ensures goes { Goes (2 * length kept.old.pages.dirty + length (group_of (present (B.state backing.old).tree kept.old) caller now op.now)) (B.state backing.old) (B.state backing.new) }
     ensures sure { SureGoes (B.outlook backing.old) (B.outlook backing.new) (B.state backing.old) (B.state backing.new) }
 {
@@ -56,7 +62,48 @@ pub fn change<B: Backing>(
     if group.as_slice().is_empty() {
         return Ok(reply);
     }
+    if lacks_orphan_room(backing, &group) {
+        return Err(Refusal::Enfile {
+            what: Table::Orphans,
+            limit: backing.orphan_limit(),
+        });
+    }
     let need = need_of(backing, kept, &group, class_of(op))?;
     apply_group(alloc, backing, kept, &group, &need)?;
     Ok(reply)
+}
+
+// Whether a group leaves an orphan where no further one can be told of.
+fn lacks_orphan_room<B: Backing>(backing: &B, group: &Group) -> bool
+    ensures { result ≡ (((B.state backing.now).orphan_limit - length (nameless (B.state backing.now).tree) == 0) && orphans group.now) }
+{
+    backing.orphan_room() == 0 && orphans(group.as_slice())
+}
+
+// Whether a group leaves an orphan.
+fn orphans(changes: &[Change]) -> bool
+    ensures { result ≡ orphans changes.now }
+{
+    for change in changes {
+        if is_orphaned(change) {
+            return true;
+        }
+    }
+    false
+}
+
+// Whether an inode is set that has no name, and is no directory.
+fn is_orphaned(change: &Change) -> bool
+    ensures { result ≡ is_orphaned change.now }
+{
+    match change {
+        Change::SetInode { inode, .. } => !is_dir(inode.kind) && inode.nlink == 0,
+        _ => false,
+    }
+}
+
+fn is_dir(kind: Kind) -> bool
+    ensures { result ≡ is_dir kind }
+{
+    matches!(kind, Kind::Dir)
 }

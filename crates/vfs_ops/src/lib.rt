@@ -4,10 +4,25 @@
 //! those of the definition, or as they were.
 #![tactic(auto)]
 
+mod answers;
 mod changes;
+mod event;
+mod fs;
+mod handles;
 mod needs;
+mod reads;
+mod syncs;
+mod writes;
 
 pub use crate::changes::change;
+pub use crate::event::{Event, Outcome};
+pub use crate::fs::Fs;
 
 #[cfg(test)]
+mod fs_tests;
+#[cfg(test)]
+mod look_tests;
+#[cfg(test)]
 mod tests;
+#[cfg(test)]
+mod write_tests;

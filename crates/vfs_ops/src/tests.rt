@@ -20,15 +20,15 @@ use ubifs_base::{Bytes, Geometry, Memory, Name, RawGeometry};
 
 // Files in memory, and what is kept in front of them.
 #[derive(Drop)]
-struct Volume {
-    backing: PlainBacking,
-    kept: Kept,
+pub(crate) struct Volume {
+    pub(crate) backing: PlainBacking,
+    pub(crate) kept: Kept,
 }
 
 impl Volume {
     // Does an operation of the caller 1. Answers the number of the inode that was made, `None` where it is done, and 0,
     // which no inode has, for any other reply.
-    fn answer(&mut self, alloc: Global, op: &Op) -> Result<Option<u32>, Refusal>
+    pub(crate) fn answer(&mut self, alloc: Global, op: &Op) -> Result<Option<u32>, Refusal>
         requires kept { IsKept (state_of self.old.backing).tree self.old.kept }
         requires paid { length self.old.kept.pages.dirty ≤ (state_of self.old.backing).space.credits }
         requires sound { IsSound (present (state_of self.old.backing).tree self.old.kept) }
@@ -47,7 +47,7 @@ impl Volume {
 }
 
 // The root's inode on a fresh volume.
-fn root(alloc: Global) -> Inode
+pub(crate) fn root(alloc: Global) -> Inode
     ensures { result ≡ new_dir 493 0 }
 {
     Inode {
@@ -80,7 +80,7 @@ fn fresh_tree(alloc: Global) -> Result<Tree, Memory>
 }
 
 // A fresh volume of 64 main LEBs, which takes two orphans.
-fn fresh_backing(alloc: Global) -> Result<PlainBacking, Fail>
+pub(crate) fn fresh_backing(alloc: Global) -> Result<PlainBacking, Fail>
     ensures tree { IfOk result (λ backing. (state_of backing).tree ≡ fresh.tree) }
     ensures credits { IfOk result (λ backing. (state_of backing).space.credits ≡ 0) }
 {
@@ -101,7 +101,7 @@ fn fresh_backing(alloc: Global) -> Result<PlainBacking, Fail>
 }
 
 // A fresh volume, with nothing in front of it.
-fn fresh_volume(alloc: Global) -> Result<Volume, Fail>
+pub(crate) fn fresh_volume(alloc: Global) -> Result<Volume, Fail>
     ensures kept { IfOk result (λ v. IsKept (state_of v.backing).tree v.kept) }
     ensures paid { IfOk result (λ v. length v.kept.pages.dirty ≤ (state_of v.backing).space.credits) }
     ensures sound { IfOk result (λ v. IsSound (present (state_of v.backing).tree v.kept)) }
@@ -113,13 +113,13 @@ fn fresh_volume(alloc: Global) -> Result<Volume, Fail>
 }
 
 // A path of these bytes.
-fn path(alloc: Global, bytes: &[u8]) -> Result<Name, Memory>
+pub(crate) fn path(alloc: Global, bytes: &[u8]) -> Result<Name, Memory>
     ensures { IfOk result (λ path. IsTrue (are_bytes path)) }
 {
     Ok(Name::from_slice(alloc, bytes)?)
 }
 
-fn create(alloc: Global, bytes: &[u8]) -> Result<Op, Memory>
+pub(crate) fn create(alloc: Global, bytes: &[u8]) -> Result<Op, Memory>
     ensures op { IfOk result (λ op. is_of_names op ≡ true) }
     ensures call { IfOk result (λ op. IsCall op) }
 {
@@ -127,7 +127,7 @@ fn create(alloc: Global, bytes: &[u8]) -> Result<Op, Memory>
     Ok(Op::Create { path, mode: 420 })
 }
 
-fn mkdir(alloc: Global, bytes: &[u8]) -> Result<Op, Memory>
+pub(crate) fn mkdir(alloc: Global, bytes: &[u8]) -> Result<Op, Memory>
     ensures op { IfOk result (λ op. is_of_names op ≡ true) }
     ensures call { IfOk result (λ op. IsCall op) }
 {
@@ -144,7 +144,7 @@ fn rename(alloc: Global, old: &[u8], new: &[u8]) -> Result<Op, Memory>
     Ok(Op::Rename { old, new })
 }
 
-fn unlink(alloc: Global, bytes: &[u8]) -> Result<Op, Memory>
+pub(crate) fn unlink(alloc: Global, bytes: &[u8]) -> Result<Op, Memory>
     ensures op { IfOk result (λ op. is_of_names op ≡ true) }
     ensures call { IfOk result (λ op. IsCall op) }
 {

@@ -1,15 +1,23 @@
-use Rattle.std.proofs.Common.{◌≡◌, ◌∙◌, rules, refl, true, length, sym, ap, subst, List}
-use Rattle.std.specs.Prelude.{◌==◌}
+use Rattle.std.proofs.Common.{◌≡◌, ◌∙◌, rules, refl, true, false, ◌&&◌, inl, Err, length, sym, ap, subst, List}
+use Rattle.std.specs.Prelude.{◌==◌, ◌-◌}
+use Rattle.fs_model.specs.Orphan.{nameless}
 use Rattle.fs_model.specs.declared.change.Change.{Change}
 use Rattle.fs_model.specs.declared.space.Grant.{Grant}
 use Rattle.fs_model.specs.Backing.{FitsGroup, IsModest}
+use Rattle.fs_model.specs.Change.{apply}
 use Rattle.fs_model.specs.Need.{need_of}
 use Rattle.fs_model.specs.Operation.{group_of, outcome_of}
+use Rattle.cached_files.specs.Follow.{AreOfNames}
 use Rattle.cached_files.specs.Present.{present}
-use Rattle.vfs_ops.proofs.Groups.{AreFitting, group_fits, leaves, names_kept}
+use Rattle.fs_model.specs.Orphan.{within_orphans}
+use Rattle.vfs_ops.proofs.Groups.{AreFitting, group_fits, leaves, names_of}
+use Rattle.vfs_ops.proofs.Orphans.{within_none, within_full, within_done, done_alike, orphan_room_on, orphan_limit_on}
 use Rattle.vfs_ops.proofs.States.{both, tree_on}
-use Rattle.vfs_ops.proofs.Takes.{alike_on, alike_sound, sound_done, sound_on, fits_on, goes_looked, goes_whole, group_is, need_whole, none_done, not_truncate, pays_whole, refused_whole}
+use Rattle.vfs_ops.proofs.Takes.{alike_on, alike_sound, sound_done, sound_on, fits_on, goes_looked, goes_whole, group_is, need_whole, not_truncate, pays_whole, refused_whole, last_done}
 use Rattle.vfs_ops.proofs.changes.change.Given.{Over}
+use Rattle.vfs_ops.specs.Operations.{orphans}
+use Rattle.fs_model.specs.declared.refusal.Refusal.TheVariants.{Enfile}
+use Rattle.fs_model.specs.declared.refusal.Table.TheVariants.{Orphans as OrphanTable}
 use Rattle.vfs_ops.proofs.changes.change.Goals as goal
 
 -- the group of the plan is that of the operation, and fits
@@ -18,7 +26,7 @@ fitting g c =
     let tree = (g.B.Backing.state c.args.backing.now).tree in
     let files = present tree c.args.kept.now in
     let made = group_is files c.args.caller c.args.now c.args.op.now c.in_ok-reply.reply c.in_ok-reply.group c.in_ok-reply.ensures.found in
-    subst (λ group. AreFitting files.tree group) made (group_fits files c.args.caller c.args.now c.args.op.now c.requires.sound.proper c.requires.op)
+    subst (λ group. AreFitting files.tree group) made (group_fits files c.args.caller c.args.now c.args.op.now c.requires.op)
 
 -- a backing takes it, under a grant of what the operation asks for
 taken : (g : Over) (c : goal.After-class_of g) → FitsGroup (present (g.B.Backing.state c.args.backing.now).tree c.args.kept.now).tree
@@ -48,7 +56,8 @@ returns-then-is_empty-clause-done g c =
     let tree = (g.B.Backing.state c.args.backing.now).tree in
     let files = present tree c.args.kept.now in
     let none : (length c.in_ok-reply.group == 0) ≡ true = ap (λ (group : List Change). length group == 0) (sym c.as_slice.ensures) ∙ sym c.is_empty.ensures ∙ c.if-is_empty.true in
-    (files, none_done files c.args.caller c.args.now c.args.op.now c.in_ok-reply.reply c.in_ok-reply.group c.requires.op c.in_ok-reply.ensures.found none, alike_on (g.B.Backing.state c.plan.new.backing).tree tree c.args.kept.now (tree_on c.plan.ensures.looks))
+    let limit = (g.B.Backing.state c.args.backing.now).orphan_limit in
+    (files, within_none (limit - length (nameless tree)) limit files c.args.caller c.args.now c.args.op.now c.in_ok-reply.reply c.in_ok-reply.group c.requires.op c.in_ok-reply.ensures.found none, alike_on (g.B.Backing.state c.plan.new.backing).tree tree c.args.kept.now (tree_on c.plan.ensures.looks))
 
 pub need_of-requires-clause-gone : goal.need_of-requires-clause-gone
 need_of-requires-clause-gone g c =
@@ -90,8 +99,8 @@ apply_group-requires-clause-names g c =
     let tree = (g.B.Backing.state c.args.backing.now).tree in
     let files = present tree c.args.kept.now in
     let made = group_is files c.args.caller c.args.now c.args.op.now c.in_ok-reply.reply c.in_ok-reply.group c.in_ok-reply.ensures.found in
-    let fits = subst (λ group. AreFitting files.tree group) made (group_fits files c.args.caller c.args.now c.args.op.now c.requires.sound.proper c.requires.op) in
-    names_kept tree c.args.kept.now fits.gone c.in_ok-reply.group c.requires.kept fits.all
+    let fits = subst (λ group. AreFitting files.tree group) made (group_fits files c.args.caller c.args.now c.args.op.now c.requires.op) in
+    subst (λ t. AreOfNames (present t c.args.kept.now).tree c.in_ok-reply.group) (sym (tree_on (both c.plan.ensures.looks c.need_of.ensures.looks))) (names_of files.tree fits.gone c.in_ok-reply.group fits.all)
 
 pub returns-in_err-apply_group-clause-refused : goal.returns-in_err-apply_group-clause-refused
 returns-in_err-apply_group-clause-refused g c =
@@ -100,7 +109,12 @@ returns-in_err-apply_group-clause-refused g c =
     let whole = need_of files c.args.caller c.args.now c.args.op.now in
     let made = group_is files c.args.caller c.args.now c.args.op.now c.in_ok-reply.reply c.in_ok-reply.group c.in_ok-reply.ensures.found in
     let is : c.in_ok-need.need ≡ whole = need_whole (g.B.Backing.state c.plan.new.backing).tree tree c.args.kept.now c.args.caller c.args.now c.args.op.now c.in_ok-reply.group c.class_of.result c.in_ok-need.need c.requires.op (tree_on c.plan.ensures.looks) made c.class_of.ensures c.in_ok-need.ensures.need in
-    let refused = refused_whole (both c.plan.ensures.looks c.need_of.ensures.looks) (g.B.Backing.state c.apply_group.new.backing) c.apply_group.new.kept c.in_ok-need.need whole c.in_err-apply_group.field-0.0 (outcome_of files c.args.caller c.args.now c.args.op.now) is c.in_err-apply_group.ensures.refused in
+    let limit = (g.B.Backing.state c.args.backing.now).orphan_limit in
+    let free : ((limit - length (nameless tree) == 0) && orphans c.in_ok-reply.group) ≡ false =
+    ap (λ n. (n == 0) && orphans c.in_ok-reply.group) (sym (orphan_room_on c.plan.ensures.looks)) ∙ sym c.lacks_orphan_room.ensures ∙ c.if-lacks_orphan_room.false in
+    let plain = within_orphans (limit - length (nameless tree)) limit files (outcome_of files c.args.caller c.args.now c.args.op.now) in
+    let done = within_done (limit - length (nameless tree)) limit files c.args.caller c.args.now c.args.op.now c.in_ok-reply.reply c.in_ok-reply.group c.requires.sound c.requires.op c.in_ok-reply.ensures.found free in
+    let refused = refused_whole (both c.plan.ensures.looks c.need_of.ensures.looks) (g.B.Backing.state c.apply_group.new.backing) c.apply_group.new.kept c.in_ok-need.need whole c.in_err-apply_group.field-0.0 plain is (last_done plain (c.in_ok-reply.reply, record files { tree = apply files.tree c.in_ok-reply.group }) c.in_err-apply_group.field-0.0 done) c.in_err-apply_group.ensures.refused in
     search (rules, refused)
 
 pub returns-in_err-apply_group-clause-goes : goal.returns-in_err-apply_group-clause-goes
@@ -140,3 +154,24 @@ returns-clause-sound g c =
     let leaves = c.an_operation_leaves_files_sound.ensures (present tree c.args.kept.now) c.args.caller c.args.now c.args.op.now c.requires.sound c.ranges.now.fits c.requires.call in
     sound_done later tree c.args.kept.now c.args.caller c.args.now c.args.op.now c.in_ok-reply.reply c.in_ok-reply.group (present last c.apply_group.new.kept) c.requires.op
     (tree_on (both c.plan.ensures.looks c.need_of.ensures.looks)) c.in_ok-reply.ensures.found leaves c.in_ok-apply_group.ensures.ok (c.present_files_are_sound.ensures.proper last c.apply_group.new.kept c.apply_group.ensures.kept)
+
+pub returns-then-lacks_orphan_room-clause-refused : goal.returns-then-lacks_orphan_room-clause-refused
+returns-then-lacks_orphan_room-clause-refused g c =
+    let tree = (g.B.Backing.state c.args.backing.now).tree in
+    let files = present tree c.args.kept.now in
+    let limit = (g.B.Backing.state c.args.backing.now).orphan_limit in
+    let looks = c.plan.ensures.looks in
+    let full : ((limit - length (nameless tree) == 0) && orphans c.in_ok-reply.group) ≡ true =
+    ap (λ n. (n == 0) && orphans c.in_ok-reply.group) (sym (orphan_room_on looks)) ∙ sym c.lacks_orphan_room.ensures ∙ c.if-lacks_orphan_room.true in
+    let refused = within_full (limit - length (nameless tree)) limit files c.args.caller c.args.now c.args.op.now c.in_ok-reply.reply c.in_ok-reply.group c.requires.sound c.requires.op c.in_ok-reply.ensures.found full in
+    inl (inl (refused ∙ ap (λ n. Err (Enfile OrphanTable n)) (sym (c.orphan_limit.ensures ∙ orphan_limit_on looks))))
+
+pub returns-clause-done : goal.returns-clause-done
+returns-clause-done g c =
+    let tree = (g.B.Backing.state c.args.backing.now).tree in
+    let later = (g.B.Backing.state c.need_of.new.backing).tree in
+    let limit = (g.B.Backing.state c.args.backing.now).orphan_limit in
+    let free : ((limit - length (nameless tree) == 0) && orphans c.in_ok-reply.group) ≡ false =
+    ap (λ n. (n == 0) && orphans c.in_ok-reply.group) (sym (orphan_room_on c.plan.ensures.looks)) ∙ sym c.lacks_orphan_room.ensures ∙ c.if-lacks_orphan_room.false in
+    done_alike (limit - length (nameless tree)) limit later tree c.args.kept.now c.args.caller c.args.now c.args.op.now c.in_ok-reply.reply c.in_ok-reply.group (present (g.B.Backing.state c.apply_group.new.backing).tree c.apply_group.new.kept)
+    c.requires.sound c.requires.op (tree_on (both c.plan.ensures.looks c.need_of.ensures.looks)) c.in_ok-reply.ensures.found free c.in_ok-apply_group.ensures.ok

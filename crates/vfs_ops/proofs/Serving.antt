@@ -1,0 +1,129 @@
+-- What a step answers, from what each of its parts answers.
+use Rattle.std.proofs.Common.{◌≡◌, ℕ, ◌⊎◌, inl, inr, Bool, true, false, cond, Ok, Err, refl, sym, ap, subst, ◌∙◌, ◌-◌, length, Result, IfOk, IfErr, Option, None, Some}
+use Rattle.fs_model.specs.declared.op.Op.{Op}
+use Rattle.fs_model.specs.declared.op.Op.TheVariants.{Create, Mkdir, Symlink, Link, Unlink, Rmdir, Rename, OpenFile, Close, Read, Write, Truncate, Fsync, Flush, List as ListDir, Stat, Readlink, Chmod}
+use Rattle.fs_model.specs.declared.refusal.Cause.{Cause}
+use Rattle.fs_model.specs.declared.refusal.NoSpace.{NoSpace}
+use Rattle.fs_model.specs.declared.refusal.Refusal.TheVariants.{Eio, Enomem, Enospc, Erofs}
+use Rattle.fs_model.specs.declared.space.Need.{Need}
+use Rattle.fs_model.specs.declared.reply.Reply.{Reply}
+use Rattle.fs_model.specs.declared.refusal.Refusal.{Refusal}
+use Rattle.fs_model.specs.Backing.{BackingState}
+use Rattle.fs_model.specs.Files.{Files}
+use Rattle.fs_model.specs.Operation.{outcome_of}
+use Rattle.fs_model.specs.Outcome.{Outcome}
+use Rattle.fs_model.specs.Orphan.{nameless, within_orphans}
+use Rattle.cached_files.specs.declared.kept.Kept.{Kept}
+use Rattle.cached_files.specs.Alike.{IsAlike}
+use Rattle.vfs_plans.specs.Answers.{IsFault, IsRefused}
+use Rattle.std.proofs.lemmas.Bool.{false≢true}
+use Rattle.fs_model.specs.declared.backing_answers.Mode.{Mode}
+use Rattle.fs_model.specs.declared.backing_answers.Mode.TheVariants.{ReadWrite}
+use Rattle.fs_model.specs.declared.reply.Reply.TheVariants.{Done, Refused}
+use Rattle.vfs_ops.specs.Events.{HasFlushed}
+use Rattle.vfs_ops.specs.Operations.{is_of_names}
+use Rattle.vfs_ops.specs.Steps.{IsDone, IsRefusedFor, IsLast, IsTurnedDown, IsUnsynced, allowed_on, asked}
+
+pub alike_self : (files : Files) → IsAlike files files
+alike_self files = record { inodes = refl; blocks = refl; entries = refl; highest = refl; handles = refl; sizes = λ ino inode found. refl }
+
+-- an operation that isn't of names is the plain one
+plainly : (s : BackingState) (files : Files) (caller now : ℕ) (op : Op) → is_of_names op ≡ false → allowed_on s files caller now op ≡ outcome_of files caller now op
+plainly s files caller now op e = ap (λ (b : Bool). cond b (within_orphans (s.orphan_limit - length (nameless s.tree)) s.orphan_limit files (outcome_of files caller now op)) (outcome_of files caller now op)) e
+
+-- done, as that operation is
+pub done_on : (s : BackingState) (files after last : Files) (caller now : ℕ) (op other : Op) (reply : Reply) → op ≡ other → is_of_names other ≡ false
+    → outcome_of files caller now other ≡ Ok (reply, after) → IsAlike after last → IsDone (allowed_on s files caller now op) last reply
+done_on s files after last caller now op other reply e names done alike =
+    subst (λ (o : Op). IsDone (allowed_on s files caller now o) last reply) (sym e) (after, plainly s files caller now other names ∙ done, alike)
+
+-- refused, as that operation is
+abbrev pub IsRefusedOn : BackingState → BackingState → Kept → Files → ℕ → ℕ → ℕ → Op → Refusal → Type 0
+IsRefusedOn old new kept files caller now grant op refusal =
+    (allowed_on old files caller now op ≡ Err refusal)
+    ⊎ (IsTurnedDown old new kept (asked files caller now grant op) op refusal × IsLast (allowed_on old files caller now op) refusal)
+
+pub refused_on : (old new : BackingState) (kept : Kept) (files : Files) (caller now grant : ℕ) (op other : Op) (refusal : Refusal) → op ≡ other → is_of_names other ≡ false
+    → (outcome_of files caller now other ≡ Err refusal) ⊎ (IsTurnedDown old new kept (asked files caller now grant other) other refusal × IsLast (outcome_of files caller now other) refusal) → IsRefusedOn old new kept files caller now grant op refusal
+refused_on old new kept files caller now grant op other refusal e names why =
+    subst (λ (o : Op). IsRefusedOn old new kept files caller now grant o refusal) (sym e) (by why)
+  where
+    by : (outcome_of files caller now other ≡ Err refusal) ⊎ (IsTurnedDown old new kept (asked files caller now grant other) other refusal × IsLast (outcome_of files caller now other) refusal) → IsRefusedOn old new kept files caller now grant other refusal
+    by (inl plain) = inl (plainly old files caller now other names ∙ plain)
+    by (inr beside) = inr (beside.0, subst (λ plain. IsLast plain refusal) (sym (plainly old files caller now other names)) beside.1)
+
+-- what holds of an answer holds where something weaker is asked
+pub ok_map : {T E : Type 0} {P Q : T → Type 0} (r : Result T E) → ((x : T) → P x → Q x) → IfOk r P → IfOk r Q
+ok_map (Ok x) f h = f x h
+ok_map (Err e) f h = tt
+
+pub err_map : {T E : Type 0} {P Q : E → Type 0} (r : Result T E) → ((e : E) → P e → Q e) → IfErr r P → IfErr r Q
+err_map (Ok x) f h = tt
+err_map (Err e) f h = f e h
+
+-- refused at every moment is refused at this one
+pub at_now : {P : ℕ → Type 0} {Q : Type 0} (now : ℕ) → ((n : ℕ) → P n) ⊎ Q → P now ⊎ Q
+at_now now (inl h) = inl (h now)
+at_now now (inr q) = inr q
+
+-- want of memory is free
+turned_down : (old new : BackingState) (kept : Kept) (need : Need) (op : Op) → IsTurnedDown old new kept need op Enomem
+turned_down old new kept need (Create path mode) = tt
+turned_down old new kept need (Mkdir path mode) = tt
+turned_down old new kept need (Symlink path target) = tt
+turned_down old new kept need (Link a b) = tt
+turned_down old new kept need (Unlink path) = tt
+turned_down old new kept need (Rmdir path) = tt
+turned_down old new kept need (Rename a b) = tt
+turned_down old new kept need (OpenFile path slot) = tt
+turned_down old new kept need (Close slot) = tt
+turned_down old new kept need (Read slot offs len) = tt
+turned_down old new kept need (Write slot offs len byte) = tt
+turned_down old new kept need (Truncate slot size) = tt
+turned_down old new kept need (Fsync slot) = tt
+turned_down old new kept need Flush = tt
+turned_down old new kept need (ListDir path) = tt
+turned_down old new kept need (Stat path) = tt
+turned_down old new kept need (Readlink path) = tt
+turned_down old new kept need (Chmod path mode) = tt
+
+-- a refusal for want of room may be told as want of memory
+pub noted_for : (cause : Option Cause) (old new : BackingState) (kept : Kept) (files : Files) (caller now grant : ℕ) (op : Op) (refusal noted : Refusal)
+    → (noted ≡ refusal) ⊎ ((noted ≡ Enomem) × ((space : NoSpace) × (refusal ≡ Enospc space)))
+    → IsRefusedFor cause old new kept files caller now grant op refusal → IsRefusedFor cause old new kept files caller now grant op noted
+noted_for cause old new kept files caller now grant op refusal noted (inl same) why = subst (λ r. IsRefusedFor cause old new kept files caller now grant op r) (sym same) why
+noted_for (Some cause) old new kept files caller now grant op refusal noted (inr (memory, full)) why =
+    let n : Enospc full.0 ≡ Erofs cause = sym full.1 ∙ why in absurd cc
+noted_for None old new kept files caller now grant op refusal noted (inr (memory, full)) why =
+    subst (λ r. IsRefusedFor None old new kept files caller now grant op r) (sym memory) (inr (turned_down old new kept (asked files caller now grant op) op, tt))
+
+-- a fault isn't want of room
+pub fault_last : (old new : BackingState) (plain : Outcome) (refusal : Refusal) → IsFault old new refusal → IsLast plain refusal
+fault_last old new plain (Eio count) h = tt
+fault_last old new plain Enomem h = tt
+fault_last old new plain refusal h = absurd h
+
+pub or_fault_last : (old new : BackingState) (plain : Outcome) (refusal : Refusal) → IsRefused old new plain refusal → (plain ≡ Err refusal) ⊎ (IsFault old new refusal × IsLast plain refusal)
+or_fault_last old new plain refusal (inl h) = inl h
+or_fault_last old new plain refusal (inr h) = inr (h, fault_last old new plain refusal h)
+
+-- nor is what stops a sync
+pub unsynced_last : (old new : BackingState) (plain : Outcome) (refusal : Refusal) → IsUnsynced old new refusal → IsLast plain refusal
+unsynced_last old new plain (Eio count) h = tt
+unsynced_last old new plain (Erofs cause) h = tt
+unsynced_last old new plain Enomem h = tt
+unsynced_last old new plain refusal h = absurd h
+
+pub or_unsynced_last : (old new : BackingState) (plain : Outcome) (refusal : Refusal) → (plain ≡ Err refusal) ⊎ IsUnsynced old new refusal → (plain ≡ Err refusal) ⊎ (IsUnsynced old new refusal × IsLast plain refusal)
+or_unsynced_last old new plain refusal (inl h) = inl h
+or_unsynced_last old new plain refusal (inr h) = inr (h, unsynced_last old new plain refusal h)
+
+-- an operation on names is no flush
+pub names_flushed : (mode : Mode) (kept : Kept) (op : Op) (reply : Reply) → is_of_names op ≡ true → HasFlushed mode kept op reply
+names_flushed ReadWrite kept Flush Done h = absurd (false≢true h)
+names_flushed mode kept op reply h = tt
+
+-- nor is a refusal a flush that is done
+pub refused_flushed : (mode : Mode) (kept : Kept) (op : Op) (refusal : Refusal) → HasFlushed mode kept op (Refused refusal)
+refused_flushed ReadWrite kept Flush refusal = tt
+refused_flushed mode kept op refusal = tt

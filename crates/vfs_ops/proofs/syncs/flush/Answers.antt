@@ -1,0 +1,35 @@
+use Rattle.std.proofs.Common.{◌*◌, length}
+use Rattle.cached_files.specs.Present.{present}
+use Rattle.vfs_ops.proofs.Flushing.{goes_on}
+use Rattle.vfs_ops.proofs.Takes.{alike_sound, sound_on}
+use Rattle.vfs_ops.proofs.syncs.flush.Goals as goal
+
+pub returns-in_err-put_all-clause-sound : goal.returns-in_err-put_all-clause-sound
+returns-in_err-put_all-clause-sound g c =
+    let later = (g.B.Backing.state c.put_all.new.backing).tree in
+    let kept = c.put_all.new.kept in
+    let before = present (g.B.Backing.state c.args.backing.now).tree c.args.kept.now in
+    let sound = alike_sound before (present later kept) c.put_all.ensures.same (c.present_files_are_sound.ensures.proper later kept c.put_all.ensures.kept) c.requires.sound in
+    sound
+
+pub returns-in_err-sync-clause-sound : goal.returns-in_err-sync-clause-sound
+returns-in_err-sync-clause-sound g c =
+    let later = (g.B.Backing.state c.put_all.new.backing).tree in
+    let kept = c.put_all.new.kept in
+    let before = present (g.B.Backing.state c.args.backing.now).tree c.args.kept.now in
+    let sound = alike_sound before (present later kept) c.put_all.ensures.same (c.present_files_are_sound.ensures.proper later kept c.put_all.ensures.kept) c.requires.sound in
+    sound_on (g.B.Backing.state c.sync.new.backing).tree later kept c.sync.ensures.files.tree sound
+
+pub returns-clause-sound : goal.returns-clause-sound
+returns-clause-sound g c =
+    let later = (g.B.Backing.state c.put_all.new.backing).tree in
+    let kept = c.put_all.new.kept in
+    let before = present (g.B.Backing.state c.args.backing.now).tree c.args.kept.now in
+    let sound = alike_sound before (present later kept) c.put_all.ensures.same (c.present_files_are_sound.ensures.proper later kept c.put_all.ensures.kept) c.requires.sound in
+    sound_on (g.B.Backing.state c.sync.new.backing).tree later kept c.sync.ensures.files.tree sound
+
+pub returns-in_err-sync-clause-goes : goal.returns-in_err-sync-clause-goes
+returns-in_err-sync-clause-goes g c = goes_on (2 * length c.args.kept.now.pages.dirty) (g.B.Backing.state c.args.backing.now) (g.B.Backing.state c.put_all.new.backing) (g.B.Backing.state c.sync.new.backing) c.put_all.ensures.goes c.sync.ensures.goes
+
+pub returns-clause-goes : goal.returns-clause-goes
+returns-clause-goes g c = goes_on (2 * length c.args.kept.now.pages.dirty) (g.B.Backing.state c.args.backing.now) (g.B.Backing.state c.put_all.new.backing) (g.B.Backing.state c.sync.new.backing) c.put_all.ensures.goes c.sync.ensures.goes

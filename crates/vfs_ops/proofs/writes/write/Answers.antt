@@ -1,0 +1,78 @@
+use Rattle.std.proofs.Common.{◌≡◌, inl, sym, refl, ◌∙◌, arith, Some, rules}
+use Rattle.fs_model.specs.declared.reply.Reply.TheVariants.{Count}
+use Rattle.fs_model.specs.Files.{Files, handle_at}
+use Rattle.fs_model.specs.Handles.{bytes_written, tree_written}
+use Rattle.cached_files.specs.Present.{present}
+use Rattle.vfs_ops.specs.Writing.{write_need}
+use Rattle.vfs_ops.proofs.Buffering.{at_hand, bad_len, bad_slot, none_written, open_file, some_written, sound_written, too_far}
+use Rattle.vfs_ops.proofs.Takes.{alike_on, alike_sound, last_done, refused_last}
+use Rattle.vfs_ops.proofs.writes.write.Goals as goal
+
+pub returns-then-is_bad_slot-clause-refused : goal.returns-then-is_bad_slot-clause-refused
+returns-then-is_bad_slot-clause-refused g c =
+    inl (inl (bad_slot (present (g.B.Backing.state c.args.backing.now).tree c.args.kept.now) c.args.caller c.args.now c.args.slot c.args.offs c.args.len c.args.byte (sym c.is_bad_slot.ensures ∙ c.if-is_bad_slot.true)))
+
+pub returns-then-is_bad_len-clause-refused : goal.returns-then-is_bad_len-clause-refused
+returns-then-is_bad_len-clause-refused g c =
+    inl (inl (bad_len (present (g.B.Backing.state c.args.backing.now).tree c.args.kept.now) c.args.caller c.args.now c.args.slot c.args.offs c.args.len c.args.byte (sym c.is_bad_slot.ensures ∙ c.if-is_bad_slot.false) (sym c.is_bad_len.ensures ∙ c.if-is_bad_len.true)))
+
+pub returns-then-ends_too_far-clause-refused : goal.returns-then-ends_too_far-clause-refused
+returns-then-ends_too_far-clause-refused g c =
+    let files = present (g.B.Backing.state c.args.backing.now).tree c.args.kept.now in
+    let there : handle_at files c.args.caller c.args.slot ≡ Some c.in-Some.ino = sym c.get.ensures ∙ c.in-Some.is in
+    let at = at_hand files c.in-Some.ino (open_file files c.args.caller c.args.slot c.in-Some.ino c.requires.sound there) in
+    inl (inl (too_far files c.args.caller c.args.now c.args.slot c.args.offs c.args.len c.args.byte c.in-Some.ino (sym c.is_bad_slot.ensures ∙ c.if-is_bad_slot.false) (sym c.is_bad_len.ensures ∙ c.if-is_bad_len.false) there at (sym c.ends_too_far.ensures ∙ c.if-ends_too_far.true)))
+
+pub returns-then-len-eq0-clause-done : goal.returns-then-len-eq0-clause-done
+returns-then-len-eq0-clause-done g c =
+    let tree = (g.B.Backing.state c.args.backing.now).tree in
+    let files = present tree c.args.kept.now in
+    let there : handle_at files c.args.caller c.args.slot ≡ Some c.in-Some.ino = sym c.get.ensures ∙ c.in-Some.is in
+    let at = at_hand files c.in-Some.ino (open_file files c.args.caller c.args.slot c.in-Some.ino c.requires.sound there) in (
+      files,
+      none_written files c.args.caller c.args.now c.args.slot c.args.offs c.args.len c.args.byte c.in-Some.ino (sym c.is_bad_slot.ensures ∙ c.if-is_bad_slot.false) (sym c.is_bad_len.ensures ∙ c.if-is_bad_len.false) there at (sym c.ends_too_far.ensures ∙ c.if-ends_too_far.false) c.if-len-eq0.true,
+      alike_on tree tree c.args.kept.now refl,
+    )
+
+pub write_some-requires-clause-file : goal.write_some-requires-clause-file
+write_some-requires-clause-file g c =
+    open_file (present (g.B.Backing.state c.args.backing.now).tree c.args.kept.now) c.args.caller c.args.slot c.in-Some.ino c.requires.sound (sym c.get.ensures ∙ c.in-Some.is)
+
+pub returns-in_err-left-clause-sound : goal.returns-in_err-left-clause-sound
+returns-in_err-left-clause-sound g c =
+    let tree = (g.B.Backing.state c.write_some.new.backing).tree in
+    alike_sound (present (g.B.Backing.state c.args.backing.now).tree c.args.kept.now) (present tree c.write_some.new.kept) c.in_err-left.ensures.same (c.present_files_are_sound.ensures.proper tree c.write_some.new.kept c.write_some.ensures.kept) c.requires.sound
+
+pub returns-clause-done : goal.returns-clause-done
+returns-clause-done g c =
+    let files = present (g.B.Backing.state c.args.backing.now).tree c.args.kept.now in
+    let there : handle_at files c.args.caller c.args.slot ≡ Some c.in-Some.ino = sym c.get.ensures ∙ c.in-Some.is in
+    let at = at_hand files c.in-Some.ino (open_file files c.args.caller c.args.slot c.in-Some.ino c.requires.sound there) in (
+      record files { tree = tree_written files.tree c.in-Some.ino at.inode c.args.now c.args.offs c.args.len c.args.byte },
+      some_written files c.args.caller c.args.now c.args.slot c.args.offs c.args.len c.args.byte c.in-Some.ino at.inode (sym c.is_bad_slot.ensures ∙ c.if-is_bad_slot.false) (sym c.is_bad_len.ensures ∙ c.if-is_bad_len.false) there at.found (sym c.ends_too_far.ensures ∙ c.if-ends_too_far.false) (let some = c.if-len-eq0.false in omega (arith, some)),
+      c.in_ok-left.ensures.written at.inode at.found,
+    )
+
+pub returns-clause-sound : goal.returns-clause-sound
+returns-clause-sound g c =
+    let files = present (g.B.Backing.state c.args.backing.now).tree c.args.kept.now in
+    let tree = (g.B.Backing.state c.write_some.new.backing).tree in
+    let there : handle_at files c.args.caller c.args.slot ≡ Some c.in-Some.ino = sym c.get.ensures ∙ c.in-Some.is in
+    let at = at_hand files c.in-Some.ino (open_file files c.args.caller c.args.slot c.in-Some.ino c.requires.sound there) in
+    let after : Files = record files { tree = tree_written files.tree c.in-Some.ino at.inode c.args.now c.args.offs c.args.len c.args.byte } in
+    let answer = some_written files c.args.caller c.args.now c.args.slot c.args.offs c.args.len c.args.byte c.in-Some.ino at.inode (sym c.is_bad_slot.ensures ∙ c.if-is_bad_slot.false) (sym c.is_bad_len.ensures ∙ c.if-is_bad_len.false) there at.found (sym c.ends_too_far.ensures ∙ c.if-ends_too_far.false) (let some = c.if-len-eq0.false in omega (arith, some)) in
+    sound_written files after (present tree c.write_some.new.kept) (Count c.args.len) (bytes_written files c.args.caller c.args.now c.args.slot c.args.offs c.args.len c.args.byte) answer
+    (c.a_write_keeps_trees_proper.ensures files c.args.caller c.args.now c.args.slot c.args.offs c.args.len c.args.byte c.requires.sound c.ranges.now.fits c.ranges.byte.fits) (c.in_ok-left.ensures.written at.inode at.found)
+    (c.present_files_are_sound.ensures.proper tree c.write_some.new.kept c.write_some.ensures.kept)
+
+pub returns-in_err-left-clause-refused : goal.returns-in_err-left-clause-refused
+returns-in_err-left-clause-refused g c =
+    let old = g.B.Backing.state c.args.backing.now in
+    let files = present old.tree c.args.kept.now in
+    let there : handle_at files c.args.caller c.args.slot ≡ Some c.in-Some.ino = sym c.get.ensures ∙ c.in-Some.is in
+    let at = at_hand files c.in-Some.ino (open_file files c.args.caller c.args.slot c.in-Some.ino c.requires.sound there) in
+    let after : Files = record files { tree = tree_written files.tree c.in-Some.ino at.inode c.args.now c.args.offs c.args.len c.args.byte } in
+    let answer = some_written files c.args.caller c.args.now c.args.slot c.args.offs c.args.len c.args.byte c.in-Some.ino at.inode (sym c.is_bad_slot.ensures ∙ c.if-is_bad_slot.false) (sym c.is_bad_len.ensures ∙ c.if-is_bad_len.false) there at.found (sym c.ends_too_far.ensures ∙ c.if-ends_too_far.false) (let some = c.if-len-eq0.false in omega (arith, some)) in
+    let plain = bytes_written files c.args.caller c.args.now c.args.slot c.args.offs c.args.len c.args.byte in
+    let refused = refused_last old (g.B.Backing.state c.write_some.new.backing) c.write_some.new.kept (write_need c.args.offs c.args.len c.args.grant) plain c.in_err-left.field-0.0 (last_done plain (Count c.args.len, after) c.in_err-left.field-0.0 answer) c.in_err-left.ensures.refused in
+    search (rules, refused)

@@ -1,0 +1,22 @@
+use Rattle.std.proofs.Common.{◌*◌, length}
+use Rattle.cached_files.specs.Present.{present}
+use Rattle.vfs_ops.proofs.Buffering.{goes_returned, goes_seen, written_seen}
+use Rattle.vfs_ops.proofs.writes.write_some.Goals as goal
+
+pub returns-in-Ok-clause-written : goal.returns-in-Ok-clause-written
+returns-in-Ok-clause-written g c inode found =
+    let before = present (g.B.Backing.state c.args.backing.now).tree c.args.kept.now in
+    let covered = present (g.B.Backing.state c.cover.new.backing).tree c.cover.new.kept in
+    written_seen before covered (present (g.B.Backing.state c.write_covered.new.backing).tree c.write_covered.new.kept) c.args.ino inode c.args.now c.args.offs c.args.len c.args.byte c.in_ok-have.ensures.same found (λ there. c.in-Ok.ensures.written inode there)
+    (c.written_files_stay_alike.ensures before covered c.args.ino inode c.args.now c.args.offs c.args.len c.args.byte c.requires.some found c.in_ok-have.ensures.same)
+
+pub returns-in-Ok-clause-goes : goal.returns-in-Ok-clause-goes
+returns-in-Ok-clause-goes g c =
+    goes_seen (2 * length c.args.kept.now.pages.dirty) (g.B.Backing.state c.args.backing.now) (g.B.Backing.state c.cover.new.backing) (g.B.Backing.state c.write_covered.new.backing) c.cover.ensures.goes c.write_covered.ensures.looks.goes
+
+pub returns-in-Err-clause-goes : goal.returns-in-Err-clause-goes
+returns-in-Err-clause-goes g c =
+    let n = 2 * length c.args.kept.now.pages.dirty in
+    let old = g.B.Backing.state c.args.backing.now in
+    let seen = g.B.Backing.state c.write_covered.new.backing in
+    goes_returned n old seen (g.B.Backing.state c.give_back.new.self) _ (goes_seen n old (g.B.Backing.state c.cover.new.backing) seen c.cover.ensures.goes c.write_covered.ensures.looks.goes) c.give_back.ensures.given

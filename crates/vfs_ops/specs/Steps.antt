@@ -1,0 +1,144 @@
+-- What a step of the file system answers and leaves, over any backing.
+use Rattle.std.specs.Prelude.{◌≡◌, ◌⊎◌, ℕ, ◌-◌, ◌≤◌, ◌&&◌, Bool, true, false, if◌then◌else◌, Option, Some, None, Result, Ok, Err, List, [], ◌∷◌, ◌++◌, length}
+use Rattle.fs_model.specs.declared.backing_answers.Mode.{Mode}
+use Rattle.fs_model.specs.declared.backing_answers.Mode.TheVariants.{ReadWrite, ReadOnly}
+use Rattle.fs_model.specs.declared.op.Op.{Op}
+use Rattle.fs_model.specs.declared.op.Op.TheVariants.{OpenFile, Close, Read, Write, Fsync, Flush, List as ListDir, Stat, Readlink}
+use Rattle.fs_model.specs.declared.refusal.Cause.{Cause}
+use Rattle.fs_model.specs.declared.refusal.Cause.TheVariants.{Tight}
+use Rattle.fs_model.specs.declared.refusal.NoSpace.{NoSpace}
+use Rattle.fs_model.specs.declared.refusal.Refusal.{Refusal}
+use Rattle.fs_model.specs.declared.refusal.Refusal.TheVariants.{Enospc, Erofs}
+use Rattle.fs_model.specs.declared.reply.Reply.{Reply}
+use Rattle.fs_model.specs.declared.reply.Reply.TheVariants.{Refused}
+use Rattle.fs_model.specs.declared.space.Need.{Need}
+use Rattle.fs_model.specs.Backing.{BackingState}
+use Rattle.fs_model.specs.Files.{Files}
+use Rattle.fs_model.specs.Need.{need_of}
+use Rattle.fs_model.specs.Operation.{outcome_of}
+use Rattle.fs_model.specs.Orphan.{nameless, within_orphans}
+use Rattle.fs_model.specs.Outcome.{Outcome}
+use Rattle.fs_laws.specs.Sound.{IsSound}
+use Rattle.cached_files.specs.declared.kept.Kept.{Kept}
+use Rattle.cached_files.specs.Alike.{IsAlike}
+use Rattle.cached_files.specs.Calls.{IsWithoutRoom}
+use Rattle.cached_files.specs.Present.{present, IsKept}
+use Rattle.vfs_plans.specs.Answers.{IsFault}
+use Rattle.vfs_ops.specs.Kinds.{IsStopped}
+use Rattle.vfs_ops.specs.Operations.{is_of_names}
+use Rattle.vfs_ops.specs.Writing.{write_need}
+
+-- What is kept fits the backing, each dirty page is paid, and the present files are sound.
+pub record IsReady (state : BackingState) (kept : Kept) : Type 0 where
+  pub kept_fits : IsKept state.tree kept
+  pub paid : length kept.pages.dirty ≤ state.space.credits
+  pub sound : IsSound (present state.tree kept)
+
+-- whether it writes all back, or one file
+abbrev pub is_sync : Op → Bool
+is_sync (Fsync slot) = true
+is_sync Flush = true
+is_sync op = false
+
+-- whether a read-only store lets it through: it opens, closes or looks
+abbrev pub is_read : Op → Bool
+is_read (OpenFile path slot) = true
+is_read (Close slot) = true
+is_read (Read slot offs len) = true
+is_read (ListDir path) = true
+is_read (Stat path) = true
+is_read (Readlink path) = true
+is_read op = false
+
+-- whether it writes to a file
+abbrev pub is_write : Op → Bool
+is_write (Write slot offs len byte) = true
+is_write op = false
+
+abbrev pub is_tight : Cause → Bool
+is_tight (Tight what need room) = true
+is_tight cause = false
+
+-- Why a store doesn't do an operation at all: it is read-only. One that was too full to be mounted for writing has nothing to sync.
+abbrev pub read_only_cause : Mode → Op → Option Cause
+read_only_cause ReadWrite op = None
+read_only_cause (ReadOnly cause) op = if is_read op then None else if is_sync op && is_tight cause then None else Some cause
+
+-- how many orphans more the backing's next list takes
+abbrev pub orphan_room : BackingState → ℕ
+orphan_room state = state.orphan_limit - length (nameless state.tree)
+
+-- the plain operation; one of names where so many more orphans can be told of, out of this limit
+abbrev pub allowed : ℕ → ℕ → Files → ℕ → ℕ → Op → Outcome
+allowed room limit files caller now op =
+    if is_of_names op then within_orphans room limit files (outcome_of files caller now op) else outcome_of files caller now op
+
+-- the plain operation over this backing
+abbrev pub allowed_on : BackingState → Files → ℕ → ℕ → Op → Outcome
+allowed_on state files caller now op = allowed (orphan_room state) state.orphan_limit files caller now op
+
+-- what an operation asks for at the second test, where all pages are put; a write brings its grant
+abbrev pub asked : Files → ℕ → ℕ → ℕ → Op → Need
+asked files caller now grant (Write slot offs len byte) = write_need offs len grant
+asked files caller now grant op = need_of files caller now op
+
+-- why a sync isn't done: a fault, or that the backing is read-only from now on
+abbrev pub IsUnsynced : BackingState → BackingState → Refusal → Type 0
+IsUnsynced old new (Erofs cause) = (old.mode ≡ ReadWrite) × (new.mode ≡ ReadOnly cause)
+IsUnsynced old new refusal = IsStopped old new refusal
+
+-- Why an operation that nothing else refuses isn't done: want of room for what it asks for, or a fault. What asks for no room isn't refused so.
+abbrev pub IsTurnedDown : BackingState → BackingState → Kept → Need → Op → Refusal → Type 0
+IsTurnedDown old new kept need (OpenFile path slot) refusal = IsFault old new refusal
+IsTurnedDown old new kept need (Close slot) refusal = IsFault old new refusal
+IsTurnedDown old new kept need (Read slot offs len) refusal = IsFault old new refusal
+IsTurnedDown old new kept need (ListDir path) refusal = IsFault old new refusal
+IsTurnedDown old new kept need (Stat path) refusal = IsFault old new refusal
+IsTurnedDown old new kept need (Readlink path) refusal = IsFault old new refusal
+IsTurnedDown old new kept need (Fsync slot) refusal = IsUnsynced old new refusal
+IsTurnedDown old new kept need Flush refusal = IsUnsynced old new refusal
+IsTurnedDown old new kept need op refusal = IsWithoutRoom old new kept need refusal
+
+-- done as the plain operation says, but for zeros at the ends of blocks, which nobody sees
+abbrev pub IsDone : Outcome → Files → Reply → Type 0
+IsDone plain present_files reply = (after : Files) × (plain ≡ Ok (reply, after)) × IsAlike after present_files
+
+-- want of room comes only where nothing else refuses
+abbrev pub IsLast : Outcome → Refusal → Type 0
+IsLast plain (Enospc space) = (done : Reply × Files) × (plain ≡ Ok done)
+IsLast plain refusal = Unit {0}
+
+-- Why an operation is refused: as the plain one is, or for what that one knows nothing of; a read-only store refuses before all else.
+abbrev pub IsRefusedFor : Option Cause → BackingState → BackingState → Kept → Files → ℕ → ℕ → ℕ → Op → Refusal → Type 0
+IsRefusedFor (Some cause) old new kept files caller now grant op refusal = refusal ≡ Erofs cause
+IsRefusedFor None old new kept files caller now grant op refusal =
+    (allowed_on old files caller now op ≡ Err refusal)
+    ⊎ (IsTurnedDown old new kept (asked files caller now grant op) op refusal × IsLast (allowed_on old files caller now op) refusal)
+
+-- refused, for a reason, and callers see the files as before
+pub record IsRefusal (old new : BackingState) (kept : Kept) (files : Files) (caller now grant : ℕ) (op : Op) (reply : Reply) : Type 0 where
+  pub refusal : Refusal
+  pub told : reply ≡ Refused refusal
+  pub why : IsRefusedFor (read_only_cause old.mode op) old new kept files caller now grant op refusal
+  pub same : IsAlike files (present new.tree kept)
+
+-- the sides of a reply that there is no room
+abbrev pub no_space_in : Reply → List NoSpace
+no_space_in (Refused (Enospc space)) = space ∷ []
+no_space_in reply = []
+
+-- What a step answers to a caller's operation, what the files are then, and which refusals for want of room there were so far.
+abbrev pub IsAnswered : BackingState → BackingState → Kept → Files → ℕ → ℕ → ℕ → Op → Reply → List NoSpace → List NoSpace → Type 0
+IsAnswered old new kept files caller now grant op reply before after =
+    ((read_only_cause old.mode op ≡ None) × IsDone (allowed_on old files caller now op) (present new.tree kept) reply × (after ≡ before))
+    ⊎ (IsRefusal old new kept files caller now grant op reply × (after ≡ before ++ no_space_in reply))
+
+-- the sides of an answer of a call that there is no room
+abbrev pub no_space_from : {T : Type 0} → Result T Refusal → List NoSpace
+no_space_from (Err (Enospc space)) = space ∷ []
+no_space_from result = []
+
+-- a read-only store refuses with its cause
+abbrev pub HasOpen : {T : Type 0} → Mode → Result T Refusal → Type 0
+HasOpen ReadWrite result = Unit {0}
+HasOpen (ReadOnly cause) result = result ≡ Err (Erofs cause)

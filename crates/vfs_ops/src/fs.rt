@@ -1,0 +1,246 @@
+// Files over a backing.
+
+ghost use Rattle.std.specs.Prelude.{◌≡◌, ◌+◌, ◌*◌, ◌<◌, ◌≤◌, ◌⊎◌, ◌++◌, [], false, length, Ok, IfOk, OnOk, OnErr, IfErr};
+ghost use Rattle.fs_model.specs.Backing.{FitsGroup, Goes, HasCause, IsModest, IsNotReadOnly, Reads};
+ghost use Rattle.fs_model.specs.Change.{apply};
+ghost use Rattle.fs_model.specs.Directory.{entries_in};
+ghost use Rattle.fs_model.specs.Files.{entry_at, inode_at};
+ghost use Rattle.fs_model.specs.Path.{walked};
+ghost use Rattle.fs_model.specs.Proper.{IsProper};
+ghost use Rattle.fs_model.specs.Operation.{group_of};
+ghost use Rattle.fs_laws.specs.Sound.{IsCall, IsSound};
+ghost use Rattle.cached_files.specs.Alike.{IsAlike};
+ghost use Rattle.cached_files.specs.Calls.{IsWithoutRoom, SureGoes};
+ghost use Rattle.cached_files.specs.Follow.{AreOfNames};
+ghost use Rattle.cached_files.specs.Present.{present};
+ghost use Rattle.fs_model.specs.declared.refusal.Refusal.TheVariants.{Enomem, Enospc};
+ghost use Rattle.fs_model.specs.declared.reply.Reply.TheVariants.{Refused};
+ghost use Rattle.vfs_plans.specs.Answers.{IsRefused, Looks};
+ghost use Rattle.vfs_plans.specs.Operations.{is_truncate};
+ghost use Rattle.vfs_ops.specs.Events.{HasFlushed, IsAnswer, IsCalled, IsWrittenBack, grant_of, group_in, left_of};
+ghost use Rattle.vfs_ops.specs.Steps.{HasOpen, IsAnswered, IsReady, no_space_from, no_space_in};
+
+use crate::answers::call;
+use crate::event::{Event, Outcome};
+use cached_files::{Kept, apply_group, inode, present_files_are_sound};
+use fs_model::{Backing, Entry, Group, Inode, Mode, Need, NoSpace, Op, Refusal, Reply, StoreFault};
+use std::alloc::Global;
+use ubifs_base::{Memory, Name};
+use vfs_plans::walked;
+
+/// Files over a backing, with dirty pages in memory in front of it. The present files are the backing's tree under the
+/// dirty pages, with the handles. Each dirty page is paid by a covered credit.
+#[derive(Drop)]
+pub struct Fs<B: Backing> {
+    alloc: Global,
+    backing: B,
+    kept: Kept,
+    refused: Vec<NoSpace>,
+}
+
+impl<B: Backing> Fs<B> {
+    /// Files over a backing whose tree is proper, with no page dirty and no file open; at most so many clean pages are kept.
+    pub fn new(alloc: Global, backing: B, clean: u32) -> Result<Fs<B>, (Memory, B)>
+        requires clean { 0 < clean }
+        requires proper { IsProper (B.state backing).tree }
+        ensures ready { IfOk result (λ fs. IsReady (B.state fs.backing) fs.kept) }
+        ensures backing { IfOk result (λ fs. fs.backing ≡ backing) }
+        ensures pages { IfOk result (λ fs. fs.kept.pages.dirty ≡ []) }
+        ensures inodes { IfOk result (λ fs. fs.kept.inodes ≡ []) }
+        ensures handles { IfOk result (λ fs. fs.kept.handles ≡ []) }
+        ensures none { IfOk result (λ fs. fs.refused.items ≡ []) }
+        ensures back { IfErr result (λ fault. fault.1 ≡ backing) }
+    {
+        present_files_are_sound();
+        match Kept::new(alloc, clean) {
+            Ok(kept) => Ok(Fs {
+                alloc,
+                backing,
+                kept,
+                refused: Vec::new(alloc),
+            }),
+            Err(fault) => Err((fault, backing)),
+        }
+    }
+
+    /// Does a caller's operation. It answers and leaves what the operation's definition says, but for zeros at the ends of blocks,
+    /// which nobody sees; or it is refused, for a cause that is told, and callers see the files as before. After a refusal for
+    /// want of room, a fault or want of memory, some dirty pages may have been put.
+    pub fn step(&mut self, event: &Event) -> Outcome
+        requires ready { IsReady (B.state self.old.backing) self.old.kept }
+        requires call { IsCalled event.now }
+        requires grant { length self.old.kept.pages.dirty + grant_of event.now ≤ (B.state self.old.backing).space.credits }
+        ensures ready { IsReady (B.state self.new.backing) self.new.kept }
+        ensures answered { IsAnswer (B.state self.old.backing) (B.state self.new.backing) self.old.kept self.new.kept self.old.refused.items self.new.refused.items event.now result }
+        ensures issued { (B.state self.new.backing).space.credits + length self.old.kept.pages.dirty + grant_of event.now ≡ (B.state self.old.backing).space.credits + length self.new.kept.pages.dirty + left_of result }
+        ensures written { IsWrittenBack (B.state self.old.backing).mode self.new.kept event.now result }
+        ensures goes { Goes (2 * length self.old.kept.pages.dirty + length (group_in (present (B.state self.old.backing).tree self.old.kept) event.now)) (B.state self.old.backing) (B.state self.new.backing) }
+        ensures sure { SureGoes (B.outlook self.old.backing) (B.outlook self.new.backing) (B.state self.old.backing) (B.state self.new.backing) }
+    {
+        match event {
+            Event::Call {
+                caller,
+                now,
+                grant,
+                op,
+            } => {
+                let (reply, left) = self.answer(*caller, *now, *grant, op);
+                Outcome::Replied { reply, left }
+            }
+        }
+    }
+
+    // The reply to a caller's operation, and what is left of the grant.
+    fn answer(&mut self, caller: u16, now: u64, grant: u64, op: &Op) -> (Reply, u64)
+        requires ready { IsReady (B.state self.old.backing) self.old.kept }
+        requires op { is_truncate op.now ≡ false }
+        requires call { IsCall op.now }
+        requires grant { length self.old.kept.pages.dirty + grant ≤ (B.state self.old.backing).space.credits }
+        ensures ready { IsReady (B.state self.new.backing) self.new.kept }
+        ensures answered { IsAnswered (B.state self.old.backing) (B.state self.new.backing) self.new.kept (present (B.state self.old.backing).tree self.old.kept) caller now grant op.now result.0 self.old.refused.items self.new.refused.items }
+        ensures left { result.1 ≤ grant }
+        ensures issued { (B.state self.new.backing).space.credits + length self.old.kept.pages.dirty + grant ≡ (B.state self.old.backing).space.credits + length self.new.kept.pages.dirty + result.1 }
+        ensures flushed { HasFlushed (B.state self.old.backing).mode self.new.kept op.now result.0 }
+        ensures goes { Goes (2 * length self.old.kept.pages.dirty + length (group_of (present (B.state self.old.backing).tree self.old.kept) caller now op.now)) (B.state self.old.backing) (B.state self.new.backing) }
+        ensures sure { SureGoes (B.outlook self.old.backing) (B.outlook self.new.backing) (B.state self.old.backing) (B.state self.new.backing) }
+    {
+        match call(
+            self.alloc,
+            &mut self.backing,
+            &mut self.kept,
+            caller,
+            now,
+            grant,
+            op,
+        ) {
+            Ok(done) => done,
+            Err(refusal) => {
+                let refusal = noted(&mut self.refused, refusal);
+                (Reply::Refused { refusal }, grant)
+            }
+        }
+    }
+
+    /// Puts a group of changes of inodes and names that was reckoned on the present files, where there is room for what it asks.
+    /// It is refused by a read-only store, for want of room, for a fault of the backing, or for want of memory; the present files
+    /// are then as before, but some dirty pages may have been put.
+    pub fn apply_group(&mut self, group: &Group, need: &Need) -> Result<(), Refusal>
+        requires ready { IsReady (B.state self.old.backing) self.old.kept }
+        requires modest { IsModest need.now }
+        requires credits { need.now.credits ≡ 0 }
+        requires fits { FitsGroup (present (B.state self.old.backing).tree self.old.kept).tree (record { bytes = need.now.bytes; nodes = need.now.nodes }) group.now }
+        requires names { AreOfNames (present (B.state self.old.backing).tree self.old.kept).tree group.now }
+        requires sound { IsSound (record (present (B.state self.old.backing).tree self.old.kept) { tree = apply (present (B.state self.old.backing).tree self.old.kept).tree group.now }) }
+        ensures ready { IsReady (B.state self.new.backing) self.new.kept }
+        ensures ok { OnOk result (IsAlike (record (present (B.state self.old.backing).tree self.old.kept) { tree = apply (present (B.state self.old.backing).tree self.old.kept).tree group.now }) (present (B.state self.new.backing).tree self.new.kept)) }
+        ensures same { OnErr result (IsAlike (present (B.state self.old.backing).tree self.old.kept) (present (B.state self.new.backing).tree self.new.kept)) }
+        ensures why { IfErr result (IsWithoutRoom (B.state self.old.backing) (B.state self.new.backing) self.new.kept need.now) }
+        ensures open { HasOpen (B.state self.old.backing).mode result }
+        ensures refused { self.new.refused.items ≡ self.old.refused.items ++ no_space_from result }
+        ensures issued { (B.state self.new.backing).space.credits + length self.old.kept.pages.dirty ≡ (B.state self.old.backing).space.credits + length self.new.kept.pages.dirty }
+        ensures goes { Goes (2 * length self.old.kept.pages.dirty + length group.now) (B.state self.old.backing) (B.state self.new.backing) }
+        ensures sure { SureGoes (B.outlook self.old.backing) (B.outlook self.new.backing) (B.state self.old.backing) (B.state self.new.backing) }
+    {
+        present_files_are_sound();
+        if let Mode::ReadOnly { cause } = self.backing.mode() {
+            return Err(Refusal::Erofs { cause });
+        }
+        match apply_group(self.alloc, &mut self.backing, &mut self.kept, group, need) {
+            Ok(()) => Ok(()),
+            Err(refusal) => Err(noted(&mut self.refused, refusal)),
+        }
+    }
+
+    /// The entry that a path names, of which none but the last may be anything but a directory; that of the root for `/`.
+    pub fn walk(&mut self, path: &Name) -> Result<Entry, Refusal>
+        requires ready { IsReady (B.state self.old.backing) self.old.kept }
+        ensures ready { IsReady (B.state self.new.backing) self.new.kept }
+        ensures kept { self.new.kept ≡ self.old.kept }
+        ensures found { IfOk result (λ entry. walked (present (B.state self.old.backing).tree self.old.kept).tree path.now ≡ Ok entry) }
+        ensures refused { IfErr result (IsRefused (B.state self.old.backing) (B.state self.new.backing) (walked (present (B.state self.old.backing).tree self.old.kept).tree path.now)) }
+        ensures looks { Looks (B.outlook self.old.backing) (B.outlook self.new.backing) (B.state self.old.backing) (B.state self.new.backing) }
+    {
+        walked(self.alloc, &mut self.backing, &self.kept, path)
+    }
+
+    /// The entries of a directory, in order of name.
+    pub fn entries(&mut self, dir: u32) -> Result<Vec<Entry>, StoreFault>
+        requires ready { IsReady (B.state self.old.backing) self.old.kept }
+        ensures ready { IsReady (B.state self.new.backing) self.new.kept }
+        ensures kept { self.new.kept ≡ self.old.kept }
+        ensures found { IfOk result (λ entries. entries.items ≡ entries_in (present (B.state self.old.backing).tree self.old.kept).tree dir) }
+        ensures reads { Reads (B.state self.old.backing) (B.state self.new.backing) }
+        ensures cause { HasCause (B.state self.old.backing) (B.state self.new.backing) result }
+        ensures mode { IsNotReadOnly result }
+    {
+        self.backing.entries(dir)
+    }
+
+    /// The entry of a name in a directory.
+    pub fn lookup(&mut self, dir: u32, name: &Name) -> Result<Option<Entry>, StoreFault>
+        requires ready { IsReady (B.state self.old.backing) self.old.kept }
+        ensures ready { IsReady (B.state self.new.backing) self.new.kept }
+        ensures kept { self.new.kept ≡ self.old.kept }
+        ensures found { IfOk result (λ found. found ≡ entry_at (present (B.state self.old.backing).tree self.old.kept).tree dir name.now) }
+        ensures reads { Reads (B.state self.old.backing) (B.state self.new.backing) }
+        ensures cause { HasCause (B.state self.old.backing) (B.state self.new.backing) result }
+        ensures mode { IsNotReadOnly result }
+    {
+        self.backing.lookup(dir, name)
+    }
+
+    /// The inode of a number, with the size and the times that its dirty pages gave it.
+    pub fn inode(&mut self, ino: u32) -> Result<Option<Inode>, StoreFault>
+        requires ready { IsReady (B.state self.old.backing) self.old.kept }
+        ensures ready { IsReady (B.state self.new.backing) self.new.kept }
+        ensures kept { self.new.kept ≡ self.old.kept }
+        ensures found { IfOk result (λ found. found ≡ inode_at (present (B.state self.old.backing).tree self.old.kept).tree ino) }
+        ensures reads { Reads (B.state self.old.backing) (B.state self.new.backing) }
+        ensures cause { HasCause (B.state self.old.backing) (B.state self.new.backing) result }
+        ensures mode { IsNotReadOnly result }
+    {
+        inode(&mut self.backing, &self.kept, ino)
+    }
+
+    /// The highest inode number that was ever used. Takes no memory.
+    pub fn highest(&self) -> u32
+        ensures { result ≡ (B.state self.now.backing).tree.highest }
+    {
+        self.backing.highest()
+    }
+
+    /// Whether the backing can be written, or why not. Takes no memory.
+    pub fn mode(&self) -> Mode
+        ensures { result ≡ (B.state self.now.backing).mode }
+    {
+        self.backing.mode()
+    }
+
+    /// The need and the room of every call that was refused for want of room so far, in order, in bytes.
+    pub fn refused(&self) -> &[NoSpace]
+        ensures { result.now ≡ self.now.refused.items }
+    {
+        self.refused.as_slice()
+    }
+
+    /// The backing, with what was put so far.
+    pub fn into_parts(self) -> B
+        ensures { result ≡ self.backing }
+    {
+        self.backing
+    }
+}
+
+// Notes the sides of a refusal for want of room. Where there is no memory for that, the refusal is want of memory.
+fn noted(refused: &mut Vec<NoSpace>, refusal: Refusal) -> Refusal
+    ensures noted { refused.new.items ≡ refused.old.items ++ no_space_in (Refused result) }
+    ensures refusal { (result ≡ refusal) ⊎ ((result ≡ Enomem) × ((space : _) × (refusal ≡ Enospc space))) }
+{
+    let Refusal::Enospc { space } = refusal else {
+        return refusal;
+    };
+    match refused.push(space) {
+        Ok(()) => refusal,
+        Err(_) => Refusal::Enomem,
+    }
+}
