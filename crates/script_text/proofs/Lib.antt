@@ -1,8 +1,13 @@
 pub mod Decimals
 pub mod Cutting
 pub mod Lines
+pub mod Runs
+pub mod ManifestLaws
+pub mod Parts
+pub mod Sentences
+pub mod Spelling
+pub mod Naming
 pub mod PartLines
 pub mod ScriptLines
-pub mod Runs
+pub mod OneReading
 pub mod ScriptLaws
-pub mod ManifestLaws

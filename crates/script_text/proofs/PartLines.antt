@@ -1,93 +1,91 @@
--- The bytes of the parts' lines.
-use Rattle.std.proofs.Common.{◌≡◌, ℕ, ◌<◌, ◌^◌, Bool, true, false, eqb, get_or, List, [], ◌∷◌, ◌++◌, arith, sym, refl, ap, ◌∙◌, append_assoc, append-nil, inl, inr}
-use Rattle.std.specs.Cmp.Lexicographic.{pointwise}
-use Rattle.std.proofs.lemmas.Bool.{false≢true}
-use Rattle.std.proofs.lemmas.Slice.Eq.{bytes_eq-Decides}
-use Rattle.std.specs.Prelude.{codes}
-use Rattle.std.specs.Fmt.{decimal, digits}
-use Rattle.std.proofs.lemmas.List.{append_cancel_left, append_cancel_right}
-use Rattle.std.proofs.lemmas.Fmt.{decimal_digit}
-use Rattle.fs_model.specs.declared.op.Op.TheVariants.{Create, OpenFile, Close, Read, Write, Flush}
+-- Which parts a line can be of.
+use Rattle.std.proofs.Common.{◌≡◌, ℕ, ◌<◌, ◌^◌, Bool, true, false, List, [], ◌∷◌, ◌++◌, arith, sym, refl, ap, subst, ◌∙◌}
+use Rattle.std.specs.Prelude.{codes, nat_lt, ◌&&◌}
+use Rattle.std.specs.Fmt.{decimal}
+use Rattle.std.specs.List.{list_all}
+use Rattle.std.proofs.lemmas.Bool.{and_from, lt-ltb}
+use Rattle.fs_model.specs.Proper.{are_bytes}
+use Rattle.fs_model.specs.declared.op.Op.{Op}
+use Rattle.fs_model.specs.declared.op.Op.TheVariants.{Create, Mkdir, Symlink, Link, Unlink, Rmdir, Rename, OpenFile, Close, Read, Write, Truncate, Fsync, Flush, List as Listing, Stat, Readlink, Chmod}
 use Rattle.script_text.specs.declared.part.Part.{Part}
-use Rattle.script_text.specs.declared.part.Part.TheVariants.{Line}
-use Rattle.script_text.specs.Script.{part_line, IsWork}
-use Rattle.text_lines.specs.Lines.{ended}
-use Rattle.script_text.specs.Words.{octal}
+use Rattle.script_text.specs.declared.part.Part.TheVariants.{Mount, Unmount, Now, Line}
+use Rattle.script_text.specs.Script.{op_name, op_words, part_words, IsLineOf, MayStand, IsInRange, given_bytes}
+use Rattle.script_text.specs.Words.{AreWords, Word, Fixed, Lacks}
+use Rattle.script_text.proofs.Naming.{tight_name}
+use Rattle.script_text.proofs.Sentences.{tight_of, AllBare, one_line}
+use Rattle.script_text.proofs.Spelling.{spelled_bytes}
 
-zero_digit : decimal 0 ≡ 48 ∷ []
-zero_digit = decimal_digit 0 (omega arith)
+-- a line without a caller
+pub control_none : (mounted : Bool) (line : List ℕ) → (mounted ≡ false → line ≡ codes "mount" → ⊥) → (mounted ≡ true → line ≡ codes "unmount" → ⊥)
+    → ((now : ℕ) → now < 2 ^ 64 → line ≡ codes "now " ++ decimal now → ⊥)
+    → (part : Part) → MayStand mounted part → AreWords (part_words part) line → (rest : List ℕ) × (line ≡ codes "1 " ++ rest)
+control_none mounted line mount unmount now Mount stands h = absurd (mount stands h)
+control_none mounted line mount unmount now Unmount stands h = absurd (unmount stands h)
+control_none mounted line mount unmount now (Now n) stands h =
+    absurd (now n h.3.0 (h.4 ∙ (ap (λ (t : List ℕ). t ++ (32 ∷ h.1)) h.2 ∙ ap (λ (t : List ℕ). codes "now " ++ t) h.3.1)))
+control_none mounted line mount unmount now (Line caller op) stands h = (h.1, h.4 ∙ ap (λ (t : List ℕ). t ++ (32 ∷ h.1)) h.2)
 
-one_digit : decimal 1 ≡ 49 ∷ []
-one_digit = decimal_digit 1 (omega arith)
+pub op_bare : (op : Op) → AllBare (op_words op)
+op_bare (Create path mode) = (tt, (tt, tt))
+op_bare (Mkdir path mode) = (tt, (tt, tt))
+op_bare (Symlink path target) = (tt, (tt, tt))
+op_bare (Link old new) = (tt, (tt, tt))
+op_bare (Unlink path) = (tt, tt)
+op_bare (Rmdir path) = (tt, tt)
+op_bare (Rename old new) = (tt, (tt, tt))
+op_bare (OpenFile path slot) = (tt, (omega arith, tt))
+op_bare (Close slot) = (omega arith, tt)
+op_bare (Read slot offs len) = (omega arith, (omega arith, (omega arith, tt)))
+op_bare (Write slot offs len byte) = (omega arith, (omega arith, (omega arith, (omega arith, tt))))
+op_bare (Truncate slot size) = (tt, tt)
+op_bare (Fsync slot) = (omega arith, tt)
+op_bare Flush = tt
+op_bare (Listing path) = (tt, tt)
+op_bare (Stat path) = (tt, tt)
+op_bare (Readlink path) = (tt, tt)
+op_bare (Chmod path mode) = (tt, (tt, tt))
 
-mode_digits : octal 420 ≡ codes "644"
-unfolding digits
-mode_digits = refl
+part_bare : (part : Part) → AllBare (part_words part)
+part_bare Mount = (tight_of (codes "mount") refl, tt)
+part_bare Unmount = (tight_of (codes "unmount") refl, tt)
+part_bare (Now now) = (tight_of (codes "now") refl, (omega arith, tt))
+part_bare (Line caller op) = (tight_of (codes "1") refl, (tight_name op, op_bare op))
 
-pub create_bytes : ended (codes "1 create /f 644") ≡ part_line (Line 1 (Create (codes "/f") 420))
-create_bytes = rw (one_digit, mode_digits) refl
+-- a part's line has no newline in it
+pub part_line : (part : Part) (line : List ℕ) → IsLineOf part line → Lacks 10 line
+part_line part line h = one_line (part_words part) line (part_bare part) h.words
 
-pub open_bytes : ended (codes "1 open /f 0") ≡ part_line (Line 1 (OpenFile (codes "/f") 0))
-open_bytes = rw (one_digit, zero_digit) refl
+given_are_bytes : (op : Op) (text : List ℕ) → AreWords (op_words op) text → list_all are_bytes (given_bytes op) ≡ true
+given_are_bytes (Create path mode) text h = and_from (are_bytes path) true (spelled_bytes path h.0 h.2.0) refl
+given_are_bytes (Mkdir path mode) text h = and_from (are_bytes path) true (spelled_bytes path h.0 h.2.0) refl
+given_are_bytes (Symlink path target) text h = and_from (are_bytes path) (are_bytes target && true) (spelled_bytes path h.0 h.2.0) (and_from (are_bytes target) true (spelled_bytes target h.1 h.3) refl)
+given_are_bytes (Link old new) text h = and_from (are_bytes new) true (spelled_bytes new h.1 h.3.0) refl
+given_are_bytes (Rename old new) text h = and_from (are_bytes new) true (spelled_bytes new h.1 h.3.0) refl
+given_are_bytes (Write slot offs len byte) text h = and_from (are_bytes (byte ∷ [])) true (and_from (nat_lt byte 256) true (lt-ltb byte 256 h.3.3.3.0) refl) refl
+given_are_bytes (Unlink path) text h = refl
+given_are_bytes (Rmdir path) text h = refl
+given_are_bytes (OpenFile path slot) text h = refl
+given_are_bytes (Close slot) text h = refl
+given_are_bytes (Read slot offs len) text h = refl
+given_are_bytes (Truncate slot size) text h = refl
+given_are_bytes (Fsync slot) text h = refl
+given_are_bytes Flush text h = refl
+given_are_bytes (Listing path) text h = refl
+given_are_bytes (Stat path) text h = refl
+given_are_bytes (Readlink path) text h = refl
+given_are_bytes (Chmod path mode) text h = refl
 
-pub close_bytes : ended (codes "1 close 0") ≡ part_line (Line 1 (Close 0))
-close_bytes = rw (one_digit, zero_digit) refl
+-- an operation without words gives nothing
+alone : (op : Op) → op_words op ≡ [] → list_all are_bytes (given_bytes op) ≡ true
+alone Flush e = refl
+alone op e = absurd cc
 
-pub flush_bytes : ended (codes "1 flush") ≡ part_line (Line 1 Flush)
-flush_bytes = rw one_digit refl
-
--- the words of a read's numbers
-abbrev pub read_numbers : ℕ → ℕ → List ℕ
-read_numbers offs len = decimal offs ++ (32 ∷ decimal len)
-
--- the words of a write's numbers
-abbrev pub write_numbers : ℕ → ℕ → ℕ → List ℕ
-write_numbers offs len byte = decimal offs ++ (32 ∷ (decimal len ++ (32 ∷ decimal byte)))
-
-pub read_bytes : (offs len : ℕ) → ended (codes "1 read 0 " ++ read_numbers offs len) ≡ part_line (Line 1 (Read 0 offs len))
-read_bytes offs len = rw (one_digit, zero_digit) (simp (append_assoc, append-nil))
-
-pub write_bytes : (offs len byte : ℕ) → ended (codes "1 write 0 " ++ write_numbers offs len byte) ≡ part_line (Line 1 (Write 0 offs len byte))
-write_bytes offs len byte = rw (one_digit, zero_digit) (simp (append_assoc, append-nil))
-
--- two lines that are the same are so without their newlines
-pub same_text : (s t : List ℕ) → ended s ≡ ended t → s ≡ t
-same_text s t e = append_cancel_right s t (10 ∷ []) e
-
--- a line that spells a part that is this one has this one's bytes
-pub text_of : (s t : List ℕ) (part this : Part) → part ≡ this → ended t ≡ part_line this → ended s ≡ part_line part → s ≡ t
-text_of s t part this p d e = same_text s t (e ∙ ap part_line p ∙ sym d)
-
-pub read_not_write : (x y : List ℕ) → codes "1 read 0 " ++ x ≡ codes "1 write 0 " ++ y → ⊥
-read_not_write x y e = let d : 114 ≡ 119 = ap (λ (t : List ℕ). get_or t 2 0) e in omega (arith, d)
-
-pub work_none : (s : List ℕ) → (s ≡ codes "1 flush" → ⊥)
-    → ((offs len : ℕ) → offs < 2 ^ 64 → len < 2 ^ 32 → s ≡ codes "1 read 0 " ++ read_numbers offs len → ⊥)
-    → ((offs len byte : ℕ) → offs < 2 ^ 64 → len < 2 ^ 32 → byte < 256 → s ≡ codes "1 write 0 " ++ write_numbers offs len byte → ⊥)
-    → (part : Part) → IsWork part → ended s ≡ part_line part → ⊥
-work_none s no_flush no_read no_write part work e = elim work [
-  | inl p ↦ no_flush (text_of s (codes "1 flush") part (Line 1 Flush) p flush_bytes e)
-  | inr more ↦ elim more [
-    | inl r ↦ no_read r.0 r.1 r.2 r.3 (text_of s (codes "1 read 0 " ++ read_numbers r.0 r.1) part (Line 1 (Read 0 r.0 r.1)) r.4 (read_bytes r.0 r.1) e)
-    | inr w ↦ no_write w.0 w.1 w.2 w.3 w.4 w.5 (text_of s (codes "1 write 0 " ++ write_numbers w.0 w.1 w.2) part (Line 1 (Write 0 w.0 w.1 w.2)) w.6 (write_bytes w.0 w.1 w.2) e)
-  ]
-]
-
--- what a test of bytes against a text says
-pub text_is : (r : Bool) (s w t : List ℕ) → r ≡ pointwise eqb s w → r ≡ true → w ≡ t → s ≡ t
-text_is r s w t e h d = (bytes_eq-Decides s w).0 (sym e ∙ h) ∙ d
-
-pub text_is_not : (r : Bool) (s w t : List ℕ) → r ≡ pointwise eqb s w → r ≡ false → w ≡ t → s ≡ t → ⊥
-text_is_not r s w t e h d same = false≢true (sym h ∙ (e ∙ (bytes_eq-Decides s w).1 (same ∙ sym d)))
-
--- what stands behind a text is determined
-pub behind_text : (s v w t x : List ℕ) → v ≡ t → s ≡ v ++ w → s ≡ t ++ x → w ≡ x
-behind_text s v w t x d e f = append_cancel_left t w x (sym (e ∙ ap (λ (u : List ℕ). u ++ w) d) ∙ f)
-
--- nothing begins with a text as what is tested
-pub not_behind : (s v t : List ℕ) → v ≡ t → ((rest : List ℕ) → s ≡ v ++ rest → ⊥) → (rest : List ℕ) → s ≡ t ++ rest → ⊥
-not_behind s v t d none rest e = none rest (e ∙ sym (ap (λ (u : List ℕ). u ++ rest) d))
-
--- a line with such a front and such words
-pub joined : (s v w t x : List ℕ) → v ≡ t → s ≡ v ++ w → w ≡ x → s ≡ t ++ x
-joined s v w t x d e f = cc
+pub part_in_range : (part : Part) (line : List ℕ) → IsLineOf part line → IsInRange part
+part_in_range Mount line h = tt
+part_in_range Unmount line h = tt
+part_in_range (Now now) line h = h.words.3.0
+part_in_range (Line caller op) line h = (h.caller, by (op_words op) refl h.words.3)
+  where
+    by : (ws : List Word) → op_words op ≡ ws → AreWords (Fixed (op_name op) ∷ ws) h.words.1 → list_all are_bytes (given_bytes op) ≡ true
+    by [] e k = alone op e
+    by (w ∷ ws) e k = let P : List Word → Type 0 = λ l. AreWords l k.1 in given_are_bytes op k.1 (subst P (sym e) k.3)

@@ -1,5 +1,5 @@
 -- The line of a reply.
-use Rattle.std.specs.Prelude.{ℕ, ◌+◌, ◌/◌, ◌%◌, ◌==◌, ◌&&◌, Bool, not, nat_lt, if◌then◌else◌, List, [], ◌∷◌, ◌++◌, length, map, codes}
+use Rattle.std.specs.Prelude.{ℕ, ◌+◌, ◌/◌, ◌%◌, ◌==◌, if◌then◌else◌, List, [], ◌∷◌, ◌++◌, length, map, codes}
 use Rattle.std.specs.Fmt.{decimal}
 use Rattle.std.specs.List.{flat_map}
 use Rattle.fs_model.specs.declared.inode.Entry.{Entry}
@@ -15,6 +15,7 @@ use Rattle.fs_model.specs.declared.refusal.Scarce.{Scarce}
 use Rattle.fs_model.specs.declared.refusal.Scarce.TheVariants.{Space, Empty, Index, Area}
 use Rattle.fs_model.specs.declared.refusal.Table.{Table}
 use Rattle.fs_model.specs.declared.refusal.Table.TheVariants.{Orphans, Inodes}
+use Rattle.script_text.specs.Escapes.{hex_digit, is_shown}
 use Rattle.script_text.specs.Words.{octal}
 use Rattle.text_lines.specs.Lines.{spaced, ended}
 
@@ -27,10 +28,6 @@ with_run n byte (run ∷ runs) = if byte == run.1 then (n + run.0, byte) ∷ run
 abbrev pub runs_of : List ℕ → List (ℕ × ℕ)
 runs_of [] = []
 runs_of (byte ∷ bytes) = with_run 1 byte (runs_of bytes)
-
--- a lower-case hex digit
-abbrev pub hex_digit : ℕ → ℕ
-hex_digit n = if nat_lt n 10 then 48 + n else 87 + n
 
 -- a byte as two lower-case hex digits
 abbrev pub hex_byte : ℕ → List ℕ
@@ -86,10 +83,6 @@ refusal_words Ebadf = codes "E15" ∷ []
 abbrev pub bytes_words : List ℕ → List (List ℕ)
 bytes_words [] = codes "0" ∷ []
 bytes_words (byte ∷ bytes) = decimal (length (byte ∷ bytes)) ∷ runs_text (runs_of (byte ∷ bytes)) ∷ []
-
--- printable ASCII other than the space and `%`
-abbrev pub is_shown : ℕ → Bool
-is_shown byte = nat_lt 32 byte && nat_lt byte 127 && not (byte == 37)
 
 -- a byte of a name: itself, or `%` and its two hex digits
 abbrev pub escaped_byte : ℕ → List ℕ

@@ -1,10 +1,16 @@
-// Laws of texts: each text has one answer.
+// Laws of texts: each text has one answer, and the parts of a script are in range.
 
 ghost use Rattle.std.specs.Prelude.{◌≡◌, ℕ, List};
-ghost use Rattle.script_text.specs.Script.{IsScript, IsFirstBadLine};
+ghost use Rattle.std.specs.List.{AllByRecursion};
+ghost use Rattle.script_text.specs.Script.{IsFirstBadLine, IsInRange, IsScript};
 ghost use Rattle.script_text.specs.Manifest.{IsManifest, IsFirstBadManifestLine};
 ghost use Rattle.script_text.specs.declared.part.Part.{Part};
 ghost use Rattle.script_text.specs.declared.manifest.Manifest.{Manifest};
+
+/// The parts of a script are in range: their caller is 1, what they give to keep are bytes, and a time is below 2^64.
+pub fn parts_are_in_range()
+    ensures { (text : List ℕ) → (parts : List Part) → IsScript text parts → AllByRecursion IsInRange parts }
+{}
 
 /// A text is one script.
 pub fn one_script()

@@ -1,7 +1,8 @@
 // Runs of equal bytes.
 
 ghost use Rattle.std.specs.Prelude.{◌≡◌, ◌<◌, ◌++◌, OnOk};
-ghost use Rattle.script_text.specs.Reply.{hex_digit, run_text, runs_text, runs_of};
+ghost use Rattle.script_text.specs.Escapes.{hex_digit};
+ghost use Rattle.script_text.specs.Reply.{run_text, runs_text, runs_of};
 
 use std::alloc::AllocError;
 use text_lines::push_number;

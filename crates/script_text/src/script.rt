@@ -5,8 +5,7 @@ ghost use Rattle.script_text.specs.Script.{IsScript, IsFirstBadLine, OnLine};
 
 use crate::TextFault;
 use crate::cut::cut;
-use crate::part::Part;
-use crate::stage::{Stage, is_end, next_part};
+use crate::part::{Part, mounted_after, next_part};
 use std::alloc::Global;
 
 /// The parts of a script, in order.
@@ -18,32 +17,35 @@ pub struct Script {
 /// The most lines that a script has.
 const LINES: u64 = 100_000;
 
-/// Reads a script: `mount`, `1 create /f 644`, `1 open /f 0`, then any number of `1 write 0 OFFS LEN BYTE`, `1 flush` and
-/// `1 read 0 OFFS LEN` in any order, then `1 close 0`, `unmount` and `end`, in 100,000 lines at most. OFFS is below 2^64,
-/// LEN below 2^32 and BYTE below 256, in decimal digits without a leading zero. The fault is want of memory, or the first
-/// line that isn't in this grammar; lines are counted from 1, and a line that is missing or has no newline counts.
+/// Reads a script of one caller: lines of words with one space between them, in 100,000 lines at most, each of 10,000
+/// bytes at most before its newline. The lines are `mount`, `unmount` and `now N`; `1 OP`, with the operation a word and
+/// its arguments; and `end` as the last. N and an offset are below 2^64, a length below 2^32, a slot and a byte below 256,
+/// in decimal digits without a leading zero; a mode has one to four octal digits. In a path or a target a byte is itself,
+/// or `%` and two lower-case hex digits; a path is `/`, or components each after a slash, none of them empty. `mount`
+/// stands while nothing is mounted, `unmount` and an operation while a volume is. The fault is want of memory, or the
+/// first line that isn't in this grammar; lines are counted from 1, and a line that is missing or has no newline counts.
 pub fn read_script(alloc: Global, bytes: &[u8]) -> Result<Script, TextFault>
     ensures ok { IfOk result (λ script. IsScript bytes.now script.parts.items) }
     ensures line { IfErr result (λ fault. OnLine fault (IsFirstBadLine bytes.now)) }
 {
     let mut parts = Vec::new(alloc);
-    let mut stage = Stage::Start;
+    let mut mounted = false;
     let mut rest = bytes;
     for before in 0..LINES {
         let Some((line, more)) = cut(rest, b'\n') else {
             return Err(TextFault::Line { number: before + 1 });
         };
-        if is_end(stage, line) {
+        if line == b"end".as_slice() {
             if more.is_empty() {
                 return Ok(Script { parts });
             }
             return Err(TextFault::Line { number: before + 2 });
         }
-        let Some((part, next)) = next_part(alloc, stage, line)? else {
+        let Some(part) = next_part(alloc, mounted, line)? else {
             return Err(TextFault::Line { number: before + 1 });
         };
+        mounted = mounted_after(mounted, &part);
         parts.push(part)?;
-        stage = next;
         rest = more;
     }
     Err(TextFault::Line { number: LINES + 1 })

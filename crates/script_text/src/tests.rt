@@ -2,119 +2,244 @@
 
 use crate::{
     Manifest, Part, TextFault, manifest_has_no_bad_line, one_bad_line, one_bad_manifest_line,
-    one_manifest, one_script, read_manifest, read_script, script_has_no_bad_line, write_reply,
+    one_manifest, one_script, parts_are_in_range, read_manifest, read_script,
+    script_has_no_bad_line, write_reply,
 };
 use fs_model::{Cause, Entry, Kind, NoSpace, Op, Refusal, Reply, Rows, Scarce, Table};
 use std::alloc::Global;
 use std::process::Abort;
+use std::str;
 use std::test::Fail;
 use ubifs_base::{Bytes, Name};
 
-const OPENED: &str = "mount\n1 create /f 644\n1 open /f 0\n";
-
-const CLOSED: &str = "1 close 0\nunmount\nend\n";
-
 #[test]
-fn a_script_is_its_parts(rt: HostRuntime) -> Result<(), Fail> {
-    let text = format!(in rt.alloc();
-        "{OPENED}1 write 0 0 4096 97\n1 flush\n1 read 0 0 4096\n{CLOSED}"
-    )?;
-    let script = read_script(rt.alloc(), text.as_bytes())?;
-    assert_eq!(rt; script.parts.len(), 8);
-    assert!(rt; matches!(&script.parts[0], Part::Mount));
-    let Part::Line {
-        caller,
-        op: Op::Write {
+fn each_operation_is_read(rt: HostRuntime) -> Result<(), Fail> {
+    let lines = [
+        ("create /f 644", "create /f 420"),
+        ("create /a%20b 0644", "create /a b 420"),
+        ("mkdir /d/e 0", "mkdir /d/e 0"),
+        ("mkdir /%2e%25 0007", "mkdir /.% 7"),
+        ("symlink /s ../f", "symlink /s ../f"),
+        ("symlink /s ", "symlink /s "),
+        ("symlink /s %61//%20", "symlink /s a// "),
+        ("link /f /g", "link /f /g"),
+        ("link /f %2fg", "link /f /g"),
+        ("unlink /f", "unlink /f"),
+        ("rmdir /d", "rmdir /d"),
+        ("rename /f /g", "rename /f /g"),
+        ("open /f 255", "open /f 255"),
+        ("close 0", "close 0"),
+        (
+            "read 1 18446744073709551615 4294967295",
+            "read 1 18446744073709551615 4294967295",
+        ),
+        (
+            "write 255 18446744073709551615 4294967295 255",
+            "write 255 18446744073709551615 4294967295 255",
+        ),
+        ("fsync 15", "fsync 15"),
+        ("flush", "flush"),
+        ("list /", "list /"),
+        ("stat /..", "stat /.."),
+        ("readlink /s", "readlink /s"),
+        ("chmod /f 7777", "chmod /f 4095"),
+    ];
+    for (line, wanted) in lines {
+        let text = format!(in rt.alloc(); "mount\n1 {line}\nend\n")?;
+        let script = read_script(rt.alloc(), text.as_bytes())?;
+        let [Part::Mount, Part::Line { caller: 1, op }] = script.parts.as_slice() else {
+            return Err("no operation")?;
+        };
+        let found = told(rt.alloc(), op)?;
+        assert_eq!(rt; found.as_str(), wanted, "at {line}");
+    }
+    Ok(())
+}
+
+// The operation's name, and what it carries.
+fn told(alloc: Global, op: &Op) -> Result<String, Fail> {
+    let text = match op {
+        Op::Create { path, mode } => format!(in alloc; "create {} {mode}", shown(path)?)?,
+        Op::Mkdir { path, mode } => format!(in alloc; "mkdir {} {mode}", shown(path)?)?,
+        Op::Symlink { path, target } => {
+            format!(in alloc; "symlink {} {}", shown(path)?, shown(target)?)?
+        }
+        Op::Link { old, new } => format!(in alloc; "link {} {}", shown(old)?, shown(new)?)?,
+        Op::Unlink { path } => format!(in alloc; "unlink {}", shown(path)?)?,
+        Op::Rmdir { path } => format!(in alloc; "rmdir {}", shown(path)?)?,
+        Op::Rename { old, new } => format!(in alloc; "rename {} {}", shown(old)?, shown(new)?)?,
+        Op::OpenFile { path, slot } => format!(in alloc; "open {} {slot}", shown(path)?)?,
+        Op::Close { slot } => format!(in alloc; "close {slot}")?,
+        Op::Read { slot, offs, len } => format!(in alloc; "read {slot} {offs} {len}")?,
+        Op::Write {
             slot,
             offs,
             len,
             byte,
-        },
-    } = &script.parts[3]
-    else {
-        return Err("no write")?;
+        } => format!(in alloc; "write {slot} {offs} {len} {byte}")?,
+        Op::Truncate { slot, size } => format!(in alloc; "truncate {slot} {size}")?,
+        Op::Fsync { slot } => format!(in alloc; "fsync {slot}")?,
+        Op::Flush => format!(in alloc; "flush")?,
+        Op::List { path } => format!(in alloc; "list {}", shown(path)?)?,
+        Op::Stat { path } => format!(in alloc; "stat {}", shown(path)?)?,
+        Op::Readlink { path } => format!(in alloc; "readlink {}", shown(path)?)?,
+        Op::Chmod { path, mode } => format!(in alloc; "chmod {} {mode}", shown(path)?)?,
     };
-    assert_eq!(rt; (*caller, *slot, *offs, *len, *byte), (1, 0, 0, 4096, 97));
-    Ok(())
+    Ok(text)
+}
+
+fn shown(name: &Name) -> Result<&str, Fail> {
+    match str::from_utf8(name.as_slice()) {
+        Ok(text) => Ok(text),
+        Err(_) => Err("no text")?,
+    }
 }
 
 #[test]
-fn scripts_are_read(rt: HostRuntime) -> Result<(), Fail> {
-    let texts = [
-        ("", 5),
-        ("1 write 0 0 0 97\n", 6),
-        (
-            "1 write 0 4095 1 97\n1 write 0 4095 2 98\n1 read 0 0 5000\n",
-            8,
-        ),
-        (
-            "1 write 0 8192 1 97\n1 read 0 0 9000\n1 read 0 8192 10\n1 read 0 8193 10\n",
-            9,
-        ),
-        (
-            "1 write 0 18446744073709551615 4294967295 255\n1 read 0 18446744073709551615 4294967295\n",
-            7,
-        ),
-    ];
-    for (middle, parts) in texts {
-        let text = format!(in rt.alloc(); "{OPENED}{middle}{CLOSED}")?;
-        assert_eq!(rt;
-            read_script(rt.alloc(), text.as_bytes())?.parts.len(),
-            parts,
-            "at {middle}"
-        );
-    }
+fn control_lines_are_read(rt: HostRuntime) -> Result<(), Fail> {
+    let text = b"now 7\nmount\nnow 18446744073709551615\nunmount\nmount\nend\n";
+    let script = read_script(rt.alloc(), text.as_slice())?;
+    assert!(rt;
+        matches!(
+            script.parts.as_slice(),
+            [
+                Part::Now { now: 7 },
+                Part::Mount,
+                Part::Now { now: u64::MAX },
+                Part::Unmount,
+                Part::Mount
+            ]
+        )
+    );
+    let script = read_script(rt.alloc(), b"end\n".as_slice())?;
+    assert!(rt; script.parts.is_empty());
     Ok(())
 }
 
 #[test]
 fn the_first_bad_line_is_told(rt: HostRuntime) -> Result<(), Fail> {
     let texts = [
-        ("", "", 1),
-        ("", "end\n", 1),
-        ("", "mount", 1),
-        ("", "Mount\n", 1),
-        ("", "mount\r\n", 1),
-        ("", "mount\nmount\n", 2),
-        ("", "mount\n1 create /g 644\n", 2),
-        (OPENED, "1 write 0 +1 1 97\n", 4),
-        (OPENED, "1 write 0 01 1 97\n", 4),
-        (OPENED, "1 write 0 18446744073709551616 1 97\n", 4),
-        (OPENED, "1 write 0 0 4294967296 97\n", 4),
-        (OPENED, "1 write 0 0 1 256\n", 4),
-        (OPENED, "1 write 0 0 1\n", 4),
-        (OPENED, "1 write 0 0 1 97 0\n", 4),
-        (OPENED, "1 write 0  0 1 97\n", 4),
-        (OPENED, "1 read 0 0 1 \n", 4),
-        (OPENED, "2 flush\n", 4),
-        (OPENED, "1 FLUSH\n", 4),
-        (OPENED, "1 flush\n1 flush", 5),
-        (OPENED, "1 flush\n1 close 0\n1 flush\n", 6),
-        (OPENED, "1 close 0\nunmount\n", 6),
-        (OPENED, "1 close 0\nunmount\nend", 6),
-        (OPENED, "1 close 0\nunmount\nend\nend\n", 7),
-        (OPENED, "1 close 0\nunmount\nend\n\n", 7),
+        ("", 1),
+        ("end", 1),
+        ("mount", 1),
+        ("Mount\n", 1),
+        ("mount\r\n", 1),
+        (" mount\n", 1),
+        ("mount \n", 1),
+        ("\n", 1),
+        ("unmount\n", 1),
+        ("1 flush\nmount\n", 1),
+        ("mount\nmount\n", 2),
+        ("mount\nunmount\n1 flush\n", 3),
+        ("mount\nunmount\nunmount\n", 3),
+        ("mount\n", 2),
+        ("mount\n1 flush\n1 flush", 3),
+        ("end\nend\n", 2),
+        ("end\n\n", 2),
+        ("mount\nend\nunmount\nend\n", 3),
+        ("now 18446744073709551616\n", 1),
+        ("now 01\n", 1),
+        ("now +1\n", 1),
+        ("now\n", 1),
+        ("now 1 2\n", 1),
+        ("workers 1\n", 1),
     ];
-    for (front, rest, number) in texts {
-        let text = format!(in rt.alloc(); "{front}{rest}")?;
-        assert_eq!(rt; bad_line(rt.alloc(), text.as_bytes())?, number, "at {rest}");
+    for (text, number) in texts {
+        assert_eq!(rt; bad_line(rt.alloc(), text.as_bytes())?, number, "at {text}");
     }
     Ok(())
 }
 
 #[test]
+fn a_bad_operation_is_told(rt: HostRuntime) -> Result<(), Fail> {
+    let lines = [
+        "2 flush",
+        "0 flush",
+        "01 flush",
+        "1",
+        "1 ",
+        "1 FLUSH",
+        "1 flush ",
+        "1 flush 0",
+        "1  flush",
+        "1 create",
+        "1 create /f",
+        "1 create /f 644 ",
+        "1 create  /f 644",
+        "1 create f 644",
+        "1 create  644",
+        "1 create /f/ 644",
+        "1 create //f 644",
+        "1 create /f//g 644",
+        "1 create /f%2f 644",
+        "1 create /%2F 644",
+        "1 create /% 644",
+        "1 create /%2 644",
+        "1 create /%2g 644",
+        "1 create /\u{e9} 644",
+        "1 create /\u{7f} 644",
+        "1 create /\t 644",
+        "1 create /f 8",
+        "1 create /f 07777",
+        "1 create /f 00644",
+        "1 create /f ",
+        "1 create /f +644",
+        "1 stat //",
+        "1 list ",
+        "1 symlink /s",
+        "1 symlink /s a b",
+        "1 symlink /s a%",
+        "1 open /f 256",
+        "1 open /f 00",
+        "1 close 01",
+        "1 close -1",
+        "1 read 0 0 4294967296",
+        "1 read 0 18446744073709551616 0",
+        "1 read 0 0 1 ",
+        "1 write 0 0 1",
+        "1 write 0 0 1 256",
+        "1 write 0 01 1 97",
+        "1 write 0 0 1 97 0",
+        "1 write 0  0 1 97",
+        "1 truncate 0 0",
+        "workers 1",
+    ];
+    for line in lines {
+        let text = format!(in rt.alloc(); "mount\n{line}\nunmount\nend\n")?;
+        assert_eq!(rt; bad_line(rt.alloc(), text.as_bytes())?, 2, "at {line}");
+    }
+    let bytes = b"mount\n1 stat /\xff\nunmount\nend\n";
+    assert_eq!(rt; bad_line(rt.alloc(), bytes.as_slice())?, 2);
+    Ok(())
+}
+
+#[test]
 fn a_script_has_100_000_lines_at_most(rt: HostRuntime) -> Result<(), Fail> {
-    let mut text = OPENED.as_bytes().to_vec(rt.alloc())?;
-    for _ in 0..99_994 {
+    let mut text = b"mount\n".as_slice().to_vec(rt.alloc())?;
+    for _ in 0..99_998 {
         text.extend_from_slice(b"1 flush\n".as_slice())?;
     }
     let flushes = text.len();
-    text.extend_from_slice(CLOSED.as_bytes())?;
+    text.extend_from_slice(b"end\n".as_slice())?;
     assert_eq!(rt; read_script(rt.alloc(), &text)?.parts.len(), 99_999);
     text.truncate(flushes);
-    text.extend_from_slice(b"1 flush\n".as_slice())?;
-    text.extend_from_slice(CLOSED.as_bytes())?;
+    text.extend_from_slice(b"1 flush\nend\n".as_slice())?;
     assert_eq!(rt; bad_line(rt.alloc(), &text)?, 100_001);
+    Ok(())
+}
+
+#[test]
+fn a_line_has_10_000_bytes_at_most(rt: HostRuntime) -> Result<(), Fail> {
+    let mut text = b"mount\n1 symlink /s ".as_slice().to_vec(rt.alloc())?;
+    for _ in 0..9_987 {
+        text.push(b'a')?;
+    }
+    let targets = text.len();
+    text.extend_from_slice(b"\nend\n".as_slice())?;
+    assert_eq!(rt; read_script(rt.alloc(), &text)?.parts.len(), 2);
+    text.truncate(targets);
+    text.extend_from_slice(b"a\nend\n".as_slice())?;
+    assert_eq!(rt; bad_line(rt.alloc(), &text)?, 2);
     Ok(())
 }
 
@@ -292,6 +417,7 @@ fn expect_line(rt: &impl Abort, alloc: Global, reply: &Reply, text: &str) -> Res
 
 #[test]
 fn laws_are_called() {
+    parts_are_in_range();
     one_script();
     script_has_no_bad_line();
     one_bad_line();

@@ -1,0 +1,30 @@
+-- The words for operations that have words behind them.
+use Rattle.std.specs.Prelude.{ℕ, ◌≡◌, List, codes}
+use Rattle.fs_model.specs.declared.op.Op.{Op}
+use Rattle.script_text.specs.declared.verb.Verb.{Verb}
+use Rattle.script_text.specs.declared.verb.Verb.TheVariants.{Create, Mkdir, Symlink, Link, Unlink, Rmdir, Rename, Open, Close, Read, Write, Fsync, List as Listing, Stat, Readlink, Chmod}
+use Rattle.script_text.specs.Script.{op_name, op_words}
+use Rattle.script_text.specs.Words.{AreWords}
+
+-- the word
+abbrev pub verb_name : Verb → List ℕ
+verb_name Create = codes "create"
+verb_name Mkdir = codes "mkdir"
+verb_name Symlink = codes "symlink"
+verb_name Link = codes "link"
+verb_name Unlink = codes "unlink"
+verb_name Rmdir = codes "rmdir"
+verb_name Rename = codes "rename"
+verb_name Open = codes "open"
+verb_name Close = codes "close"
+verb_name Read = codes "read"
+verb_name Write = codes "write"
+verb_name Fsync = codes "fsync"
+verb_name Listing = codes "list"
+verb_name Stat = codes "stat"
+verb_name Readlink = codes "readlink"
+verb_name Chmod = codes "chmod"
+
+-- an operation has this name, and these are the words behind it
+abbrev pub Says : Verb → Op → List ℕ → Type 0
+Says verb op text = (op_name op ≡ verb_name verb) × AreWords (op_words op) text

@@ -1,0 +1,82 @@
+// The words for operations that have words behind them.
+
+ghost use Rattle.std.specs.Prelude.{◌≡◌, IfSome, IfNone};
+ghost use Rattle.script_text.specs.Verbs.{verb_name};
+ghost use Rattle.script_text.specs.declared.verb.Verb.{Verb};
+
+/// An operation that has words behind its own.
+#[derive(Clone, Copy, Debug, PartialEq, Eq)]
+pub enum Verb {
+    Create,
+    Mkdir,
+    Symlink,
+    Link,
+    Unlink,
+    Rmdir,
+    Rename,
+    Open,
+    Close,
+    Read,
+    Write,
+    Fsync,
+    List,
+    Stat,
+    Readlink,
+    Chmod,
+}
+
+/// The operation that has this name.
+pub fn verb_of(name: &[u8]) -> Option<Verb>
+    ensures found { IfSome result (λ verb. name.now ≡ verb_name verb) }
+    ensures none { IfNone result ((verb : Verb) → name.now ≡ verb_name verb → ⊥) }
+{
+    if name == b"create".as_slice() {
+        return Some(Verb::Create);
+    }
+    if name == b"mkdir".as_slice() {
+        return Some(Verb::Mkdir);
+    }
+    if name == b"symlink".as_slice() {
+        return Some(Verb::Symlink);
+    }
+    if name == b"link".as_slice() {
+        return Some(Verb::Link);
+    }
+    if name == b"unlink".as_slice() {
+        return Some(Verb::Unlink);
+    }
+    if name == b"rmdir".as_slice() {
+        return Some(Verb::Rmdir);
+    }
+    if name == b"rename".as_slice() {
+        return Some(Verb::Rename);
+    }
+    if name == b"open".as_slice() {
+        return Some(Verb::Open);
+    }
+    if name == b"close".as_slice() {
+        return Some(Verb::Close);
+    }
+    if name == b"read".as_slice() {
+        return Some(Verb::Read);
+    }
+    if name == b"write".as_slice() {
+        return Some(Verb::Write);
+    }
+    if name == b"fsync".as_slice() {
+        return Some(Verb::Fsync);
+    }
+    if name == b"list".as_slice() {
+        return Some(Verb::List);
+    }
+    if name == b"stat".as_slice() {
+        return Some(Verb::Stat);
+    }
+    if name == b"readlink".as_slice() {
+        return Some(Verb::Readlink);
+    }
+    if name == b"chmod".as_slice() {
+        return Some(Verb::Chmod);
+    }
+    None
+}
