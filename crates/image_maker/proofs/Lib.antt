@@ -1,4 +1,7 @@
+pub mod Fresh
 pub mod Units
 pub mod LayingLemmas
-pub mod OneLeaves
+pub mod Ready
 pub mod Room
+pub mod Sums
+pub mod TreeNodes

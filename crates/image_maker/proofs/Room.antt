@@ -1,5 +1,5 @@
 -- The main LEBs don't run out.
-use Rattle.std.proofs.Common.{◌≡◌, ℕ, ◌+◌, ◌-◌, ◌*◌, ◌^◌, ◌<◌, ◌≤◌, List, [], ◌∷◌, ◌++◌, length, refl, ap, subst, arith}
+use Rattle.std.proofs.Common.{◌≡◌, ℕ, ◌+◌, ◌-◌, ◌*◌, ◌^◌, ◌<◌, ◌≤◌, List, [], ◌∷◌, length, refl, ap, arith}
 use Rattle.std.specs.List.{sum_by}
 use Rattle.std.proofs.lemmas.List.Sums.{sum_by-cons}
 use Rattle.std.proofs.Math.Nat.{mul-le-mul_right, mul-le-mul_left, le_of_mul-le-mul_right}
@@ -36,26 +36,26 @@ small raw n d geo few less =
 
 -- where the open LEB and the next sequence number are
 pub record HasRoom (raw : RawGeometry) (open_leb : OpenLeb) : Type 0 where
-  pub lnum : open_leb.lnum + 10 ≤ raw.leb_cnt
+  pub lnum : open_leb.lnum + 6 ≤ raw.leb_cnt
   pub sqnum : open_leb.sqnum < 2 ^ 63
 
--- each closed LEB took more than it has beside its reserve, so ten LEBs are left
+-- each closed LEB took more than it has beside its reserve, so six LEBs are left
 pub room : (raw : RawGeometry) (leaves : List LeafNode) (open_leb : OpenLeb) (holds : ℕ → List ℕ)
     → IsGeometry raw
     → 24 ≤ main_lebs raw
-    → sum_by leaf_bytes leaves ≤ (main_lebs raw - 10) * (raw.leb_size - leb_reserve raw)
+    → sum_by leaf_bytes leaves ≤ (main_lebs raw - 6) * (raw.leb_size - leb_reserve raw)
     → IsLaid raw leaves open_leb holds
     → HasRoom raw open_leb
 room raw leaves open_leb holds geo main fits h =
     let beside = raw.leb_size - leb_reserve raw in
     let some : 0 < beside = let r = geo.leb_size.3 in omega (arith, r) in
     let taken = h.taken in
-    let lebs : length h.parts * beside ≤ (main_lebs raw - 10) * beside = omega (arith, taken, fits) in
-    let few : length h.parts ≤ main_lebs raw - 10 = le_of_mul-le-mul_right lebs some in
+    let lebs : length h.parts * beside ≤ (main_lebs raw - 6) * beside = omega (arith, taken, fits) in
+    let few : length h.parts ≤ main_lebs raw - 6 = le_of_mul-le-mul_right lebs some in
     let place = h.place in
     let number = h.number in
     let count = length-le-sum_by leaves in
-    let bytes : (main_lebs raw - 10) * beside ≤ 2 ^ 30 = small raw (main_lebs raw - 10) beside geo (omega arith) (omega arith) in
+    let bytes : (main_lebs raw - 6) * beside ≤ 2 ^ 30 = small raw (main_lebs raw - 6) beside geo (omega arith) (omega arith) in
     record {
       lnum = omega (arith, few, place, main);
       sqnum = omega (arith, count, number, bytes, fits);
@@ -85,13 +85,3 @@ IsLaid-new raw open_leb holds inside blank lnum sqnum bytes =
       };
       taken = omega (arith, empty);
     }
-
--- a node is laid, under another name
-pub lay_one : (raw : RawGeometry) (leaves : List LeafNode) (leaf other : LeafNode) (before after : OpenLeb) (old new : ℕ → List ℕ)
-    → leaf ≡ other
-    → ((done : List LeafNode) → IsLaid raw done before old → IsLaid raw (done ++ leaf ∷ []) after new)
-    → IsLaid raw leaves before old
-    → IsLaid raw (leaves ++ other ∷ []) after new
-lay_one raw leaves leaf other before after old new same lay h =
-    let P : LeafNode → Type 0 = λ node. IsLaid raw (leaves ++ node ∷ []) after new in
-    subst P same (lay leaves h)

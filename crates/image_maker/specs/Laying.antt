@@ -1,27 +1,25 @@
 -- An image that is under way: LEBs that are written, and one that still takes nodes.
-use Rattle.std.specs.Prelude.{◌≡◌, ◌≢◌, ℕ, ◌+◌, ◌-◌, ◌*◌, ◌<◌, ◌≤◌, suc, List, [], ◌∷◌, ◌++◌, length, map, sum_by, All}
-use Rattle.std.specs.Map.{keys_of, values_of}
-use Rattle.std.specs.List.{concat, flat_map}
+use Rattle.std.specs.Prelude.{◌≡◌, ◌≢◌, ℕ, ◌+◌, ◌-◌, ◌*◌, ◌<◌, ◌≤◌, suc, List, [], ◌++◌, length, sum_by}
+use Rattle.std.specs.List.{concat, flat_map, AllByRecursion}
 use Rattle.ubifs_base.specs.declared.raw_geometry.RawGeometry.{RawGeometry}
-use Rattle.ubifs_base.specs.Areas.{main_first}
+use Rattle.ubifs_base.specs.Areas.{main_first, main_lebs}
 use Rattle.ubifs_base.specs.Geometry.{leb_reserve}
 use Rattle.ubi_volume.specs.Volume.{VolumeState, filled}
-use Rattle.media_leaf.specs.LeafNode.{LeafNode, inode, block, entry, truncation}
+use Rattle.media_leaf.specs.LeafNode.{LeafNode, IsLeaf, inode, block, entry, truncation}
+use Rattle.fs_model.specs.declared.inode.Entry.{Entry}
 use Rattle.fs_model.specs.Cover.{round_8}
-use Rattle.fs_model.specs.Files.{Blocks}
+use Rattle.fs_model.specs.Directory.{entries_in}
+use Rattle.fs_model.specs.Files.{Tree, Inodes}
 use Rattle.image_maker.specs.Image.{leaf_texts, to_unit, AreHeld}
-use Rattle.image_maker.specs.Leaves.{inode_leaf, entry_leaf, block_leaf}
-use Rattle.image_maker.specs.OneFile.{one_file, root_inode, file_inode, file_entry}
-use Rattle.image_maker.specs.Page.{IsKey, IsStored}
 use Rattle.image_maker.specs.declared.leaf.Leaf.{Leaf}
-use Rattle.image_maker.specs.declared.leaf.Leaf.TheVariants.{Inode, Block, Entry}
+use Rattle.image_maker.specs.declared.leaf.Leaf.TheVariants.{Inode, Block, Entry as EntryLeaf}
 use Rattle.image_maker.specs.declared.open_leb.OpenLeb.{OpenLeb}
 
 -- the node that a leaf is
 abbrev pub node_of : Leaf → LeafNode
 node_of (Inode node) = inode node
 node_of (Block node) = block node
-node_of (Entry node) = entry node
+node_of (EntryLeaf node) = entry node
 
 -- how many bytes a node takes
 abbrev pub leaf_len : LeafNode → ℕ
@@ -60,29 +58,33 @@ pub record IsClosed (raw : RawGeometry) (before after : OpenLeb) (old new : ℕ 
   pub holds : new before.lnum ≡ filled raw.leb_size (to_unit raw.min_io before.bytes.items)
   pub others : (n : ℕ) → n ≢ before.lnum → new n ≡ old n
 
--- the node of the root that has the one file
-abbrev pub root_node : LeafNode
-root_node = inode_leaf (one_file 0 []) 1 root_inode
-
--- the node of its name
-abbrev pub name_node : LeafNode
-name_node = entry_leaf file_entry
-
--- and that of its inode
-abbrev pub file_node : ℕ → LeafNode
-file_node size = inode_leaf (one_file size []) 65 (file_inode size)
-
--- all nodes of the tree with the one file, in order of key
-abbrev pub one_leaves : ℕ → Blocks → List LeafNode
-one_leaves size blocks = root_node ∷ name_node ∷ file_node size ∷ map block_leaf blocks
-
--- The leaves up to the blocks that are still to come are laid, and the open LEB has some of them.
-pub record IsUnderWay (raw : RawGeometry) (leaves : List LeafNode) (rest : Blocks) (open_leb : OpenLeb) (state : VolumeState) : Type 0 where
+-- These leaves can be laid next: they are nodes, and some were laid before, so that all together fit.
+pub record IsReady (raw : RawGeometry) (next : List LeafNode) (open_leb : OpenLeb) (state : VolumeState) : Type 0 where
+  pub nodes : AllByRecursion IsLeaf next
   pub done : List LeafNode
-  pub all : done ++ map block_leaf rest ≡ leaves
   pub laid : IsLaid raw done open_leb state.holds
-  pub keys : All IsKey (keys_of rest)
-  pub values : All IsStored (values_of rest)
-  pub some : 0 < length open_leb.bytes.items
+  pub main : 24 ≤ main_lebs raw
+  pub budget : sum_by leaf_bytes done + sum_by leaf_bytes next ≤ (main_lebs raw - 6) * (raw.leb_size - leb_reserve raw)
   pub fits : length open_leb.bytes.items ≤ raw.leb_size
   pub geometry : HasGeometry raw state
+
+-- These leaves were laid behind those that were laid before; once there are any, the open LEB has some.
+pub record Lays (raw : RawGeometry) (next : List LeafNode) (before : OpenLeb) (was : VolumeState) (after : OpenLeb) (state : VolumeState) : Type 0 where
+  pub laid : (done : List LeafNode) → IsLaid raw done before was.holds → IsLaid raw (done ++ next) after state.holds
+  pub some : 0 < length before.bytes.items + length next → 0 < length after.bytes.items
+  pub fits : length after.bytes.items ≤ raw.leb_size
+  pub geometry : HasGeometry raw state
+
+-- Of all these leaves, those up to the ones that are still to come are laid.
+pub record IsUnderWay (raw : RawGeometry) (all rest : List LeafNode) (before : OpenLeb) (was : VolumeState) (open_leb : OpenLeb) (state : VolumeState) : Type 0 where
+  pub done : List LeafNode
+  pub parts : done ++ rest ≡ all
+  pub lays : Lays raw done before was open_leb state
+
+-- the entries are those of a directory
+abbrev pub AreListed : List Entry → Type 0
+AreListed entries = (tree : Tree) × (dir : ℕ) × (entries_in tree dir ≡ entries)
+
+-- the modes of inodes have the permission bits alone
+abbrev pub HavePlainModes : Inodes → Type 0
+HavePlainModes inodes = AllByRecursion (λ e. e.1.mode < 4096) inodes

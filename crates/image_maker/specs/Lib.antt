@@ -1,5 +1,4 @@
-pub mod OneFile
-pub mod Page
 pub mod Leaves
 pub mod Image
 pub mod Laying
+pub mod Sample

@@ -1,13 +1,17 @@
 //! Images of a tree of files: the leaf nodes of a tree, laid into the main LEBs of a fresh volume.
 //!
-//! The nodes go out in order of key, with rising sequence numbers, and a LEB takes nodes while they fit. `specs/Image.antt`
-//! says which bytes the volume holds then. That the LEBs never run out follows from the sum that admission tests: a LEB
-//! that is closed took more bytes than it has beside its reserve, so the closed LEBs are fewer than the bytes of the
-//! tree leave room for.
+//! The nodes go out inode by inode, each with its blocks and the entries in it behind it, with rising sequence numbers,
+//! and a LEB takes nodes while they fit. `specs/Image.antt` says which bytes the volume holds then. That the LEBs never run
+//! out follows from the sum that admission tests: a LEB that is closed took more bytes than it has beside its reserve, so
+//! the closed LEBs are fewer than the bytes of the tree leave room for.
 #![tactic(auto)]
 
 mod layout;
 mod leaf;
 mod open_leb;
+mod tree_leaves;
 
-pub use crate::layout::lay_file;
+pub use crate::layout::lay_tree;
+
+#[cfg(test)]
+mod tests;

@@ -6,7 +6,7 @@ ghost use Rattle.ubifs_base.specs.RawOf.{raw_of};
 ghost use Rattle.ubi_volume.specs.MemVolume.{state_of};
 ghost use Rattle.media_leaf.specs.LeafNode.{LeafNode, IsLeaf};
 ghost use Rattle.image_maker.specs.Image.{leaf_text, to_unit, round_up};
-ghost use Rattle.image_maker.specs.Laying.{node_of, leaf_bytes, HasGeometry, IsLaid, IsClosed};
+ghost use Rattle.image_maker.specs.Laying.{node_of, leaf_bytes, HasGeometry, IsLaid, IsReady, Lays, IsClosed};
 
 use crate::leaf::Leaf;
 use std::alloc::Global;
@@ -35,8 +35,23 @@ impl OpenLeb {
         })
     }
 
-    // Takes one more node: into this LEB where it fits, and else into the next.
+    // Lays one more node.
     pub(crate) fn lay(
+        &mut self,
+        geometry: &Geometry,
+        volume: &mut MemVolume,
+        leaf: &Leaf,
+    ) -> Result<(), Memory>
+        requires ready { IsReady (raw_of geometry.now) (node_of leaf.now ∷ []) self.old (state_of volume.old) }
+        ensures laid { OnOk result (Lays (raw_of geometry.now) (node_of leaf.now ∷ []) self.old (state_of volume.old) self.new (state_of volume.new)) }
+        ensures geometry { HasGeometry (raw_of geometry.now) (state_of volume.new) }
+    {
+        self.take_node(geometry, volume, leaf)?;
+        Ok(())
+    }
+
+    // Takes one more node: into this LEB where it fits, and else into the next.
+    fn take_node(
         &mut self,
         geometry: &Geometry,
         volume: &mut MemVolume,

@@ -1,11 +1,21 @@
+use Rattle.std.proofs.Common.{arith}
 use Rattle.ubifs_base.specs.RawOf.{raw_of}
-use Rattle.ubi_volume.specs.MemVolume.{state_of}
-use Rattle.image_maker.specs.Laying.{node_of}
-use Rattle.image_maker.proofs.LayingLemmas.{IsLaid-append}
+use Rattle.image_maker.proofs.Room.{HasRoom}
+use Rattle.image_maker.proofs.Ready.{ready_room}
 use Rattle.image_maker.proofs.open_leb.OpenLeb.lay.Goals as goal
 
+pub take_node-requires-clause-room : goal.take_node-requires-clause-room
+take_node-requires-clause-room c =
+    let room : HasRoom (raw_of c.args.geometry.now) c.args.self.now = ready_room (raw_of c.args.geometry.now) _ _ _ c.args.geometry.now.in_range c.requires.ready in
+    let lnum = room.lnum in
+    omega (arith, lnum)
+
+pub take_node-requires-clause-number : goal.take_node-requires-clause-number
+take_node-requires-clause-number c =
+    let room : HasRoom (raw_of c.args.geometry.now) c.args.self.now = ready_room (raw_of c.args.geometry.now) _ _ _ c.args.geometry.now.in_range c.requires.ready in
+    room.sqnum
+
 pub returns-clause-laid : goal.returns-clause-laid
-returns-clause-laid c = λ leaves laid.
-    let taken = c.in_ok-append.ensures in
-    IsLaid-append (raw_of c.args.geometry.now) leaves (node_of c.args.leaf.now) c.make_room.new.self c.append.new.self (state_of c.make_room.new.volume).holds
-    taken.lnum taken.sqnum taken.bytes taken.len (c.in_ok-make_room.ensures.laid leaves laid)
+returns-clause-laid c =
+    let taken = c.in_ok-take_node.ensures in
+    record { laid = taken.laid; some = λ h. taken.some; fits = taken.fits; geometry = taken.geometry }

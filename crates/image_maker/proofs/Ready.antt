@@ -1,0 +1,138 @@
+-- Leaves that can be laid next, and what was laid behind one another.
+use Rattle.std.proofs.Common.{◌≡◌, ◌<◌, List, [], ◌∷◌, ◌++◌, length, sym, ◌∙◌, ap, subst, arith, append_assoc, length-append, inl, inr}
+use Rattle.std.specs.List.{AllByRecursion}
+use Rattle.std.proofs.lemmas.List.{append-nil}
+use Rattle.std.proofs.lemmas.Bool.{cases_lt}
+use Rattle.std.proofs.lemmas.List.Sums.{sum_by-append}
+use Rattle.ubifs_base.specs.declared.raw_geometry.RawGeometry.{RawGeometry}
+use Rattle.ubifs_base.specs.Geometry.{IsGeometry}
+use Rattle.ubi_volume.specs.Volume.{VolumeState}
+use Rattle.media_leaf.specs.LeafNode.{LeafNode, IsLeaf}
+use Rattle.image_maker.specs.declared.open_leb.OpenLeb.{OpenLeb}
+use Rattle.image_maker.specs.Laying.{leaf_bytes, IsLaid, IsReady, Lays, IsUnderWay}
+use Rattle.image_maker.proofs.Room.{HasRoom, room}
+
+all_front : (xs ys : List LeafNode) → AllByRecursion IsLeaf (xs ++ ys) → AllByRecursion IsLeaf xs
+all_front [] ys h = tt
+all_front (x ∷ xs) ys h = (h.0, all_front xs ys h.1)
+
+all_back : (xs ys : List LeafNode) → AllByRecursion IsLeaf (xs ++ ys) → AllByRecursion IsLeaf ys
+all_back [] ys h = h
+all_back (x ∷ xs) ys h = all_back xs ys h.1
+
+-- where leaves are ready there is a LEB for them
+pub ready_room : (raw : RawGeometry) (next : List LeafNode) (open_leb : OpenLeb) (state : VolumeState) → IsGeometry raw → IsReady raw next open_leb state → HasRoom raw open_leb
+ready_room raw next open_leb state geo r =
+    let budget = r.budget in
+    room raw r.done open_leb state.holds geo r.main (omega (arith, budget)) r.laid
+
+-- and after all leaves too
+pub done_room : (raw : RawGeometry) (next : List LeafNode) (before after : OpenLeb) (was state : VolumeState) → IsGeometry raw → IsReady raw next before was → Lays raw next before was after state → HasRoom raw after
+done_room raw next before after was state geo r l =
+    let budget = r.budget in
+    let sum = sum_by-append leaf_bytes r.done next in
+    room raw (r.done ++ next) after state.holds geo r.main (omega (arith, budget, sum)) (l.laid r.done r.laid)
+
+-- the first of leaves that are ready are ready
+pub ready_first : (raw : RawGeometry) (first more : List LeafNode) (open_leb : OpenLeb) (state : VolumeState) → IsReady raw (first ++ more) open_leb state → IsReady raw first open_leb state
+ready_first raw first more open_leb state r =
+    let budget = r.budget in
+    let sum = sum_by-append leaf_bytes first more in
+    record {
+      nodes = all_front first more r.nodes;
+      done = r.done;
+      laid = r.laid;
+      main = r.main;
+      budget = omega (arith, budget, sum);
+      fits = r.fits;
+      geometry = r.geometry;
+    }
+
+-- and the others, once these are laid
+pub ready_next : (raw : RawGeometry) (first more : List LeafNode) (before after : OpenLeb) (was state : VolumeState)
+    → IsReady raw (first ++ more) before was → Lays raw first before was after state → IsReady raw more after state
+ready_next raw first more before after was state r l =
+    let budget = r.budget in
+    let sum = sum_by-append leaf_bytes first more in
+    let laid = sum_by-append leaf_bytes r.done first in
+    record {
+      nodes = all_back first more r.nodes;
+      done = r.done ++ first;
+      laid = l.laid r.done r.laid;
+      main = r.main;
+      budget = omega (arith, budget, sum, laid);
+      fits = l.fits;
+      geometry = l.geometry;
+    }
+
+-- nothing is laid
+pub lays_none : (raw : RawGeometry) (next : List LeafNode) (open_leb : OpenLeb) (state : VolumeState) → IsReady raw next open_leb state → Lays raw [] open_leb state open_leb state
+lays_none raw next open_leb state r =
+    record {
+      laid = λ done h. subst (λ leaves. IsLaid raw leaves open_leb state.holds) (sym (append-nil done)) h;
+      some = λ h. omega (arith, h);
+      fits = r.fits;
+      geometry = r.geometry;
+    }
+
+-- leaves are laid, and more behind them
+pub lays_more : (raw : RawGeometry) (first more : List LeafNode) (a b c : OpenLeb) (p q r : VolumeState) → Lays raw first a p b q → Lays raw more b q c r → Lays raw (first ++ more) a p c r
+lays_more raw first more a b c p q r l m =
+    record {
+      laid = λ done h. subst (λ leaves. IsLaid raw leaves c r.holds) (append_assoc done first more) (m.laid (done ++ first) (l.laid done h));
+      some = λ h. elim (cases_lt 0 (length more)) [
+        | inl last ↦ m.some (omega (arith, last))
+        | inr none ↦
+            let len = length-append first more in
+            let here : 0 < length b.bytes.items = l.some (omega (arith, h, none, len)) in
+            m.some (omega (arith, here))
+      ];
+      fits = m.fits;
+      geometry = m.geometry;
+    }
+
+-- ---- leaves that are under way
+pub begins : (raw : RawGeometry) (all rest : List LeafNode) (open_leb : OpenLeb) (state : VolumeState) → IsReady raw all open_leb state → rest ≡ all → IsUnderWay raw all rest open_leb state open_leb state
+begins raw all rest open_leb state r is = record { done = []; parts = is; lays = lays_none raw all open_leb state r }
+
+-- the next are ready
+pub next_ready : (raw : RawGeometry) (all rest next more : List LeafNode) (before open_leb : OpenLeb) (was state : VolumeState)
+    → IsReady raw all before was → rest ≡ next ++ more → IsUnderWay raw all rest before was open_leb state → IsReady raw next open_leb state
+next_ready raw all rest next more before open_leb was state r is u =
+    let whole : all ≡ u.done ++ (next ++ more) = sym u.parts ∙ ap (λ x. u.done ++ x) is in
+    let ready = ready_next raw u.done (next ++ more) before open_leb was state (subst (λ leaves. IsReady raw leaves before was) whole r) u.lays in
+    ready_first raw next more open_leb state ready
+
+-- they are laid
+pub next_laid : (raw : RawGeometry) (all rest next more : List LeafNode) (before open_leb after : OpenLeb) (was state new : VolumeState)
+    → rest ≡ next ++ more → IsUnderWay raw all rest before was open_leb state → Lays raw next open_leb state after new → IsUnderWay raw all more before was after new
+next_laid raw all rest next more before open_leb after was state new is u l =
+    record {
+      done = u.done ++ next;
+      parts = append_assoc u.done next more ∙ ap (λ x. u.done ++ x) (sym is) ∙ u.parts;
+      lays = lays_more raw u.done next before open_leb after was state new u.lays l;
+    }
+
+-- none is left
+pub all_laid : (raw : RawGeometry) (all rest : List LeafNode) (before open_leb : OpenLeb) (was state : VolumeState)
+    → rest ≡ [] → IsUnderWay raw all rest before was open_leb state → Lays raw all before was open_leb state
+all_laid raw all rest before open_leb was state none u =
+    let whole : u.done ≡ all = sym (append-nil u.done) ∙ ap (λ x. u.done ++ x) (sym none) ∙ u.parts in
+    subst (λ leaves. Lays raw leaves before was open_leb state) whole u.lays
+
+-- ---- a node, then some more, and then the last
+pub second_ready : (raw : RawGeometry) (node : LeafNode) (some last : List LeafNode) (a b : OpenLeb) (p q : VolumeState)
+    → IsReady raw (node ∷ (some ++ last)) a p → Lays raw (node ∷ []) a p b q → IsReady raw some b q
+second_ready raw node some last a b p q r l = ready_first raw some last b q (ready_next raw (node ∷ []) (some ++ last) a b p q r l)
+
+pub third_ready : (raw : RawGeometry) (node : LeafNode) (some last : List LeafNode) (a b c : OpenLeb) (p q s : VolumeState)
+    → IsReady raw (node ∷ (some ++ last)) a p → Lays raw (node ∷ []) a p b q → Lays raw some b q c s → IsReady raw last c s
+third_ready raw node some last a b c p q s r l m = ready_next raw some last b c q s (ready_next raw (node ∷ []) (some ++ last) a b p q r l) m
+
+pub three_laid : (raw : RawGeometry) (node : LeafNode) (some last : List LeafNode) (a b c d : OpenLeb) (p q s t : VolumeState)
+    → Lays raw (node ∷ []) a p b q → Lays raw some b q c s → Lays raw last c s d t → Lays raw (node ∷ (some ++ last)) a p d t
+three_laid raw node some last a b c d p q s t l m n = lays_more raw (node ∷ []) (some ++ last) a b d p q t l (lays_more raw some last b c d q s t m n)
+
+-- a node is laid, under another name
+pub same_laid : (raw : RawGeometry) (node other : LeafNode) (a b : OpenLeb) (p q : VolumeState) → node ≡ other → Lays raw (node ∷ []) a p b q → Lays raw (other ∷ []) a p b q
+same_laid raw node other a b p q same l = subst (λ x. Lays raw (x ∷ []) a p b q) same l

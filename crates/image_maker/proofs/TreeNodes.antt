@@ -1,0 +1,241 @@
+-- The leaves of a proper tree are nodes, and take its bytes.
+use Rattle.std.proofs.Common.{◌≡◌, ℕ, ◌+◌, ◌/◌, ◌%◌, ◌<◌, ◌≤◌, ◌++◌, ◌^◌, Bool, true, false, cond, not, ◌&&◌, List, [], ◌∷◌, length, refl, sym, ◌∙◌, ap, arith}
+use Rattle.std.specs.Prelude.{◌==◌, ◌||◌, nat_lt, filter, map, fold}
+use Rattle.std.specs.Bool.{IsTrue}
+use Rattle.std.specs.BTreeMap.{insert_entry}
+use Rattle.std.specs.List.{sum_by, flat_map, list_all, AllByRecursion}
+use Rattle.std.specs.Map.{keys_of, values_of}
+use Rattle.std.specs.Ordering.{nat_cmp, is_lt, match_ordering}
+use Rattle.std.specs.declared.cmp.Ordering.{Ordering}
+use Rattle.std.specs.declared.cmp.Ordering.TheVariants.{Less, Equal, Greater}
+use Rattle.std.proofs.lemmas.Bool.{false≢true}
+use Rattle.std.proofs.lemmas.Bool.Decides.{nat_tests}
+use Rattle.std.proofs.lemmas.List.Sums.{sum_by-append, sum_by-cons}
+use Rattle.ubifs_base.specs.R5.{r5_of}
+use Rattle.media_leaf.specs.LeafNode.{LeafNode, IsLeaf}
+use Rattle.media_leaf.specs.Inode.{may_hold_data}
+use Rattle.fs_model.specs.declared.inode.Inode.{Inode}
+use Rattle.fs_model.specs.declared.inode.Entry.{Entry}
+use Rattle.fs_model.specs.declared.inode.Kind.{Kind}
+use Rattle.fs_model.specs.declared.inode.Kind.TheVariants.{File, Dir, Symlink, Block, Char, Fifo, Socket}
+use Rattle.fs_model.specs.Cover.{tree_bytes, inode_bytes, entry_bytes}
+use Rattle.fs_model.specs.Directory.{by_hash, entries_in}
+use Rattle.fs_model.specs.Files.{Tree, Inodes, Blocks, Entries, name_cmp}
+use Rattle.fs_model.specs.Path.{is_empty}
+use Rattle.fs_model.specs.Proper.{IsProper, ascends, has_data, has_kind, is_inode_node, is_block_node, is_entry_node, is_name}
+use Rattle.image_maker.specs.Laying.{leaf_bytes, HavePlainModes}
+use Rattle.image_maker.specs.Leaves.{type_bits, entry_type, inode_leaf, block_leaf, entry_leaf, leaves_of, live_leaves}
+use Rattle.image_maker.proofs.Sums.{part, part_le, part_step, block_weight, sum_by-block_leaves, sum_by-blocks, sum_by-entry_leaves, sum_by-by_hash}
+
+and_first : (a b : Bool) → IsTrue (a && b) → IsTrue a
+and_first true b h = refl
+and_first false b h = h
+
+and_second : (a b : Bool) → IsTrue (a && b) → IsTrue b
+and_second true b h = h
+and_second false b h = absurd cc
+
+-- ---- an inode is a node
+numbered : (e : ℕ × Inode) → IsTrue (is_inode_node e) → 1 ≤ e.0
+numbered e h = grind (arith, nat_tests)
+
+plain_mode : (e : ℕ × Inode) → IsTrue (is_inode_node e) → e.1.mode < 4096
+plain_mode e h = grind (arith, nat_tests)
+
+most : (e : ℕ × Inode) → IsTrue (is_inode_node e) → length e.1.extra ≤ 4096
+most e h = grind (arith, nat_tests)
+
+no_data : (e : ℕ × Inode) → IsTrue (is_inode_node e) → IsTrue (is_empty e.1.extra || has_data e.1.kind)
+no_data e h = grind (arith, nat_tests)
+
+nothing : (bytes : List ℕ) → IsTrue (is_empty bytes || false) → length bytes ≡ 0
+nothing [] h = refl
+nothing (b ∷ bytes) h = absurd cc
+
+without_data : (kind : Kind) (mode : ℕ) (bytes : List ℕ) → mode < 4096 → IsTrue (is_empty bytes || has_data kind) → may_hold_data (type_bits kind + mode) ≡ false → length bytes ≡ 0
+without_data File mode bytes small h flag = nothing bytes h
+without_data Dir mode bytes small h flag = nothing bytes h
+without_data Fifo mode bytes small h flag = nothing bytes h
+without_data Socket mode bytes small h flag = nothing bytes h
+without_data Symlink mode bytes small h flag = let q : (40960 + mode) / 4096 % 16 ≡ 10 = omega arith in absurd (grind (arith, nat_tests))
+without_data Block mode bytes small h flag = let q : (24576 + mode) / 4096 % 16 ≡ 6 = omega arith in absurd (grind (arith, nat_tests))
+without_data Char mode bytes small h flag = let q : (8192 + mode) / 4096 % 16 ≡ 2 = omega arith in absurd (grind (arith, nat_tests))
+
+inode_is : (tree : Tree) (e : ℕ × Inode) → IsTrue (is_inode_node e) → IsLeaf (inode_leaf tree e.0 e.1)
+inode_is tree e h = record { numbered = numbered e h; most = most e h; plain = without_data e.1.kind e.1.mode e.1.extra (plain_mode e h) (no_data e h) }
+
+-- ---- a block is a node
+block_fits : (b : (ℕ × ℕ) × List ℕ) → IsTrue (is_block_node b) → b.0.1 < 2 ^ 29
+block_fits b h = grind (arith, nat_tests)
+
+block_most : (b : (ℕ × ℕ) × List ℕ) → IsTrue (is_block_node b) → length b.1 ≤ 4096
+block_most b h = grind (arith, nat_tests)
+
+not_empty : (bytes : List ℕ) → is_empty bytes ≡ false → 1 ≤ length bytes
+not_empty [] h = absurd cc
+not_empty (b ∷ bytes) h = omega arith
+
+block_some : (b : (ℕ × ℕ) × List ℕ) → IsTrue (is_block_node b) → is_empty b.1 ≡ false
+block_some b h = grind (arith, nat_tests)
+
+block_is : (b : (ℕ × ℕ) × List ℕ) → IsTrue (is_block_node b) → IsLeaf (block_leaf b)
+block_is b h = record { block_fits = block_fits b h; some = not_empty b.1 (block_some b h); most = block_most b h }
+
+blocks_are : (ino : ℕ) (blocks : Blocks) → IsTrue (list_all is_block_node blocks) → AllByRecursion IsLeaf (map block_leaf (filter (λ stored. stored.0.0 == ino) blocks))
+blocks_are ino [] h = tt
+blocks_are ino (b ∷ blocks) h = by (b.0.0 == ino) (blocks_are ino blocks (and_second (is_block_node b) (list_all is_block_node blocks) h))
+  where
+    by : (test : Bool) → AllByRecursion IsLeaf (map block_leaf (filter (λ stored. stored.0.0 == ino) blocks))
+        → AllByRecursion IsLeaf (map block_leaf (cond test (b ∷ filter (λ stored. stored.0.0 == ino) blocks) (filter (λ stored. stored.0.0 == ino) blocks)))
+    by true more = (block_is b (and_first (is_block_node b) (list_all is_block_node blocks) h), more)
+    by false more = more
+
+-- ---- an entry is a node
+entry_ino : (e : (ℕ × List ℕ) × Entry) → IsTrue (is_entry_node e) → e.1.ino < 2 ^ 32
+entry_ino e h = grind (arith, nat_tests)
+
+entry_name : (e : (ℕ × List ℕ) × Entry) → IsTrue (is_entry_node e) → IsTrue (is_name e.1.name)
+entry_name e h = grind (arith, nat_tests)
+
+name_some : (name : List ℕ) → IsTrue (is_name name) → is_empty name ≡ false
+name_some name h = grind (arith, nat_tests)
+
+name_most : (name : List ℕ) → IsTrue (is_name name) → length name ≤ 255
+name_most name h = grind (arith, nat_tests)
+
+name_plain : (name : List ℕ) → IsTrue (is_name name) → IsTrue (list_all (λ b. not (b == 0) && not (b == 47)) name)
+name_plain name h = grind (arith, nat_tests)
+
+known : (kind : Kind) → entry_type kind ≤ 6
+known File = omega arith
+known Dir = omega arith
+known Symlink = omega arith
+known Block = omega arith
+known Char = omega arith
+known Fifo = omega arith
+known Socket = omega arith
+
+entry_is : (e : (ℕ × List ℕ) × Entry) → IsTrue (is_entry_node e) → IsLeaf (entry_leaf e.1)
+entry_is e h =
+    let name = entry_name e h in
+    record {
+      inum_fits = entry_ino e h;
+      kind_known = known e.1.kind;
+      some = not_empty e.1.name (name_some e.1.name name);
+      most = name_most e.1.name name;
+      plain = name_plain e.1.name name;
+    }
+
+entries_are : (dir : ℕ) (entries : Entries) → IsTrue (list_all is_entry_node entries) → AllByRecursion (λ e. IsLeaf (entry_leaf e)) (filter (λ e. e.dir == dir) (values_of entries))
+entries_are dir [] h = tt
+entries_are dir (e ∷ entries) h = by (e.1.dir == dir) (entries_are dir entries (and_second (is_entry_node e) (list_all is_entry_node entries) h))
+  where
+    by : (test : Bool) → AllByRecursion (λ e. IsLeaf (entry_leaf e)) (filter (λ e. e.dir == dir) (values_of entries))
+        → AllByRecursion (λ e. IsLeaf (entry_leaf e)) (cond test (e.1 ∷ filter (λ e. e.dir == dir) (values_of entries)) (filter (λ e. e.dir == dir) (values_of entries)))
+    by true more = (entry_is e (and_first (is_entry_node e) (list_all is_entry_node entries) h), more)
+    by false more = more
+
+insert_are : (rows : List ((ℕ × List ℕ) × Entry)) (k : ℕ × List ℕ) (e : Entry) → AllByRecursion (λ e. IsLeaf (entry_leaf e)) (values_of rows) → IsLeaf (entry_leaf e) → AllByRecursion (λ e. IsLeaf (entry_leaf e)) (values_of (insert_entry name_cmp rows k e))
+insert_are [] k e h is = (is, tt)
+insert_are (r ∷ rows) k e h is = by (insert_are rows k e h.1 is) (name_cmp k r.0)
+  where
+    by : AllByRecursion (λ e. IsLeaf (entry_leaf e)) (values_of (insert_entry name_cmp rows k e)) → (o : Ordering) → AllByRecursion (λ e. IsLeaf (entry_leaf e)) (values_of (match_ordering o ((k, e) ∷ r ∷ rows) ((r.0, e) ∷ rows) (r ∷ insert_entry name_cmp rows k e)))
+    by more Less = (is, h)
+    by more Equal = (is, h.1)
+    by more Greater = (h.0, more)
+
+sorted_are : (rows : List ((ℕ × List ℕ) × Entry)) (entries : List Entry) → AllByRecursion (λ e. IsLeaf (entry_leaf e)) (values_of rows) → AllByRecursion (λ e. IsLeaf (entry_leaf e)) entries
+    → AllByRecursion (λ e. IsLeaf (entry_leaf e)) (values_of (fold (λ sorted e. insert_entry name_cmp sorted (r5_of e.name, e.name) e) rows entries))
+sorted_are rows [] h all = h
+sorted_are rows (e ∷ entries) h all = sorted_are (insert_entry name_cmp rows (r5_of e.name, e.name) e) entries (insert_are rows (r5_of e.name, e.name) e h all.0) all.1
+
+leaves_are : (entries : List Entry) → AllByRecursion (λ e. IsLeaf (entry_leaf e)) entries → AllByRecursion IsLeaf (map entry_leaf entries)
+leaves_are [] h = tt
+leaves_are (e ∷ entries) h = (h.0, leaves_are entries h.1)
+
+all_append : (xs ys : List LeafNode) → AllByRecursion IsLeaf xs → AllByRecursion IsLeaf ys → AllByRecursion IsLeaf (xs ++ ys)
+all_append [] ys h k = k
+all_append (x ∷ xs) ys h k = (h.0, all_append xs ys h.1 k)
+
+-- the leaves of a proper tree are nodes
+inodes_are : (tree : Tree) (inodes : Inodes) → IsTrue (list_all is_block_node tree.blocks) → IsTrue (list_all is_entry_node tree.entries) → IsTrue (list_all is_inode_node inodes) → AllByRecursion IsLeaf (flat_map (leaves_of tree) inodes)
+inodes_are tree [] b n h = tt
+inodes_are tree (e ∷ inodes) b n h =
+    let blocks = map block_leaf (filter (λ stored. stored.0.0 == e.0) tree.blocks) in
+    let entries = map entry_leaf (by_hash (entries_in tree e.0)) in
+    let first : AllByRecursion IsLeaf (blocks ++ entries) = all_append blocks entries (blocks_are e.0 tree.blocks b) (leaves_are (by_hash (entries_in tree e.0)) (sorted_are [] (entries_in tree e.0) tt (entries_are e.0 tree.entries n))) in
+    all_append (leaves_of tree e) (flat_map (leaves_of tree) inodes) (inode_is tree e (and_first (is_inode_node e) (list_all is_inode_node inodes) h), first) (inodes_are tree inodes b n (and_second (is_inode_node e) (list_all is_inode_node inodes) h))
+
+pub live_leaves-are : (tree : Tree) → IsProper tree → AllByRecursion IsLeaf (live_leaves tree)
+live_leaves-are tree p = inodes_are tree tree.inodes p.block_nodes p.entry_nodes p.inode_nodes
+
+modes_of : (inodes : Inodes) → IsTrue (list_all is_inode_node inodes) → HavePlainModes inodes
+modes_of [] h = tt
+modes_of (e ∷ inodes) h = (plain_mode e (and_first (is_inode_node e) (list_all is_inode_node inodes) h), modes_of inodes (and_second (is_inode_node e) (list_all is_inode_node inodes) h))
+
+pub plain_modes : (tree : Tree) → IsProper tree → HavePlainModes tree.inodes
+plain_modes tree p = modes_of tree.inodes p.inode_nodes
+
+-- there is a root
+pub some_leaf : (tree : Tree) → IsProper tree → 0 < length (live_leaves tree)
+some_leaf tree p = by tree.inodes refl
+  where
+    by : (inodes : Inodes) → tree.inodes ≡ inodes → 0 < length (flat_map (leaves_of tree) inodes)
+    by [] none = absurd (false≢true (ap (λ xs. has_kind (record tree { inodes = xs }) 1 Dir) (sym none) ∙ p.root))
+    by (e ∷ inodes) is = omega arith
+
+-- ---- bytes
+less_of : (a b : ℕ) → is_lt (nat_cmp a b) ≡ true → a < b
+less_of a b h = grind (arith, nat_tests)
+
+abbrev entries_past : Tree → ℕ → ℕ
+entries_past tree a = part entry_bytes (λ e. nat_lt a e.dir) (values_of tree.entries)
+
+abbrev blocks_past : Tree → ℕ → ℕ
+blocks_past tree a = part block_weight (λ stored. nat_lt a stored.0.0) tree.blocks
+
+sum_of : (tree : Tree) (e : ℕ × Inode) → sum_by leaf_bytes (leaves_of tree e) ≤ inode_bytes e.1 + (part block_weight (λ stored. stored.0.0 == e.0) tree.blocks + part entry_bytes (λ n. n.dir == e.0) (values_of tree.entries))
+sum_of tree e =
+    let blocks = map block_leaf (filter (λ stored. stored.0.0 == e.0) tree.blocks) in
+    let entries = map entry_leaf (by_hash (entries_in tree e.0)) in
+    let all = sum_by-cons leaf_bytes (inode_leaf tree e.0 e.1) (blocks ++ entries) in
+    let two = sum_by-append leaf_bytes blocks entries in
+    let b = sum_by-block_leaves (filter (λ stored. stored.0.0 == e.0) tree.blocks) in
+    let n = sum_by-entry_leaves (by_hash (entries_in tree e.0)) in
+    let less = sum_by-by_hash (entries_in tree e.0) in
+    omega (arith, all, two, b, n, less)
+
+sum_from : (tree : Tree) (inodes : Inodes) (a : ℕ) → ascends nat_cmp (a ∷ keys_of inodes) ≡ true
+    → sum_by leaf_bytes (flat_map (leaves_of tree) inodes) ≤ sum_by inode_bytes (values_of inodes) + (blocks_past tree a + entries_past tree a)
+sum_from tree [] a up = omega arith
+sum_from tree (e ∷ inodes) a up =
+    let less = less_of a e.0 (and_first (is_lt (nat_cmp a e.0)) (ascends nat_cmp (e.0 ∷ keys_of inodes)) up) in
+    let more = sum_from tree inodes e.0 (and_second (is_lt (nat_cmp a e.0)) (ascends nat_cmp (e.0 ∷ keys_of inodes)) up) in
+    let all = sum_by-append leaf_bytes (leaves_of tree e) (flat_map (leaves_of tree) inodes) in
+    let here = sum_of tree e in
+    let nodes = sum_by-cons inode_bytes e.1 (values_of inodes) in
+    let b : part block_weight (λ stored. stored.0.0 == e.0) tree.blocks + blocks_past tree e.0 ≤ blocks_past tree a = part_step block_weight (λ stored. stored.0.0) a e.0 less tree.blocks in
+    let n : part entry_bytes (λ n. n.dir == e.0) (values_of tree.entries) + entries_past tree e.0 ≤ entries_past tree a = part_step entry_bytes (λ n. n.dir) a e.0 less (values_of tree.entries) in
+    omega (arith, more, all, here, nodes, b, n)
+
+is_above : (n : ℕ) → 1 ≤ n → is_lt (nat_cmp 0 n) ≡ true
+is_above n h = grind (arith, nat_tests)
+
+from_zero : (inodes : Inodes) → IsTrue (list_all is_inode_node inodes) → ascends nat_cmp (keys_of inodes) ≡ true → ascends nat_cmp (0 ∷ keys_of inodes) ≡ true
+from_zero [] h up = refl
+from_zero (e ∷ inodes) h up = let less : is_lt (nat_cmp 0 e.0) ≡ true = is_above e.0 (numbered e (and_first (is_inode_node e) (list_all is_inode_node inodes) h)) in ap (λ b. b && ascends nat_cmp (e.0 ∷ keys_of inodes)) less ∙ up
+
+-- the nodes of a proper tree take no more than its bytes
+pub sum_by-live_leaves : (tree : Tree) → IsProper tree → sum_by leaf_bytes (live_leaves tree) ≤ tree_bytes tree
+sum_by-live_leaves tree p =
+    let all = sum_from tree tree.inodes 0 (from_zero tree.inodes p.inode_nodes p.inodes_ascend) in
+    let b : blocks_past tree 0 ≤ sum_by block_weight tree.blocks = part_le block_weight (λ stored. nat_lt 0 stored.0.0) tree.blocks in
+    let n : entries_past tree 0 ≤ sum_by entry_bytes (values_of tree.entries) = part_le entry_bytes (λ e. nat_lt 0 e.dir) (values_of tree.entries) in
+    let blocks = sum_by-blocks tree.blocks in
+    omega (arith, all, b, n, blocks)
+
+-- and the entries of a directory neither
+pub sum_by-entries_in : (tree : Tree) (dir : ℕ) → sum_by entry_bytes (entries_in tree dir) ≤ tree_bytes tree
+sum_by-entries_in tree dir =
+    let n : sum_by entry_bytes (entries_in tree dir) ≤ sum_by entry_bytes (values_of tree.entries) = part_le entry_bytes (λ e. e.dir == dir) (values_of tree.entries) in
+    omega (arith, n)
