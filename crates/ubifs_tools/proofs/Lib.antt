@@ -1,11 +1,5 @@
-pub mod Covered
+pub mod Answering
 pub mod Dumping
-pub mod Flushing
-pub mod History
-pub mod Pages
-pub mod Performing
-pub mod Playing
-pub mod Serving
-pub mod Shape
-pub mod Volumes
 pub mod FourWords
+pub mod Performing
+pub mod Running

@@ -1,5 +1,5 @@
 -- What the command `run` answers, over the files that it is given.
-use Rattle.std.specs.Prelude.{◌≡◌, ◌≢◌, ◌⊎◌, ℕ, ◌<◌, ◌≤◌, IsTrue, Some, None, List, [], ◌∷◌, ◌++◌, take, slice_index, codes}
+use Rattle.std.specs.Prelude.{◌≡◌, ◌≢◌, ◌⊎◌, ℕ, ◌<◌, ◌≤◌, IsTrue, false, Some, None, List, [], ◌∷◌, ◌++◌, take, slice_index, codes}
 use Rattle.std.specs.Fmt.{decimal}
 use Rattle.ubifs_base.specs.Geometry.{IsGeometry, plain_geometry}
 use Rattle.ubifs_base.specs.GeometryFaults.{IsFirstOut, tested_fields}
@@ -8,7 +8,9 @@ use Rattle.ubifs_base.specs.declared.raw_geometry.GeomFault.{GeomFault}
 use Rattle.ubifs_base.specs.declared.raw_geometry.GeomField.{GeomField}
 use Rattle.ubifs_base.specs.declared.raw_geometry.GeomField.TheVariants.{LebSize, MinIo, LogLebs, LptLebs, OrphLebs, LebCnt, MaxLebCnt, Fanout, LsaveCnt}
 use Rattle.ubi_volume.specs.Volume.{image_of}
-use Rattle.fs_model.specs.Trace.{IsHistory}
+use Rattle.fs_model.specs.Files.{Tree}
+use Rattle.cached_files.specs.declared.kept.Kept.{Kept}
+use Rattle.cached_files.specs.Present.{IsKept, present}
 use Rattle.io_edges.specs.Counts.{Rose}
 use Rattle.io_edges.specs.Keeper.{KeeperState}
 use Rattle.io_edges.specs.Sink.{SinkState}
@@ -19,8 +21,7 @@ use Rattle.script_text.specs.declared.manifest.Manifest.{Manifest}
 use Rattle.script_text.specs.Manifest.{IsManifest, IsFirstBadManifestLine}
 use Rattle.script_text.specs.Script.{IsScript, IsFirstBadLine}
 use Rattle.text_lines.specs.Lines.{line_of}
-use Rattle.ubifs_tools.specs.Run.{trace_from, session_after, run_text}
-use Rattle.ubifs_tools.specs.Session.{opening}
+use Rattle.ubifs_tools.specs.Run.{Running, opening, IsRun as Runs}
 
 -- a word that names a file: it isn't empty, and no dash stands in front
 abbrev pub IsFileName : List ℕ → Type 0
@@ -84,9 +85,15 @@ pub record IsBadGeometry (texts : List ℕ × List ℕ) (line : List ℕ) : Type
   pub bad : ((fault : GeomFault) × IsFirstOut (geometry_of m) tested_fields fault × (line ≡ line_of (codes "geometry" ∷ field_name fault.field ∷ decimal fault.value ∷ [])))
       ⊎ (IsGeometry (geometry_of m) × (m.main < 24) × (line ≡ line_of (codes "small" ∷ decimal m.main ∷ codes "24" ∷ [])))
 
--- The work was done: the texts are in their grammar, the text is that of the script's trace, the trace is a legal history of
--- the files with the caller's lines each once and in order, and the image's bytes are those of a volume whose main LEBs
--- hold exactly the live nodes of the final tree.
+-- The tree that was put, under what callers saw beside it: nothing where the volume isn't mounted.
+pub record IsLeft (stored : Tree) (last : Running) : Type 0 where
+  pub kept : Kept
+  pub fits : IsKept stored kept
+  pub seen : present stored kept ≡ last.files
+  pub unmounted : last.mounted ≡ false → last.files ≡ record { tree = stored; handles = [] }
+
+-- The work was done: the texts are in their grammar; the text is that of the script's lines, one after another, from a fresh
+-- volume on; and the image's bytes are those of a volume whose main LEBs hold exactly the live nodes of the tree that was put.
 pub record IsDone (texts : List ℕ × List ℕ) (text image : List ℕ) : Type 0 where
   pub m : Manifest
   pub parts : List Part
@@ -94,10 +101,12 @@ pub record IsDone (texts : List ℕ × List ℕ) (text image : List ℕ) : Type 
   pub script : IsScript texts.1 parts
   pub geometry : IsGeometry (geometry_of m)
   pub main : 24 ≤ m.main
-  pub printed : text ≡ run_text (trace_from (geometry_of m) [] opening parts)
-  pub legal : IsHistory [] opening.files (trace_from (geometry_of m) [] opening parts) (session_after (geometry_of m) opening parts).files
+  pub last : Running
+  pub run : Runs (geometry_of m) opening parts text last
+  pub stored : Tree
+  pub left : IsLeft stored last
   pub holds : ℕ → List ℕ
-  pub nodes : IsImage (geometry_of m) (live_leaves (session_after (geometry_of m) opening parts).stored) holds
+  pub nodes : IsImage (geometry_of m) (live_leaves stored) holds
   pub image_is : image ≡ image_of holds (geometry_of m).leb_cnt
 
 -- the files are told, and there is none of this name

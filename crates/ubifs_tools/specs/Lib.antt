@@ -3,6 +3,6 @@ pub mod Dump
 pub mod Dumped
 pub mod Ended
 pub mod Performed
+pub mod Replies
 pub mod Run
-pub mod Session
-pub mod Store
+pub mod Sessions

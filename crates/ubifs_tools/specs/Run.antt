@@ -1,43 +1,91 @@
--- What a script does: its trace, the session that it leaves, and the text that is printed.
-use Rattle.std.specs.Prelude.{ℕ, List, [], ◌∷◌, ◌++◌, codes}
-use Rattle.std.specs.List.{flat_map}
+-- What a script does: what each of its lines answers, the files that it leaves, and the text that is printed.
+use Rattle.std.specs.Prelude.{◌≡◌, ◌⊎◌, ℕ, ◌+◌, ◌<◌, Bool, true, false, Result, Ok, Err, List, [], ◌∷◌, ◌++◌, codes}
 use Rattle.ubifs_base.specs.declared.raw_geometry.RawGeometry.{RawGeometry}
+use Rattle.ubifs_base.specs.Areas.{main_lebs}
 use Rattle.fs_model.specs.declared.op.Op.{Op}
-use Rattle.fs_model.specs.declared.op.Op.TheVariants.{Create, OpenFile, Close}
-use Rattle.fs_model.specs.declared.trace.TraceLine.{TraceLine}
-use Rattle.fs_model.specs.Trace.{next_number}
+use Rattle.fs_model.specs.declared.refusal.NoSpace.{NoSpace}
+use Rattle.fs_model.specs.declared.refusal.Refusal.{Refusal}
+use Rattle.fs_model.specs.declared.refusal.Refusal.TheVariants.{Enospc}
+use Rattle.fs_model.specs.declared.reply.Reply.{Reply}
+use Rattle.fs_model.specs.declared.reply.Reply.TheVariants.{Refused}
+use Rattle.fs_model.specs.declared.space.Need.{Need}
+use Rattle.fs_model.specs.declared.space.Space.{Space}
+use Rattle.fs_model.specs.Cover.{needed, room_for, tree_bytes}
+use Rattle.fs_model.specs.Files.{Tree, Files}
+use Rattle.fs_model.specs.Worked.{fresh}
+use Rattle.cached_files.specs.Alike.{IsAlike}
+use Rattle.vfs_ops.specs.Steps.{IsDone, allowed, asked}
 use Rattle.script_text.specs.declared.part.Part.{Part}
-use Rattle.script_text.specs.declared.part.Part.TheVariants.{Mount, Unmount, Line}
+use Rattle.script_text.specs.declared.part.Part.TheVariants.{Mount, Unmount, Now, Line}
 use Rattle.script_text.specs.Reply.{reply_line}
 use Rattle.text_lines.specs.Lines.{ended}
-use Rattle.ubifs_tools.specs.Session.{Session, answered, flushed}
 
--- a caller's line behind those before it, as the session answers it
-abbrev pub traced : RawGeometry → List TraceLine → Session → ℕ → Op → TraceLine
-traced geo before session caller op = record { caller = caller; number = next_number before caller; now = 0; op = op; reply = (answered geo session caller 0 op).0 }
+-- the files as callers see them, whether the volume is mounted, the time, and how many lines of the caller stand behind the last line of another kind
+pub record Running : Type 0 where
+  pub files : Files
+  pub mounted : Bool
+  pub now : ℕ
+  pub number : ℕ
 
--- The trace of the caller's lines among the parts, behind a trace. Unmounting puts all dirty pages.
-abbrev pub trace_from : RawGeometry → List TraceLine → Session → List Part → List TraceLine
-trace_from geo before session [] = []
-trace_from geo before session (Mount ∷ parts) = trace_from geo before session parts
-trace_from geo before session (Unmount ∷ parts) = trace_from geo before (flushed session) parts
-trace_from geo before session (Line caller op ∷ parts) =
-    traced geo before session caller op ∷ trace_from geo (before ++ traced geo before session caller op ∷ []) (answered geo session caller 0 op).1 parts
+-- a fresh volume, which isn't mounted
+abbrev pub opening : Running
+opening = record { files = fresh; mounted = false; now = 0; number = 0 }
 
--- the session behind the parts
-abbrev pub session_after : RawGeometry → Session → List Part → Session
-session_after geo session [] = session
-session_after geo session (Mount ∷ parts) = session_after geo session parts
-session_after geo session (Unmount ∷ parts) = session_after geo (flushed session) parts
-session_after geo session (Line caller op ∷ parts) = session_after geo (answered geo session caller 0 op).1 parts
+-- No orphan can be told of.
+abbrev pub plain : Files → ℕ → ℕ → Op → Result (Reply × Files) Refusal
+plain files caller now op = allowed 0 0 files caller now op
 
-abbrev pub trace_text : TraceLine → List ℕ
-trace_text line = reply_line line.caller line.number line.reply
+-- A store of this tree, no page of which is dirty and which has no room for what an operation asks: the two sides of the test.
+pub record HasNoRoom (geo : RawGeometry) (tree : Tree) (need : Need) (sides : NoSpace) : Type 0 where
+  pub space : Space
+  pub used : space.used ≡ tree_bytes tree
+  pub held : space.held ≡ 0
+  pub credits : space.credits ≡ 0
+  pub main : space.main ≡ main_lebs geo
+  pub need_is : sides.need ≡ needed space need
+  pub room_is : sides.room ≡ room_for geo space need
+  pub full : sides.room < sides.need
 
--- the text of a run: the mount, the trace and the unmount
-abbrev pub run_text : List TraceLine → List ℕ
-run_text trace = ended (codes "mount rw") ++ flat_map trace_text trace ++ ended (codes "unmount clean")
+-- Refused for want of room, where nothing else refuses.
+pub record IsFull (geo : RawGeometry) (files : Files) (caller now : ℕ) (op : Op) (reply : Reply) (after : Files) : Type 0 where
+  pub sides : NoSpace
+  pub told : reply ≡ Refused (Enospc sides)
+  pub done : Reply × Files
+  pub free : plain files caller now op ≡ Ok done
+  pub room : HasNoRoom geo after.tree (asked files caller now 0 op) sides
 
--- the parts of a script with this work between opening the file and closing it
-abbrev pub script_parts : List Part → List Part
-script_parts work = Mount ∷ Line 1 (Create (codes "/f") 420) ∷ Line 1 (OpenFile (codes "/f") 0) ∷ (work ++ Line 1 (Close 0) ∷ Unmount ∷ [])
+-- Refused, as the plain operation is or for want of room; the files are as before.
+pub record IsRefusal (geo : RawGeometry) (files : Files) (caller now : ℕ) (op : Op) (reply : Reply) (after : Files) : Type 0 where
+  pub why : ((refusal : Refusal) × (plain files caller now op ≡ Err refusal) × (reply ≡ Refused refusal)) ⊎ IsFull geo files caller now op reply after
+  pub same : IsAlike files after
+
+-- What a caller's operation answers, and the files then: but for zeros at the ends of blocks, which nobody sees, those that the plain operation leaves.
+abbrev pub IsAnswer : RawGeometry → Files → ℕ → ℕ → Op → Reply → Files → Type 0
+IsAnswer geo files caller now op reply after = IsDone (plain files caller now op) after reply ⊎ IsRefusal geo files caller now op reply after
+
+-- An unmount leaves the files, which nobody has open any more.
+pub record IsUnmounted (before after : Running) : Type 0 where
+  pub files : IsAlike (record before.files { handles = [] }) after.files
+  pub mounted : after.mounted ≡ false
+  pub now : after.now ≡ before.now
+  pub number : after.number ≡ 0
+
+-- a caller's line: the reply to it, under the next number
+pub record IsServed (geo : RawGeometry) (before : Running) (caller : ℕ) (op : Op) (text : List ℕ) (after : Running) : Type 0 where
+  pub reply : Reply
+  pub answer : IsAnswer geo before.files caller before.now op reply after.files
+  pub printed : text ≡ reply_line caller (before.number + 1) reply
+  pub rest : after ≡ record before { files = after.files; number = before.number + 1 }
+
+-- what one line prints, and what it leaves
+abbrev pub IsPart : RawGeometry → Running → Part → List ℕ → Running → Type 0
+IsPart geo before Mount text after = (text ≡ ended (codes "mount rw")) × (after ≡ record before { mounted = true; number = 0 })
+IsPart geo before Unmount text after = (text ≡ ended (codes "unmount clean")) × IsUnmounted before after
+IsPart geo before (Now now) text after = (text ≡ []) × (after ≡ record before { now = now; number = 0 })
+IsPart geo before (Line caller op) text after = IsServed geo before caller op text after
+
+-- The lines, one after another: the text of them all, and what the last one leaves.
+abbrev pub IsRun : RawGeometry → Running → List Part → List ℕ → Running → Type 0
+IsRun geo before [] text after = (text ≡ []) × (after ≡ before)
+IsRun geo before (part ∷ parts) text after =
+    (line : List ℕ) × (next : Running) × (rest : List ℕ) × IsPart geo before part line next × IsRun geo next parts rest after × (text ≡ line ++ rest)

@@ -3,10 +3,11 @@
 
 mod command;
 mod dump;
+mod fresh;
 mod image;
 mod perform;
 mod run;
-mod store;
+mod session;
 mod top;
 mod words;
 

@@ -9,7 +9,7 @@ ghost use Rattle.ubifs_tools.specs.Performed.{IsPerformed};
 
 use crate::image::image_bytes;
 use crate::run::play;
-use script_text::{TextFault, read_manifest, read_script};
+use script_text::{TextFault, parts_are_in_range, read_manifest, read_script};
 use std::alloc::Global;
 use text_lines::line_of_three;
 use ubifs_base::{GeomFault, GeomField, Geometry, Memory, RawGeometry};
@@ -57,8 +57,10 @@ pub(crate) fn perform(alloc: Global, manifest: &[u8], script: &[u8]) -> Result<P
         let line = small_line(alloc, manifest.main)?;
         return Ok(Performed::BadGeometry { line });
     }
-    let run = play(alloc, geometry, &parts)?;
-    let image = image_bytes(alloc, run.store)?;
+    parts_are_in_range();
+    let run = play(alloc, geometry, parts)?;
+    let tree = run.session.fs.into_parts().into_tree();
+    let image = image_bytes(alloc, &geometry, &tree)?;
     Ok(Performed::Done {
         text: run.text,
         image,

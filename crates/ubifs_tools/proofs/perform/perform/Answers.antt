@@ -1,10 +1,10 @@
-use Rattle.std.proofs.Common.{ap, sym, ◌∙◌, subst, inl, []}
+use Rattle.std.proofs.Common.{ap, ◌∙◌, subst, inl}
 use Rattle.ubifs_base.specs.declared.raw_geometry.RawGeometry.{RawGeometry}
 use Rattle.ubifs_base.specs.GeometryFaults.{IsFirstOut, tested_fields}
 use Rattle.ubifs_base.specs.RawOf.{raw_of}
-use Rattle.ubifs_tools.specs.Run.{trace_from, session_after, run_text}
-use Rattle.ubifs_tools.specs.Session.{opening}
 use Rattle.ubifs_tools.proofs.Performing.{bad_manifest, bad_script, done_of, no_error}
+use Rattle.plain_backing.specs.PlainBacking.{state_of}
+use Rattle.ubifs_tools.proofs.Running.{all_called}
 use Rattle.ubifs_tools.proofs.perform.perform.Goals as goal
 
 pub returns-in-Err : goal.returns-in-Err
@@ -25,8 +25,12 @@ returns-in-Err-new c = record {
   bad = inl (c.in-Err-new.fault, let P : RawGeometry → Type 0 = λ g. IsFirstOut g tested_fields c.in-Err-new.fault in subst P c.plain-raw.ensures c.in-Err-new.ensures.first, c.in_ok-line-in-Err-new.ensures);
 }
 
+pub play-requires-clause-calls : goal.play-requires-clause-calls
+play-requires-clause-calls c =
+    let script = c.in-Ok-read_script.ensures.ok in
+    all_called c.in-Ok-read_script.script.parts.items script.lines.0 script.lines.1 (c.parts_are_in_range.ensures c.args.script.now c.in-Ok-read_script.script.parts.items script)
+
 pub returns : goal.returns
-returns c = done_of c.args.manifest.now c.args.script.now c.in_ok-run.run'.text.items c.in_ok-image.image.items c.in-Ok.manifest c.in-Ok-read_script.script.parts.items (raw_of c.in-Ok-new.geometry) c.in_ok-run.run'.store
+returns c = done_of c.args.manifest.now c.args.script.now c.in_ok-run.run'.text.items c.in_ok-image.image.items c.in-Ok.manifest c.in-Ok-read_script.script.parts.items (raw_of c.in-Ok-new.geometry) c.in_ok-run.run'.session c.into_tree-tree.result
     c.in-Ok.ensures.ok c.in-Ok-read_script.ensures.ok c.in-Ok-new.geometry.in_range (c.in-Ok-new.ensures.fields ∙ c.plain-raw.ensures) c.if-manifest-lt24.false
-    (c.in_ok-run.ensures.text ∙ ap (λ ps. run_text (trace_from (raw_of c.in-Ok-new.geometry) [] opening ps)) c.deref.ensures.value)
-    (ap (session_after (raw_of c.in-Ok-new.geometry) opening) (sym c.deref.ensures.value) ∙ c.in_ok-run.ensures.session) (ap raw_of c.in_ok-run.ensures.geometry) c.in_ok-image.ensures
+    c.in_ok-run.ensures.run c.in_ok-run.ensures.session (c.into_tree-tree.ensures ∙ ap (λ b. (state_of b).tree) c.into_parts.ensures) c.in_ok-image.ensures

@@ -1,30 +1,39 @@
-use Rattle.std.proofs.Common.{refl, ap, ◌∙◌, ◌++◌}
-use Rattle.std.proofs.lemmas.List.Elements.{recursion_from_All}
-use Rattle.fs_model.specs.declared.reply.Reply.{Reply}
-use Rattle.script_text.specs.Script.{IsWork}
+use Rattle.std.proofs.Common.{◌≡◌, ◌++◌, ◌∷◌, [], ℕ, List, Bool, length, arith, ap, sym, subst}
+use Rattle.std.proofs.lemmas.List.{length_push}
+use Rattle.std.specs.List.{AllByRecursion}
 use Rattle.ubifs_base.specs.RawOf.{raw_of}
-use Rattle.ubifs_tools.specs.Session.{Session, closed}
-use Rattle.ubifs_tools.specs.Store.{session_of}
-use Rattle.ubifs_tools.proofs.Playing.{text_is, session_is, first_lines}
+use Rattle.script_text.specs.declared.part.Part.{Part}
+use Rattle.script_text.specs.Script.{Leads}
+use Rattle.ubifs_tools.specs.Replies.{IsCalled}
+use Rattle.ubifs_tools.specs.Run.{IsPart, IsRun, opening}
+use Rattle.ubifs_tools.specs.Sessions.{IsSession, running_of}
+use Rattle.ubifs_tools.proofs.Running.{run_more, mounted_next}
 use Rattle.ubifs_tools.proofs.run.play.Goals as goal
 
-pub returns-clause-text : goal.returns-clause-text
-returns-clause-text c =
+pub loop-part-preserved : goal.loop-part-preserved
+loop-part-preserved c =
     let geo = raw_of c.args.geometry in
-    let work = c.work_of.result.now in
-    let fresh = c.fresh-store.ensures in
-    let text = c.in_ok-number.ensures.text (first_lines geo) refl in
-    text_is geo c.args.parts.now work (session_of c.serve_all.new.store) c.in_ok-number.number
-    c.in_ok-text.text.items c.serve_all.new.text.items c.write_reply.new.out.items c.extend_from_slice.new.self.items
-    c.work_of.ensures.parts (recursion_from_All IsWork work c.work_of.ensures.work)
-    (c.in_ok-number.ensures.session ∙ rw (fresh.geometry, fresh.session) refl) refl c.in_ok-text.ensures
-    (text ∙ rw (fresh.geometry, fresh.session) refl)
-    c.in_ok-number.ensures.number c.in_ok-write_reply.ensures.ok (c.in_ok-extend_from_slice.ensures.items ∙ ap (λ u. c.write_reply.new.out.items ++ u) c.as_slice.ensures)
-
-pub returns-clause-session : goal.returns-clause-session
-returns-clause-session c =
-    let geo = raw_of c.args.geometry in
-    let fresh = c.fresh-store.ensures in
-    session_is geo c.args.parts.now c.work_of.result.now (session_of c.serve_all.new.store) c.work_of.ensures.parts
-    (c.in_ok-number.ensures.session ∙ rw (fresh.geometry, fresh.session) refl) refl
-    ∙ ap closed (ap (λ (x : Reply × Session). x.1) c.in_ok-flush.ensures.answer)
+    let was = c.loop-part.invariant in
+    let before = running_of c.loop-part.session in
+    let after = running_of c.in_ok-session-2.session in
+    let rest = c.next.new.self.rest.items in
+    let next = c.in-Some.ensures.steps.0 in
+    let same = was.session.steady.geometry in
+    let step = c.in_ok-session-2.ensures.part in
+    let one : IsPart geo before c.in-Some.part step.0 after = subst (λ g. IsPart g before c.in-Some.part step.0 after) same step.1 in
+    let P : List Part → Type 0 = λ parts. Leads c.loop-part.session.mounted parts was.order.0 in
+    let order = subst P next was.order.1 in
+    let calls = subst (λ (parts : List Part). AllByRecursion IsCalled parts) next was.calls in
+    let longer = length_push c.loop-part.yielded c.in-Some.part in
+    let lengths : length c.loop-part.part-iterator.rest.items ≡ length (c.in-Some.part ∷ rest) = ap (λ (parts : List Part). length parts) next in
+    let low = was.few in
+    let more = c.in_ok-session-2.ensures.few in
+    let all = was.all in
+    record {
+      session = subst (λ g. IsSession g c.in_ok-session-2.session) same c.in_ok-session-2.ensures.session;
+      run = subst (λ (text : List ℕ). IsRun geo opening (c.loop-part.yielded ++ c.in-Some.part ∷ []) text after) (sym step.2) (run_more geo opening after c.loop-part.yielded c.loop-part.text.items before c.in-Some.part step.0 was.run one);
+      order = (was.order.0, subst (λ (b : Bool). Leads b rest was.order.0) (sym (mounted_next geo before after c.in-Some.part step.0 one)) order.1);
+      calls = calls.1;
+      few = omega (arith, low, more, longer);
+      all = omega (arith, all, longer, lengths);
+    }

@@ -1,0 +1,161 @@
+-- What a run's reply says, from what a step over its backing answers.
+use Rattle.std.proofs.Common.{◌≡◌, ℕ, ◌⊎◌, inl, inr, ◌+◌, ◌-◌, ◌≤◌, false, Err, refl, sym, ap, subst, ◌∙◌, arith, length, List, []}
+use Rattle.std.proofs.lemmas.Bool.{false≢true}
+use Rattle.ubifs_base.specs.declared.raw_geometry.RawGeometry.{RawGeometry}
+use Rattle.ubifs_base.specs.Areas.{main_lebs}
+use Rattle.fs_model.specs.declared.backing_answers.Mode.{Mode}
+use Rattle.fs_model.specs.declared.backing_answers.Mode.TheVariants.{ReadWrite, ReadOnly}
+use Rattle.fs_model.specs.declared.op.Op.{Op}
+use Rattle.fs_model.specs.declared.op.Op.TheVariants.{OpenFile, Close, Read, Fsync, Flush, List as ListDir, Stat, Readlink}
+use Rattle.fs_model.specs.declared.refusal.NoSpace.{NoSpace}
+use Rattle.fs_model.specs.declared.refusal.Refusal.{Refusal}
+use Rattle.fs_model.specs.declared.refusal.Refusal.TheVariants.{Enospc, Erofs, Eio, Enomem}
+use Rattle.fs_model.specs.declared.reply.Reply.{Reply}
+use Rattle.fs_model.specs.declared.reply.Reply.TheVariants.{Refused}
+use Rattle.fs_model.specs.declared.space.Need.{Need}
+use Rattle.fs_model.specs.Backing.{BackingState, Goes, ModeGoes, Rose}
+use Rattle.fs_model.specs.Cover.{room_for, tree_bytes}
+use Rattle.fs_model.specs.Files.{Files}
+use Rattle.fs_model.specs.Orphan.{nameless}
+use Rattle.cached_files.specs.declared.kept.Kept.{Kept}
+use Rattle.cached_files.specs.Calls.{IsWithoutRoom, SureGoes}
+use Rattle.cached_files.specs.Present.{IsKept, present}
+use Rattle.plain_backing.specs.declared.backing.PlainBacking.{PlainBacking}
+use Rattle.plain_backing.specs.PlainBacking.{state_of, outlook_of}
+use Rattle.plain_backing.specs.Spending.{is_spent}
+use Rattle.vfs_ops.specs.declared.event.Event.TheVariants.{Call}
+use Rattle.vfs_ops.specs.declared.event.Outcome.{Outcome}
+use Rattle.vfs_ops.specs.declared.event.Outcome.TheVariants.{Replied}
+use Rattle.vfs_ops.specs.Events.{IsAnswer as IsAnswerOf, left_of}
+use Rattle.vfs_plans.specs.Answers.{IsFault}
+use Rattle.vfs_ops.specs.Steps.{IsAnswered, IsDone, IsLast, IsReady, IsRefusedFor, IsTurnedDown, IsUnsynced, allowed, allowed_on, asked, read_only_cause}
+use Rattle.ubifs_tools.specs.Replies.{is_memory}
+use Rattle.ubifs_tools.specs.Run.{HasNoRoom, IsAnswer, IsFull, plain}
+use Rattle.ubifs_tools.specs.Sessions.{IsSteady}
+
+-- a backing that takes no orphan
+plainly : (s : BackingState) (files : Files) (caller now : ℕ) (op : Op) → s.orphan_limit ≡ 0 → allowed_on s files caller now op ≡ plain files caller now op
+plainly s files caller now op e =
+    let none : 0 - length (nameless s.tree) ≡ 0 = omega arith in
+    ap (λ limit. allowed (limit - length (nameless s.tree)) limit files caller now op) e ∙ ap (λ room. allowed room 0 files caller now op) none
+
+fault_room : (old new : BackingState) (kept : Kept) (need : Need) (r : Refusal) → IsFault old new r → IsWithoutRoom old new kept need r
+fault_room old new kept need (Eio count) h = h
+fault_room old new kept need Enomem h = tt
+fault_room old new kept need r h = absurd h
+
+unsynced_room : (old new : BackingState) (kept : Kept) (need : Need) (r : Refusal) → IsUnsynced old new r → IsWithoutRoom old new kept need r
+unsynced_room old new kept need (Eio count) h = h
+unsynced_room old new kept need (Erofs cause) h = h.1
+unsynced_room old new kept need Enomem h = tt
+unsynced_room old new kept need r h = absurd h
+
+-- whatever was asked, it is for want of room, for a fault, or for a backing that is read-only now
+turned_room : (old new : BackingState) (kept : Kept) (need : Need) (op : Op) (r : Refusal) → IsTurnedDown old new kept need op r → IsWithoutRoom old new kept need r
+turned_room old new kept need (OpenFile path slot) r h = fault_room old new kept need r h
+turned_room old new kept need (Close slot) r h = fault_room old new kept need r h
+turned_room old new kept need (Read slot offs len) r h = fault_room old new kept need r h
+turned_room old new kept need (ListDir path) r h = fault_room old new kept need r h
+turned_room old new kept need (Stat path) r h = fault_room old new kept need r h
+turned_room old new kept need (Readlink path) r h = fault_room old new kept need r h
+turned_room old new kept need (Fsync slot) r h = unsynced_room old new kept need r h
+turned_room old new kept need Flush r h = unsynced_room old new kept need r h
+turned_room old new kept need op r h = h
+
+-- no fault was counted
+no_rise : (a b : ℕ) → a ≡ 0 → b ≡ 0 → Rose a b → ⊥
+no_rise a b e f (inl less) = omega (arith, e, f, less)
+no_rise a b e f (inr most) = omega (arith, f, most)
+
+-- what is known of a backing when a step has ended
+pub record IsCalm (old new : BackingState) : Type 0 where
+  pub was : old.mode ≡ ReadWrite
+  pub is : new.mode ≡ ReadWrite
+  pub faults_were : old.faults ≡ 0
+  pub faults : new.faults ≡ 0
+  pub orphans : old.orphan_limit ≡ 0
+
+-- the reply's cause, of those that are left
+cause_of : (geo : RawGeometry) (old new : BackingState) (kept : Kept) (files : Files) (caller now : ℕ) (op : Op) (reply : Reply) → IsCalm old new
+    → ((need : Need) (sides : NoSpace) → IsWithoutRoom old new kept need (Enospc sides) → HasNoRoom geo (present new.tree kept).tree need sides)
+    → is_memory reply ≡ false → (r : Refusal) → reply ≡ Refused r
+    → (allowed_on old files caller now op ≡ Err r) ⊎ (IsTurnedDown old new kept (asked files caller now 0 op) op r × IsLast (allowed_on old files caller now op) r)
+    → ((refusal : Refusal) × (plain files caller now op ≡ Err refusal) × (reply ≡ Refused refusal)) ⊎ IsFull geo files caller now op reply (present new.tree kept)
+cause_of geo old new kept files caller now op reply calm room known r told (inl e) = inl (r, sym (plainly old files caller now op calm.orphans) ∙ e, told)
+cause_of geo old new kept files caller now op reply calm room known (Enospc sides) told (inr (turned, last)) = inr (record {
+  sides = sides;
+  told = told;
+  done = last.0;
+  free = sym (plainly old files caller now op calm.orphans) ∙ last.1;
+  room = room (asked files caller now 0 op) sides (turned_room old new kept (asked files caller now 0 op) op (Enospc sides) turned);
+})
+cause_of geo old new kept files caller now op reply calm room known (Eio count) told (inr (turned, last)) =
+    let why = turned_room old new kept (asked files caller now 0 op) op (Eio count) turned in absurd (no_rise old.faults new.faults calm.faults_were calm.faults why.0)
+cause_of geo old new kept files caller now op reply calm room known (Erofs cause) told (inr (turned, last)) =
+    let n : ReadWrite ≡ ReadOnly cause = sym calm.is ∙ turned_room old new kept (asked files caller now 0 op) op (Erofs cause) turned in absurd cc
+cause_of geo old new kept files caller now op reply calm room known Enomem told (inr (turned, last)) = absurd (false≢true (sym known ∙ ap is_memory told))
+cause_of geo old new kept files caller now op reply calm room known r told (inr (turned, last)) = absurd (turned_room old new kept (asked files caller now 0 op) op r turned)
+
+pub answer_of : (geo : RawGeometry) (old new : BackingState) (kept : Kept) (files : Files) (caller now : ℕ) (op : Op) (reply : Reply) (before after : List NoSpace) → IsCalm old new
+    → ((need : Need) (sides : NoSpace) → IsWithoutRoom old new kept need (Enospc sides) → HasNoRoom geo (present new.tree kept).tree need sides)
+    → is_memory reply ≡ false → IsAnswered old new kept files caller now 0 op reply before after → IsAnswer geo files caller now op reply (present new.tree kept)
+answer_of geo old new kept files caller now op reply before after calm room known (inl (open_is, done, same)) =
+    inl (subst (λ outcome. IsDone outcome (present new.tree kept) reply) (plainly old files caller now op calm.orphans) done)
+answer_of geo old new kept files caller now op reply before after calm room known (inr (refusal, list)) = inr (record {
+  why = cause_of geo old new kept files caller now op reply calm room known refusal.refusal refusal.told
+      (subst (λ (m : Mode). IsRefusedFor (read_only_cause m op) old new kept files caller now 0 op refusal.refusal) calm.was refusal.why);
+  same = refusal.same;
+})
+
+-- the two sides are those of the present tree, where no page is dirty
+pub no_room : (geo : RawGeometry) (old : BackingState) (new : PlainBacking) (kept : Kept) → IsSteady geo new kept → (IsKept (state_of new).tree kept → kept.pages.dirty ≡ [] → (present (state_of new).tree kept).tree ≡ (state_of new).tree)
+    → (need : Need) (sides : NoSpace) → IsWithoutRoom old (state_of new) kept need (Enospc sides) → HasNoRoom geo (present (state_of new).tree kept).tree need sides
+no_room geo old new kept steady clean need sides h = record {
+  space = (state_of new).space;
+  used = ap tree_bytes (sym (clean steady.ready.kept_fits h.3));
+  held = refl;
+  credits = steady.credits ∙ ap (λ dirty. length dirty) h.3;
+  main = ap main_lebs steady.geometry;
+  need_is = h.0;
+  room_is = h.1 ∙ ap (λ g. room_for g (state_of new).space need) steady.geometry;
+  full = h.2;
+}
+
+no_count : (a count b : ℕ) → b ≡ 0 → Rose a count → count ≤ b → ⊥
+no_count a count b e (inl less) few = omega (arith, e, less, few)
+no_count a count b e (inr most) few = omega (arith, e, most, few)
+
+-- a backing that doesn't fail stays writable
+still_writable : (n : ℕ) (old : BackingState) (new : PlainBacking) → Goes n old (state_of new) → old.mode ≡ ReadWrite → old.faults ≡ 0 → (state_of new).faults ≡ 0 → (state_of new).mode ≡ ReadWrite
+still_writable n old new goes was none still = by goes.mode
+  where
+    by : ModeGoes old (state_of new) → (state_of new).mode ≡ ReadWrite
+    by (inl same) = same ∙ was
+    by (inr (open_was, inl lost)) = absurd (no_count old.faults lost.0 (state_of new).faults still lost.2 lost.3)
+    by (inr (open_was, inr lost)) = absurd (false≢true (sym new.unspent ∙ ap is_spent lost.2))
+
+-- what a run keeps of its backing stays over a step
+pub steady_next : (geo : RawGeometry) (old new : PlainBacking) (before after : Kept) (n left : ℕ) → IsSteady geo old before → IsReady (state_of new) after → Goes n (state_of old) (state_of new)
+    → SureGoes (outlook_of old) (outlook_of new) (state_of old) (state_of new)
+    → ((state_of new).space.credits + length before.pages.dirty + 0 ≡ (state_of old).space.credits + length after.pages.dirty + left) → left ≤ 0 → IsSteady geo new after
+steady_next geo old new before after n left steady ready goes sure issued none = by (sure.sure steady.strike)
+  where
+    by : ⊥ ⊎ ((new.numbers.strike ≡ 0) × ((state_of new).faults ≡ (state_of old).faults)) → IsSteady geo new after
+    by (inl spent) = absurd spent
+    by (inr (strike, same)) = record {
+      ready = ready;
+      geometry = goes.geometry ∙ steady.geometry;
+      mode = still_writable n (state_of old) new goes steady.mode steady.faults (same ∙ steady.faults);
+      faults = same ∙ steady.faults;
+      strike = strike;
+      orphans = goes.orphan_limit ∙ steady.orphans;
+      credits = let covered = steady.credits in omega (arith, issued, none, covered);
+    }
+
+-- what a step that was made says of its reply
+pub told_of : (old new : BackingState) (before after : Kept) (first last : List NoSpace) (caller now : ℕ) (op : Op) (outcome : Outcome) (reply : Reply) (left : ℕ) → outcome ≡ Replied reply left
+    → IsAnswerOf old new before after first last (Call caller now 0 op) outcome → IsAnswered old new after (present old.tree before) caller now 0 op reply first last × (left ≤ 0)
+told_of old new before after first last caller now op outcome reply left e h = subst (λ o. IsAnswerOf old new before after first last (Call caller now 0 op) o) e h
+
+pub issued_of : (a b d f : ℕ) (outcome : Outcome) (reply : Reply) (left : ℕ) → outcome ≡ Replied reply left → a + b + 0 ≡ d + f + left_of outcome → a + b + 0 ≡ d + f + left
+issued_of a b d f outcome reply left e h = h ∙ ap (λ o. d + f + left_of o) e

@@ -1,0 +1,45 @@
+-- What a session of a run stands for, and what it keeps.
+use Rattle.std.specs.Prelude.{◌≡◌, false, [], length}
+use Rattle.ubifs_base.specs.declared.raw_geometry.RawGeometry.{RawGeometry}
+use Rattle.fs_model.specs.declared.backing_answers.Mode.TheVariants.{ReadWrite}
+use Rattle.fs_model.specs.Backing.{BackingState}
+use Rattle.cached_files.specs.declared.kept.Kept.{Kept}
+use Rattle.cached_files.specs.Present.{present}
+use Rattle.plain_backing.specs.declared.backing.PlainBacking.{PlainBacking}
+use Rattle.plain_backing.specs.PlainBacking.{state_of}
+use Rattle.vfs_ops.specs.Steps.{IsReady}
+use Rattle.ubifs_tools.specs.Run.{Running}
+use Rattle.ubifs_tools.specs.declared.session.Session.{Session}
+
+abbrev pub state_in : Session → BackingState
+state_in session = state_of session.fs.backing
+
+-- the files as callers see them, and where the script is
+abbrev pub running_of : Session → Running
+running_of session = record {
+  files = present (state_in session).tree session.fs.kept;
+  mounted = session.mounted;
+  now = session.now;
+  number = session.number;
+}
+
+-- nothing is kept beside the backing
+pub record IsBare (kept : Kept) : Type 0 where
+  pub pages : kept.pages.dirty ≡ []
+  pub inodes : kept.inodes ≡ []
+  pub handles : kept.handles ≡ []
+
+-- A backing that no call of which fails, that can be written and takes no orphan. Each covered credit is that of a dirty page.
+pub record IsSteady (geo : RawGeometry) (backing : PlainBacking) (kept : Kept) : Type 0 where
+  pub ready : IsReady (state_of backing) kept
+  pub geometry : (state_of backing).geometry ≡ geo
+  pub mode : (state_of backing).mode ≡ ReadWrite
+  pub faults : (state_of backing).faults ≡ 0
+  pub strike : backing.numbers.strike ≡ 0
+  pub orphans : (state_of backing).orphan_limit ≡ 0
+  pub credits : (state_of backing).space.credits ≡ length kept.pages.dirty
+
+-- what a session keeps; nothing is kept in memory while nothing is mounted
+pub record IsSession (geo : RawGeometry) (session : Session) : Type 0 where
+  pub steady : IsSteady geo session.fs.backing session.fs.kept
+  pub bare : session.mounted ≡ false → IsBare session.fs.kept

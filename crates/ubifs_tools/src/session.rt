@@ -1,0 +1,212 @@
+// The session of a run: files over a volume in memory, and where the script is.
+
+ghost use Rattle.std.specs.Prelude.{◌≡◌, ℕ, ◌<◌, ◌≤◌, ◌+◌, ◌++◌, ◌^◌, [], IfOk, OnOk, false, true, List};
+ghost use Rattle.ubifs_base.specs.Areas.{main_lebs};
+ghost use Rattle.ubifs_base.specs.RawOf.{raw_of};
+ghost use Rattle.cached_files.specs.Alike.{IsAlike};
+ghost use Rattle.cached_files.specs.Present.{present};
+ghost use Rattle.fs_model.specs.declared.backing_answers.Mode.TheVariants.{ReadWrite};
+ghost use Rattle.plain_backing.specs.PlainBacking.{state_of};
+ghost use Rattle.script_text.specs.declared.part.Part.TheVariants.{Line, Mount, Unmount};
+ghost use Rattle.script_text.specs.Script.{MayStand};
+ghost use Rattle.vfs_ops.specs.declared.event.Outcome.TheVariants.{Replied};
+ghost use Rattle.vfs_ops.specs.Events.{HasFlushed};
+ghost use Rattle.ubifs_tools.specs.Replies.{IsCalled, is_memory};
+ghost use Rattle.ubifs_tools.specs.Run.{IsAnswer, IsPart, opening};
+ghost use Rattle.ubifs_tools.specs.Sessions.{IsBare, IsSession, IsSteady, running_of, state_in};
+
+use crate::fresh::fresh_backing;
+use cached_files::clean_files_are_those_of_the_backing;
+use fs_laws::a_fresh_volume_is_sound;
+use fs_model::{Op, Refusal, Reply};
+use plain_backing::PlainBacking;
+use script_text::{Part, write_reply};
+use std::alloc::Global;
+use ubifs_base::{Geometry, Memory};
+use vfs_ops::{Event, Fs, Outcome};
+
+/// How many clean pages are kept in memory.
+const CLEAN: u32 = 1024;
+
+/// Files over a volume in memory, whether it is mounted, the time in seconds since 1970, and how many lines of the caller stand
+/// behind the last line of another kind.
+#[derive(Drop)]
+pub(crate) struct Session {
+    pub(crate) fs: Fs<PlainBacking>,
+    pub(crate) mounted: bool,
+    pub(crate) now: u64,
+    pub(crate) number: u64,
+}
+
+/// A session on a fresh volume, which isn't mounted.
+pub(crate) fn fresh_session(alloc: Global, geometry: Geometry) -> Result<Session, Memory>
+    requires { 24 ≤ main_lebs (raw_of geometry) }
+    ensures session { IfOk result (λ session. IsSession (raw_of geometry) session) }
+    ensures opening { IfOk result (λ session. running_of session ≡ opening) }
+{
+    a_fresh_volume_is_sound();
+    let backing = fresh_backing(alloc, geometry)?;
+    match Fs::new(alloc, backing, CLEAN) {
+        Ok(fs) => Ok(Session {
+            fs,
+            mounted: false,
+            now: 0,
+            number: 0,
+        }),
+        Err((fault, _)) => Err(fault),
+    }
+}
+
+/// Does what a line of a script says, and appends what it prints. The error is want of memory.
+pub(crate) fn next(
+    alloc: Global,
+    session: Session,
+    part: Part,
+    text: &mut Vec<u8>,
+) -> Result<Session, Memory>
+    requires session { IsSession (state_in session).geometry session }
+    requires call { IsCalled part }
+    requires stands { MayStand session.mounted part }
+    requires few { session.number < 2 ^ 32 }
+    ensures session { IfOk result (λ new. IsSession (state_in session).geometry new) }
+    ensures part { IfOk result (λ new. (line : List ℕ) × IsPart (state_in session).geometry (running_of session) part line (running_of new) × (text.new.items ≡ text.old.items ++ line)) }
+    ensures few { IfOk result (λ new. new.number ≤ session.number + 1) }
+{
+    match part {
+        Part::Mount => mounted(session, text),
+        Part::Unmount => unmounted(alloc, session, text),
+        Part::Now { now } => Ok(Session {
+            fs: session.fs,
+            mounted: session.mounted,
+            now,
+            number: 0,
+        }),
+        Part::Line { caller, op } => served(session, caller, op, text),
+    }
+}
+
+// Mounts the volume.
+fn mounted(session: Session, text: &mut Vec<u8>) -> Result<Session, Memory>
+    requires session { IsSession (state_in session).geometry session }
+    ensures session { IfOk result (λ new. IsSession (state_in session).geometry new) }
+    ensures part { IfOk result (λ new. (line : List ℕ) × IsPart (state_in session).geometry (running_of session) Mount line (running_of new) × (text.new.items ≡ text.old.items ++ line)) }
+    ensures few { IfOk result (λ new. new.number ≡ 0) }
+{
+    text.extend_from_slice(b"mount rw\n".as_slice())?;
+    Ok(Session {
+        fs: session.fs,
+        mounted: true,
+        now: session.now,
+        number: 0,
+    })
+}
+
+// Unmounts it: all is put, and nobody has a file open any more.
+fn unmounted(alloc: Global, session: Session, text: &mut Vec<u8>) -> Result<Session, Memory>
+    requires session { IsSession (state_in session).geometry session }
+    ensures session { IfOk result (λ new. IsSession (state_in session).geometry new) }
+    ensures part { IfOk result (λ new. (line : List ℕ) × IsPart (state_in session).geometry (running_of session) Unmount line (running_of new) × (text.new.items ≡ text.old.items ++ line)) }
+    ensures few { IfOk result (λ new. new.number ≡ 0) }
+{
+    let fs = put_away(alloc, session.fs)?;
+    text.extend_from_slice(b"unmount clean\n".as_slice())?;
+    Ok(Session {
+        fs,
+        mounted: false,
+        now: session.now,
+        number: 0,
+    })
+}
+
+// Does a caller's operation, and prints the reply.
+fn served(session: Session, caller: u16, op: Op, text: &mut Vec<u8>) -> Result<Session, Memory>
+    requires session { IsSession (state_in session).geometry session }
+    requires call { IsCalled (Line caller op) }
+    requires mounted { session.mounted ≡ true }
+    requires few { session.number < 2 ^ 32 }
+    ensures session { IfOk result (λ new. IsSession (state_in session).geometry new) }
+    ensures part { IfOk result (λ new. (line : List ℕ) × IsPart (state_in session).geometry (running_of session) (Line caller op) line (running_of new) × (text.new.items ≡ text.old.items ++ line)) }
+    ensures few { IfOk result (λ new. new.number ≡ session.number + 1) }
+{
+    let mut fs = session.fs;
+    let reply = replied(&mut fs, caller, session.now, op)?;
+    let number = session.number + 1;
+    write_reply(caller, number, &reply, text)?;
+    Ok(Session {
+        fs,
+        mounted: session.mounted,
+        now: session.now,
+        number,
+    })
+}
+
+// Puts all that is dirty, and closes all that is open.
+fn put_away(alloc: Global, fs: Fs<PlainBacking>) -> Result<Fs<PlainBacking>, Memory>
+    requires steady { IsSteady (state_of fs.backing).geometry fs.backing fs.kept }
+    ensures steady { IfOk result (λ new. IsSteady (state_of fs.backing).geometry new.backing new.kept) }
+    ensures bare { IfOk result (λ new. IsBare new.kept) }
+    ensures files { IfOk result (λ new. IsAlike (record (present (state_of fs.backing).tree fs.kept) { handles = [] }) (present (state_of new.backing).tree new.kept)) }
+{
+    let mut fs = fs;
+    flush(&mut fs)?;
+    match Fs::new(alloc, fs.into_parts(), CLEAN) {
+        Ok(fs) => Ok(fs),
+        Err((fault, _)) => Err(fault),
+    }
+}
+
+// Puts all that is dirty. Want of memory alone keeps it from that.
+fn flush(fs: &mut Fs<PlainBacking>) -> Result<(), Memory>
+    requires steady { IsSteady (state_of fs.old.backing).geometry fs.old.backing fs.old.kept }
+    ensures steady { OnOk result (IsSteady (state_of fs.old.backing).geometry fs.new.backing fs.new.kept) }
+    ensures pages { OnOk result (fs.new.kept.pages.dirty ≡ []) }
+    ensures inodes { OnOk result (fs.new.kept.inodes ≡ []) }
+    ensures files { OnOk result (IsAlike (present (state_of fs.old.backing).tree fs.old.kept) (present (state_of fs.new.backing).tree fs.new.kept)) }
+{
+    match replied(fs, 1, 0, Op::Flush)? {
+        Reply::Done => Ok(()),
+        _ => Err(Memory),
+    }
+}
+
+// The reply to a caller's operation. Want of memory ends the run.
+fn replied(fs: &mut Fs<PlainBacking>, caller: u16, now: u64, op: Op) -> Result<Reply, Memory>
+    requires steady { IsSteady (state_of fs.old.backing).geometry fs.old.backing fs.old.kept }
+    requires call { IsCalled (Line caller op) }
+    ensures steady { OnOk result (IsSteady (state_of fs.old.backing).geometry fs.new.backing fs.new.kept) }
+    ensures answer { IfOk result (λ reply. IsAnswer (state_of fs.old.backing).geometry (present (state_of fs.old.backing).tree fs.old.kept) caller now op reply (present (state_of fs.new.backing).tree fs.new.kept)) }
+    ensures flushed { IfOk result (λ reply. HasFlushed ReadWrite fs.new.kept op reply) }
+{
+    clean_files_are_those_of_the_backing();
+    let event = Event::Call {
+        caller,
+        now,
+        grant: 0,
+        op,
+    };
+    let outcome = fs.step(&event);
+    let told = parts_of(outcome);
+    if is_memory(&told.0) {
+        return Err(Memory);
+    }
+    Ok(told.0)
+}
+
+// The reply that an outcome has, and what is left of the grant.
+fn parts_of(outcome: Outcome) -> (Reply, u64)
+    ensures { outcome ≡ Replied result.0 result.1 }
+{
+    match outcome {
+        Outcome::Replied { reply, left } => (reply, left),
+    }
+}
+
+// Whether an operation was refused for want of memory.
+fn is_memory(reply: &Reply) -> bool
+    ensures { result ≡ is_memory reply.now }
+{
+    match reply {
+        Reply::Refused { refusal } => *refusal == Refusal::Enomem,
+        _ => false,
+    }
+}
