@@ -1,0 +1,1 @@
+yes "now 0" | head -n 200000
