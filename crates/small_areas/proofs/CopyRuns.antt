@@ -43,18 +43,6 @@ works_after a b c lnum D E more keeps works = record {
   spent = λ h. works.spent (keeps.spent h);
 }
 
--- a call that keeps all works on no LEB
-pub works_kept : (a b : VolumeState) (lnum : ℕ) (E : List ℕ → Type 0) → ((x : List ℕ) → a.left_now lnum x → E x) → Keeps a b → WorksOn a b lnum E
-works_kept a b lnum E more keeps = record {
-  others = λ k ne. keeps.holds k;
-  others_written = λ k ne. keeps.written k;
-  others_left = λ k x ne h. (keeps.left k x).0 h;
-  others_mapped = λ k x ne h. (keeps.left_mapped k x).0 h;
-  left = λ x h. more x ((keeps.left lnum x).0 h);
-  time = Leaves-keeps a b (UnderWay a lnum E) keeps;
-  spent = keeps.spent;
-}
-
 pub put_copying : (a b : VolumeState) (lnum room : ℕ) (copy : List ℕ) (place : Option ℕ) → Keeps a b → b.leb_size ≡ a.leb_size → length copy ≡ room → IsBytes (a.holds lnum) → IfSome place (IsPlace (a.holds lnum) room)
     → (x : List ℕ) → PutUnderWay b lnum copy place x → CopyUnderWay a lnum room copy x
 put_copying a b lnum room copy None keeps size long fits is x (inl now) = inl (inl ((keeps.left lnum x).0 now))

@@ -1,5 +1,6 @@
 pub mod Volume
 pub mod VolumeLaws
+pub mod TornLaws
 pub mod Faults
 pub mod FaultLaws
 pub mod Lebs

@@ -1,7 +1,7 @@
 -- What follows from a volume's clauses over several calls.
 use Rattle.std.specs.Prelude.{◌≡◌, ◌⊎◌, ℕ, List}
 use Rattle.std.proofs.Common.{inl, inr, refl, arith, subst, ap, ◌∙◌}
-use Rattle.ubi_volume.specs.Volume.{VolumeState, Only, put, Torn, SameShape, Leaves, Keeps, WriteUnderWay, IsWritten}
+use Rattle.ubi_volume.specs.Volume.{VolumeState, Only, put, Torn, SameShape, Leaves, Keeps, UnderWay, WorksOn, WriteUnderWay, IsWritten}
 
 -- One run after another. P and Q are what each moment of the first and of the second leaves, and R is what both imply.
 pub Leaves-then : (a b c : VolumeState) (P Q R : (ℕ → List ℕ) → Type 0) → ((x : ℕ → List ℕ) → P x → R x) → ((x : ℕ → List ℕ) → Q x → R x)
@@ -76,3 +76,40 @@ Keeps-then a b c ab bc =
       time = λ t x early. (λ h. (ab.time t x early).0 ((bc.time t x (omega (arith, early, first))).0 h), λ h. (bc.time t x (omega (arith, early, first))).1 ((ab.time t x early).1 h));
       spent = λ h. bc.spent (ab.spent h);
     }
+
+-- Two calls that work on one LEB. P and Q are what each moment of the first and of the second leaves of it, and R is what both imply.
+pub WorksOn-then : (a b c : VolumeState) (lnum : ℕ) (P Q R : List ℕ → Type 0) → ((x : List ℕ) → P x → R x) → ((x : List ℕ) → Q x → R x)
+    → WorksOn a b lnum P → WorksOn b c lnum Q → WorksOn a c lnum R
+WorksOn-then a b c lnum P Q R pr qr ab bc = record {
+  others = λ k ne. bc.others k ne ∙ ab.others k ne;
+  others_written = λ k ne. bc.others_written k ne ∙ ab.others_written k ne;
+  others_left = λ k x ne h. ab.others_left k x ne (bc.others_left k x ne h);
+  others_mapped = λ k x ne h. ab.others_mapped k x ne (bc.others_mapped k x ne h);
+  left = λ x h. qr x (bc.left x h);
+  time = Leaves-then a b c (UnderWay a lnum P) (UnderWay b lnum Q) (UnderWay a lnum R) (λ x h. (h.0, pr (x lnum) h.1)) (λ x h. (λ k ne. ab.others_left k (x k) ne (h.0 k ne), qr (x lnum) h.1)) ab.time bc.time;
+  spent = λ h. bc.spent (ab.spent h);
+}
+
+-- a call on a LEB, where what each moment leaves of it implies more
+pub WorksOn-more : (a b : VolumeState) (lnum : ℕ) (P R : List ℕ → Type 0) → ((x : List ℕ) → P x → R x) → WorksOn a b lnum P → WorksOn a b lnum R
+WorksOn-more a b lnum P R more works = record {
+  others = works.others;
+  others_written = works.others_written;
+  others_left = works.others_left;
+  others_mapped = works.others_mapped;
+  left = λ x h. more x (works.left x h);
+  time = Leaves-then a a b (UnderWay a lnum R) (UnderWay a lnum P) (UnderWay a lnum R) (λ x h. h) (λ x h. (h.0, more (x lnum) h.1)) (Leaves-none a (UnderWay a lnum R)) works.time;
+  spent = works.spent;
+}
+
+-- a call that keeps all works on no LEB
+pub WorksOn-keeps : (a b : VolumeState) (lnum : ℕ) (P : List ℕ → Type 0) → ((x : List ℕ) → a.left_now lnum x → P x) → Keeps a b → WorksOn a b lnum P
+WorksOn-keeps a b lnum P more keeps = record {
+  others = λ k ne. keeps.holds k;
+  others_written = λ k ne. keeps.written k;
+  others_left = λ k x ne h. (keeps.left k x).0 h;
+  others_mapped = λ k x ne h. (keeps.left_mapped k x).0 h;
+  left = λ x h. more x ((keeps.left lnum x).0 h);
+  time = Leaves-keeps a b (UnderWay a lnum P) keeps;
+  spent = keeps.spent;
+}

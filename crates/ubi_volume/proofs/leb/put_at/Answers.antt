@@ -1,4 +1,5 @@
-use Rattle.ubi_volume.proofs.Lebs.{Torn-put, drop-put}
+use Rattle.ubi_volume.specs.TornLaws.{Torn-put}
+use Rattle.ubi_volume.proofs.Lebs.{drop-put}
 use Rattle.ubi_volume.proofs.leb.put_at.Goals as goal
 
 pub returns-clause-torn : goal.returns-clause-torn
