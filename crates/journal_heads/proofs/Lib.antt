@@ -1,0 +1,3 @@
+pub mod OpenHeads
+pub mod Syncing
+pub mod TwoHeads

@@ -1,0 +1,57 @@
+// The heads over a volume in memory: units of 512 bytes in LEBs of 16,384.
+
+use crate::{Heads, Place};
+use std::test::Fail;
+use ubi_volume::{MemVolume, VolShape, Volume};
+use ubifs_base::{Geometry, RawGeometry};
+
+const GEOMETRY: RawGeometry = RawGeometry {
+    leb_size: 16384,
+    min_io: 512,
+    log_lebs: 4,
+    lpt_lebs: 2,
+    orph_lebs: 1,
+    leb_cnt: 74,
+    max_leb_cnt: 74,
+    fanout: 8,
+    lsave_cnt: 256,
+    big: false,
+};
+
+#[test]
+fn each_head_writes_its_own_leb(rt: HostRuntime) -> Result<(), Fail> {
+    let shape = VolShape {
+        leb_size: 16384,
+        min_io: 512,
+        leb_cnt: 3,
+    };
+    let geo = Geometry::new(&GEOMETRY)?;
+    let mut volume = MemVolume::new(rt.alloc(), shape)?;
+    let mut heads = Heads::new(rt.alloc(), &geo)?;
+    heads.attach(1, 2);
+    heads.attach(2, 0);
+    let begin = Place { lnum: 0, offs: 0 };
+    assert_eq!(rt; (heads.at(0), heads.at(2)), (None, Some(begin)));
+    // Which head has room for so many bytes.
+    let rows = [(0, 1, false), (1, 16384, true), (1, 16385, false)];
+    for (head, len, wanted) in rows {
+        assert_eq!(rt; heads.fits(head, len), wanted);
+    }
+    let place = heads.put(&mut volume, 2, &[7; 632])?;
+    assert_eq!(rt;
+        (place, heads.tail(2).len(), heads.tail(1).len()),
+        (begin, 120, 0)
+    );
+    heads.sync_all(&mut volume)?;
+    assert_eq!(rt;
+        heads.at(2),
+        Some(Place {
+            lnum: 0,
+            offs: 1024
+        })
+    );
+    let mut bytes = [0u8; 5];
+    volume.read(0, 631, &mut bytes)?;
+    assert_eq!(rt; bytes, [7, 0x31, 0x18, 0x10, 0x06]);
+    Ok(())
+}

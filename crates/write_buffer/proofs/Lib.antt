@@ -1,0 +1,4 @@
+pub mod Buffers
+pub mod Results
+pub mod Texts
+pub mod Writes
