@@ -1,0 +1,14 @@
+pub mod Kept
+pub mod PlaceRows
+pub mod Decided
+pub mod ReadSoFar
+pub mod LaidNodes
+pub mod Counts
+pub mod LaidItems
+pub mod Growing
+pub mod LevelSteps
+pub mod NodeFits
+pub mod TableRows
+pub mod TreeLeb
+pub mod OldTree
+pub mod OneList

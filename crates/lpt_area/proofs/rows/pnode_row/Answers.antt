@@ -1,0 +1,57 @@
+use Rattle.std.proofs.Common.{List, [], subst, sym, rules, length-take, length-append, length-drop, inl, inr}
+use Rattle.ubi_volume.specs.VolumeLaws.{Keeps-then}
+use Rattle.ubifs_base.specs.RawOf.{raw_of}
+use Rattle.media_lpt.specs.declared.lprop.Lprop.{Lprop}
+use Rattle.lpt_area.specs.Only.{IsOnly}
+use Rattle.lpt_area.specs.Tree.{Row, HasPnode, empty_leb}
+use Rattle.lpt_area.proofs.Kept.{kept_start, kept_next, sure_of_one, stays_sure, not_volume}
+use Rattle.lpt_area.proofs.PlaceRows.{row_none}
+use Rattle.lpt_area.proofs.ReadSoFar.{read_next, read_fails}
+use Rattle.lpt_area.proofs.rows.pnode_row.Goals as goal
+
+pub loop-place-init : goal.loop-place-init
+loop-place-init g c =
+    let P : List Lprop → Type 0 = λ xs. IsOnly (Row (HasPnode (raw_of c.args.geo.now)) (empty_leb (raw_of c.args.geo.now)) (g.V.Volume.state c.args.volume.now).holds []) xs in
+    (record { kept = kept_start (g.V.Volume.state c.args.volume.now); only = subst P (sym c.new-all.ensures.items) (row_none (HasPnode (raw_of c.args.geo.now)) (empty_leb (raw_of c.args.geo.now)) (g.V.Volume.state c.args.volume.now).holds) }, search rules)
+
+pub returns-in_err-four-clause-keeps : goal.returns-in_err-four-clause-keeps
+returns-in_err-four-clause-keeps g c = Keeps-then _ _ _ c.loop-place.invariant.0.kept.keeps c.pnode_at.ensures.keeps
+
+pub returns-in_default-clause-none : goal.returns-in_default-clause-none
+returns-in_default-clause-none g c =
+    read_fails (HasPnode (raw_of c.args.geo.now)) (empty_leb (raw_of c.args.geo.now)) _ (g.V.Volume.state c.loop-place.volume) c.args.row.now c.loop-place.place-index _ c.loop-place.invariant.0.kept c.loop-place-test.true
+    (rw c.in_default.is at c.in_ok-four.ensures.none)
+
+pub returns-in_default-clause-keeps : goal.returns-in_default-clause-keeps
+returns-in_default-clause-keeps g c = Keeps-then _ _ _ c.loop-place.invariant.0.kept.keeps c.pnode_at.ensures.keeps
+
+pub returns-in_default-clause-sure : goal.returns-in_default-clause-sure
+returns-in_default-clause-sure g c s =
+    let a = g.V.Volume.state c.args.volume.now in
+    let now = g.V.Volume.state c.loop-place.volume in
+    let new = g.V.Volume.state c.pnode_at.new.volume in
+    let sure = stays_sure a now new c.loop-place.invariant.0.kept.sure c.pnode_at.ensures.keeps.spent (sure_of_one now new c.pnode_at.result c.pnode_at.ensures.sure) in
+    elim (sure s) [ inl gone ↦ inl gone | inr fine ↦ inr (fine.0, (fine.1, tt)) ]
+
+pub returns-in_err-extend_from_slice-clause-keeps : goal.returns-in_err-extend_from_slice-clause-keeps
+returns-in_err-extend_from_slice-clause-keeps g c = Keeps-then _ _ _ c.loop-place.invariant.0.kept.keeps c.pnode_at.ensures.keeps
+
+pub returns-in_err-extend_from_slice-clause-sure : goal.returns-in_err-extend_from_slice-clause-sure
+returns-in_err-extend_from_slice-clause-sure g c s =
+    let a = g.V.Volume.state c.args.volume.now in
+    let now = g.V.Volume.state c.loop-place.volume in
+    let new = g.V.Volume.state c.pnode_at.new.volume in
+    let sure = stays_sure a now new c.loop-place.invariant.0.kept.sure c.pnode_at.ensures.keeps.spent (sure_of_one now new c.pnode_at.result c.pnode_at.ensures.sure) in
+    elim (sure s) [ inl gone ↦ inl gone | inr fine ↦ inr (fine.0, (fine.1, not_volume _ c.from_residual-in_err-extend_from_slice.ensures.1)) ]
+
+pub loop-place-preserved : goal.loop-place-preserved
+loop-place-preserved g c =
+    let a = g.V.Volume.state c.args.volume.now in
+    let now = g.V.Volume.state c.loop-place.volume in
+    let new = g.V.Volume.state c.pnode_at.new.volume in
+    let before = c.loop-place.invariant in
+    let kept = kept_next a now new before.0.kept c.pnode_at.ensures.keeps c.pnode_at.ensures.shape c.in_ok-four.ensures.cause (sure_of_one now new c.pnode_at.result c.pnode_at.ensures.sure) in (
+      read_next (HasPnode (raw_of c.args.geo.now)) (empty_leb (raw_of c.args.geo.now)) a now c.args.row.now c.loop-place.place-index _ new c.loop-place.all.items c.in-Some.four c.extend_from_slice.new.self.items before.0 c.loop-place-test.true
+          (rw c.in-Some.is at c.in_ok-four.ensures.found) (search (rules, c.in_ok-extend_from_slice.ensures.items)) kept,
+      search (rules, length-take, length-append, length-drop),
+    )
