@@ -15,29 +15,30 @@ use Rattle.ubifs_base.specs.Geometry.{leb_reserve}
 use Rattle.media_leaf.specs.LeafNode.{LeafNode}
 use Rattle.ubi_volume.specs.Volume.{filled}
 use Rattle.image_maker.specs.declared.open_leb.OpenLeb.{OpenLeb}
-use Rattle.image_maker.specs.Image.{leaf_text, leaf_texts, leb_text, to_unit, AreHeld, IsImage}
-use Rattle.image_maker.specs.Laying.{leaf_bytes, IsLaid, IsClosed}
+use Rattle.image_maker.specs.Image.{leaf_texts, leb_text, to_unit, AreHeld, IsImage}
+use Rattle.image_maker.specs.Laying.{IsLaid, IsClosed}
+use Rattle.change_nodes.specs.Texts.{leaf_bytes, leaf_text}
 
 pub leaf_texts-append : (n : ℕ) (leaves : List LeafNode) (leaf : LeafNode)
-    → leaf_texts n (leaves ++ leaf ∷ []) ≡ leaf_texts n leaves ++ leaf_text (n + length leaves) leaf ∷ []
-leaf_texts-append n [] leaf = let e : n ≡ n + 0 = omega arith in ap (λ k. leaf_text k leaf ∷ []) e
+    → leaf_texts n (leaves ++ leaf ∷ []) ≡ leaf_texts n leaves ++ leaf_text (n + length leaves) 0 leaf ∷ []
+leaf_texts-append n [] leaf = let e : n ≡ n + 0 = omega arith in ap (λ k. leaf_text k 0 leaf ∷ []) e
 leaf_texts-append n (first ∷ leaves) leaf =
     let e : suc n + length leaves ≡ n + suc (length leaves) = omega arith in
-    ap (λ texts. leaf_text n first ∷ texts) (leaf_texts-append (suc n) leaves leaf ∙ ap (λ k. leaf_texts (suc n) leaves ++ leaf_text k leaf ∷ []) e)
+    ap (λ texts. leaf_text n 0 first ∷ texts) (leaf_texts-append (suc n) leaves leaf ∙ ap (λ k. leaf_texts (suc n) leaves ++ leaf_text k 0 leaf ∷ []) e)
 
 -- one node more
 pub IsLaid-append : (raw : RawGeometry) (leaves : List LeafNode) (leaf : LeafNode) (before after : OpenLeb) (holds : ℕ → List ℕ)
     → after.lnum ≡ before.lnum
     → after.sqnum ≡ before.sqnum + 1
-    → after.bytes.items ≡ before.bytes.items ++ leaf_text before.sqnum leaf
+    → after.bytes.items ≡ before.bytes.items ++ leaf_text before.sqnum 0 leaf
     → length after.bytes.items ≡ length before.bytes.items + leaf_bytes leaf
     → IsLaid raw leaves before holds
     → IsLaid raw (leaves ++ leaf ∷ []) after holds
 IsLaid-append raw leaves leaf before after holds lnum sqnum bytes len h =
-    let text = leaf_text before.sqnum leaf in
+    let text = leaf_text before.sqnum 0 leaf in
     let number : before.sqnum ≡ 1 + length leaves = omega (arith, h.number) in
     let texts : leaf_texts 1 leaves ++ text ∷ [] ≡ leaf_texts 1 (leaves ++ leaf ∷ []) =
-    ap (λ k. leaf_texts 1 leaves ++ leaf_text k leaf ∷ []) number ∙ sym (leaf_texts-append 1 leaves leaf) in
+    ap (λ k. leaf_texts 1 leaves ++ leaf_text k 0 leaf ∷ []) number ∙ sym (leaf_texts-append 1 leaves leaf) in
     let e1 = length-append leaves (leaf ∷ []) in
     let e2 = sum_by-append leaf_bytes leaves (leaf ∷ []) in
     let taken = h.taken in

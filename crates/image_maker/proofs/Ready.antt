@@ -8,8 +8,9 @@ use Rattle.ubifs_base.specs.declared.raw_geometry.RawGeometry.{RawGeometry}
 use Rattle.ubifs_base.specs.Geometry.{IsGeometry}
 use Rattle.ubi_volume.specs.Volume.{VolumeState}
 use Rattle.media_leaf.specs.LeafNode.{LeafNode, IsLeaf}
+use Rattle.change_nodes.specs.Texts.{leaf_bytes}
 use Rattle.image_maker.specs.declared.open_leb.OpenLeb.{OpenLeb}
-use Rattle.image_maker.specs.Laying.{leaf_bytes, IsLaid, IsReady, Lays, IsUnderWay}
+use Rattle.image_maker.specs.Laying.{IsLaid, IsReady, Lays, IsUnderWay}
 use Rattle.image_maker.proofs.Room.{HasRoom, room}
 
 all_front : (xs ys : List LeafNode) → AllByRecursion IsLeaf (xs ++ ys) → AllByRecursion IsLeaf xs

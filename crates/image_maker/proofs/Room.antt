@@ -9,7 +9,8 @@ use Rattle.ubifs_base.specs.Geometry.{IsGeometry, leb_reserve}
 use Rattle.ubi_volume.specs.Volume.{filled}
 use Rattle.media_leaf.specs.LeafNode.{LeafNode, inode, block, entry, truncation}
 use Rattle.image_maker.specs.declared.open_leb.OpenLeb.{OpenLeb}
-use Rattle.image_maker.specs.Laying.{leaf_bytes, IsLaid}
+use Rattle.image_maker.specs.Laying.{IsLaid}
+use Rattle.change_nodes.specs.Texts.{leaf_bytes}
 
 leaf_bytes-pos : (leaf : LeafNode) → 1 ≤ leaf_bytes leaf
 leaf_bytes-pos (inode node) = omega arith

@@ -1,6 +1,6 @@
 -- The leaves of a proper tree are nodes, and take its bytes.
-use Rattle.std.proofs.Common.{◌≡◌, ℕ, ◌+◌, ◌/◌, ◌%◌, ◌<◌, ◌≤◌, ◌++◌, ◌^◌, Bool, true, false, cond, not, ◌&&◌, List, [], ◌∷◌, length, refl, sym, ◌∙◌, ap, arith}
-use Rattle.std.specs.Prelude.{◌==◌, ◌||◌, nat_lt, filter, map, fold}
+use Rattle.std.proofs.Common.{◌≡◌, ℕ, ◌+◌, ◌<◌, ◌≤◌, ◌++◌, Bool, true, false, cond, ◌&&◌, List, [], ◌∷◌, length, refl, sym, ◌∙◌, ap, arith}
+use Rattle.std.specs.Prelude.{◌==◌, nat_lt, filter, map, fold}
 use Rattle.std.specs.Bool.{IsTrue}
 use Rattle.std.specs.BTreeMap.{insert_entry}
 use Rattle.std.specs.List.{sum_by, flat_map, list_all, AllByRecursion}
@@ -13,18 +13,18 @@ use Rattle.std.proofs.lemmas.Bool.Decides.{nat_tests}
 use Rattle.std.proofs.lemmas.List.Sums.{sum_by-append, sum_by-cons}
 use Rattle.ubifs_base.specs.R5.{r5_of}
 use Rattle.media_leaf.specs.LeafNode.{LeafNode, IsLeaf}
-use Rattle.media_leaf.specs.Inode.{may_hold_data}
 use Rattle.fs_model.specs.declared.inode.Inode.{Inode}
 use Rattle.fs_model.specs.declared.inode.Entry.{Entry}
-use Rattle.fs_model.specs.declared.inode.Kind.{Kind}
-use Rattle.fs_model.specs.declared.inode.Kind.TheVariants.{File, Dir, Symlink, Block, Char, Fifo, Socket}
+use Rattle.fs_model.specs.declared.inode.Kind.TheVariants.{Dir}
 use Rattle.fs_model.specs.Cover.{tree_bytes, inode_bytes, entry_bytes}
-use Rattle.fs_model.specs.Directory.{by_hash, entries_in}
+use Rattle.fs_model.specs.Directory.{by_hash, entries_in, links_of}
 use Rattle.fs_model.specs.Files.{Tree, Inodes, Blocks, Entries, name_cmp}
-use Rattle.fs_model.specs.Path.{is_empty}
-use Rattle.fs_model.specs.Proper.{IsProper, ascends, has_data, has_kind, is_inode_node, is_block_node, is_entry_node, is_name}
-use Rattle.image_maker.specs.Laying.{leaf_bytes, HavePlainModes}
-use Rattle.image_maker.specs.Leaves.{type_bits, entry_type, inode_leaf, block_leaf, entry_leaf, leaves_of, live_leaves}
+use Rattle.fs_model.specs.Proper.{IsProper, ascends, has_kind, is_inode_node, is_block_node, is_entry_node}
+use Rattle.image_maker.specs.Laying.{HavePlainModes}
+use Rattle.change_nodes.specs.NodeLaws.{numbered, plain_mode, leaf_of_inode, leaf_of_entry, leaf_of_node}
+use Rattle.change_nodes.specs.Texts.{leaf_bytes}
+use Rattle.fs_model.specs.declared.change.Change.TheVariants.{SetBlock}
+use Rattle.image_maker.specs.Leaves.{stored_size, inode_leaf, block_leaf, entry_leaf, leaves_of, live_leaves}
 use Rattle.image_maker.proofs.Sums.{part, part_le, part_step, block_weight, sum_by-block_leaves, sum_by-blocks, sum_by-entry_leaves, sum_by-by_hash}
 
 and_first : (a b : Bool) → IsTrue (a && b) → IsTrue a
@@ -35,51 +35,9 @@ and_second : (a b : Bool) → IsTrue (a && b) → IsTrue b
 and_second true b h = h
 and_second false b h = absurd cc
 
--- ---- an inode is a node
-numbered : (e : ℕ × Inode) → IsTrue (is_inode_node e) → 1 ≤ e.0
-numbered e h = grind (arith, nat_tests)
-
-plain_mode : (e : ℕ × Inode) → IsTrue (is_inode_node e) → e.1.mode < 4096
-plain_mode e h = grind (arith, nat_tests)
-
-most : (e : ℕ × Inode) → IsTrue (is_inode_node e) → length e.1.extra ≤ 4096
-most e h = grind (arith, nat_tests)
-
-no_data : (e : ℕ × Inode) → IsTrue (is_inode_node e) → IsTrue (is_empty e.1.extra || has_data e.1.kind)
-no_data e h = grind (arith, nat_tests)
-
-nothing : (bytes : List ℕ) → IsTrue (is_empty bytes || false) → length bytes ≡ 0
-nothing [] h = refl
-nothing (b ∷ bytes) h = absurd cc
-
-without_data : (kind : Kind) (mode : ℕ) (bytes : List ℕ) → mode < 4096 → IsTrue (is_empty bytes || has_data kind) → may_hold_data (type_bits kind + mode) ≡ false → length bytes ≡ 0
-without_data File mode bytes small h flag = nothing bytes h
-without_data Dir mode bytes small h flag = nothing bytes h
-without_data Fifo mode bytes small h flag = nothing bytes h
-without_data Socket mode bytes small h flag = nothing bytes h
-without_data Symlink mode bytes small h flag = let q : (40960 + mode) / 4096 % 16 ≡ 10 = omega arith in absurd (grind (arith, nat_tests))
-without_data Block mode bytes small h flag = let q : (24576 + mode) / 4096 % 16 ≡ 6 = omega arith in absurd (grind (arith, nat_tests))
-without_data Char mode bytes small h flag = let q : (8192 + mode) / 4096 % 16 ≡ 2 = omega arith in absurd (grind (arith, nat_tests))
-
-inode_is : (tree : Tree) (e : ℕ × Inode) → IsTrue (is_inode_node e) → IsLeaf (inode_leaf tree e.0 e.1)
-inode_is tree e h = record { numbered = numbered e h; most = most e h; plain = without_data e.1.kind e.1.mode e.1.extra (plain_mode e h) (no_data e h) }
-
--- ---- a block is a node
-block_fits : (b : (ℕ × ℕ) × List ℕ) → IsTrue (is_block_node b) → b.0.1 < 2 ^ 29
-block_fits b h = grind (arith, nat_tests)
-
-block_most : (b : (ℕ × ℕ) × List ℕ) → IsTrue (is_block_node b) → length b.1 ≤ 4096
-block_most b h = grind (arith, nat_tests)
-
-not_empty : (bytes : List ℕ) → is_empty bytes ≡ false → 1 ≤ length bytes
-not_empty [] h = absurd cc
-not_empty (b ∷ bytes) h = omega arith
-
-block_some : (b : (ℕ × ℕ) × List ℕ) → IsTrue (is_block_node b) → is_empty b.1 ≡ false
-block_some b h = grind (arith, nat_tests)
-
+-- ---- each node
 block_is : (b : (ℕ × ℕ) × List ℕ) → IsTrue (is_block_node b) → IsLeaf (block_leaf b)
-block_is b h = record { block_fits = block_fits b h; some = not_empty b.1 (block_some b h); most = block_most b h }
+block_is b h = leaf_of_node (SetBlock b.0.0 b.0.1 b.1) h
 
 blocks_are : (ino : ℕ) (blocks : Blocks) → IsTrue (list_all is_block_node blocks) → AllByRecursion IsLeaf (map block_leaf (filter (λ stored. stored.0.0 == ino) blocks))
 blocks_are ino [] h = tt
@@ -90,49 +48,13 @@ blocks_are ino (b ∷ blocks) h = by (b.0.0 == ino) (blocks_are ino blocks (and_
     by true more = (block_is b (and_first (is_block_node b) (list_all is_block_node blocks) h), more)
     by false more = more
 
--- ---- an entry is a node
-entry_ino : (e : (ℕ × List ℕ) × Entry) → IsTrue (is_entry_node e) → e.1.ino < 2 ^ 32
-entry_ino e h = grind (arith, nat_tests)
-
-entry_name : (e : (ℕ × List ℕ) × Entry) → IsTrue (is_entry_node e) → IsTrue (is_name e.1.name)
-entry_name e h = grind (arith, nat_tests)
-
-name_some : (name : List ℕ) → IsTrue (is_name name) → is_empty name ≡ false
-name_some name h = grind (arith, nat_tests)
-
-name_most : (name : List ℕ) → IsTrue (is_name name) → length name ≤ 255
-name_most name h = grind (arith, nat_tests)
-
-name_plain : (name : List ℕ) → IsTrue (is_name name) → IsTrue (list_all (λ b. not (b == 0) && not (b == 47)) name)
-name_plain name h = grind (arith, nat_tests)
-
-known : (kind : Kind) → entry_type kind ≤ 6
-known File = omega arith
-known Dir = omega arith
-known Symlink = omega arith
-known Block = omega arith
-known Char = omega arith
-known Fifo = omega arith
-known Socket = omega arith
-
-entry_is : (e : (ℕ × List ℕ) × Entry) → IsTrue (is_entry_node e) → IsLeaf (entry_leaf e.1)
-entry_is e h =
-    let name = entry_name e h in
-    record {
-      inum_fits = entry_ino e h;
-      kind_known = known e.1.kind;
-      some = not_empty e.1.name (name_some e.1.name name);
-      most = name_most e.1.name name;
-      plain = name_plain e.1.name name;
-    }
-
 entries_are : (dir : ℕ) (entries : Entries) → IsTrue (list_all is_entry_node entries) → AllByRecursion (λ e. IsLeaf (entry_leaf e)) (filter (λ e. e.dir == dir) (values_of entries))
 entries_are dir [] h = tt
 entries_are dir (e ∷ entries) h = by (e.1.dir == dir) (entries_are dir entries (and_second (is_entry_node e) (list_all is_entry_node entries) h))
   where
     by : (test : Bool) → AllByRecursion (λ e. IsLeaf (entry_leaf e)) (filter (λ e. e.dir == dir) (values_of entries))
         → AllByRecursion (λ e. IsLeaf (entry_leaf e)) (cond test (e.1 ∷ filter (λ e. e.dir == dir) (values_of entries)) (filter (λ e. e.dir == dir) (values_of entries)))
-    by true more = (entry_is e (and_first (is_entry_node e) (list_all is_entry_node entries) h), more)
+    by true more = (leaf_of_entry e (and_first (is_entry_node e) (list_all is_entry_node entries) h), more)
     by false more = more
 
 insert_are : (rows : List ((ℕ × List ℕ) × Entry)) (k : ℕ × List ℕ) (e : Entry) → AllByRecursion (λ e. IsLeaf (entry_leaf e)) (values_of rows) → IsLeaf (entry_leaf e) → AllByRecursion (λ e. IsLeaf (entry_leaf e)) (values_of (insert_entry name_cmp rows k e))
@@ -164,7 +86,7 @@ inodes_are tree (e ∷ inodes) b n h =
     let blocks = map block_leaf (filter (λ stored. stored.0.0 == e.0) tree.blocks) in
     let entries = map entry_leaf (by_hash (entries_in tree e.0)) in
     let first : AllByRecursion IsLeaf (blocks ++ entries) = all_append blocks entries (blocks_are e.0 tree.blocks b) (leaves_are (by_hash (entries_in tree e.0)) (sorted_are [] (entries_in tree e.0) tt (entries_are e.0 tree.entries n))) in
-    all_append (leaves_of tree e) (flat_map (leaves_of tree) inodes) (inode_is tree e (and_first (is_inode_node e) (list_all is_inode_node inodes) h), first) (inodes_are tree inodes b n (and_second (is_inode_node e) (list_all is_inode_node inodes) h))
+    all_append (leaves_of tree e) (flat_map (leaves_of tree) inodes) (leaf_of_inode e (and_first (is_inode_node e) (list_all is_inode_node inodes) h) (stored_size tree e.0 e.1) (links_of tree e.0 e.1), first) (inodes_are tree inodes b n (and_second (is_inode_node e) (list_all is_inode_node inodes) h))
 
 pub live_leaves-are : (tree : Tree) → IsProper tree → AllByRecursion IsLeaf (live_leaves tree)
 live_leaves-are tree p = inodes_are tree tree.inodes p.block_nodes p.entry_nodes p.inode_nodes

@@ -1,5 +1,5 @@
 -- A fresh image: which bytes the main LEBs have for the leaf nodes of a tree.
-use Rattle.std.specs.Prelude.{◌≡◌, ℕ, ◌+◌, ◌-◌, ◌*◌, ◌<◌, ◌≤◌, suc, List, [], ◌∷◌, ◌++◌, length, replicate, get_or}
+use Rattle.std.specs.Prelude.{◌≡◌, ℕ, ◌+◌, ◌-◌, ◌*◌, ◌<◌, ◌≤◌, suc, List, [], ◌∷◌, ◌++◌, length, get_or}
 use Rattle.std.specs.List.{concat, flat_map}
 use Rattle.std.specs.Int.{div_ceil}
 use Rattle.ubifs_base.specs.declared.raw_geometry.RawGeometry.{RawGeometry}
@@ -7,25 +7,17 @@ use Rattle.ubifs_base.specs.Areas.{main_first, main_lebs}
 use Rattle.ubifs_base.specs.Gap.{gap_of}
 use Rattle.ubi_volume.specs.declared.mem_volume.VolShape.{VolShape}
 use Rattle.ubi_volume.specs.Volume.{filled}
-use Rattle.media_leaf.specs.LeafNode.{LeafNode, written}
-use Rattle.fs_model.specs.Cover.{round_8}
+use Rattle.media_leaf.specs.LeafNode.{LeafNode}
+use Rattle.change_nodes.specs.Texts.{leaf_text}
 
 -- the shape of a volume of this geometry
 abbrev pub shape_of : RawGeometry → VolShape
 shape_of raw = record { leb_size = raw.leb_size; min_io = raw.min_io; leb_cnt = raw.leb_cnt }
 
--- a node's bytes, and 0xCE up to a multiple of 8
-abbrev pub padded : List ℕ → List ℕ
-padded bytes = bytes ++ replicate (round_8 (length bytes) - length bytes) 0xCE
-
--- a leaf of this sequence number and group type 0
-unfoldable pub leaf_text : ℕ → LeafNode → List ℕ
-leaf_text sqnum leaf = padded (written sqnum 0 leaf)
-
--- the texts of leaves, numbered from this number on
+-- the texts of leaves, numbered from this number on, each with the group type 0
 abbrev pub leaf_texts : ℕ → List LeafNode → List (List ℕ)
 leaf_texts sqnum [] = []
-leaf_texts sqnum (leaf ∷ leaves) = leaf_text sqnum leaf ∷ leaf_texts (suc sqnum) leaves
+leaf_texts sqnum (leaf ∷ leaves) = leaf_text sqnum 0 leaf ∷ leaf_texts (suc sqnum) leaves
 
 -- rounded up to a multiple of the unit
 abbrev pub round_up : ℕ → ℕ → ℕ

@@ -5,32 +5,13 @@ use Rattle.ubifs_base.specs.declared.raw_geometry.RawGeometry.{RawGeometry}
 use Rattle.ubifs_base.specs.Areas.{main_first, main_lebs}
 use Rattle.ubifs_base.specs.Geometry.{leb_reserve}
 use Rattle.ubi_volume.specs.Volume.{VolumeState, filled}
-use Rattle.media_leaf.specs.LeafNode.{LeafNode, IsLeaf, inode, block, entry, truncation}
+use Rattle.media_leaf.specs.LeafNode.{LeafNode, IsLeaf}
+use Rattle.change_nodes.specs.Texts.{leaf_bytes}
 use Rattle.fs_model.specs.declared.inode.Entry.{Entry}
-use Rattle.fs_model.specs.Cover.{round_8}
 use Rattle.fs_model.specs.Directory.{entries_in}
 use Rattle.fs_model.specs.Files.{Tree, Inodes}
 use Rattle.image_maker.specs.Image.{leaf_texts, to_unit, AreHeld}
-use Rattle.image_maker.specs.declared.leaf.Leaf.{Leaf}
-use Rattle.image_maker.specs.declared.leaf.Leaf.TheVariants.{Inode, Block, Entry as EntryLeaf}
 use Rattle.image_maker.specs.declared.open_leb.OpenLeb.{OpenLeb}
-
--- the node that a leaf is
-abbrev pub node_of : Leaf → LeafNode
-node_of (Inode node) = inode node
-node_of (Block node) = block node
-node_of (EntryLeaf node) = entry node
-
--- how many bytes a node takes
-abbrev pub leaf_len : LeafNode → ℕ
-leaf_len (inode node) = 160 + length node.bytes
-leaf_len (block node) = 48 + length node.bytes
-leaf_len (entry node) = 57 + length node.name
-leaf_len (truncation node) = 56
-
--- and with the bytes up to a multiple of 8
-abbrev pub leaf_bytes : LeafNode → ℕ
-leaf_bytes leaf = round_8 (leaf_len leaf)
 
 -- the volume is of this geometry
 pub record HasGeometry (raw : RawGeometry) (state : VolumeState) : Type 0 where

@@ -83,15 +83,16 @@ fn lay_inode(
 {
     let entries = tree.entries_in(alloc, ino)?;
     let leaf = inode_leaf(ino, inode, entries.as_slice())?;
-    open_leb.lay(geometry, volume, &leaf)?;
-    lay_blocks(volume, geometry, open_leb, tree, ino)?;
+    open_leb.lay(alloc, geometry, volume, &leaf)?;
+    lay_blocks(alloc, volume, geometry, open_leb, tree, ino)?;
     let rows = by_hash(alloc, entries)?;
-    lay_entries(volume, geometry, open_leb, rows)?;
+    lay_entries(alloc, volume, geometry, open_leb, rows)?;
     Ok(())
 }
 
 // Lays the nodes of an inode's blocks.
 fn lay_blocks(
+    alloc: Global,
     volume: &mut MemVolume,
     geometry: &Geometry,
     open_leb: &mut OpenLeb,
@@ -105,13 +106,14 @@ fn lay_blocks(
     let mut rest = tree.blocks_of(ino);
     'laying: while let Some((key, bytes)) = rest.next() {
         let leaf = block_leaf(key, bytes)?;
-        open_leb.lay(geometry, volume, &leaf)?;
+        open_leb.lay(alloc, geometry, volume, &leaf)?;
     }
     Ok(())
 }
 
 // Lays the nodes of entries, in this order.
 fn lay_entries(
+    alloc: Global,
     volume: &mut MemVolume,
     geometry: &Geometry,
     open_leb: &mut OpenLeb,
@@ -123,7 +125,7 @@ fn lay_entries(
 {
     'laying: for entry in rows.into_vec() {
         let leaf = entry_leaf(entry);
-        open_leb.lay(geometry, volume, &leaf)?;
+        open_leb.lay(alloc, geometry, volume, &leaf)?;
     }
     Ok(())
 }

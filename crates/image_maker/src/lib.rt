@@ -7,7 +7,6 @@
 #![tactic(auto)]
 
 mod layout;
-mod leaf;
 mod open_leb;
 mod tree_leaves;
 

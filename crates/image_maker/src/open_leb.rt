@@ -5,10 +5,13 @@ ghost use Rattle.ubifs_base.specs.Areas.{main_first};
 ghost use Rattle.ubifs_base.specs.RawOf.{raw_of};
 ghost use Rattle.ubi_volume.specs.MemVolume.{state_of};
 ghost use Rattle.media_leaf.specs.LeafNode.{LeafNode, IsLeaf};
-ghost use Rattle.image_maker.specs.Image.{leaf_text, to_unit, round_up};
-ghost use Rattle.image_maker.specs.Laying.{node_of, leaf_bytes, HasGeometry, IsLaid, IsReady, Lays, IsClosed};
+ghost use Rattle.change_nodes.specs.Nodes.{node_of, HasPlainMode};
+ghost use Rattle.change_nodes.specs.Texts.{leaf_bytes, leaf_text};
+ghost use Rattle.image_maker.specs.Image.{to_unit, round_up};
+ghost use Rattle.image_maker.specs.Laying.{HasGeometry, IsLaid, IsReady, Lays, IsClosed};
 
-use crate::leaf::Leaf;
+use change_nodes::{text_len, write_text};
+use fs_model::Change;
 use std::alloc::Global;
 use ubi_volume::{MemVolume, Volume};
 use ubifs_base::{Geometry, Memory, fill_gap};
@@ -38,27 +41,31 @@ impl OpenLeb {
     // Lays one more node.
     pub(crate) fn lay(
         &mut self,
+        alloc: Global,
         geometry: &Geometry,
         volume: &mut MemVolume,
-        leaf: &Leaf,
+        leaf: &Change,
     ) -> Result<(), Memory>
         requires ready { IsReady (raw_of geometry.now) (node_of leaf.now ∷ []) self.old (state_of volume.old) }
+        requires mode { HasPlainMode leaf.now }
         ensures laid { OnOk result (Lays (raw_of geometry.now) (node_of leaf.now ∷ []) self.old (state_of volume.old) self.new (state_of volume.new)) }
         ensures geometry { HasGeometry (raw_of geometry.now) (state_of volume.new) }
     {
-        self.take_node(geometry, volume, leaf)?;
+        self.take_node(alloc, geometry, volume, leaf)?;
         Ok(())
     }
 
     // Takes one more node: into this LEB where it fits, and else into the next.
     fn take_node(
         &mut self,
+        alloc: Global,
         geometry: &Geometry,
         volume: &mut MemVolume,
-        leaf: &Leaf,
+        leaf: &Change,
     ) -> Result<(), Memory>
         requires geometry { HasGeometry (raw_of geometry.now) (state_of volume.old) }
         requires node { IsLeaf (node_of leaf.now) }
+        requires mode { HasPlainMode leaf.now }
         requires room { self.old.lnum + 2 ≤ geometry.now.leb_cnt }
         requires number { self.old.sqnum < 2 ^ 63 }
         requires fits { length self.old.bytes.items ≤ geometry.now.leb_size }
@@ -68,9 +75,9 @@ impl OpenLeb {
         ensures fits { OnOk result (length self.new.bytes.items ≤ geometry.now.leb_size) }
         ensures geometry { HasGeometry (raw_of geometry.now) (state_of volume.new) }
     {
-        let len = leaf.text_len();
+        let len = text_len(leaf);
         self.make_room(geometry, volume, len)?;
-        self.append(leaf)?;
+        self.append(alloc, leaf)?;
         Ok(())
     }
 
@@ -119,31 +126,33 @@ impl OpenLeb {
     }
 
     // Takes a node behind those that are here.
-    fn append(&mut self, leaf: &Leaf) -> Result<(), Memory>
+    fn append(&mut self, alloc: Global, leaf: &Change) -> Result<(), Memory>
         requires node { IsLeaf (node_of leaf.now) }
+        requires mode { HasPlainMode leaf.now }
         requires number { self.old.sqnum < 2 ^ 63 }
         requires fits { length self.old.bytes.items ≤ 2097152 }
         ensures lnum { OnOk result (self.new.lnum ≡ self.old.lnum) }
         ensures sqnum { OnOk result (self.new.sqnum ≡ self.old.sqnum + 1) }
-        ensures bytes { OnOk result (self.new.bytes.items ≡ self.old.bytes.items ++ leaf_text self.old.sqnum (node_of leaf.now)) }
+        ensures bytes { OnOk result (self.new.bytes.items ≡ self.old.bytes.items ++ leaf_text self.old.sqnum 0 (node_of leaf.now)) }
         ensures len { OnOk result (length self.new.bytes.items ≡ length self.old.bytes.items + leaf_bytes (node_of leaf.now)) }
     {
-        append_text(&mut self.bytes, leaf, self.sqnum)?;
+        append_text(alloc, &mut self.bytes, leaf, self.sqnum)?;
         self.sqnum += 1;
         Ok(())
     }
 }
 
 // Appends a node, and 0xCE up to a multiple of 8.
-fn append_text(bytes: &mut Vec<u8>, leaf: &Leaf, sqnum: u64) -> Result<(), Memory>
+fn append_text(alloc: Global, bytes: &mut Vec<u8>, leaf: &Change, sqnum: u64) -> Result<(), Memory>
     requires node { IsLeaf (node_of leaf.now) }
+    requires mode { HasPlainMode leaf.now }
     requires fits { length bytes.old.items ≤ 2097152 }
-    ensures bytes { OnOk result (bytes.new.items ≡ bytes.old.items ++ leaf_text sqnum (node_of leaf.now)) }
+    ensures bytes { OnOk result (bytes.new.items ≡ bytes.old.items ++ leaf_text sqnum 0 (node_of leaf.now)) }
     ensures len { OnOk result (length bytes.new.items ≡ length bytes.old.items + leaf_bytes (node_of leaf.now)) }
 {
     let start = bytes.len();
-    bytes.resize(start + leaf.text_len(), 0)?;
-    leaf.write_text(sqnum, bytes.split_at_mut(start).1);
+    bytes.resize(start + text_len(leaf), 0)?;
+    write_text(alloc, leaf, sqnum, 0, bytes.split_at_mut(start).1);
     Ok(())
 }
 

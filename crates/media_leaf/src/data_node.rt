@@ -38,8 +38,20 @@ impl DataNode {
         ensures spelling { out.new ≡ written sqnum group (block self.now) }
         ensures grammar { IsData out.new sqnum group self.now }
     {
-        write_body(out.split_at_mut(24).1, self);
-        let len = self.len();
+        self.encode_with(self.bytes.as_slice(), sqnum, group, out);
+    }
+
+    /// As `encode`, of the node with this data in place of its own, so that what stands elsewhere needn't be
+    /// copied into a node.
+    pub fn encode_with(&self, bytes: &[u8], sqnum: u64, group: u8, out: &mut [u8])
+        requires node { IsDataNode (record self.now { bytes = bytes.now }) }
+        requires group { group ≤ 2 }
+        requires room { length out.old ≡ 48 + length bytes.now }
+        ensures spelling { out.new ≡ written sqnum group (block (record self.now { bytes = bytes.now })) }
+        ensures grammar { IsData out.new sqnum group (record self.now { bytes = bytes.now }) }
+    {
+        write_body(out.split_at_mut(24).1, self, bytes);
+        let len = 48 + bytes.len() as u32;
         frame(
             out,
             &Head {
@@ -63,15 +75,15 @@ impl DataNode {
 
 // From the last field to the first, so that what stands behind a field is already as it stays.
 #[tactic(auto, unfolding(node_fields::specs::Fields::spelling))]
-fn write_body(body: &mut [u8], node: &DataNode)
-    requires node { IsDataNode node.now }
-    requires room { length body.old ≡ 24 + length node.now.bytes }
-    ensures spelling { body.new ≡ spelling (data_fields node.now) node.now.bytes }
-    ensures fits { AllFit (data_fields node.now) }
+fn write_body(body: &mut [u8], node: &DataNode, bytes: &[u8])
+    requires node { IsDataNode (record node.now { bytes = bytes.now }) }
+    requires room { length body.old ≡ 24 + length bytes.now }
+    ensures spelling { body.new ≡ spelling (data_fields (record node.now { bytes = bytes.now })) bytes.now }
+    ensures fits { AllFit (data_fields (record node.now { bytes = bytes.now })) }
 {
-    put_last(body, 24, node.bytes.as_slice());
+    put_last(body, 24, bytes);
     put_u32(body, 20, 0);
-    put_u32(body, 16, node.bytes.len() as u32);
+    put_u32(body, 16, bytes.len() as u32);
     put_key(
         body,
         &Key::Block {

@@ -1,6 +1,6 @@
 // Entry nodes.
 
-ghost use Rattle.std.specs.Prelude.{◌≡◌, ◌++◌, List, ◌+◌, ◌^◌, ◌<◌, ◌≤◌, ℕ, ◌==◌, ◌||◌, length, drop, true, if◌then◌else◌, IfOk, IfSome, IfNone};
+ghost use Rattle.std.specs.Prelude.{◌≡◌, ◌++◌, ◌∷◌, [], List, ◌+◌, ◌^◌, ◌<◌, ◌≤◌, ℕ, ◌==◌, ◌||◌, length, drop, true, if◌then◌else◌, IfOk, IfSome, IfNone};
 ghost use Rattle.std.specs.List.{list_all};
 ghost use Rattle.byteorder.specs.Endian.{little_number};
 ghost use Rattle.ubifs_base.specs.Key.{IsKey};
@@ -50,8 +50,20 @@ impl DentNode {
         ensures spelling { out.new ≡ written sqnum group (entry self.now) }
         ensures grammar { IsDent out.new sqnum group self.now }
     {
-        write_body(out.split_at_mut(24).1, self);
-        let len = self.len();
+        self.encode_with(self.name.as_slice(), sqnum, group, out);
+    }
+
+    /// As `encode`, of the node with this name in place of its own, so that what stands elsewhere needn't be
+    /// copied into a node.
+    pub fn encode_with(&self, name: &[u8], sqnum: u64, group: u8, out: &mut [u8])
+        requires node { IsDentNode (record self.now { name = name.now }) }
+        requires group { group ≤ 2 }
+        requires room { length out.old ≡ 57 + length name.now }
+        ensures spelling { out.new ≡ written sqnum group (entry (record self.now { name = name.now })) }
+        ensures grammar { IsDent out.new sqnum group (record self.now { name = name.now }) }
+    {
+        write_body(out.split_at_mut(24).1, self, name);
+        let len = 57 + name.len() as u32;
         let kind = kind_of(self);
         frame(
             out,
@@ -101,19 +113,19 @@ fn key_of(attribute: bool, dir: u32, hash: u32) -> Key
 
 // From the last field to the first, so that what stands behind a field is already as it stays.
 #[tactic(auto, unfolding(node_fields::specs::Fields::spelling))]
-fn write_body(body: &mut [u8], node: &DentNode)
-    requires node { IsDentNode node.now }
-    requires room { length body.old ≡ 33 + length node.now.name }
-    ensures spelling { body.new ≡ spelling (entry_fields node.now) (entry_tail node.now) }
-    ensures fits { AllFit (entry_fields node.now) }
+fn write_body(body: &mut [u8], node: &DentNode, name: &[u8])
+    requires node { IsDentNode (record node.now { name = name.now }) }
+    requires room { length body.old ≡ 33 + length name.now }
+    ensures spelling { body.new ≡ spelling (entry_fields (record node.now { name = name.now })) (name.now ++ (0 ∷ [])) }
+    ensures fits { AllFit (entry_fields (record node.now { name = name.now })) }
 {
-    put_name(body, 32, node.name.as_slice());
+    put_name(body, 32, name);
     put_u32(body, 28, 0);
-    put_u16(body, 26, node.name.len() as u16);
+    put_u16(body, 26, name.len() as u16);
     put_u8(body, 25, node.kind);
     put_u8(body, 24, 0);
     put_u64(body, 16, node.inum as u64);
-    let hash = hash_of(node.name.as_slice());
+    let hash = hash_of(name);
     put_key(body, &key_of(node.attribute, node.dir, hash));
 }
 

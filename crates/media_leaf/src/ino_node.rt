@@ -52,8 +52,20 @@ impl InoNode {
         ensures spelling { out.new ≡ written sqnum group (inode self.now) }
         ensures grammar { IsIno out.new sqnum group self.now }
     {
-        write_body(out.split_at_mut(24).1, self);
-        let len = self.len();
+        self.encode_with(self.bytes.as_slice(), sqnum, group, out);
+    }
+
+    /// As `encode`, of the node with this data in place of its own, so that what stands elsewhere needn't be
+    /// copied into a node.
+    pub fn encode_with(&self, bytes: &[u8], sqnum: u64, group: u8, out: &mut [u8])
+        requires node { IsInoNode (record self.now { bytes = bytes.now }) }
+        requires group { group ≤ 2 }
+        requires room { length out.old ≡ 160 + length bytes.now }
+        ensures spelling { out.new ≡ written sqnum group (inode (record self.now { bytes = bytes.now })) }
+        ensures grammar { IsIno out.new sqnum group (record self.now { bytes = bytes.now }) }
+    {
+        write_body(out.split_at_mut(24).1, self, bytes);
+        let len = 160 + bytes.len() as u32;
         frame(
             out,
             &Head {
@@ -76,15 +88,15 @@ impl InoNode {
 }
 
 // From the last field to the first, so that what stands behind a field is already as it stays.
-fn write_body(body: &mut [u8], node: &InoNode)
-    requires node { IsInoNode node.now }
-    requires room { length body.old ≡ 136 + length node.now.bytes }
-    ensures spelling { body.new ≡ spelling (inode_fields node.now) node.now.bytes }
-    ensures fits { AllFit (inode_fields node.now) }
+fn write_body(body: &mut [u8], node: &InoNode, bytes: &[u8])
+    requires node { IsInoNode (record node.now { bytes = bytes.now }) }
+    requires room { length body.old ≡ 136 + length bytes.now }
+    ensures spelling { body.new ≡ spelling (inode_fields (record node.now { bytes = bytes.now })) bytes.now }
+    ensures fits { AllFit (inode_fields (record node.now { bytes = bytes.now })) }
 {
-    put_last(body, 136, node.bytes.as_slice());
+    put_last(body, 136, bytes);
     write_last(body);
-    write_extra(body, node);
+    write_extra(body, node, bytes);
     write_owner(body, node);
     write_times(body, node);
     write_first(body, node);
@@ -102,17 +114,17 @@ fn write_last(body: &mut [u8])
 }
 
 #[tactic(auto, unfolding(node_fields::specs::Fields::spelling))]
-fn write_extra(body: &mut [u8], node: &InoNode)
-    requires node { length node.now.bytes ≤ 4096 }
+fn write_extra(body: &mut [u8], node: &InoNode, bytes: &[u8])
+    requires node { length bytes.now ≤ 4096 }
     requires room { 108 ≤ length body.old }
-    ensures spelling { drop 88 body.new ≡ spelling (extra_fields node.now) (drop 108 body.old) }
-    ensures fits { AllFit (extra_fields node.now) }
+    ensures spelling { drop 88 body.new ≡ spelling (extra_fields (record node.now { bytes = bytes.now })) (drop 108 body.old) }
+    ensures fits { AllFit (extra_fields (record node.now { bytes = bytes.now })) }
 {
     put_u32(body, 104, node.xattr_names);
     put_u32(body, 100, 0);
     put_u32(body, 96, node.xattr_size);
     put_u32(body, 92, node.xattr_cnt);
-    put_u32(body, 88, node.bytes.len() as u32);
+    put_u32(body, 88, bytes.len() as u32);
 }
 
 #[tactic(auto, unfolding(node_fields::specs::Fields::spelling))]

@@ -6,7 +6,8 @@ use Rattle.ubi_volume.specs.MemVolume.{state_of}
 use Rattle.media_leaf.specs.LeafNode.{LeafNode}
 use Rattle.fs_model.specs.Cover.{entry_bytes}
 use Rattle.fs_model.specs.Directory.{by_hash, entries_in}
-use Rattle.image_maker.specs.Laying.{IsReady, Lays, node_of}
+use Rattle.change_nodes.specs.Nodes.{node_of}
+use Rattle.image_maker.specs.Laying.{IsReady, Lays}
 use Rattle.image_maker.specs.Leaves.{inode_leaf, entry_leaf}
 use Rattle.image_maker.proofs.Ready.{second_ready, third_ready, three_laid, same_laid}
 use Rattle.image_maker.proofs.TreeNodes.{sum_by-entries_in}
@@ -23,7 +24,7 @@ pub lay_blocks-requires : goal.lay_blocks-requires
 lay_blocks-requires c =
     let raw = raw_of c.args.geometry.now in
     let node = inode_leaf c.args.tree.now c.args.ino c.args.inode.now in
-    let same : node_of c.in_ok-leaf.leaf ≡ node = c.in_ok-leaf.ensures c.args.tree.now (sym (c.as_slice.ensures.value ∙ c.in_ok-entries.ensures)) in
+    let same : node_of c.in_ok-leaf.leaf ≡ node = c.in_ok-leaf.ensures.node c.args.tree.now (sym (c.as_slice.ensures.value ∙ c.in_ok-entries.ensures)) in
     let laid = same_laid raw (node_of c.in_ok-leaf.leaf) node _ _ _ _ same c.in_ok-lay.ensures.laid in
     record { ready = second_ready raw node _ (map entry_leaf (by_hash (entries_in c.args.tree.now c.args.ino))) _ _ _ _ c.requires.ready laid }
 
@@ -31,7 +32,7 @@ pub lay_entries-requires : goal.lay_entries-requires
 lay_entries-requires c =
     let raw = raw_of c.args.geometry.now in
     let node = inode_leaf c.args.tree.now c.args.ino c.args.inode.now in
-    let same : node_of c.in_ok-leaf.leaf ≡ node = c.in_ok-leaf.ensures c.args.tree.now (sym (c.as_slice.ensures.value ∙ c.in_ok-entries.ensures)) in
+    let same : node_of c.in_ok-leaf.leaf ≡ node = c.in_ok-leaf.ensures.node c.args.tree.now (sym (c.as_slice.ensures.value ∙ c.in_ok-entries.ensures)) in
     let laid = same_laid raw (node_of c.in_ok-leaf.leaf) node _ _ _ _ same c.in_ok-lay.ensures.laid in
     let rows : map entry_leaf c.in_ok-rows.rows ≡ map entry_leaf (by_hash (entries_in c.args.tree.now c.args.ino)) = ap (map entry_leaf) (c.in_ok-rows.ensures ∙ ap by_hash c.in_ok-entries.ensures) in
     let P : List LeafNode → Type 0 = λ leaves. IsReady raw leaves c.lay_blocks.new.open_leb (state_of c.lay_blocks.new.volume) in
@@ -41,7 +42,7 @@ pub returns-clause-laid : goal.returns-clause-laid
 returns-clause-laid c =
     let raw = raw_of c.args.geometry.now in
     let node = inode_leaf c.args.tree.now c.args.ino c.args.inode.now in
-    let same : node_of c.in_ok-leaf.leaf ≡ node = c.in_ok-leaf.ensures c.args.tree.now (sym (c.as_slice.ensures.value ∙ c.in_ok-entries.ensures)) in
+    let same : node_of c.in_ok-leaf.leaf ≡ node = c.in_ok-leaf.ensures.node c.args.tree.now (sym (c.as_slice.ensures.value ∙ c.in_ok-entries.ensures)) in
     let laid = same_laid raw (node_of c.in_ok-leaf.leaf) node _ _ _ _ same c.in_ok-lay.ensures.laid in
     let rows : map entry_leaf c.in_ok-rows.rows ≡ map entry_leaf (by_hash (entries_in c.args.tree.now c.args.ino)) = ap (map entry_leaf) (c.in_ok-rows.ensures ∙ ap by_hash c.in_ok-entries.ensures) in
     let P : List LeafNode → Type 0 = λ leaves. Lays raw leaves c.lay_blocks.new.open_leb (state_of c.lay_blocks.new.volume) c.lay_entries.new.open_leb (state_of c.lay_entries.new.volume) in

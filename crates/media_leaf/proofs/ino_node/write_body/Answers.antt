@@ -8,9 +8,9 @@ use Rattle.media_leaf.proofs.ino_node.write_body.Goals as goal
 pub returns-clause-spelling : goal.returns-clause-spelling
 unfolding spelling
 returns-clause-spelling c =
-    let node = c.args.node.now in
+    let node = record c.args.node.now { bytes = c.args.bytes.now } in
     c.write_first.ensures.spelling ∙ ap (λ (b : List ℕ). spelling (key_fields (Ino node.ino)) (spelling (size_fields node) b))
     (c.write_times.ensures.spelling ∙ ap (spelling (time_fields node))
     (c.write_owner.ensures.spelling ∙ ap (spelling (owner_fields node))
     (c.write_extra.ensures.spelling ∙ ap (spelling (extra_fields node))
-    (c.write_last.ensures ∙ ap (spelling last_fields) (c.put_last.ensures ∙ c.as_slice.ensures)))))
+    (c.write_last.ensures ∙ ap (spelling last_fields) c.put_last.ensures))))

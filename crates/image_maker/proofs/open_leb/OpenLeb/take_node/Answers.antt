@@ -1,6 +1,6 @@
 use Rattle.ubifs_base.specs.RawOf.{raw_of}
 use Rattle.ubi_volume.specs.MemVolume.{state_of}
-use Rattle.image_maker.specs.Laying.{node_of}
+use Rattle.change_nodes.specs.Nodes.{node_of}
 use Rattle.image_maker.proofs.LayingLemmas.{IsLaid-append}
 use Rattle.image_maker.proofs.open_leb.OpenLeb.take_node.Goals as goal
 

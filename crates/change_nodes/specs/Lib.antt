@@ -1,0 +1,5 @@
+pub mod Nodes
+pub mod NodeLaws
+pub mod Texts
+pub mod TextLaws
+pub mod Groups

@@ -1,0 +1,268 @@
+// Texts worked out by hand from the layout of ubifs-media.h, their checksums by zlib's crc32, and read back.
+
+ghost use Rattle.std.specs.Prelude.{◌≡◌, ◌+◌, ◌^◌, ◌<◌, IsTrue, length};
+ghost use Rattle.std.specs.List.{list_all};
+ghost use Rattle.fs_model.specs.Backing.{is_node};
+ghost use Rattle.media_leaf.specs.Inode.{IsInoNode};
+
+use super::*;
+use fs_model::{Change, Entry, Inode, Kind};
+use media_leaf::{DentNode, InoNode};
+use std::alloc::Global;
+use std::test::*;
+use ubifs_base::{Bytes, Memory, Name};
+
+// Inode 65, a symbolic link to `target`: sequence number 8, alone.
+const INODE: &[u8; 168] =
+    b"\x31\x18\x10\x06\xa8\x59\x52\xdf\x08\x00\x00\x00\x00\x00\x00\x00\xa6\x00\x00\x00\
+    \x00\x00\x00\x00\x41\x00\x00\x00\x00\x00\x00\x00\x00\x00\x00\x00\x00\x00\x00\x00\
+    \x00\x00\x00\x00\x00\x00\x00\x00\x06\x00\x00\x00\x00\x00\x00\x00\x01\x00\x00\x00\
+    \x00\x00\x00\x00\x02\x00\x00\x00\x00\x00\x00\x00\x03\x00\x00\x00\x00\x00\x00\x00\
+    \x00\x00\x00\x00\x00\x00\x00\x00\x00\x00\x00\x00\x01\x00\x00\x00\xe8\x03\x00\x00\
+    \x64\x00\x00\x00\xff\xa1\x00\x00\x00\x00\x00\x00\x06\x00\x00\x00\x00\x00\x00\x00\
+    \x00\x00\x00\x00\x00\x00\x00\x00\x00\x00\x00\x00\x00\x00\x00\x00\x00\x00\x00\x00\
+    \x00\x00\x00\x00\x00\x00\x00\x00\x00\x00\x00\x00\x00\x00\x00\x00\x00\x00\x00\x00\
+    \x74\x61\x72\x67\x65\x74\xce\xce";
+
+// The symbolic link `f` in directory 1: sequence number 8, alone.
+const ENTRY: &[u8; 64] =
+    b"\x31\x18\x10\x06\x7a\x5a\x78\x1b\x08\x00\x00\x00\x00\x00\x00\x00\x3a\x00\x00\x00\
+    \x02\x00\x00\x00\x01\x00\x00\x00\x62\x46\x00\x40\x00\x00\x00\x00\x00\x00\x00\x00\
+    \x41\x00\x00\x00\x00\x00\x00\x00\x00\x02\x01\x00\x00\x00\x00\x00\x66\x00\xce\xce\
+    \xce\xce\xce\xce";
+
+// The name `f` goes from directory 1: sequence number 8, alone.
+const DROPPED: &[u8; 64] =
+    b"\x31\x18\x10\x06\x7d\xb4\x51\x60\x08\x00\x00\x00\x00\x00\x00\x00\x3a\x00\x00\x00\
+    \x02\x00\x00\x00\x01\x00\x00\x00\x62\x46\x00\x40\x00\x00\x00\x00\x00\x00\x00\x00\
+    \x00\x00\x00\x00\x00\x00\x00\x00\x00\x00\x01\x00\x00\x00\x00\x00\x66\x00\xce\xce\
+    \xce\xce\xce\xce";
+
+// Block 3 of inode 65, `abc`: sequence number 8, alone.
+const BLOCK: &[u8; 56] =
+    b"\x31\x18\x10\x06\x73\xd4\xf1\xf4\x08\x00\x00\x00\x00\x00\x00\x00\x33\x00\x00\x00\
+    \x01\x00\x00\x00\x41\x00\x00\x00\x03\x00\x00\x20\x00\x00\x00\x00\x00\x00\x00\x00\
+    \x03\x00\x00\x00\x00\x00\x00\x00\x61\x62\x63\xce\xce\xce\xce\xce";
+
+// Inode 65 is cut from 10000 bytes to 4097: sequence number 8, alone.
+const TRUNCATION: &[u8; 56] =
+    b"\x31\x18\x10\x06\xa4\xda\xda\x65\x08\x00\x00\x00\x00\x00\x00\x00\x38\x00\x00\x00\
+    \x04\x00\x00\x00\x41\x00\x00\x00\x00\x00\x00\x00\x00\x00\x00\x00\x00\x00\x00\x00\
+    \x10\x27\x00\x00\x00\x00\x00\x00\x01\x10\x00\x00\x00\x00\x00\x00";
+
+// Inode 65 goes: sequence number 8, alone.
+const GONE: &[u8; 160] =
+    b"\x31\x18\x10\x06\xfe\xd9\x6a\x67\x08\x00\x00\x00\x00\x00\x00\x00\xa0\x00\x00\x00\
+    \x00\x00\x00\x00\x41\x00\x00\x00\x00\x00\x00\x00\x00\x00\x00\x00\x00\x00\x00\x00\
+    \x00\x00\x00\x00\x00\x00\x00\x00\x00\x00\x00\x00\x00\x00\x00\x00\x00\x00\x00\x00\
+    \x00\x00\x00\x00\x00\x00\x00\x00\x00\x00\x00\x00\x00\x00\x00\x00\x00\x00\x00\x00\
+    \x00\x00\x00\x00\x00\x00\x00\x00\x00\x00\x00\x00\x00\x00\x00\x00\x00\x00\x00\x00\
+    \x00\x00\x00\x00\x00\x80\x00\x00\x00\x00\x00\x00\x00\x00\x00\x00\x00\x00\x00\x00\
+    \x00\x00\x00\x00\x00\x00\x00\x00\x00\x00\x00\x00\x00\x00\x00\x00\x00\x00\x00\x00\
+    \x00\x00\x00\x00\x00\x00\x00\x00\x00\x00\x00\x00\x00\x00\x00\x00\x00\x00\x00\x00";
+
+// The name, the cut and the block as a group: sequence numbers 8 to 10.
+const GROUP: &[u8; 176] =
+    b"\x31\x18\x10\x06\x62\xa3\xa1\xe0\x08\x00\x00\x00\x00\x00\x00\x00\x3a\x00\x00\x00\
+    \x02\x01\x00\x00\x01\x00\x00\x00\x62\x46\x00\x40\x00\x00\x00\x00\x00\x00\x00\x00\
+    \x00\x00\x00\x00\x00\x00\x00\x00\x00\x00\x01\x00\x00\x00\x00\x00\x66\x00\xce\xce\
+    \xce\xce\xce\xce\x31\x18\x10\x06\xb0\x21\xf5\x97\x09\x00\x00\x00\x00\x00\x00\x00\
+    \x38\x00\x00\x00\x04\x01\x00\x00\x41\x00\x00\x00\x00\x00\x00\x00\x00\x00\x00\x00\
+    \x00\x00\x00\x00\x10\x27\x00\x00\x00\x00\x00\x00\x01\x10\x00\x00\x00\x00\x00\x00\
+    \x31\x18\x10\x06\x95\xff\x17\x02\x0a\x00\x00\x00\x00\x00\x00\x00\x33\x00\x00\x00\
+    \x01\x02\x00\x00\x41\x00\x00\x00\x03\x00\x00\x20\x00\x00\x00\x00\x00\x00\x00\x00\
+    \x03\x00\x00\x00\x00\x00\x00\x00\x61\x62\x63\xce\xce\xce\xce\xce";
+
+// A group's bytes, with the sequence numbers from 8 on.
+fn group_bytes(alloc: Global, changes: &[Change]) -> Result<Vec<u8>, Memory>
+    requires nodes { IsTrue (list_all is_node changes.now) }
+    requires few { length changes.now < 2 ^ 32 }
+{
+    let mut sqnum = 7;
+    let mut bytes = Vec::new(alloc);
+    bytes.resize(group_len(changes) as usize, 0)?;
+    write_group(alloc, changes, &mut sqnum, bytes.as_mut_slice());
+    Ok(bytes)
+}
+
+#[test]
+fn an_inode_is_set(rt: HostRuntime) -> Result<(), Fail> {
+    let inode = Inode {
+        kind: Kind::Symlink,
+        mode: 0o777,
+        uid: 1000,
+        gid: 100,
+        flags: 0,
+        nlink: 1,
+        size: 6,
+        atime: 1,
+        ctime: 2,
+        mtime: 3,
+        extra: Bytes::from_slice(rt.alloc(), b"target")?,
+    };
+    let bytes = group_bytes(rt.alloc(), &[Change::SetInode { ino: 65, inode }])?;
+    assert_eq!(rt; bytes.as_slice(), INODE.as_slice());
+    Ok(())
+}
+
+#[test]
+fn an_entry_is_set(rt: HostRuntime) -> Result<(), Fail> {
+    let entry = Entry {
+        dir: 1,
+        name: Name::from_slice(rt.alloc(), b"f")?,
+        ino: 65,
+        kind: Kind::Symlink,
+    };
+    let bytes = group_bytes(rt.alloc(), &[Change::SetEntry { entry }])?;
+    assert_eq!(rt; bytes.as_slice(), ENTRY.as_slice());
+    Ok(())
+}
+
+#[test]
+fn an_entry_goes(rt: HostRuntime) -> Result<(), Fail> {
+    let name = Name::from_slice(rt.alloc(), b"f")?;
+    let bytes = group_bytes(rt.alloc(), &[Change::DropEntry { dir: 1, name }])?;
+    assert_eq!(rt; bytes.as_slice(), DROPPED.as_slice());
+    Ok(())
+}
+
+#[test]
+fn a_block_is_set(rt: HostRuntime) -> Result<(), Fail> {
+    let bytes = Bytes::from_slice(rt.alloc(), b"abc")?;
+    let change = Change::SetBlock {
+        ino: 65,
+        block: 3,
+        bytes,
+    };
+    let bytes = group_bytes(rt.alloc(), &[change])?;
+    assert_eq!(rt; bytes.as_slice(), BLOCK.as_slice());
+    Ok(())
+}
+
+#[test]
+fn a_file_is_cut_and_an_inode_goes(rt: HostRuntime) -> Result<(), Fail> {
+    let cut = Change::CutBlocks {
+        ino: 65,
+        old_size: 10_000,
+        new_size: 4_097,
+    };
+    let bytes = group_bytes(rt.alloc(), &[cut])?;
+    assert_eq!(rt; bytes.as_slice(), TRUNCATION.as_slice());
+    let bytes = group_bytes(rt.alloc(), &[Change::DropInode { ino: 65 }])?;
+    assert_eq!(rt; bytes.as_slice(), GONE.as_slice());
+    Ok(())
+}
+
+// Group types 1, 1 and 2.
+#[test]
+fn three_changes_are_a_group(rt: HostRuntime) -> Result<(), Fail> {
+    let name = Name::from_slice(rt.alloc(), b"f")?;
+    let bytes = Bytes::from_slice(rt.alloc(), b"abc")?;
+    let changes = [
+        Change::DropEntry { dir: 1, name },
+        Change::CutBlocks {
+            ino: 65,
+            old_size: 10_000,
+            new_size: 4_097,
+        },
+        Change::SetBlock {
+            ino: 65,
+            block: 3,
+            bytes,
+        },
+    ];
+    assert_eq!(rt; group_len(&changes), 176);
+    let bytes = group_bytes(rt.alloc(), &changes)?;
+    assert_eq!(rt; bytes.as_slice(), GROUP.as_slice());
+    Ok(())
+}
+
+// Which change it is, and two of its numbers.
+fn told(read: Option<Change>) -> (u8, u32, u64) {
+    match read {
+        None => (0, 0, 0),
+        Some(Change::SetInode { ino, inode }) => (1, ino, inode.size),
+        Some(Change::SetEntry { entry }) => (2, entry.dir, entry.ino as u64),
+        Some(Change::DropEntry { dir, name }) => (3, dir, name.len() as u64),
+        Some(Change::SetBlock { ino, block, .. }) => (4, ino, block as u64),
+        Some(Change::CutBlocks { ino, new_size, .. }) => (5, ino, new_size),
+        Some(Change::DropInode { ino }) => (6, ino, 0),
+    }
+}
+
+#[test]
+fn changes_are_read(rt: HostRuntime) -> Result<(), Fail> {
+    let rows: &[(&[u8], usize, (u8, u32, u64))] = &[
+        (INODE.as_slice(), 166, (1, 65, 6)),
+        (ENTRY.as_slice(), 58, (2, 1, 65)),
+        (DROPPED.as_slice(), 58, (3, 1, 1)),
+        (BLOCK.as_slice(), 51, (4, 65, 3)),
+        (TRUNCATION.as_slice(), 56, (5, 65, 4_097)),
+        (GONE.as_slice(), 160, (6, 65, 0)),
+        (GROUP.as_slice(), 58, (3, 1, 1)),
+        (INODE.as_slice(), 168, (0, 0, 0)),
+        (BLOCK.as_slice(), 50, (0, 0, 0)),
+        (GONE.as_slice(), 20, (0, 0, 0)),
+        (b"".as_slice(), 0, (0, 0, 0)),
+    ];
+    for (text, len, wanted) in rows {
+        let (node, _) = text.split_at_checked(*len).ok_or("a node")?;
+        assert_eq!(rt; told(read_change(rt.alloc(), node)?), *wanted);
+    }
+    Ok(())
+}
+
+#[test]
+fn an_attribute_is_no_change(rt: HostRuntime) -> Result<(), Fail> {
+    let node = DentNode {
+        dir: 65,
+        inum: 66,
+        kind: 0,
+        name: Name::from_slice(rt.alloc(), b"user.a")?,
+        attribute: true,
+    };
+    let mut out = [0xff; 63];
+    node.encode(9, 0, &mut out);
+    assert_eq!(rt; told(read_change(rt.alloc(), &out)?), (0, 0, 0));
+    Ok(())
+}
+
+// An inode of this mode and so many links, with a size of 5.
+fn inode_of(alloc: Global, mode: u32, nlink: u32) -> InoNode
+    ensures { IsInoNode result × (length result.bytes ≡ 0) }
+{
+    InoNode {
+        ino: 65,
+        size: 5,
+        atime: 1,
+        ctime: 2,
+        mtime: 3,
+        nlink,
+        uid: 0,
+        gid: 0,
+        mode,
+        flags: 0,
+        xattr_cnt: 0,
+        xattr_size: 0,
+        xattr_names: 0,
+        bytes: Bytes::from_vec(Vec::new(alloc)),
+    }
+}
+
+#[test]
+fn modes_are_read(rt: HostRuntime) -> Result<(), Fail> {
+    let rows: &[(u32, u32, (u8, u32, u64))] = &[
+        (0o100644, 1, (1, 65, 5)),
+        (0o140777, 1, (1, 65, 5)),
+        (0o000644, 1, (0, 0, 0)),
+        (0o030644, 1, (0, 0, 0)),
+        (0o100644, 0, (6, 65, 0)),
+        (0o000644, 0, (6, 65, 0)),
+    ];
+    for (mode, nlink, wanted) in rows {
+        let mut out = [0xff; 160];
+        inode_of(rt.alloc(), *mode, *nlink).encode(9, 1, &mut out);
+        assert_eq!(rt; told(read_change(rt.alloc(), &out)?), *wanted);
+    }
+    Ok(())
+}
