@@ -1,0 +1,138 @@
+-- The references among the nodes of a text.
+use Rattle.std.proofs.Common.{◌≡◌, inl, inr, ℕ, ◌+◌, ◌≤◌, Bool, true, false, List, [], ◌∷◌, ◌++◌, length, Option, Some, None, IfSome, IfNone, refl, ap, sym, ◌∙◌, subst, arith, append-nil}
+use Rattle.std.specs.Prelude.{◌≢◌, if◌then◌else◌, fold, IsSome}
+use Rattle.std.proofs.lemmas.Bool.{cases_eq}
+use Rattle.std.proofs.lemmas.List.Sums.{fold-append}
+use Rattle.ubifs_base.specs.NodeLaws.{IsBytes}
+use Rattle.media_leaf.specs.LeafNode.{LeafNode, inode, block, entry, truncation, leaf_form}
+use Rattle.media_sys.specs.SystemNode.{SystemNode, padding, superblock, master, reference, index, commit_start, orphans, IsRef, IsSystemNode}
+use Rattle.media_sys.specs.declared.ref_node.RefNode.{RefNode}
+use Rattle.leb_scan.specs.Text.{AnyNode, leaf, system, StandsAt, Stand, behind, nodes_of, IsNext, IsLast, tail_at}
+use Rattle.leb_scan.specs.Gathered.{IsGathered, gathered_end}
+use Rattle.leb_scan.specs.declared.found.Found.{Found}
+use Rattle.leb_scan.specs.declared.item.Item.{Item}
+use Rattle.leb_scan.specs.declared.item.Item.TheVariants.{Node, Padding, Word}
+use Rattle.bud_log.specs.Buds.{named}
+use Rattle.bud_log.specs.LogText.{IsReferenceAt, Refer}
+use Rattle.bud_log.specs.Seen.{AreNamed}
+use Rattle.bud_log.specs.declared.head_at.HeadAt.{HeadAt}
+
+-- a node that stands at the place that it tells
+abbrev pub Stands : List ℕ → Found → Type 0
+Stands leb found = (node : AnyNode) × StandsAt leb found.offs found node
+
+placed : (leb : List ℕ) (place : ℕ) (first found : Found) (node : AnyNode) → first ≡ found → StandsAt leb place first node → Stands leb found
+placed leb place first found node same stands =
+    let P : ℕ → Type 0 = λ p. StandsAt leb p first node in
+    let Q : Found → Type 0 = λ f. Stands leb f in
+    subst Q same (node, subst P (sym stands.here) stands)
+
+pub head_of : {X : Type 0} (x y : X) (xs ys : List X) → x ∷ xs ≡ y ∷ ys → (x ≡ y) × (xs ≡ ys)
+head_of x y xs ys h = (cc, cc)
+
+-- the first of the nodes of items that stand there
+stands_first : (leb : List ℕ) (items : List Item) (place end : ℕ) (found : Found) (nodes : List Found) → Stand leb place items end → nodes_of items ≡ found ∷ nodes → Stands leb found
+stands_first leb [] place end found nodes h e = absurd cc
+stands_first leb (Word ∷ items) place end found nodes h e = stands_first leb items (behind leb place Word) end found nodes h.1 e
+stands_first leb (Node first ∷ items) place end found nodes h e = placed leb place first found h.0.node (head_of first found (nodes_of items) nodes e).0 h.0.stands
+stands_first leb (Padding first pad_len ∷ items) place end found nodes h e = placed leb place first found _ (head_of first found (nodes_of items) nodes e).0 h.0.stands
+
+-- the next node of a text stands there
+pub next_stands : (leb : List ℕ) (from to : ℕ) (found : Found) → IsNext leb from to found → Stands leb found
+next_stands leb from to found h = stands_first leb h.items from to found [] h.stand h.node
+
+below_four : (attribute : Bool) → let kind : ℕ = if attribute then 3 else 2 in kind ≤ 4
+below_four true = omega arith
+below_four false = omega arith
+
+leaf_kind : (node : LeafNode) → leaf_form.type_of node ≤ 4
+leaf_kind (inode node) = omega arith
+leaf_kind (block node) = omega arith
+leaf_kind (entry node) = below_four node.attribute
+leaf_kind (truncation node) = omega arith
+
+-- a node of the type 8 is a reference
+pub reference_there : (leb : List ℕ) (found : Found) → found.kind ≡ 8 → Stands leb found → (node : RefNode) × IsReferenceAt leb found node
+reference_there leb found kind (leaf node, h) = let k = h.kind in let l = leaf_kind node in absurd (omega (arith, k, kind, l))
+reference_there leb found kind (system (reference node), h) = (node, h.is)
+reference_there leb found kind (system (padding node), h) = let k = h.kind in absurd (omega (arith, k, kind))
+reference_there leb found kind (system (superblock node), h) = let k = h.kind in absurd (omega (arith, k, kind))
+reference_there leb found kind (system (master node), h) = let k = h.kind in absurd (omega (arith, k, kind))
+reference_there leb found kind (system (index node), h) = let k = h.kind in absurd (omega (arith, k, kind))
+reference_there leb found kind (system (commit_start node), h) = let k = h.kind in absurd (omega (arith, k, kind))
+reference_there leb found kind (system (orphans node), h) = let k = h.kind in absurd (omega (arith, k, kind))
+
+pub room_of : (leb : List ℕ) (found : Found) → Stands leb found → found.offs + found.len ≤ length leb
+room_of leb found h = h.1.room
+
+-- bytes are at most one system node
+abbrev pub OneNode : Type 0
+OneNode = (bytes : List ℕ) (s1 g1 s2 g2 : ℕ) (n1 n2 : SystemNode) → IsBytes bytes → IsSystemNode bytes s1 g1 n1 → IsSystemNode bytes s2 g2 n2 → (s1 ≡ s2) × (g1 ≡ g2) × (n1 ≡ n2)
+
+pub reference_same : (m n : RefNode) → reference m ≡ reference n → m ≡ n
+reference_same m n h = cc
+
+-- and so at most one reference
+pub only_reference : OneNode → (bytes : List ℕ) → IsBytes bytes → (o : Option RefNode) → IfSome o (λ (m : RefNode). (sqnum : ℕ) × (group : ℕ) × IsRef bytes sqnum group m)
+    → IfSome o (λ (m : RefNode). (sqnum group : ℕ) (node : RefNode) → IsRef bytes sqnum group node → m ≡ node)
+only_reference one bytes fits None read = tt
+only_reference one bytes fits (Some m) read = λ sqnum group node is. reference_same m node (one bytes read.0 read.1 sqnum group (reference m) (reference node) fits read.2 is).2
+
+-- references behind references
+pub refer_then : (leb : List ℕ) (a b : List Found) (r s : List RefNode) → Refer leb a r → Refer leb b s → Refer leb (a ++ b) (r ++ s)
+refer_then leb [] b r s h k = let P : List RefNode → Type 0 = λ x. Refer leb b (x ++ s) in subst P (sym h) k
+refer_then leb (found ∷ a) b r s (inl (other, h)) k = inl (other, refer_then leb a b r s h k)
+refer_then leb (found ∷ a) b r s (inr (kind, node, more, is, e, h)) k = inr (kind, node, more ++ s, is, ap (λ (x : List RefNode). x ++ s) e, refer_then leb a b more s h k)
+
+-- what the loop over a text keeps: the references so far, which were named
+pub record IsNamedSoFar (leb : List ℕ) (nodes : List Found) (old new : List HeadAt) : Type 0 where
+  pub references : List RefNode
+  pub refer : Refer leb nodes references
+  pub named_are : new ≡ fold named old references
+
+pub named_none : (leb : List ℕ) (old : List HeadAt) → IsNamedSoFar leb [] old old
+named_none leb old = record { references = []; refer = refl; named_are = refl }
+
+pub named_other : (leb : List ℕ) (nodes : List Found) (old new : List HeadAt) (found : Found) → found.kind ≢ 8 → IsNamedSoFar leb nodes old new → IsNamedSoFar leb (nodes ++ found ∷ []) old new
+named_other leb nodes old new found other h =
+    let P : List RefNode → Type 0 = λ x. Refer leb (nodes ++ found ∷ []) x in
+    record {
+      references = h.references ++ [];
+      refer = refer_then leb nodes (found ∷ []) h.references [] h.refer (inl (other, refl));
+      named_are = h.named_are ∙ ap (fold named old) (sym (append-nil h.references));
+    }
+
+pub named_more : (leb : List ℕ) (nodes : List Found) (old now new : List HeadAt) (found : Found) (node : RefNode) → found.kind ≡ 8 → IsReferenceAt leb found node → IsNamedSoFar leb nodes old now → new ≡ named now node
+    → IsNamedSoFar leb (nodes ++ found ∷ []) old new
+named_more leb nodes old now new found node kind is h e = record {
+  references = h.references ++ node ∷ [];
+  refer = refer_then leb nodes (found ∷ []) h.references (node ∷ []) h.refer (inr (kind, node, [], is, refl, refl));
+  named_are = e ∙ ap (λ (x : List HeadAt). named x node) h.named_are ∙ sym (fold-append named old h.references (node ∷ []));
+}
+
+-- at the end of the text
+pub named_all : (leb : List ℕ) (place end : ℕ) (nodes : List Found) (old new : List HeadAt) → IsGathered leb 0 place nodes → IsNamedSoFar leb nodes old new → IsLast leb place end (tail_at leb end) → AreNamed leb old new
+named_all leb place end nodes old new gathered h last =
+    let text = gathered_end leb 0 place end end nodes (tail_at leb end) gathered last refl refl in
+    let P : List Found → Type 0 = λ n. Refer leb n h.references in
+    record { items = text.0; offs = end; tail = tail_at leb end; is_text = text.1; references = h.references; refer = subst P text.2 h.refer; named_are = h.named_are }
+
+more_references : (leb : List ℕ) (found : Found) (nodes : List Found) → Stands leb found → (references : List RefNode) × Refer leb nodes references → (references : List RefNode) × Refer leb (found ∷ nodes) references
+more_references leb found nodes stands (rest, h) = elim (cases_eq found.kind 8) [
+  | inl kind ↦ let node = reference_there leb found kind stands in (node.0 ∷ rest, inr (kind, node.0, rest, node.1, refl, h))
+  | inr other ↦ (rest, inl (other, h))
+]
+
+-- the references of items that stand there
+pub some_references : (leb : List ℕ) (items : List Item) (place end : ℕ) → Stand leb place items end → (references : List RefNode) × Refer leb (nodes_of items) references
+some_references leb [] place end h = ([], refl)
+some_references leb (Word ∷ items) place end h = some_references leb items (behind leb place Word) end h.1
+some_references leb (Node found ∷ items) place end h =
+    more_references leb found (nodes_of items) (placed leb place found found h.0.node refl h.0.stands) (some_references leb items (behind leb place (Node found)) end h.1)
+some_references leb (Padding found pad_len ∷ items) place end h =
+    more_references leb found (nodes_of items) (placed leb place found found _ refl h.0.stands) (some_references leb items (behind leb place (Padding found pad_len)) end h.1)
+
+-- where bytes are a reference, it is found
+pub is_there : (bytes : List ℕ) (sqnum group : ℕ) (node : RefNode) (o : Option RefNode) → IsRef bytes sqnum group node → IfNone o ((s g : ℕ) (other : RefNode) → IsRef bytes s g other → ⊥) → IsSome o
+is_there bytes sqnum group node None is none = absurd (none sqnum group node is)
+is_there bytes sqnum group node (Some other) is none = refl

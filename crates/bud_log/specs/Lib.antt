@@ -1,0 +1,4 @@
+pub mod Buds
+pub mod LogText
+pub mod Log
+pub mod Seen

@@ -1,0 +1,63 @@
+-- The log: which of the ring's LEBs are read from one of them on, which buds they name, and where the log ends.
+use Rattle.std.specs.Prelude.{◌≡◌, ◌≢◌, ◌⊎◌, ℕ, ◌+◌, ◌<◌, ◌≤◌, nat_lt, if◌then◌else◌, IsTrue, IsFalse, Option, Some, None, List, [], ◌∷◌, ◌++◌}
+use Rattle.ubifs_base.specs.Areas.{lpt_first}
+use Rattle.ubifs_base.specs.declared.raw_geometry.RawGeometry.{RawGeometry}
+use Rattle.media_sys.specs.declared.ref_node.RefNode.{RefNode}
+use Rattle.bud_log.specs.Buds.{buds_of}
+use Rattle.bud_log.specs.LogText.{LogText, IsTextOf, begins_with, start_of, is_later, is_start_alone}
+use Rattle.bud_log.specs.declared.head_at.HeadAt.{HeadAt}
+use Rattle.bud_log.specs.declared.log_end.LogEnd.{LogEnd}
+use Rattle.bud_log.specs.declared.log_read.LogRead.{LogRead}
+
+-- a LEB of the log, which begins behind the masters and ends before the properties
+pub record IsLogLeb (geo : RawGeometry) (lnum : ℕ) : Type 0 where
+  pub low : 3 ≤ lnum
+  pub high : lnum < lpt_first geo
+
+-- the log LEB behind another, round the ring
+abbrev pub next_leb : RawGeometry → ℕ → ℕ
+next_leb geo lnum = if nat_lt (lnum + 1) (lpt_first geo) then lnum + 1 else 3
+
+-- from this LEB on, these texts are read, each of a LEB that begins with a greater number and isn't the first again, up to this LEB
+abbrev pub Run : (ℕ → List ℕ) → RawGeometry → ℕ → ℕ → ℕ → List LogText → ℕ → Type 0
+Run contents geo from number lnum [] past = lnum ≡ past
+Run contents geo from number lnum (text ∷ texts) past =
+    (lnum ≢ from) × IsTextOf (contents lnum) lnum text × IsTrue (is_later number (begins_with text.nodes)) × Run contents geo from number (next_leb geo lnum) texts past
+
+-- and this LEB isn't read: it is the first again, or doesn't begin with a greater number
+abbrev pub Stops : (ℕ → List ℕ) → ℕ → ℕ → ℕ → Type 0
+Stops contents from number past = (past ≡ from) ⊎ ((text : LogText) × IsTextOf (contents past) past text × IsFalse (is_later number (begins_with text.nodes)))
+
+-- the texts that are read behind the first, which begins with a commit start of this number, or with none
+abbrev pub AreFurther : (ℕ → List ℕ) → RawGeometry → ℕ → Option ℕ → List LogText → Type 0
+AreFurther contents geo from None more = more ≡ []
+AreFurther contents geo from (Some number) more = (past : ℕ) × Run contents geo from number (next_leb geo from) more past × Stops contents from number past
+
+-- the references of these texts, one text behind another
+abbrev pub references_of : List LogText → List RefNode
+references_of [] = []
+references_of (text ∷ texts) = text.references ++ references_of texts
+
+-- where the log ends: where the last text does, or the one before it where the last is a commit start alone, and not the first
+abbrev pub end_of : LogEnd → List LogText → LogEnd
+end_of first [] = first
+end_of first (text ∷ []) = if is_start_alone text.nodes then first else text.ends
+end_of first (text ∷ (other ∷ more)) = end_of text.ends (other ∷ more)
+
+-- the buds that a log names, and where it ends
+pub record Log : Type 0 where
+  pub buds : List HeadAt
+  pub ends : LogEnd
+
+-- what the log says that is read from this LEB on
+pub record IsLog (contents : ℕ → List ℕ) (geo : RawGeometry) (from : ℕ) (log : Log) : Type 0 where
+  pub first : LogText
+  pub more : List LogText
+  pub is_first : IsTextOf (contents from) from first
+  pub are_further : AreFurther contents geo from (start_of (begins_with first.nodes)) more
+  pub buds : log.buds ≡ buds_of (references_of (first ∷ more))
+  pub ends : log.ends ≡ end_of first.ends more
+
+-- a log as it was read
+abbrev pub log_of : LogRead → Log
+log_of read = record { buds = read.buds.items; ends = record { lnum = read.lnum; offs = read.offs; tail = read.tail } }

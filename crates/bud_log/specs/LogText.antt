@@ -1,0 +1,71 @@
+-- What the text of a log LEB says.
+use Rattle.std.specs.Prelude.{◌≡◌, ◌≢◌, ◌⊎◌, ℕ, ◌==◌, nat_lt, not, Bool, false, if◌then◌else◌, Option, Some, None, List, [], ◌∷◌, filter, take, drop}
+use Rattle.media_sys.specs.SystemNode.{IsRef}
+use Rattle.media_sys.specs.declared.ref_node.RefNode.{RefNode}
+use Rattle.leb_scan.specs.Text.{IsText, nodes_of}
+use Rattle.leb_scan.specs.declared.found.Found.{Found}
+use Rattle.leb_scan.specs.declared.item.Item.{Item}
+use Rattle.bud_log.specs.declared.log_end.LogEnd.{LogEnd}
+
+-- the nodes of a text, the references among them, and where and how it ends
+pub record LogText : Type 0 where
+  pub nodes : List Found
+  pub references : List RefNode
+  pub ends : LogEnd
+
+-- the bytes of this node of a LEB are this reference
+abbrev pub IsReferenceAt : List ℕ → Found → RefNode → Type 0
+IsReferenceAt leb found node = IsRef (take found.len (drop found.offs leb)) found.sqnum found.group node
+
+-- the references among these nodes of a LEB are these, in order
+abbrev pub Refer : List ℕ → List Found → List RefNode → Type 0
+Refer leb [] references = references ≡ []
+Refer leb (found ∷ nodes) references =
+    ((found.kind ≢ 8) × Refer leb nodes references)
+    ⊎ ((found.kind ≡ 8) × (node : RefNode) × (others : List RefNode) × IsReferenceAt leb found node × (references ≡ node ∷ others) × Refer leb nodes others)
+
+-- the LEB of this number has this text
+pub record IsTextOf (leb : List ℕ) (lnum : ℕ) (text : LogText) : Type 0 where
+  pub items : List Item
+  pub is_text : IsText leb 0 items text.ends.offs text.ends.tail
+  pub here : text.ends.lnum ≡ lnum
+  pub nodes : text.nodes ≡ nodes_of items
+  pub refer : Refer leb text.nodes text.references
+
+-- the first of these nodes
+abbrev pub first_of : List Found → Option Found
+first_of [] = None
+first_of (found ∷ nodes) = Some found
+
+-- if it stands at the LEB's start
+abbrev pub at_start : Option Found → Option Found
+at_start None = None
+at_start (Some found) = if found.offs == 0 then Some found else None
+
+-- the node with which a LEB of these nodes begins
+abbrev pub begins_with : List Found → Option Found
+begins_with nodes = at_start (first_of nodes)
+
+-- the number of the commit start with which a LEB begins
+abbrev pub start_of : Option Found → Option ℕ
+start_of None = None
+start_of (Some found) = if found.kind == 10 then Some found.sqnum else None
+
+-- whether a LEB begins with a node whose number is greater than this one
+abbrev pub is_later : ℕ → Option Found → Bool
+is_later number None = false
+is_later number (Some found) = nat_lt number found.sqnum
+
+-- the nodes that are no padding
+abbrev pub others : List Found → List Found
+others nodes = filter (λ (found : Found). not (found.kind == 5)) nodes
+
+-- whether these nodes are one commit start
+abbrev pub is_one_start : List Found → Bool
+is_one_start [] = false
+is_one_start (found ∷ []) = found.kind == 10
+is_one_start (found ∷ (other ∷ more)) = false
+
+-- whether a text, padding aside, is a commit start alone
+abbrev pub is_start_alone : List Found → Bool
+is_start_alone nodes = is_one_start (others nodes)

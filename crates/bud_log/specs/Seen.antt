@@ -1,0 +1,61 @@
+-- What is seen of a log LEB while the log is read.
+use Rattle.std.specs.Prelude.{◌≡◌, ℕ, IsFalse, Option, Some, None, List, fold}
+use Rattle.media_sys.specs.declared.ref_node.RefNode.{RefNode}
+use Rattle.leb_scan.specs.Text.{IsText, nodes_of}
+use Rattle.leb_scan.specs.declared.found.Found.{Found}
+use Rattle.leb_scan.specs.declared.item.Item.{Item}
+use Rattle.leb_scan.specs.declared.tail.Tail.{Tail}
+use Rattle.ubifs_base.specs.declared.raw_geometry.RawGeometry.{RawGeometry}
+use Rattle.bud_log.specs.Buds.{named}
+use Rattle.bud_log.specs.Log.{next_leb, Run, Stops, references_of, end_of}
+use Rattle.bud_log.specs.LogText.{LogText, Refer, IsTextOf, begins_with, is_later, is_start_alone}
+use Rattle.bud_log.specs.declared.head_at.HeadAt.{HeadAt}
+use Rattle.bud_log.specs.declared.log_end.LogEnd.{LogEnd}
+use Rattle.bud_log.specs.declared.seen.Seen.{Seen}
+
+-- the first node, once another is found
+abbrev pub earlier_of : Option Found → Found → Option Found
+earlier_of None found = Some found
+earlier_of (Some first) found = Some first
+
+-- with what a text begins, whether it is a commit start alone, and how it ends
+pub record IsSeen (leb : List ℕ) (seen : Seen) : Type 0 where
+  pub items : List Item
+  pub is_text : IsText leb 0 items seen.offs seen.tail
+  pub begins : seen.begins ≡ begins_with (nodes_of items)
+  pub alone : seen.alone ≡ is_start_alone (nodes_of items)
+
+-- the references of a text were named behind others
+pub record AreNamed (leb : List ℕ) (old new : List HeadAt) : Type 0 where
+  pub items : List Item
+  pub offs : ℕ
+  pub tail : Tail
+  pub is_text : IsText leb 0 items offs tail
+  pub references : List RefNode
+  pub refer : Refer leb (nodes_of items) references
+  pub named_are : new ≡ fold named old references
+
+-- both of one text
+pub record IsTaken (leb : List ℕ) (lnum : ℕ) (old new : List HeadAt) (seen : Seen) : Type 0 where
+  pub text : LogText
+  pub is_text : IsTextOf leb lnum text
+  pub begins : seen.begins ≡ begins_with text.nodes
+  pub alone : seen.alone ≡ is_start_alone text.nodes
+  pub offs : seen.offs ≡ text.ends.offs
+  pub tail : seen.tail ≡ text.ends.tail
+  pub named_are : new ≡ fold named old text.references
+
+-- a LEB that doesn't begin with a greater number
+pub record IsPassed (leb : List ℕ) (lnum number : ℕ) : Type 0 where
+  pub text : LogText
+  pub is_text : IsTextOf leb lnum text
+  pub not_later : IsFalse (is_later number (begins_with text.nodes))
+
+-- what was read behind the first LEB, which ends here
+pub record IsReadOn (contents : ℕ → List ℕ) (geo : RawGeometry) (from number : ℕ) (first : LogEnd) (old new : List HeadAt) (ends : LogEnd) : Type 0 where
+  pub more : List LogText
+  pub past : ℕ
+  pub run : Run contents geo from number (next_leb geo from) more past
+  pub stops : Stops contents from number past
+  pub named_are : new ≡ fold named old (references_of more)
+  pub ends_are : ends ≡ end_of first more

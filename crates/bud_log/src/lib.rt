@@ -1,0 +1,28 @@
+//! What does the log say: to which main LEBs, the buds, was the journal written since the last commit, and where does the
+//! log end?
+//!
+//! The log is a ring of LEBs behind the masters. A commit begins a section of it at the start of a LEB, with a commit start
+//! node, and each LEB that a journal head goes on in is named there by a reference. Reading begins where the master says and
+//! goes on round the ring, as long as a LEB begins with a node whose sequence number is greater than the first commit
+//! start's: so an older section, of which the unmapping was undone by a power cut, is never read, and one that a commit began
+//! and a cut left unfinished is. `specs/LogText.antt` says what the text of one LEB says, `specs/Buds.antt` what references
+//! name, and `specs/Log.antt` which LEBs are read and where the log ends, over any contents, so also over what a cut leaves.
+#![tactic(auto)]
+
+mod buds;
+mod head_at;
+mod laws;
+mod log_end;
+mod log_read;
+mod reading;
+mod ring;
+mod seen;
+
+pub use crate::head_at::HeadAt;
+pub use crate::laws::one_log;
+pub use crate::log_read::LogRead;
+pub use crate::reading::read_log;
+pub use crate::ring::next_leb;
+
+#[cfg(test)]
+mod tests;

@@ -1,0 +1,86 @@
+// What is seen of a log LEB at one pass.
+
+ghost use Rattle.std.specs.Prelude.{◌≡◌, ◌^◌, ◌<◌, length};
+ghost use Rattle.bud_log.specs.LogText.{at_start as at_the_start, start_of as start_number, is_later as is_later_than};
+ghost use Rattle.bud_log.specs.Seen.{IsSeen, earlier_of};
+
+use leb_scan::{Found, Scanner, Tail};
+
+const PADDING_NODE: u8 = 5;
+
+const COMMIT_START_NODE: u8 = 10;
+
+/// The node with which the LEB begins, whether its text is a commit start alone, and where and how the text ends.
+#[derive(Clone, Copy, Debug, PartialEq, Eq)]
+pub(crate) struct Seen {
+    pub begins: Option<Found>,
+    pub alone: bool,
+    pub offs: u32,
+    pub tail: Tail,
+}
+
+/// Goes over the text of a LEB.
+pub(crate) fn see(leb: &[u8]) -> Seen
+    requires { length leb.now < 2 ^ 32 }
+    ensures { IsSeen leb.now result }
+{
+    let mut first = None;
+    let mut empty = true;
+    let mut alone = false;
+    let mut scanner = Scanner::new(0);
+    while let Some(found) = scanner.next(leb) {
+        first = earlier(first, found);
+        if found.kind != PADDING_NODE {
+            alone = empty && found.kind == COMMIT_START_NODE;
+            empty = false;
+        }
+    }
+    Seen {
+        begins: at_start(first),
+        alone,
+        offs: scanner.place(),
+        tail: scanner.tail(leb),
+    }
+}
+
+// The first node, once another is found.
+fn earlier(first: Option<Found>, found: Found) -> Option<Found>
+    ensures { result ≡ earlier_of first found }
+{
+    match first {
+        Some(first) => Some(first),
+        None => Some(found),
+    }
+}
+
+// A node that stands at the start of the LEB.
+fn at_start(first: Option<Found>) -> Option<Found>
+    ensures { result ≡ at_the_start first }
+{
+    let found = first?;
+    if found.offs != 0 {
+        return None;
+    }
+    Some(found)
+}
+
+/// The sequence number of the commit start with which a LEB begins.
+pub(crate) fn start_of(begins: Option<Found>) -> Option<u64>
+    ensures { result ≡ start_number begins }
+{
+    let found = begins?;
+    if found.kind != COMMIT_START_NODE {
+        return None;
+    }
+    Some(found.sqnum)
+}
+
+/// Whether a LEB begins with a node of a greater sequence number.
+pub(crate) fn is_later(number: u64, begins: Option<Found>) -> bool
+    ensures { result ≡ is_later_than number begins }
+{
+    let Some(found) = begins else {
+        return false;
+    };
+    number < found.sqnum
+}
