@@ -20,9 +20,10 @@ use Rattle.page_cache.specs.Pages.{is_cut, cut_list}
 use Rattle.page_cache.specs.declared.dirty_page.DirtyPage.{DirtyPage}
 use Rattle.cached_files.specs.declared.kept.Kept.{Kept}
 use Rattle.cached_files.specs.Follow.{follow, followed, is_of_inode, KeepsSize}
-use Rattle.cached_files.specs.Present.{DirtyPages, with_page, covered, has_dirty, IsKept, FitsFile, FitsPages}
+use Rattle.cached_files.specs.Present.{DirtyPages, with_page, covered, has_dirty, IsKept, FitsClean, FitsFile, FitsPages}
 use Rattle.fs_laws.specs.Maps.{key_cases, set_here, set_other, removed_here, removed_other, insert_ascends, remove_ascends, filter_ascends}
 use Rattle.fs_laws.specs.Orders.{numbers, pairs}
+use Rattle.cached_files.proofs.Clean.{clean_cut}
 use Rattle.cached_files.proofs.Throughs.{set_through, remove_through, filter_insert, filter_insert_gone, set_value_here, set_value_other, WasSet, was_set}
 
 -- a change of inodes or names that leaves the kind and the size of each inode that is kept
@@ -100,6 +101,7 @@ pub record Fits (tree : Tree) (kept : Kept) : Type 0 where
   pub ends : (ino : ℕ) (inode : Inode) → lookup (is_at (nat_cmp ino)) kept.inodes ≡ Some inode → blocks_end tree.blocks ino ≤ inode.size
   pub pages : AllByRecursion (FitsPages kept.inodes) kept.pages.dirty
   pub settled : (ino : ℕ) (inode : Inode) → lookup (is_at (nat_cmp ino)) kept.inodes ≡ Some inode → has_dirty kept.pages.dirty ino ≡ false → inode_at tree ino ≡ Some inode
+  pub clean : AllByRecursion (FitsClean tree.blocks) kept.pages.clean
 
 pub fits_of : (tree : Tree) (kept : Kept) → IsKept tree kept → Fits tree kept
 fits_of tree kept is = record {
@@ -110,6 +112,7 @@ fits_of tree kept is = record {
   ends = is.ends;
   pages = is.pages;
   settled = is.settled;
+  clean = is.clean;
 }
 
 -- callers see a change that is followed
@@ -206,6 +209,7 @@ fits_follow tree kept (SetInode ino inode) fits node names = record {
   ends = λ q x found. end q x (was_set nat_cmp numbers kept.inodes ino inode q x found);
   pages = pages_set kept.inodes ino inode names kept.pages.dirty fits.pages;
   settled = λ q x found none. at q x none (was_set nat_cmp numbers kept.inodes ino inode q x found);
+  clean = fits.clean;
 }
   where
     after : Tree
@@ -241,11 +245,11 @@ fits_follow tree kept (SetInode ino inode) fits node names = record {
     at : (q : ℕ) (x : Inode) → has_dirty kept.pages.dirty q ≡ false → WasSet nat_cmp kept.inodes ino inode q x ⊎ ((q ≡ ino → ⊥) × (lookup (is_at (nat_cmp q)) kept.inodes ≡ Some x)) → inode_at after q ≡ Some x
     at q x none (inl was) = here q x was.same was.value
     at q x none (inr other) = there q other.0 ∙ fits.settled q x other.1 none
-fits_follow tree kept (SetEntry entry) fits node names = record { tree_inodes = fits.tree_inodes; tree_blocks = fits.tree_blocks; ascends = fits.ascends; inodes = λ q x found. moved q x (fits.inodes q x found); ends = fits.ends; pages = fits.pages; settled = fits.settled }
+fits_follow tree kept (SetEntry entry) fits node names = record { tree_inodes = fits.tree_inodes; tree_blocks = fits.tree_blocks; ascends = fits.ascends; inodes = λ q x found. moved q x (fits.inodes q x found); ends = fits.ends; pages = fits.pages; settled = fits.settled; clean = fits.clean }
   where
     moved : (q : ℕ) (x : Inode) → FitsFile tree q x → FitsFile (applied tree (SetEntry entry)) q x
     moved q x it = record { node = it.node; kind = it.kind; below = it.below }
-fits_follow tree kept (DropEntry dir name) fits node names = record { tree_inodes = fits.tree_inodes; tree_blocks = fits.tree_blocks; ascends = fits.ascends; inodes = λ q x found. moved q x (fits.inodes q x found); ends = fits.ends; pages = fits.pages; settled = fits.settled }
+fits_follow tree kept (DropEntry dir name) fits node names = record { tree_inodes = fits.tree_inodes; tree_blocks = fits.tree_blocks; ascends = fits.ascends; inodes = λ q x found. moved q x (fits.inodes q x found); ends = fits.ends; pages = fits.pages; settled = fits.settled; clean = fits.clean }
   where
     moved : (q : ℕ) (x : Inode) → FitsFile tree q x → FitsFile (applied tree (DropEntry dir name)) q x
     moved q x it = record { node = it.node; kind = it.kind; below = it.below }
@@ -259,6 +263,7 @@ fits_follow tree kept (DropInode ino) fits node names = record {
   ends = λ q x found. fewer_ends (λ b. not (b.0.0 == ino)) q x.size tree.blocks (fits.ends q x (left q x found).1);
   pages = subst (λ dirty. AllByRecursion (FitsPages (remove_entry (is_at (nat_cmp ino)) kept.inodes)) dirty) (sym (cut_all kept.pages.dirty ino)) (pages_cut kept.inodes ino kept.pages.dirty fits.pages);
   settled = λ q x found none. at q x (left q x found) none;
+  clean = clean_cut tree.blocks ino kept.pages.clean fits.clean;
 }
   where
     after : Tree
@@ -347,4 +352,4 @@ followed_is (change ∷ group) tree kept fits nodes names =
     }
 
 pub kept_of : (tree : Tree) (kept : Kept) → IsProper tree → Fits tree kept → IsKept tree kept
-kept_of tree kept proper fits = record { proper = proper; ascends = fits.ascends; inodes = fits.inodes; ends = fits.ends; pages = fits.pages; settled = fits.settled }
+kept_of tree kept proper fits = record { proper = proper; ascends = fits.ascends; inodes = fits.inodes; ends = fits.ends; pages = fits.pages; settled = fits.settled; clean = fits.clean }

@@ -1,14 +1,17 @@
 pub mod Alike
 pub mod Applied
 pub mod Besides
+pub mod Clean
 pub mod Counts
 pub mod Covers
 pub mod Dropping
 pub mod Ending
 pub mod Ends
+pub mod Filing
 pub mod Following
 pub mod GroupPut
 pub mod Inserts
+pub mod MakingRoom
 pub mod Nodes
 pub mod Overlays
 pub mod Putting

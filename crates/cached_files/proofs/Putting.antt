@@ -1,8 +1,8 @@
 -- What a put leaves of what callers see.
 use Rattle.std.proofs.Common.{◌≡◌, ℕ, ◌+◌, ◌-◌, ◌*◌, ◌≤◌, ◌⊎◌, inl, inr, length-append, length-drop, Bool, true, false, cond, max, ◌&&◌, List, [], ◌∷◌, ◌++◌, length, Some, refl, sym, ap, subst, ◌∙◌, arith}
-use Rattle.std.specs.Prelude.{◌==◌, IsTrue, nat_le, Option, None, fold, replicate, slice_get, drop, not, nat_lt, zero, suc}
+use Rattle.std.specs.Prelude.{◌==◌, ◌||◌, IsTrue, IsNone, is_some, nat_le, Result, Ok, Err, IfOk, OnOk, Option, None, fold, replicate, slice_get, drop, not, nat_lt, zero, suc}
 use Rattle.std.specs.List.{list_all, AllByRecursion}
-use Rattle.std.specs.Option.{option_map}
+use Rattle.std.specs.Option.{option_map, option_map_or}
 use Rattle.std.specs.Map.{lookup, remove_entry}
 use Rattle.std.specs.BTreeMap.{insert_entry, is_at}
 use Rattle.std.specs.Ordering.{nat_cmp, match_ordering}
@@ -24,18 +24,19 @@ use Rattle.fs_model.specs.Path.{is_empty}
 use Rattle.fs_model.specs.Proper.{IsProper, is_block_node, are_bytes}
 use Rattle.fs_model.specs.Same.{trimmed, before_zeros, trimmed_blocks}
 use Rattle.fs_laws.specs.Sound.{IsFilePage}
-use Rattle.page_cache.specs.Pages.{Pages, is_page, dirty_at, oldest_of, is_current, without_dirty}
+use Rattle.page_cache.specs.Pages.{Pages, AreApart, is_page, dirty_at, oldest_of, ticket_of, is_current, without_dirty}
 use Rattle.page_cache.specs.declared.dirty_page.DirtyPage.{DirtyPage}
 use Rattle.page_cache.specs.declared.ticket.Ticket.{Ticket}
 use Rattle.cached_files.specs.declared.kept.Kept.{Kept}
-use Rattle.cached_files.specs.Present.{DirtyPages, with_page, present, has_dirty, IsKept, FitsFile, FitsPages, page_of, filled, bytes_before_end}
+use Rattle.cached_files.specs.Present.{DirtyPages, with_page, present, has_dirty, IsKept, FitsClean, FitsFile, FitsPages, page_of, filled, bytes_before_end}
 use Rattle.cached_files.specs.CallLaws.{Goes-none, Goes-then, Sure-none, Sure-then}
-use Rattle.cached_files.proofs.Covers.{other_ends}
+use Rattle.cached_files.proofs.Clean.{all_found, all_removed, clean_put}
+use Rattle.cached_files.proofs.Covers.{other_ends, page_cases}
 use Rattle.cached_files.proofs.Ends.{insert_ends, insert_other_ends, filled_ends}
-use Rattle.cached_files.proofs.Inserts.{set_later, set_same}
+use Rattle.cached_files.proofs.Inserts.{insert_swap, set_later, set_same}
 use Rattle.cached_files.proofs.Reading.{kept_size}
 use Rattle.fs_laws.specs.Maps.{all_at, set_here, set_other, key_cases}
-use Rattle.fs_laws.specs.Orders.{numbers}
+use Rattle.fs_laws.specs.Orders.{numbers, pairs}
 
 -- zeros at the end are told of no bytes
 trimmed-zeros : (n : ℕ) → trimmed (replicate n 0) ≡ []
@@ -64,32 +65,62 @@ covered_alike (e ∷ dirty) a b h =
     covered_alike dirty (with_page a e) (with_page b e)
     (trimmed-insert a e.0 e.1.bytes ∙ ap (λ z. insert_entry pair_cmp z e.0 (trimmed e.1.bytes)) h ∙ sym (trimmed-insert b e.0 e.1.bytes))
 
--- what is known of the page that became dirty first
-pub record Oldest (pages : Pages) (ticket : Ticket) : Type 0 where
+-- the page of a ticket, which is dirty at the ticket's version
+pub record IsAt (pages : Pages) (ticket : Ticket) : Type 0 where
   pub page : DirtyPage
-  pub rest : DirtyPages
-  pub dirty : pages.dirty ≡ ((ticket.ino, ticket.block), page) ∷ rest
-  pub version : ticket.version ≡ page.version
+  pub found : dirty_at pages ticket.ino ticket.block ≡ Some page
 
-pub oldest_is : (pages : Pages) (ticket : Ticket) → oldest_of pages ≡ Some ticket → Oldest pages ticket
-oldest_is pages ticket h = by pages.dirty refl h
+pub at_ticket : (pages : Pages) (ticket : Ticket) → is_current pages ticket ≡ true → IsAt pages ticket
+at_ticket pages ticket h = by (dirty_at pages ticket.ino ticket.block) refl h
   where
-    by : (dirty : DirtyPages) → pages.dirty ≡ dirty → option_map {U = Ticket} (λ e. record { ino = e.0.0; block = e.0.1; version = e.1.version }) (slice_get dirty 0) ≡ Some ticket → Oldest pages ticket
-    by [] d g = absurd cc
-    by (e ∷ rest) d g =
-        let t : ticket ≡ record { ino = e.0.0; block = e.0.1; version = e.1.version } = cc g in
-        record { page = e.1; rest = rest; dirty = rw t d; version = rw t refl }
+    by : (o : Option DirtyPage) → dirty_at pages ticket.ino ticket.block ≡ o → option_map_or (λ page. page.version == ticket.version) o false ≡ true → IsAt pages ticket
+    by None found g = absurd cc
+    by (Some page) found g = record { page = page; found = found }
+
+-- the other dirty pages
+abbrev pub left_of : Pages → Ticket → DirtyPages
+left_of pages ticket = remove_entry (is_page (ticket.ino, ticket.block)) pages.dirty
 
 same_page : (a : ℕ × ℕ) → is_page a a ≡ true
 same_page a = grind (arith, nat_tests)
 
--- it is found under its name
-pub oldest_found : (pages : Pages) (ticket : Ticket) (o : Oldest pages ticket) → dirty_at pages ticket.ino ticket.block ≡ Some o.page
-oldest_found pages ticket o = rw (o.dirty, same_page (ticket.ino, ticket.block)) refl
+-- where one page is put under the others, all is as before
+page_under : (dirty : DirtyPages) (blocks : Blocks) (k : ℕ × ℕ) (page : DirtyPage) → lookup (is_page k) dirty ≡ Some page → fold with_page (insert_entry pair_cmp blocks k page.bytes) (remove_entry (is_page k) dirty) ≡ fold with_page blocks dirty
+page_under [] blocks k page found = absurd cc
+page_under (e ∷ dirty) blocks k page found = by (λ there. page_under dirty (with_page blocks e) k page there) (page_cases k e.0)
+  where
+    More : Type 0
+    More = lookup (is_page k) dirty ≡ Some page → fold with_page (insert_entry pair_cmp (with_page blocks e) k page.bytes) (remove_entry (is_page k) dirty) ≡ fold with_page (with_page blocks e) dirty
 
--- and the others stay when it goes
-pub oldest_gone : (pages : Pages) (ticket : Ticket) (o : Oldest pages ticket) → remove_entry (is_page (ticket.ino, ticket.block)) pages.dirty ≡ o.rest
-oldest_gone pages ticket o = rw (o.dirty, same_page (ticket.ino, ticket.block)) refl
+    by : More → ((k ≡ e.0) × (is_page k e.0 ≡ true)) ⊎ ((k ≡ e.0 → ⊥) × (is_page k e.0 ≡ false)) → fold with_page (insert_entry pair_cmp blocks k page.bytes) (remove_entry (is_page k) (e ∷ dirty)) ≡ fold with_page (with_page blocks e) dirty
+    by more (inl same) =
+        let one : Some e.1 ≡ Some page = rw same.1 at found in
+        let value : page ≡ e.1 = sym (cc one) in
+        rw same.1 (ap (λ (p : DirtyPage). fold with_page (insert_entry pair_cmp blocks k p.bytes) dirty) value ∙ ap (λ q. fold with_page (insert_entry pair_cmp blocks q e.1.bytes) dirty) same.0)
+    by more (inr other) =
+        rw other.1
+        (ap (λ b. fold with_page b (remove_entry (is_page k) dirty)) (insert_swap pair_cmp pairs blocks k e.0 page.bytes e.1.bytes other.0)
+        ∙ more (rw other.1 at found))
+
+-- one dirty page goes
+one_fewer : (dirty : DirtyPages) (k : ℕ × ℕ) (page : DirtyPage) → lookup (is_page k) dirty ≡ Some page → length dirty ≡ suc (length (remove_entry (is_page k) dirty))
+one_fewer [] k page found = absurd cc
+one_fewer (e ∷ dirty) k page found = by (λ there. one_fewer dirty k page there) (is_page k e.0) refl
+  where
+    by : (lookup (is_page k) dirty ≡ Some page → length dirty ≡ suc (length (remove_entry (is_page k) dirty))) → (b : Bool) → is_page k e.0 ≡ b → length (e ∷ dirty) ≡ suc (length (remove_entry (is_page k) (e ∷ dirty)))
+    by more true t = rw t refl
+    by more false t = rw t (ap suc (more (rw t at found)))
+
+-- another inode has as many
+others_dirty : (dirty : DirtyPages) (k : ℕ × ℕ) (ino : ℕ) → (k.0 == ino) ≡ false → has_dirty (remove_entry (is_page k) dirty) ino ≡ has_dirty dirty ino
+others_dirty [] k ino other = refl
+others_dirty (e ∷ dirty) k ino other = by (others_dirty dirty k ino other) (page_cases k e.0)
+  where
+    by : has_dirty (remove_entry (is_page k) dirty) ino ≡ has_dirty dirty ino → ((k ≡ e.0) × (is_page k e.0 ≡ true)) ⊎ ((k ≡ e.0 → ⊥) × (is_page k e.0 ≡ false)) → has_dirty (remove_entry (is_page k) (e ∷ dirty)) ino ≡ has_dirty (e ∷ dirty) ino
+    by more (inl same) =
+        let gone : (e.0.0 == ino) ≡ false = subst (λ q. (q.0 == ino) ≡ false) same.0 other in
+        rw (same.1, gone) refl
+    by more (inr two) = rw two.1 (ap (λ b. (e.0.0 == ino) || b) more)
 
 -- numbers that differ
 differ : (a b : ℕ) → (a ≡ b → ⊥) → (a == b) ≡ false
@@ -121,38 +152,38 @@ abbrev pub kept_after : Kept → DirtyPages → Kept
 kept_after kept rest = record kept { pages = record kept.pages { dirty = rest } }
 
 -- a page that is put, with what is known of it and of what is kept
-pub record Putting (tree : Tree) (kept : Kept) (ticket : Ticket) (o : Oldest kept.pages ticket) : Type 0 where
+pub record Putting (tree : Tree) (kept : Kept) (ticket : Ticket) (o : IsAt kept.pages ticket) : Type 0 where
   pub inode : Inode
   pub found : lookup (is_at (nat_cmp ticket.ino)) kept.inodes ≡ Some inode
   pub fits : FitsFile tree ticket.ino inode
   pub block : IsTrue (is_block_node ((ticket.ino, ticket.block), o.page.bytes))
   pub inside : 4096 * ticket.block + length o.page.bytes ≤ inode.size
-  pub others : AllByRecursion (FitsPages kept.inodes) o.rest
+  pub others : AllByRecursion (FitsPages kept.inodes) (left_of kept.pages ticket)
 
-pub putting_of : (tree : Tree) (kept : Kept) (ticket : Ticket) (o : Oldest kept.pages ticket) → IsKept tree kept → Putting tree kept ticket o
+pub putting_of : (tree : Tree) (kept : Kept) (ticket : Ticket) (o : IsAt kept.pages ticket) → IsKept tree kept → Putting tree kept ticket o
 putting_of tree kept ticket o is =
-    let P : DirtyPages → Type 0 = λ dirty. AllByRecursion (FitsPages kept.inodes) dirty in
-    let all = subst P o.dirty is.pages in
+    let one = all_found (FitsPages kept.inodes) (ticket.ino, ticket.block) o.page kept.pages.dirty is.pages o.found in
     record {
-      inode = all.0.0;
-      found = all.0.1;
-      fits = is.inodes ticket.ino all.0.0 all.0.1;
-      block = all.0.2;
-      inside = all.0.3;
-      others = all.1;
+      inode = one.0;
+      found = one.1;
+      fits = is.inodes ticket.ino one.0 one.1;
+      block = one.2;
+      inside = one.3;
+      others = all_removed (FitsPages kept.inodes) (is_page (ticket.ino, ticket.block)) kept.pages.dirty is.pages;
     }
 
 -- what is kept fits the tree after the put
-pub kept_still : (tree : Tree) (kept : Kept) (ticket : Ticket) (o : Oldest kept.pages ticket) (p : Putting tree kept ticket o) → IsKept tree kept
+pub kept_still : (tree : Tree) (kept : Kept) (ticket : Ticket) (o : IsAt kept.pages ticket) (p : Putting tree kept ticket o) → IsKept tree kept → AreApart kept.pages.dirty kept.pages.clean
     → IsProper (apply tree (page_group (page_of ((ticket.ino, ticket.block), o.page) p.inode)))
-    → IsKept (apply tree (page_group (page_of ((ticket.ino, ticket.block), o.page) p.inode))) (kept_after kept o.rest)
-kept_still tree kept ticket o p is proper = record {
+    → IsKept (apply tree (page_group (page_of ((ticket.ino, ticket.block), o.page) p.inode))) (kept_after kept (left_of kept.pages ticket))
+kept_still tree kept ticket o p is apart proper = record {
   proper = proper;
   ascends = is.ascends;
   inodes = λ ino inode found. fits_still ino inode found (key_cases nat_cmp numbers ino ticket.ino);
   ends = λ ino inode found. ends_still ino inode found;
   pages = p.others;
   settled = λ ino inode found none. settled_still ino inode found none (key_cases nat_cmp numbers ino ticket.ino);
+  clean = clean_still;
 }
   where
     after : Tree
@@ -177,11 +208,23 @@ kept_still tree kept ticket o p is proper = record {
         let alike : p.inode ≡ inode = cc one in
         subst (λ i. 4096 * ticket.block + length page.bytes ≤ i.size) alike (filled_ends o.page.bytes ticket.block p.inode.size p.inside)))
 
-    settled_still : (ino : ℕ) (inode : Inode) → lookup (is_at (nat_cmp ino)) kept.inodes ≡ Some inode → has_dirty o.rest ino ≡ false → (ino ≡ ticket.ino) ⊎ (ino ≡ ticket.ino → ⊥) → inode_at after ino ≡ Some inode
+    settled_still : (ino : ℕ) (inode : Inode) → lookup (is_at (nat_cmp ino)) kept.inodes ≡ Some inode → has_dirty (left_of kept.pages ticket) ino ≡ false → (ino ≡ ticket.ino) ⊎ (ino ≡ ticket.ino → ⊥) → inode_at after ino ≡ Some inode
     settled_still ino inode found none (inl same) = here ino inode found same
     settled_still ino inode found none (inr other) =
-        let none_before : has_dirty kept.pages.dirty ino ≡ false = rw (o.dirty, differ ticket.ino ino (λ e. other (sym e))) none in
+        let none_before : has_dirty kept.pages.dirty ino ≡ false = sym (others_dirty kept.pages.dirty (ticket.ino, ticket.block) ino (differ ticket.ino ino (λ e. other (sym e)))) ∙ none in
         there ino other ∙ is.settled ino inode found none_before
+
+    clean_still : AllByRecursion (FitsClean after.blocks) kept.pages.clean
+    clean_still =
+        let page = page_of ((ticket.ino, ticket.block), o.page) p.inode in
+        let t = ap (λ q. q.blocks) (put_tree tree page p.fits.below.0 is.proper p.fits.below.1) in
+        let P : Blocks → Type 0 = λ blocks. AllByRecursion (FitsClean blocks) kept.pages.clean in
+        let none : lookup (is_page (ticket.ino, ticket.block)) kept.pages.clean ≡ None = absent (lookup (is_page (ticket.ino, ticket.block)) kept.pages.clean) (apart ticket.ino ticket.block (ap is_some o.found)) in
+        subst P (sym t) (clean_put tree.blocks (ticket.ino, ticket.block) page.bytes kept.pages.clean none is.clean)
+      where
+        absent : (found : Option (List ℕ)) → IsNone found → found ≡ None
+        absent None none = refl
+        absent (Some bytes) none = absurd cc
 
     fits_still : (ino : ℕ) (inode : Inode) → lookup (is_at (nat_cmp ino)) kept.inodes ≡ Some inode → (ino ≡ ticket.ino) ⊎ (ino ≡ ticket.ino → ⊥) → FitsFile after ino inode
     fits_still ino inode found (inl same) =
@@ -207,45 +250,74 @@ sizes_after tree after kept rest is still same others ino inode seen = by (looku
         ap (λ n. max inode.size n) (a ∙ sym (others ino none) ∙ sym b)
 
 -- callers see the same after the put
-pub same_after : (tree : Tree) (kept : Kept) (ticket : Ticket) (o : Oldest kept.pages ticket) (p : Putting tree kept ticket o) → IsKept tree kept → IsKept (apply tree (page_group (page_of ((ticket.ino, ticket.block), o.page) p.inode))) (kept_after kept o.rest)
-    → IsAlike (present tree kept) (present (apply tree (page_group (page_of ((ticket.ino, ticket.block), o.page) p.inode))) (kept_after kept o.rest))
+pub same_after : (tree : Tree) (kept : Kept) (ticket : Ticket) (o : IsAt kept.pages ticket) (p : Putting tree kept ticket o) → IsKept tree kept → IsKept (apply tree (page_group (page_of ((ticket.ino, ticket.block), o.page) p.inode))) (kept_after kept (left_of kept.pages ticket))
+    → IsAlike (present tree kept) (present (apply tree (page_group (page_of ((ticket.ino, ticket.block), o.page) p.inode))) (kept_after kept (left_of kept.pages ticket)))
 same_after tree kept ticket o p is still =
     let page = page_of ((ticket.ino, ticket.block), o.page) p.inode in
     let len = bytes_before_end p.inode.size ticket.block in
     let t = put_tree tree page p.fits.below.0 is.proper p.fits.below.1 in
-    let P : Tree → Type 0 = λ after. IsKept after (kept_after kept o.rest) → IsAlike (present tree kept) (present after (kept_after kept o.rest)) in
+    let P : Tree → Type 0 = λ after. IsKept after (kept_after kept (left_of kept.pages ticket)) → IsAlike (present tree kept) (present after (kept_after kept (left_of kept.pages ticket))) in
     let inodes = sym (set_later nat_cmp numbers kept.inodes tree.inodes ticket.ino p.inode is.ascends p.found) in
     let put : Tree = record tree { inodes = insert_entry nat_cmp tree.inodes ticket.ino p.inode; blocks = with_block tree.blocks ticket.ino ticket.block page.bytes } in
     subst P (sym t)
     (λ fits. record {
       inodes = inodes;
-      blocks = rw o.dirty (covered_alike o.rest (insert_entry pair_cmp tree.blocks (ticket.ino, ticket.block) o.page.bytes) (insert_entry pair_cmp tree.blocks (ticket.ino, ticket.block) (filled o.page.bytes len))
+      blocks = ap trimmed_blocks (sym (page_under kept.pages.dirty tree.blocks (ticket.ino, ticket.block) o.page o.found)) ∙ covered_alike (left_of kept.pages ticket) (insert_entry pair_cmp tree.blocks (ticket.ino, ticket.block) o.page.bytes) (insert_entry pair_cmp tree.blocks (ticket.ino, ticket.block) (filled o.page.bytes len))
           (trimmed-insert tree.blocks (ticket.ino, ticket.block) o.page.bytes
           ∙ ap (λ z. insert_entry pair_cmp (trimmed_blocks tree.blocks) (ticket.ino, ticket.block) z) (sym (trimmed-filled o.page.bytes (len - length o.page.bytes)))
-          ∙ sym (trimmed-insert tree.blocks (ticket.ino, ticket.block) (filled o.page.bytes len))));
+          ∙ sym (trimmed-insert tree.blocks (ticket.ino, ticket.block) (filled o.page.bytes len)));
       entries = refl;
       highest = refl;
       handles = refl;
-      sizes = sizes_after tree put kept o.rest is fits inodes (λ ino none. insert_other_ends tree.blocks (ticket.ino, ticket.block) page.bytes ino (λ e. other ino none e));
+      sizes = sizes_after tree put kept (left_of kept.pages ticket) is fits inodes (λ ino none. insert_other_ends tree.blocks (ticket.ino, ticket.block) page.bytes ino (λ e. other ino none e));
     })
     still
   where
     other : (ino : ℕ) → lookup (is_at (nat_cmp ino)) kept.inodes ≡ None → ticket.ino ≡ ino → ⊥
     other ino none e = let some : lookup (is_at (nat_cmp ino)) kept.inodes ≡ Some p.inode = ap (λ n. lookup (is_at (nat_cmp n)) kept.inodes) (sym e) ∙ p.found in absurd cc
 
--- its ticket is current
-pub current_oldest : (pages : Pages) (ticket : Ticket) (o : Oldest pages ticket) → is_current pages ticket ≡ true
-current_oldest pages ticket o = rw (oldest_found pages ticket o, o.version) (same_number o.page.version)
+-- what marking it clean leaves
+pub cleaned : (pages new : Pages) (ticket : Ticket) (result : Bool) → is_current pages ticket ≡ true → result ≡ is_current pages ticket → new ≡ cond result (without_dirty pages ticket.ino ticket.block) pages → new ≡ without_dirty pages ticket.ino ticket.block
+cleaned pages new ticket result current r n = let t : result ≡ true = r ∙ current in rw t at n
+
+-- what is known of the page that became dirty first
+pub record Oldest (pages : Pages) (ticket : Ticket) : Type 0 where
+  pub some : nat_lt 0 (length pages.dirty) ≡ true
+  pub current : is_current pages ticket ≡ true
+  pub left : left_of pages ticket ≡ drop 1 pages.dirty
+
+pub oldest_is : (pages : Pages) (ticket : Ticket) → oldest_of pages ≡ Some ticket → Oldest pages ticket
+oldest_is pages ticket h = by pages.dirty h
   where
     same_number : (n : ℕ) → (n == n) ≡ true
     same_number n = grind (arith, nat_tests)
 
--- what marking it clean leaves
-pub cleaned : (pages new : Pages) (ticket : Ticket) (o : Oldest pages ticket) (result : Bool) → result ≡ is_current pages ticket → new ≡ cond result (without_dirty pages ticket.ino ticket.block) pages → new ≡ record pages { dirty = o.rest }
-cleaned pages new ticket o result r n =
-    let t : result ≡ true = r ∙ current_oldest pages ticket o in
-    let m : new ≡ without_dirty pages ticket.ino ticket.block = rw t at n in
-    m ∙ ap (λ dirty. record pages { dirty = dirty }) (oldest_gone pages ticket o)
+    some_there : (rest : DirtyPages) → nat_lt 0 (suc (length rest)) ≡ true
+    some_there rest = grind (arith, nat_tests)
+
+    Told : DirtyPages → Ticket → Type 0
+    Told dirty t = (nat_lt 0 (length dirty) ≡ true) × (option_map_or (λ (page : DirtyPage). page.version == t.version) (lookup (is_page (t.ino, t.block)) dirty) false ≡ true) × (remove_entry (is_page (t.ino, t.block)) dirty ≡ drop 1 dirty)
+
+    told : (dirty : DirtyPages) → option_map ticket_of (slice_get dirty 0) ≡ Some ticket → Told dirty ticket
+    told [] g = absurd cc
+    told (e ∷ rest) g =
+        let t : ticket_of e ≡ ticket = cc g in
+        subst (Told (e ∷ rest)) t (some_there rest, rw (same_page e.0) (same_number e.1.version), rw (same_page e.0) refl)
+
+    by : (dirty : DirtyPages) → option_map ticket_of (slice_get pages.dirty 0) ≡ Some ticket → Oldest pages ticket
+    by dirty g = let it = told pages.dirty g in record { some = it.0; current = it.1; left = it.2 }
+
+-- what was put is the page that became dirty first
+pub oldest_put : {E : Type 0} (r : Result Bool E) (pages new : Pages) (ticket : Ticket) → oldest_of pages ≡ Some ticket → IfOk r (λ put. put ≡ is_current pages ticket) → IfOk r (λ put. put ≡ nat_lt 0 (length pages.dirty))
+oldest_put (Err e) pages new ticket h told = tt
+oldest_put (Ok put) pages new ticket h told = let o = oldest_is pages ticket h in told ∙ o.current ∙ sym o.some
+
+pub oldest_left : {E : Type 0} (r : Result Bool E) (pages new : Pages) (ticket : Ticket) → oldest_of pages ≡ Some ticket → IfOk r (λ put. put ≡ is_current pages ticket) → IfOk r (λ put. new ≡ cond put (without_dirty pages ticket.ino ticket.block) pages) → OnOk r (new.dirty ≡ drop 1 pages.dirty)
+oldest_left (Err e) pages new ticket h told is = tt
+oldest_left (Ok put) pages new ticket h told is =
+    let o = oldest_is pages ticket h in
+    let t : put ≡ true = told ∙ o.current in
+    ap (λ (p : Pages). p.dirty) (rw t at is) ∙ o.left
 
 -- no page is dirty
 pub none_dirty : (pages : Pages) → oldest_of pages ≡ None → false ≡ nat_lt 0 (length pages.dirty)
@@ -259,23 +331,21 @@ none_dirty pages h = by pages.dirty h
 pub record AfterPut (old new : BackingState) (kept after : Kept) : Type 0 where
   pub fits : IsKept new.tree after
   pub same : IsAlike (present old.tree kept) (present new.tree after)
-  pub pages : after.pages.dirty ≡ drop 1 kept.pages.dirty
   pub paid : length kept.pages.dirty ≤ old.space.credits → length after.pages.dirty ≤ new.space.credits
   pub issued : new.space.credits + length kept.pages.dirty ≡ old.space.credits + length after.pages.dirty
 
-pub after_put : (old new : BackingState) (kept : Kept) (pages : Pages) (ticket : Ticket) (page : PageNode) (o : Oldest kept.pages ticket) (p : Putting old.tree kept ticket o) → IsKept old.tree kept
-    → page ≡ page_of ((ticket.ino, ticket.block), o.page) p.inode → IsPagePut old new page → IsProper (apply old.tree (page_group page)) → pages ≡ record kept.pages { dirty = o.rest }
+pub after_put : (old new : BackingState) (kept : Kept) (pages : Pages) (ticket : Ticket) (page : PageNode) (o : IsAt kept.pages ticket) (p : Putting old.tree kept ticket o) → IsKept old.tree kept → AreApart kept.pages.dirty kept.pages.clean
+    → page ≡ page_of ((ticket.ino, ticket.block), o.page) p.inode → IsPagePut old new page → IsProper (apply old.tree (page_group page)) → pages ≡ without_dirty kept.pages ticket.ino ticket.block
     → AfterPut old new kept (record kept { pages = pages })
-after_put old new kept pages ticket page o p is shown put proper left =
+after_put old new kept pages ticket page o p is apart shown put proper left =
     let made = page_of ((ticket.ino, ticket.block), o.page) p.inode in
     let t : new.tree ≡ apply old.tree (page_group made) = put.tree ∙ ap (λ q. apply old.tree (page_group q)) shown in
     let whole : IsProper (apply old.tree (page_group made)) = subst (λ q. IsProper (apply old.tree (page_group q))) shown proper in
-    let k : IsKept new.tree (kept_after kept o.rest) = subst (λ tree. IsKept tree (kept_after kept o.rest)) (sym t) (kept_still old.tree kept ticket o p is whole) in
-    let s : IsAlike (present old.tree kept) (present new.tree (kept_after kept o.rest)) = subst (λ tree. IsAlike (present old.tree kept) (present tree (kept_after kept o.rest))) (sym t) (same_after old.tree kept ticket o p is (kept_still old.tree kept ticket o p is whole)) in
-    let d : o.rest ≡ drop 1 kept.pages.dirty = rw o.dirty refl in
-    let n : length kept.pages.dirty ≡ suc (length o.rest) = ap (λ dirty. length dirty) o.dirty in
+    let k : IsKept new.tree (kept_after kept (left_of kept.pages ticket)) = subst (λ tree. IsKept tree (kept_after kept (left_of kept.pages ticket))) (sym t) (kept_still old.tree kept ticket o p is apart whole) in
+    let s : IsAlike (present old.tree kept) (present new.tree (kept_after kept (left_of kept.pages ticket))) = subst (λ tree. IsAlike (present old.tree kept) (present tree (kept_after kept (left_of kept.pages ticket)))) (sym t) (same_after old.tree kept ticket o p is (kept_still old.tree kept ticket o p is apart whole)) in
+    let n : length kept.pages.dirty ≡ suc (length (left_of kept.pages ticket)) = one_fewer kept.pages.dirty (ticket.ino, ticket.block) o.page o.found in
     let spent = put.credits in
-    let whole_after : AfterPut old new kept (kept_after kept o.rest) = record { fits = k; same = s; pages = d; paid = λ le. omega (arith, le, n, spent); issued = omega (arith, n, spent) } in
+    let whole_after : AfterPut old new kept (kept_after kept (left_of kept.pages ticket)) = record { fits = k; same = s; paid = λ le. omega (arith, le, n, spent); issued = omega (arith, n, spent) } in
     subst (λ q. AfterPut old new kept (record kept { pages = q })) (sym left) whole_after
 
 filled_length : (bytes : List ℕ) (len : ℕ) → length bytes ≤ 4096 → len ≤ 4096 → length (filled bytes len) ≤ 4096
@@ -330,6 +400,7 @@ let_go_still tree kept is none = record {
   ends = λ ino inode found. absurd cc;
   pages = rw none tt;
   settled = λ ino inode found no. absurd cc;
+  clean = is.clean;
 }
 
 pub same-then : (a b c : Files) → IsAlike a b → IsAlike b c → IsAlike a c
@@ -384,7 +455,7 @@ none_left [] n h z = refl
 none_left (e ∷ dirty) n h z = absurd (omega (arith, h, z))
 
 -- the page is one that fits its file
-pub is_file_page : (tree : Tree) (kept : Kept) (ticket : Ticket) (page : PageNode) (o : Oldest kept.pages ticket) (p : Putting tree kept ticket o) → page ≡ page_of ((ticket.ino, ticket.block), o.page) p.inode → IsFilePage tree page
+pub is_file_page : (tree : Tree) (kept : Kept) (ticket : Ticket) (page : PageNode) (o : IsAt kept.pages ticket) (p : Putting tree kept ticket o) → page ≡ page_of ((ticket.ino, ticket.block), o.page) p.inode → IsFilePage tree page
 is_file_page tree kept ticket page o p shown = subst (λ q. IsFilePage tree q) (sym shown) record {
   file = rw (p.fits.below.1, p.fits.below.2) refl;
   kind = λ old found. p.fits.kind ∙ sym (kind_of old found);

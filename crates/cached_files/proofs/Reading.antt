@@ -1,12 +1,13 @@
 -- What is read of the files that callers see.
-use Rattle.std.proofs.Common.{◌≡◌, ℕ, zero, suc, ◌+◌, ◌-◌, ◌/◌, ◌%◌, ◌<◌, ◌≤◌, List, [], ◌∷◌, ◌++◌, length, take, drop, get_or, map, min, max, Option, Some, None, refl, sym, ap, ◌∙◌, arith, length-append, take_all, inl, inr, true}
-use Rattle.std.specs.Prelude.{replicate, Result, Ok, Err, IfOk, OnOk, unwrap_or}
+use Rattle.std.proofs.Common.{◌≡◌, ℕ, zero, suc, ◌+◌, ◌-◌, ◌/◌, ◌%◌, ◌<◌, ◌≤◌, List, [], ◌∷◌, ◌++◌, length, take, drop, get_or, map, min, max, Option, Some, None, refl, sym, ap, ◌∙◌, arith, length-append, append-nil, append_assoc, take_all, inl, inr, true}
+use Rattle.std.specs.Prelude.{◌⊎◌, false, is_some, replicate, Result, Ok, Err, IfOk, OnOk, unwrap_or}
+use Rattle.std.specs.Option.{option_map_or}
 use Rattle.std.specs.List.{list_all, range_with_len, IsDistinct}
 use Rattle.std.specs.Map.{lookup, keys_of}
 use Rattle.std.specs.BTreeMap.{is_at}
 use Rattle.std.specs.Ordering.{nat_cmp}
 use Rattle.std.proofs.lemmas.Bool.{cases_lt}
-use Rattle.std.proofs.lemmas.List.{length-replicate, get_or_append_left, get_or-append_right, get_or-replicate, get_or_past}
+use Rattle.std.proofs.lemmas.List.{get_or_past}
 use Rattle.std.proofs.Math.Seq.{drop-cons}
 use Rattle.std.proofs.lemmas.List.FromFn.{length-map-range_with_len}
 use Rattle.fs_model.specs.declared.inode.Inode.{Inode}
@@ -14,10 +15,11 @@ use Rattle.fs_model.specs.Backing.{BackingState, Outlook, Goes, Reads}
 use Rattle.fs_model.specs.Files.{Tree, Blocks, inode_at, pair_cmp, block_at, blocks_end, byte_at, bytes_from, piece_of, size_of}
 use Rattle.fs_model.specs.Proper.{is_block_node}
 use Rattle.page_cache.specs.declared.dirty_page.DirtyPage.{DirtyPage}
-use Rattle.page_cache.specs.Pages.{is_page, dirty_at}
+use Rattle.page_cache.specs.Pages.{is_page, bytes_at, clean_at, dirty_at}
 use Rattle.cached_files.specs.declared.kept.Kept.{Kept}
 use Rattle.cached_files.specs.Calls.{SureGoes}
-use Rattle.cached_files.specs.Present.{present, filled, IsKept}
+use Rattle.cached_files.specs.Present.{present, filled, IsKept, IsSameButClean, FitsClean}
+use Rattle.cached_files.proofs.Clean.{all_found, Same-then}
 use Rattle.cached_files.proofs.Covers.{present_inode, found_covered, covered_nodes, covered_ends, other_ends}
 use Rattle.cached_files.proofs.Ends.{stored_short, low_block}
 use Rattle.cached_files.specs.CallLaws.{Goes-none, Goes-then, Sure-none, Sure-then}
@@ -121,32 +123,105 @@ map_range-same f g a b (suc n) h =
     let sa : a + 1 + k ≡ a + suc k = omega arith in let sb : b + 1 + k ≡ b + suc k = omega arith in ap f sa ∙ h (suc k) (omega arith) ∙ ap g (sym sb) in
     rw (first, map_range-same f g (a + 1) (b + 1) n more) refl
 
-filled_same : (block : List ℕ) (len k : ℕ) → get_or (filled block len) k 0 ≡ get_or block k 0
-filled_same block len k = elim (cases_lt k (length block)) [
-  | inl h ↦ get_or_append_left block (replicate (len - length block) 0) 0 k h
-  | inr h ↦ get_or-append_right block (replicate (len - length block) 0) (length block) k 0 refl h ∙ zeros (len - length block) (k - length block) ∙ sym (get_or_past block k 0 h)
+zeros_past : (xs : List ℕ) (from n : ℕ) → length xs ≤ from → replicate n 0 ≡ piece_of xs from n
+zeros_past xs from zero h = refl
+zeros_past xs from (suc n) h = rw (get_or_past xs from 0 h) (ap (λ zs. 0 ∷ zs) (zeros_past xs (from + 1) n (omega (arith, h))))
+
+-- a part of a list, and zeros past its end
+pub piece_is : (xs : List ℕ) (from count : ℕ) → take (min (from + count) (length xs) - min from (length xs)) (drop (min from (length xs)) xs) ++ replicate (count - (min (from + count) (length xs) - min from (length xs))) 0 ≡ piece_of xs from count
+piece_is xs from count = elim (cases_lt from (length xs)) [
+  | inl inside ↦
+      let n = min (from + count) (length xs) - from in
+      let first : min from (length xs) ≡ from = omega (arith, inside) in
+      let within : from + n ≤ length xs = omega (arith, inside) in
+      let all : n + (count - n) ≡ count = omega (arith, inside) in
+      rw first (ap (λ ys. ys ++ replicate (count - n) 0) (take_piece xs from n within) ∙ ap (λ zs. piece_of xs from n ++ zs) (rest n (count - n) (ends (cases_lt (length xs) (from + count)) inside)) ∙ sym (map_range-append (λ k. get_or xs k 0) from n (count - n)) ∙ ap (piece_of xs from) all)
+  | inr past ↦
+      let none : min (from + count) (length xs) - min from (length xs) ≡ 0 = omega (arith, past) in
+      let all : count - 0 ≡ count = omega arith in
+      rw (none, all) (zeros_past xs from count past)
 ]
   where
-    zeros : (n j : ℕ) → get_or {A = ℕ} (replicate n 0) j 0 ≡ 0
-    zeros n j = elim (cases_lt j n) [
-      | inl h ↦ get_or-replicate n j 0 0 h
-      | inr h ↦ get_or_past (replicate n 0) j 0 (let m = length-replicate {A = ℕ} n 0 in omega (arith, m, h))
-    ]
+    ends : (length xs < from + count) ⊎ (from + count ≤ length xs) → from < length xs → (count - (min (from + count) (length xs) - from) ≡ 0) ⊎ (length xs ≤ from + (min (from + count) (length xs) - from))
+    ends (inl long) inside = inr (omega (arith, long, inside))
+    ends (inr short) inside = inl (omega (arith, short, inside))
 
--- a part of a page that is filled up is what is read there
-pub page_part : (blocks : Blocks) (ino place count : ℕ) (page : List ℕ) → page ≡ filled (block_at blocks ino (place / 4096)) 4096 → length (block_at blocks ino (place / 4096)) ≤ 4096 → place % 4096 + count ≤ 4096
-    → take count (drop (place % 4096) page) ≡ bytes_from blocks ino place count
-page_part blocks ino place count page is short fits =
+    rest : (n m : ℕ) → (m ≡ 0) ⊎ (length xs ≤ from + n) → replicate m 0 ≡ piece_of xs (from + n) m
+    rest n m (inl none) = rw none refl
+    rest n m (inr past) = zeros_past xs (from + n) m past
+
+-- that is what is appended
+pub piece_pushed : (out mid bytes new : List ℕ) (from count start end len have : ℕ) → mid ≡ out ++ take (end - start) (drop start bytes) → start ≡ min from (length bytes) → end ≡ min (from + count) (length bytes) → have ≡ length mid → len ≡ have
+    → new ≡ take (len + (count - (end - start))) mid ++ replicate (len + (count - (end - start)) - have) 0 → new ≡ out ++ piece_of bytes from count
+piece_pushed out mid bytes new from count start end len have pushed first last all same is =
+    let more = count - (end - start) in
+    let zeros : len + more - have ≡ more = omega (arith, same) in
+    let parts : ℕ → ℕ → List ℕ = λ s e. out ++ (take (e - s) (drop s bytes) ++ replicate (count - (e - s)) 0) in
+    is ∙ ap (λ xs. xs ++ replicate (len + more - have) 0) (take_all (len + more) mid (omega (arith, all, same))) ∙ ap (λ n. mid ++ replicate n 0) zeros ∙ ap (λ xs. xs ++ replicate more 0) pushed
+    ∙ append_assoc out (take (end - start) (drop start bytes)) (replicate more 0) ∙ ap (λ s. parts s end) first ∙ ap (λ e. parts (min from (length bytes)) e) last ∙ ap (λ xs. out ++ xs) (piece_is bytes from count)
+
+-- a part of a page is what is read there
+pub page_part : (blocks : Blocks) (ino place count : ℕ) → place % 4096 + count ≤ 4096 → piece_of (block_at blocks ino (place / 4096)) (place % 4096) count ≡ bytes_from blocks ino place count
+page_part blocks ino place count fits =
     let block = block_at blocks ino (place / 4096) in
-    let n = length-append block (replicate (4096 - length block) 0) in
-    let m = length-replicate {A = ℕ} (4096 - length block) 0 in
-    let whole : length page ≡ 4096 = ap (λ xs. length xs) is ∙ omega (arith, n, m, short) in
-    take_piece page (place % 4096) count (omega (arith, fits, whole))
-    ∙ sym (map_range-same (byte_at blocks ino) (λ k. get_or page k 0) place (place % 4096) count
+    sym (map_range-same (byte_at blocks ino) (λ k. get_or block k 0) place (place % 4096) count
     (λ k below.
     let number : (place + k) / 4096 ≡ place / 4096 = omega (arith, below, fits) in
     let at : (place + k) % 4096 ≡ place % 4096 + k = omega (arith, below, fits) in
-    rw (number, at) (sym (ap (λ xs. get_or xs (place % 4096 + k) 0) is ∙ filled_same block 4096 (place % 4096 + k)))))
+    rw (number, at) refl))
+
+-- what is kept of a page is what is seen
+pub seen_at : (tree : Tree) (kept : Kept) (ino block : ℕ) (bytes : List ℕ) → IsKept tree kept → IsDistinct is_page (keys_of kept.pages.dirty) → bytes_at kept.pages ino block ≡ Some bytes → block_at (seen tree kept) ino block ≡ bytes
+seen_at tree kept ino block bytes is once found = by (dirty_at kept.pages ino block) refl found
+  where
+    by : (o : Option DirtyPage) → dirty_at kept.pages ino block ≡ o → option_map_or (λ page. Some page.bytes) o (clean_at kept.pages ino block) ≡ Some bytes → block_at (seen tree kept) ino block ≡ bytes
+    by (Some page) there h =
+        let one : page.bytes ≡ bytes = cc h in
+        seen_page tree kept ino block page once there ∙ one
+    by None there h = seen_block tree kept ino block once there ∙ sym (all_found (FitsClean tree.blocks) (ino, block) bytes kept.pages.clean is.clean h)
+
+-- and where none is kept, the tree's block
+pub seen_stored : (tree : Tree) (kept : Kept) (ino block : ℕ) → IsDistinct is_page (keys_of kept.pages.dirty) → bytes_at kept.pages ino block ≡ None → block_at (seen tree kept) ino block ≡ block_at tree.blocks ino block
+seen_stored tree kept ino block once found = by (dirty_at kept.pages ino block) refl found
+  where
+    by : (o : Option DirtyPage) → dirty_at kept.pages ino block ≡ o → option_map_or (λ page. Some page.bytes) o (clean_at kept.pages ino block) ≡ None → block_at (seen tree kept) ino block ≡ block_at tree.blocks ino block
+    by (Some page) there h = absurd cc
+    by None there h = seen_block tree kept ino block once there
+
+-- a part of a page that is kept
+pub kept_part : (tree : Tree) (kept : Kept) (ino place count : ℕ) (out : List ℕ) → IsKept tree kept → IsDistinct is_page (keys_of kept.pages.dirty) → place % 4096 + count ≤ 4096 → is_some (bytes_at kept.pages ino (place / 4096)) ≡ true
+    → out ++ option_map_or (λ bytes. piece_of bytes (place % 4096) count) (bytes_at kept.pages ino (place / 4096)) [] ≡ out ++ bytes_from (seen tree kept) ino place count
+kept_part tree kept ino place count out is once fits some = by (bytes_at kept.pages ino (place / 4096)) refl some
+  where
+    by : (o : Option (List ℕ)) → bytes_at kept.pages ino (place / 4096) ≡ o → is_some o ≡ true → out ++ option_map_or (λ bytes. piece_of bytes (place % 4096) count) o [] ≡ out ++ bytes_from (seen tree kept) ino place count
+    by None h t = absurd cc
+    by (Some bytes) h t =
+        ap (λ (block : List ℕ). out ++ piece_of block (place % 4096) count) (sym (seen_at tree kept ino (place / 4096) bytes is once h)) ∙ ap (λ part. out ++ part) (page_part (seen tree kept) ino place count fits)
+
+-- and of one that isn't
+pub stored_part : (tree : Tree) (kept : Kept) (ino place count : ℕ) (out mid new : List ℕ) → IsDistinct is_page (keys_of kept.pages.dirty) → place % 4096 + count ≤ 4096 → is_some (bytes_at kept.pages ino (place / 4096)) ≡ false
+    → mid ≡ out ++ option_map_or (λ bytes. piece_of bytes (place % 4096) count) (bytes_at kept.pages ino (place / 4096)) [] → new ≡ mid ++ piece_of (block_at tree.blocks ino (place / 4096)) (place % 4096) count
+    → new ≡ out ++ bytes_from (seen tree kept) ino place count
+stored_part tree kept ino place count out mid new once fits none first second =
+    let missing = absent (bytes_at kept.pages ino (place / 4096)) none in
+    let e : mid ≡ out = first ∙ ap (λ o. out ++ option_map_or (λ (bytes : List ℕ). piece_of bytes (place % 4096) count) o []) missing ∙ append-nil out in
+    second ∙ ap (λ xs. xs ++ piece_of (block_at tree.blocks ino (place / 4096)) (place % 4096) count) e
+    ∙ ap (λ (block : List ℕ). out ++ piece_of block (place % 4096) count) (sym (seen_stored tree kept ino (place / 4096) once missing)) ∙ ap (λ part. out ++ part) (page_part (seen tree kept) ino place count fits)
+  where
+    absent : (o : Option (List ℕ)) → is_some o ≡ false → o ≡ None
+    absent None h = refl
+    absent (Some bytes) h = absurd cc
+
+pub stored_part_of : {E : Type 0} (r : Result Unit E) (tree : Tree) (kept : Kept) (ino place count : ℕ) (out mid new : List ℕ) → IsDistinct is_page (keys_of kept.pages.dirty) → place % 4096 + count ≤ 4096 → is_some (bytes_at kept.pages ino (place / 4096)) ≡ false
+    → mid ≡ out ++ option_map_or (λ bytes. piece_of bytes (place % 4096) count) (bytes_at kept.pages ino (place / 4096)) [] → OnOk r (new ≡ mid ++ piece_of (block_at tree.blocks ino (place / 4096)) (place % 4096) count)
+    → OnOk r (new ≡ out ++ bytes_from (seen tree kept) ino place count)
+stored_part_of (Err e) tree kept ino place count out mid new once fits none first second = tt
+stored_part_of (Ok done) tree kept ino place count out mid new once fits none first second = stored_part tree kept ino place count out mid new once fits none first second
+
+-- past the last block that may be
+pub high_part : (tree : Tree) (kept : Kept) (ino place count : ℕ) (out : List ℕ) → IsKept tree kept → place % 4096 + count ≤ 4096 → 536870912 ≤ place / 4096 → out ++ piece_of [] (place % 4096) count ≡ out ++ bytes_from (seen tree kept) ino place count
+high_part tree kept ino place count out is fits high =
+    ap (λ (block : List ℕ). out ++ piece_of block (place % 4096) count) (sym (seen_high tree kept ino (place / 4096) is high)) ∙ ap (λ part. out ++ part) (page_part (seen tree kept) ino place count fits)
 
 -- two calls that read
 pub Reads-then : (a b c : BackingState) → Reads a b → Reads b c → Reads a c
@@ -158,31 +233,39 @@ pub Reads-tree : (a b : BackingState) → Reads a b → b.tree ≡ a.tree
 Reads-tree a b reads = ap (λ (s : BackingState). s.tree) reads
 
 -- what was read so far, page by page
-pub record ReadSoFar (x y : Outlook) (old now : BackingState) (kept : Kept) (ino offs n place : ℕ) (out : List ℕ) : Type 0 where
+pub record ReadSoFar (x y : Outlook) (old now : BackingState) (kept still : Kept) (ino offs n place : ℕ) (out : List ℕ) : Type 0 where
   pub read : out ≡ bytes_from (seen old.tree kept) ino offs (length out)
   pub at : place ≡ offs + length out
   pub within : length out ≤ n
+  pub fits : IsKept now.tree still
+  pub same : IsSameButClean kept still
   pub reads : Reads old now
   pub goes : Goes 0 old now
   pub sure : SureGoes x y old now
 
-pub read_begins : (x : Outlook) (old : BackingState) (kept : Kept) (ino offs n : ℕ) (out : List ℕ) → out ≡ [] → ReadSoFar x x old old kept ino offs n offs out
-read_begins x old kept ino offs n out none = rw none record {
+pub read_begins : (x : Outlook) (old : BackingState) (kept : Kept) (ino offs n : ℕ) (out : List ℕ) → IsKept old.tree kept → out ≡ [] → ReadSoFar x x old old kept kept ino offs n offs out
+read_begins x old kept ino offs n out is none = rw none record {
   read = refl;
   at = omega arith;
   within = omega arith;
+  fits = is;
+  same = refl;
   reads = refl;
   goes = Goes-none old;
   sure = Sure-none x old;
 }
 
+-- the same is seen where only clean pages differ
+pub seen_same : (a b : Tree) (kept still : Kept) → b ≡ a → IsSameButClean kept still → seen b still ≡ seen a kept
+seen_same a b kept still t same = ap (λ tree. seen tree still) t ∙ ap (λ k. seen a k) same
+
 -- one page more
-pub read_more : (x y z : Outlook) (old now next : BackingState) (kept : Kept) (ino offs n place count : ℕ) (out new : List ℕ) → ReadSoFar x y old now kept ino offs n place out → length out + count ≤ n
-    → new ≡ out ++ bytes_from (seen now.tree kept) ino place count → Reads now next → Goes 0 now next → SureGoes y z now next → ReadSoFar x z old next kept ino offs n (place + count) new
-read_more x y z old now next kept ino offs n place count out new so fits told reads goes sure =
+pub read_more : (x y z : Outlook) (old now next : BackingState) (kept still after : Kept) (ino offs n place count : ℕ) (out new : List ℕ) → ReadSoFar x y old now kept still ino offs n place out → length out + count ≤ n
+    → new ≡ out ++ bytes_from (seen now.tree still) ino place count → IsKept next.tree after → IsSameButClean still after → Reads now next → Goes 0 now next → SureGoes y z now next → ReadSoFar x z old next kept after ino offs n (place + count) new
+read_more x y z old now next kept still after ino offs n place count out new so fits told is same reads goes sure =
     let blocks = seen old.tree kept in
     let t = Reads-tree old now so.reads in
-    let e : new ≡ out ++ bytes_from blocks ino place count = told ∙ ap (λ tree. out ++ bytes_from (seen tree kept) ino place count) t in
+    let e : new ≡ out ++ bytes_from blocks ino place count = told ∙ ap (λ (b : Blocks). out ++ bytes_from b ino place count) (seen_same old.tree now.tree kept still t so.same) in
     let piece = bytes_from blocks ino place count in
     let len : length new ≡ length out + count = ap length e ∙ length-append out piece ∙ ap (λ k. length out + k) (length-map-range_with_len (byte_at blocks ino) place count) in
     let a = so.at in
@@ -191,6 +274,8 @@ read_more x y z old now next kept ino offs n place count out new so fits told re
           ∙ sym (map_range-append (byte_at blocks ino) offs (length out) count) ∙ ap (bytes_from blocks ino offs) (sym len);
       at = omega (arith, len, a);
       within = omega (arith, len, fits);
+      fits = is;
+      same = Same-then kept still after so.same same;
       reads = Reads-then old now next so.reads reads;
       goes = Goes-then 0 0 old now next so.goes goes;
       sure = Sure-then x y z old now next so.sure sure;

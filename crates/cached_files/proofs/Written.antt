@@ -14,9 +14,10 @@ use Rattle.fs_model.specs.Handles.{tree_written}
 use Rattle.fs_model.specs.Making.{touched}
 use Rattle.fs_model.specs.Proper.{is_inode_node}
 use Rattle.page_cache.specs.declared.dirty_page.DirtyPage.{DirtyPage}
-use Rattle.page_cache.specs.Pages.{Pages, is_page, dirty_at, put_last, with_dirty, with_all_dirty, new_pages, old_pages}
+use Rattle.page_cache.specs.Pages.{Pages, is_page, dirty_at, put_last, with_dirty, with_all_dirty, new_pages, old_pages, IsTakenBack}
 use Rattle.cached_files.specs.declared.kept.Kept.{Kept}
-use Rattle.cached_files.specs.Present.{DirtyPages, with_page, with_inode, covered, present, has_dirty, IsKept, FitsFile, FitsPages, newly_dirty}
+use Rattle.cached_files.specs.Present.{DirtyPages, with_page, with_inode, covered, present, has_dirty, IsKept, FitsClean, FitsFile, FitsPages, newly_dirty}
+use Rattle.cached_files.proofs.Clean.{all_dirtied}
 use Rattle.cached_files.proofs.Counts.{parts_count, all_none, some_put}
 use Rattle.cached_files.proofs.Covers.{page_cases, other_ends}
 use Rattle.cached_files.specs.Calls.{SureGoes}
@@ -170,6 +171,7 @@ module _ (tree : Tree) (kept : Kept) (ino : ℕ) (inode : Inode) (size place n b
         ends = λ i found there. ends_fit known.1 i found there (key_cases nat_cmp numbers i ino);
         pages = fits_all P old (with_all_dirty kept.pages ino new) ino (fits_all P new kept.pages ino (fits_grown kept.inodes ino grown kept.pages.dirty (λ was found. grows known.3 was found) w.fits.pages) (some_of Q (λ page. not (is_some (dirty_at kept.pages ino page.0))) put (each known.2))) (some_of Q (λ page. is_some (dirty_at kept.pages ino page.0)) put (each known.2));
         settled = λ i found there none. settle i found there none (key_cases nat_cmp numbers i ino);
+        clean = all_dirtied (FitsClean tree.blocks) old (with_all_dirty kept.pages ino new) ino (all_dirtied (FitsClean tree.blocks) new kept.pages ino w.fits.clean);
       }
     where
       put : List (ℕ × List ℕ)
@@ -244,14 +246,15 @@ module _ (tree : Tree) (kept : Kept) (ino : ℕ) (inode : Inode) (size place n b
           w.fits.settled i found (is_other i found there other) sooner.0
 
 -- what is kept where nothing that counts has changed
-pub same_kept : (tree : Tree) (kept after : Kept) → IsKept tree kept → after.inodes ≡ kept.inodes → after.pages.dirty ≡ kept.pages.dirty → IsKept tree after
-same_kept tree kept after is i d = record {
+pub same_kept : (tree : Tree) (kept after : Kept) → IsKept tree kept → after.inodes ≡ kept.inodes → after.pages.dirty ≡ kept.pages.dirty → AllByRecursion (FitsClean tree.blocks) after.pages.clean → IsKept tree after
+same_kept tree kept after is i d clean = record {
   proper = is.proper;
   ascends = rw i is.ascends;
   inodes = λ ino inode found. is.inodes ino inode (rw i at found);
   ends = λ ino inode found. is.ends ino inode (rw i at found);
   pages = rw (i, d) is.pages;
   settled = λ ino inode found none. is.settled ino inode (rw i at found) (rw d at none);
+  clean = clean;
 }
 
 -- what holds after a write
@@ -282,16 +285,22 @@ pub record AfterFault (old new : BackingState) (kept after : Kept) : Type 0 wher
   pub paid : length after.pages.dirty ≤ new.space.credits
   pub same : present new.tree after ≡ present old.tree kept
 
-pub after_fault : (old new : BackingState) (kept after : Kept) (more : ℕ) → Reads old new → IsKept old.tree kept → length kept.pages.dirty + more ≤ old.space.credits → after.inodes ≡ kept.inodes → after.pages.dirty ≡ kept.pages.dirty → after.handles ≡ kept.handles → AfterFault old new kept after
-after_fault old new kept after more reads is paid i d h =
+pub after_fault : (old new : BackingState) (kept after : Kept) (ino more : ℕ) (put : List (ℕ × List ℕ)) → Reads old new → IsKept old.tree kept → length kept.pages.dirty + more ≤ old.space.credits → after.inodes ≡ kept.inodes → IsTakenBack kept.pages after.pages ino put → after.handles ≡ kept.handles → AfterFault old new kept after
+after_fault old new kept after ino more put reads is paid i back h =
     let t = Reads-tree old new reads in
+    let d : after.pages.dirty ≡ kept.pages.dirty = ap (λ (pages : Pages). pages.dirty) back.made in
     let credits : new.space.credits ≡ old.space.credits = ap (λ (s : BackingState). s.space.credits) reads in
     let count = ap (λ (dirty : DirtyPages). length dirty) d in
+    let clean = subst (λ (pages : Pages). AllByRecursion (FitsClean old.tree.blocks) pages.clean) (sym back.made) (all_dirtied (FitsClean old.tree.blocks) back.first kept.pages ino is.clean) in
     record {
-      fits = subst (λ tree. IsKept tree after) (sym t) (same_kept old.tree kept after is i d);
+      fits = subst (λ tree. IsKept tree after) (sym t) (same_kept old.tree kept after is i d clean);
       paid = omega (arith, count, paid, credits);
       same = λ j. record { tree = covered (t j) (i j) (d j); handles = h j };
     }
+
+-- nothing was put
+pub none_taken : (pages : Pages) (ino : ℕ) (put : List (ℕ × List ℕ)) → IsTakenBack pages pages ino put
+none_taken pages ino put = record { first = []; rest = new_pages pages ino put; split = refl; made = refl }
 
 -- the pages that were written so far, and those that are left
 pub record PagesSoFar (x y : Outlook) (old now : BackingState) (kept : Kept) (ino place n byte page end : ℕ) (out : List (ℕ × List ℕ)) : Type 0 where

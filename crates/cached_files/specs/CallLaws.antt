@@ -1,12 +1,14 @@
 -- Laws of what several calls of a backing keep to, one after another.
-use Rattle.std.proofs.Common.{◌≡◌, ℕ, ◌+◌, ◌-◌, ◌*◌, ◌/◌, ◌≤◌, ◌⊎◌, inl, inr, max, zero, suc, refl, sym, ap, ◌∙◌, arith}
+use Rattle.std.proofs.Common.{◌≡◌, ℕ, ◌+◌, ◌-◌, ◌*◌, ◌/◌, ◌≤◌, ◌⊎◌, inl, inr, max, zero, suc, refl, sym, ap, subst, ◌∙◌, arith}
 use Rattle.std.proofs.Math.Nat.{div-mul-le_self, div-zero}
 use Rattle.std.proofs.lemmas.Nat.{le-div}
 use Rattle.ubifs_base.specs.declared.raw_geometry.RawGeometry.{RawGeometry}
 use Rattle.ubifs_base.specs.Geometry.{index_nodes_per_leb}
-use Rattle.fs_model.specs.Backing.{BackingState, Outlook, Goes, ModeGoes, Rose, KeepsFiles}
-use Rattle.cached_files.specs.Calls.{SureGoes}
+use Rattle.fs_model.specs.declared.space.Need.{Need}
+use Rattle.fs_model.specs.Backing.{BackingState, Outlook, Goes, ModeGoes, Rose, KeepsFiles, granted}
 use Rattle.fs_model.specs.Cover.{index_lebs}
+use Rattle.cached_files.specs.declared.kept.Kept.{Kept}
+use Rattle.cached_files.specs.Calls.{SureGoes, WasCovered}
 
 quotient-grows : (q m n : ℕ) → m ≤ n → m / q ≤ n / q
 quotient-grows zero m n h = rw (div-zero m, div-zero n) (omega arith)
@@ -88,3 +90,22 @@ Sure-none x a = record { sure = λ s. inr (s, refl); spent = λ s. s }
 
 pub Files-then : (a b c : BackingState) → KeepsFiles a b → KeepsFiles b c → KeepsFiles a c
 Files-then a b c first second = record { tree = second.tree ∙ first.tree; credits = second.credits ∙ first.credits; grant = second.grant ∙ first.grant }
+
+-- to cover credits puts nothing
+pub Goes-granted : (n : ℕ) (a b c : BackingState) (need : Need) → Goes n a b → c ≡ granted b need → Goes n a c
+Goes-granted n a b c need goes same = subst (λ s. Goes n a s) (sym same) record {
+  geometry = goes.geometry;
+  orphan_limit = goes.orphan_limit;
+  mode = goes.mode;
+  faults = goes.faults;
+  weight = goes.weight;
+  index = goes.index;
+  nodes_put = goes.nodes_put;
+  told = goes.told;
+}
+
+-- what was admitted still is once so much was put
+pub Covered-then : (n : ℕ) (a b c : BackingState) (kept : Kept) (first second : Need) → WasCovered a b kept first second 0 → Goes n b c → WasCovered a c kept first second n
+Covered-then n a b c kept first second (inl now) goes = inl now
+Covered-then n a b c kept first second (inr last) goes =
+    inr (record { state = last.state; room = last.room; covered = last.covered; since = Goes-within (0 + n) n (granted last.state second) c (omega arith) (Goes-then 0 n (granted last.state second) b c last.since goes) })

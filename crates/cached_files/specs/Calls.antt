@@ -1,14 +1,17 @@
 -- What several calls of a backing, one after another, answer and leave.
-use Rattle.std.specs.Prelude.{◌≡◌, ◌⊎◌, ◌<◌, ◌≤◌, None, Result, Err, []}
+use Rattle.std.specs.Prelude.{◌≡◌, ◌⊎◌, ℕ, ◌+◌, ◌*◌, ◌<◌, ◌≤◌, None, Result, Err, [], length}
+use Rattle.ubifs_base.specs.Areas.{main_lebs}
 use Rattle.fs_model.specs.declared.backing_answers.Mode.TheVariants.{ReadOnly}
 use Rattle.fs_model.specs.declared.backing_answers.StoreFault.{StoreFault}
 use Rattle.fs_model.specs.declared.backing_answers.StoreFault.TheVariants.{ReadOnly as IsReadOnly}
 use Rattle.fs_model.specs.declared.refusal.Refusal.{Refusal}
 use Rattle.fs_model.specs.declared.refusal.Refusal.TheVariants.{Enospc, Erofs, Eio, Enomem}
 use Rattle.fs_model.specs.declared.space.Need.{Need}
-use Rattle.fs_model.specs.Backing.{BackingState, Outlook, Rose, granted}
+use Rattle.fs_model.specs.Backing.{BackingState, Goes, Outlook, Rose, granted}
 pub use Rattle.fs_model.specs.CallFaults.{refusal_of}
-use Rattle.fs_model.specs.Cover.{needed, room_for}
+use Rattle.fs_model.specs.Cover.{needed, room_for, tree_bytes}
+use Rattle.cached_files.specs.Alike.{IsAlike}
+use Rattle.cached_files.specs.Present.{present}
 use Rattle.cached_files.specs.declared.kept.Kept.{Kept}
 
 -- an answer that the backing is read-only tells its mode
@@ -32,6 +35,32 @@ pub record IsCoveredBy (old new : BackingState) (kept : Kept) (need : Need) : Ty
   pub covered : needed state.space need ≤ room_for state.geometry state.space need
   pub granted : new ≡ granted state need
   pub when : (state ≡ old) ⊎ (HasCommitted state × (kept.pages.dirty ≡ []))
+
+-- All room was made that there is: what callers see is the same, with no page dirty and a commit ended. The bytes that are used are those of its files.
+pub record HasMadeRoom (old state : BackingState) (kept : Kept) : Type 0 where
+  pub committed : HasCommitted state
+  pub files : IsAlike (present old.tree kept) (record { tree = state.tree; handles = kept.handles })
+  pub credits : state.space.credits + length kept.pages.dirty ≡ old.space.credits
+  pub used : state.space.used ≡ tree_bytes state.tree
+  pub main : state.space.main ≡ main_lebs state.geometry
+  pub goes : Goes (2 * length kept.pages.dirty) old state
+
+-- the test of admission held once all room was made, and so many nodes were put since
+pub record IsCoveredAtLast (old new : BackingState) (kept : Kept) (need : Need) (nodes : ℕ) : Type 0 where
+  pub state : BackingState
+  pub room : HasMadeRoom old state kept
+  pub covered : needed state.space need ≤ room_for state.geometry state.space need
+  pub since : Goes nodes (granted state need) new
+
+-- a need was admitted: the first one on the backing as it was, or the second once all room was made
+abbrev pub WasCovered : BackingState → BackingState → Kept → Need → Need → ℕ → Type 0
+WasCovered old new kept first second nodes =
+    (needed old.space first ≤ room_for old.geometry old.space first) ⊎ IsCoveredAtLast old new kept second nodes
+
+-- the answer isn't that there is no room
+abbrev pub IsNotEnospc : {T : Type 0} → Result T Refusal → Type 0
+IsNotEnospc (Err (Enospc space)) = ⊥
+IsNotEnospc result = Unit {0}
 
 -- Why nothing was admitted: the test fails, with no page dirty and a commit ended; or a call of the backing failed.
 abbrev pub IsWithoutRoom : BackingState → BackingState → Kept → Need → Refusal → Type 0

@@ -7,7 +7,7 @@ use Rattle.std.specs.Map.{lookup, keys_of}
 use Rattle.fs_model.specs.declared.inode.Inode.{Inode}
 use Rattle.fs_model.specs.declared.inode.Kind.TheVariants.{File}
 use Rattle.fs_model.specs.declared.page_node.PageNode.{PageNode}
-use Rattle.fs_model.specs.Files.{Tree, Files, Inodes, Blocks, inode_at, pair_cmp, blocks_end, pages_of}
+use Rattle.fs_model.specs.Files.{Tree, Files, Inodes, Blocks, inode_at, pair_cmp, block_at, blocks_end, pages_of}
 use Rattle.fs_model.specs.Proper.{IsProper, ascends, is_inode_node, is_block_node}
 use Rattle.page_cache.specs.Pages.{is_page}
 use Rattle.page_cache.specs.declared.dirty_page.DirtyPage.{DirtyPage}
@@ -43,11 +43,19 @@ FitsPages inodes e =
     (inode : Inode) × (lookup (is_at (nat_cmp e.0.0)) inodes ≡ Some inode)
     × IsTrue (is_block_node (e.0, e.1.bytes)) × (4096 * e.0.1 + length e.1.bytes ≤ inode.size)
 
+-- a clean page: the bytes of that block of a tree
+abbrev pub FitsClean : Blocks → (ℕ × ℕ) × List ℕ → Type 0
+FitsClean blocks e = e.1 ≡ block_at blocks e.0.0 e.0.1
+
 -- whether a page of an inode is dirty
 abbrev pub has_dirty : DirtyPages → ℕ → Bool
 has_dirty dirty ino = list_any (λ e. e.0.0 == ino) dirty
 
--- what is kept fits a tree: each dirty page and its file's inode do, no block of the tree ends behind a size that is kept, and an inode without a dirty page is that of the tree
+-- the dirty pages of the other inodes
+abbrev pub dirty_of_others : DirtyPages → ℕ → DirtyPages
+dirty_of_others dirty ino = filter (λ e. not (e.0.0 == ino)) dirty
+
+-- what is kept fits a tree: each dirty page and its file's inode do, no block of the tree ends behind a size that is kept, an inode without a dirty page is that of the tree, and each clean page has the bytes of its block
 pub record IsKept (tree : Tree) (kept : Kept) : Type 0 where
   pub proper : IsProper tree
   pub ascends : IsTrue (ascends nat_cmp (keys_of kept.inodes))
@@ -55,6 +63,11 @@ pub record IsKept (tree : Tree) (kept : Kept) : Type 0 where
   pub ends : (ino : ℕ) (inode : Inode) → lookup (is_at (nat_cmp ino)) kept.inodes ≡ Some inode → blocks_end tree.blocks ino ≤ inode.size
   pub pages : AllByRecursion (FitsPages kept.inodes) kept.pages.dirty
   pub settled : (ino : ℕ) (inode : Inode) → lookup (is_at (nat_cmp ino)) kept.inodes ≡ Some inode → has_dirty kept.pages.dirty ino ≡ false → inode_at tree ino ≡ Some inode
+  pub clean : AllByRecursion (FitsClean tree.blocks) kept.pages.clean
+
+-- the same is kept, but for clean pages
+abbrev pub IsSameButClean : Kept → Kept → Type 0
+IsSameButClean old new = new ≡ record old { pages = record old.pages { clean = new.pages.clean } }
 
 -- how many bytes of a page stand before its file's end
 abbrev pub bytes_before_end : ℕ → ℕ → ℕ

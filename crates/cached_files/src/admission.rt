@@ -4,7 +4,7 @@ ghost use Rattle.std.specs.Prelude.{◌≡◌, ◌⊎◌, ◌+◌, ◌*◌, ◌�
 ghost use Rattle.fs_model.specs.Backing.{Goes, HasCause, IsModest, KeepsFiles, granted};
 ghost use Rattle.fs_model.specs.Cover.{needed, room_for};
 ghost use Rattle.cached_files.specs.Alike.{IsAlike};
-ghost use Rattle.cached_files.specs.Calls.{HasCommitted, IsCoveredBy, IsWithoutRoom, SureGoes, TellsMode};
+ghost use Rattle.cached_files.specs.Calls.{HasCommitted, HasMadeRoom, IsCoveredAtLast, IsCoveredBy, IsWithoutRoom, SureGoes, TellsMode, WasCovered};
 ghost use Rattle.cached_files.specs.Present.{IsKept, present};
 
 use crate::commits::commit;
@@ -34,6 +34,7 @@ pub fn admit<B: Backing>(
     ensures same { IsAlike (present (B.state backing.old).tree kept.old) (present (B.state backing.new).tree kept.new) }
     ensures grant { OnOk result ((B.state backing.new).grant ≡ Some (record { bytes = need.now.bytes; nodes = need.now.nodes })) }
     ensures admitted { OnOk result (IsCoveredBy (B.state backing.old) (B.state backing.new) kept.new need.now) }
+    ensures tested { OnOk result (WasCovered (B.state backing.old) (B.state backing.new) kept.old need.now need.now 0) }
     ensures inodes { OnOk result ((kept.new.inodes ≡ kept.old.inodes) ⊎ (kept.new.inodes ≡ [])) }
     ensures covered { needed (B.state backing.old).space need.now ≤ room_for (B.state backing.old).geometry (B.state backing.old).space need.now
         → (result ≡ Ok tt) × (B.state backing.new ≡ granted (B.state backing.old) need.now) × (kept.new ≡ kept.old) }
@@ -65,6 +66,7 @@ fn admit_again<B: Backing>(
     ensures same { IsAlike (present (B.state backing.old).tree kept.old) (present (B.state backing.new).tree kept.new) }
     ensures grant { OnOk result ((B.state backing.new).grant ≡ Some (record { bytes = need.now.bytes; nodes = need.now.nodes })) }
     ensures admitted { OnOk result (IsCoveredBy (B.state backing.old) (B.state backing.new) kept.new need.now) }
+    ensures tested { OnOk result (IsCoveredAtLast (B.state backing.old) (B.state backing.new) kept.old need.now 0) }
     ensures inodes { OnOk result (kept.new.inodes ≡ []) }
     ensures refused { IfErr result (IsWithoutRoom (B.state backing.old) (B.state backing.new) kept.new need.now) }
     ensures goes { Goes (2 * length kept.old.pages.dirty) (B.state backing.old) (B.state backing.new) }
@@ -94,6 +96,7 @@ pub fn make_room<B: Backing>(
     ensures pages { OnOk result (kept.new.pages.dirty ≡ []) }
     ensures inodes { OnOk result (kept.new.inodes ≡ []) }
     ensures done { OnOk result (HasCommitted (B.state backing.new)) }
+    ensures room { OnOk result (HasMadeRoom (B.state backing.old) (B.state backing.new) kept.old) }
     ensures goes { Goes (2 * length kept.old.pages.dirty) (B.state backing.old) (B.state backing.new) }
     ensures cause { HasCause (B.state backing.old) (B.state backing.new) result }
     ensures mode { TellsMode (B.state backing.new) result }

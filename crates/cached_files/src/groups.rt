@@ -4,8 +4,9 @@ ghost use Rattle.std.specs.Prelude.{◌≡◌, ◌+◌, ◌*◌, ◌≤◌, Some
 ghost use Rattle.fs_model.specs.declared.space.Grant.{Grant};
 ghost use Rattle.fs_model.specs.Backing.{FitsGroup, Goes, HasCause, IsModest, KeepsFiles};
 ghost use Rattle.fs_model.specs.Change.{apply};
+ghost use Rattle.fs_model.specs.Cover.{needed, room_for};
 ghost use Rattle.cached_files.specs.Alike.{IsAlike};
-ghost use Rattle.cached_files.specs.Calls.{IsWithoutRoom, SureGoes, TellsMode};
+ghost use Rattle.cached_files.specs.Calls.{IsNotEnospc, IsWithoutRoom, SureGoes, TellsMode, WasCovered};
 ghost use Rattle.cached_files.specs.Follow.{AreOfNames, follow, followed, is_of_inode};
 ghost use Rattle.cached_files.specs.Present.{IsKept, present};
 
@@ -70,6 +71,8 @@ pub fn apply_group<B: Backing>(
     ensures ok { OnOk result (IsAlike (record (present (B.state backing.old).tree kept.old) { tree = apply (present (B.state backing.old).tree kept.old).tree group.now }) (present (B.state backing.new).tree kept.new)) }
     ensures issued { (B.state backing.new).space.credits + length kept.old.pages.dirty ≡ (B.state backing.old).space.credits + length kept.new.pages.dirty }
     ensures same { OnErr result (IsAlike (present (B.state backing.old).tree kept.old) (present (B.state backing.new).tree kept.new)) }
+    ensures admitted { OnOk result (WasCovered (B.state backing.old) (B.state backing.new) kept.old need.now need.now (length group.now)) }
+    ensures at_once { needed (B.state backing.old).space need.now ≤ room_for (B.state backing.old).geometry (B.state backing.old).space need.now → IsNotEnospc result }
     ensures refused { IfErr result (IsWithoutRoom (B.state backing.old) (B.state backing.new) kept.new need.now) }
     ensures goes { Goes (2 * length kept.old.pages.dirty + length group.now) (B.state backing.old) (B.state backing.new) }
     ensures sure { SureGoes (B.outlook backing.old) (B.outlook backing.new) (B.state backing.old) (B.state backing.new) }

@@ -30,6 +30,6 @@ pub use crate::law::{
     written_files_stay_alike,
 };
 pub use crate::orphans::drop_orphan;
-pub use crate::put::{put_oldest, write_back};
+pub use crate::put::{put_oldest, put_ticket, write_back, write_back_file};
 pub use crate::reads::{bytes, inode, size};
 pub use crate::writes::{newly, write};

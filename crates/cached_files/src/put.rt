@@ -1,14 +1,14 @@
 // Dirty pages are put.
 
-ghost use Rattle.std.specs.Prelude.{◌≡◌, ◌+◌, ◌*◌, [], ◌<◌, ◌≤◌, nat_lt, is_some, true, Some, IfOk, OnOk, OnErr, length, drop};
+ghost use Rattle.std.specs.Prelude.{◌≡◌, ◌+◌, ◌*◌, [], ◌<◌, ◌≤◌, nat_lt, is_some, true, false, Some, if◌then◌else◌, IfOk, OnOk, OnErr, length, drop};
 ghost use Rattle.std.specs.Map.{lookup};
 ghost use Rattle.std.specs.BTreeMap.{is_at};
 ghost use Rattle.std.specs.Ordering.{nat_cmp};
-ghost use Rattle.page_cache.specs.Pages.{dirty_at};
+ghost use Rattle.page_cache.specs.Pages.{dirty_at, is_current, pages_of, without_dirty};
 ghost use Rattle.fs_model.specs.Backing.{Goes, HasCause};
 ghost use Rattle.cached_files.specs.Alike.{IsAlike};
 ghost use Rattle.cached_files.specs.Calls.{SureGoes, TellsMode};
-ghost use Rattle.cached_files.specs.Present.{IsKept, present, page_of, filled};
+ghost use Rattle.cached_files.specs.Present.{IsKept, dirty_of_others, has_dirty, present, page_of, filled};
 
 use crate::kept::Kept;
 use fs_laws::a_page_keeps_trees_proper;
@@ -17,8 +17,44 @@ use page_cache::Ticket;
 use std::alloc::Global;
 use ubifs_base::{Bytes, Memory};
 
-/// Puts the page that became dirty first, with its bytes up to the file's end and the inode as it is now, and answers
-/// whether there was one. After a fault the page is dirty and paid as before.
+/// Puts the page of a ticket, with its bytes up to the file's end and the inode as it is now, and answers whether it is dirty
+/// at the ticket's version: where it isn't, all is as it was. After a fault the page is dirty and paid as before.
+pub fn put_ticket<B: Backing>(
+    alloc: Global,
+    backing: &mut B,
+    kept: &mut Kept,
+    ticket: &Ticket,
+) -> Result<bool, StoreFault>
+    requires kept { IsKept (B.state backing.old).tree kept.old }
+    requires paid { length kept.old.pages.dirty ≤ (B.state backing.old).space.credits }
+    ensures kept { IsKept (B.state backing.new).tree kept.new }
+    ensures paid { length kept.new.pages.dirty ≤ (B.state backing.new).space.credits }
+    ensures same { IsAlike (present (B.state backing.old).tree kept.old) (present (B.state backing.new).tree kept.new) }
+    ensures issued { (B.state backing.new).space.credits + length kept.old.pages.dirty ≡ (B.state backing.old).space.credits + length kept.new.pages.dirty }
+    ensures put { IfOk result (λ put. put ≡ is_current kept.old.pages ticket.now) }
+    ensures pages { IfOk result (λ put. kept.new.pages ≡ (if put then without_dirty kept.old.pages ticket.now.ino ticket.now.block else kept.old.pages)) }
+    ensures inodes { kept.new.inodes ≡ kept.old.inodes }
+    ensures handles { kept.new.handles ≡ kept.old.handles }
+    ensures err { OnErr result (kept.new ≡ kept.old) }
+    ensures goes { Goes 2 (B.state backing.old) (B.state backing.new) }
+    ensures cause { HasCause (B.state backing.old) (B.state backing.new) result }
+    ensures mode { TellsMode (B.state backing.new) result }
+    ensures sure { SureGoes (B.outlook backing.old) (B.outlook backing.new) (B.state backing.old) (B.state backing.new) }
+{
+    // Its proof knows from this that a dirty page isn't clean.
+    let _dirty = kept.pages.dirty();
+    if !kept.pages.is_current(ticket) {
+        return Ok(false);
+    }
+    let page = page_node(alloc, kept, ticket)?;
+    a_page_keeps_trees_proper();
+    backing.put_page(&page)?;
+    kept.pages.mark_clean(ticket);
+    Ok(true)
+}
+
+/// Puts the page that became dirty first, as `put_ticket` does, and answers whether there was one. After a fault the page is
+/// dirty and paid as before.
 pub fn put_oldest<B: Backing>(
     alloc: Global,
     backing: &mut B,
@@ -39,15 +75,39 @@ pub fn put_oldest<B: Backing>(
     ensures sure { SureGoes (B.outlook backing.old) (B.outlook backing.new) (B.state backing.old) (B.state backing.new) }
 {
     match kept.pages.oldest() {
-        Some(ticket) => {
-            let page = page_node(alloc, kept, &ticket)?;
-            a_page_keeps_trees_proper();
-            backing.put_page(&page)?;
-            kept.pages.mark_clean(&ticket);
-            Ok(true)
-        }
+        Some(ticket) => put_ticket(alloc, backing, kept, &ticket),
         None => Ok(false),
     }
+}
+
+/// Puts the dirty pages of an inode, the one that became dirty first in front. Those of other inodes stay dirty. After a
+/// fault those that weren't put are dirty and paid as before. The time goes with the number of dirty pages.
+pub fn write_back_file<B: Backing>(
+    alloc: Global,
+    backing: &mut B,
+    kept: &mut Kept,
+    ino: u32,
+) -> Result<(), StoreFault>
+    requires kept { IsKept (B.state backing.old).tree kept.old }
+    requires paid { length kept.old.pages.dirty ≤ (B.state backing.old).space.credits }
+    ensures kept { IsKept (B.state backing.new).tree kept.new }
+    ensures paid { length kept.new.pages.dirty ≤ (B.state backing.new).space.credits }
+    ensures same { IsAlike (present (B.state backing.old).tree kept.old) (present (B.state backing.new).tree kept.new) }
+    ensures issued { (B.state backing.new).space.credits + length kept.old.pages.dirty ≡ (B.state backing.old).space.credits + length kept.new.pages.dirty }
+    ensures pages { OnOk result (has_dirty kept.new.pages.dirty ino ≡ false) }
+    ensures others { dirty_of_others kept.new.pages.dirty ino ≡ dirty_of_others kept.old.pages.dirty ino }
+    ensures inodes { kept.new.inodes ≡ kept.old.inodes }
+    ensures handles { kept.new.handles ≡ kept.old.handles }
+    ensures goes { Goes (2 * length (pages_of kept.old.pages.dirty ino)) (B.state backing.old) (B.state backing.new) }
+    ensures cause { HasCause (B.state backing.old) (B.state backing.new) result }
+    ensures mode { TellsMode (B.state backing.new) result }
+    ensures sure { SureGoes (B.outlook backing.old) (B.outlook backing.new) (B.state backing.old) (B.state backing.new) }
+{
+    let tickets = kept.pages.tickets_of(alloc, ino)?;
+    for ticket in tickets {
+        put_ticket(alloc, backing, kept, &ticket)?;
+    }
+    Ok(())
 }
 
 /// Puts all dirty pages, the one that became dirty first in front. After a fault those that weren't put are dirty and paid

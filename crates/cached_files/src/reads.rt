@@ -1,16 +1,20 @@
 // Files are read: what is kept of them, and else what the backing has.
 
-ghost use Rattle.std.specs.Prelude.{◌≡◌, ◌+◌, ◌^◌, ◌<◌, ◌≤◌, ◌%◌, ◌++◌, Some, IfOk, OnOk, length};
+ghost use Rattle.std.specs.Prelude.{◌≡◌, ◌+◌, ◌^◌, ◌<◌, ◌≤◌, ◌%◌, ◌++◌, [], Some, is_some, IfOk, OnOk, OnErr, length};
+ghost use Rattle.std.specs.List.{IsDistinct};
+ghost use Rattle.std.specs.Map.{keys_of};
+ghost use Rattle.std.specs.Option.{option_map_or};
 ghost use Rattle.fs_model.specs.Backing.{Goes, HasCause, IsNotReadOnly, Reads};
-ghost use Rattle.fs_model.specs.Files.{block_at, blocks_end, bytes_from, inode_at, size_of};
+ghost use Rattle.fs_model.specs.Files.{block_at, blocks_end, bytes_from, inode_at, piece_of, size_of};
 ghost use Rattle.fs_model.specs.Proper.{IsProper};
+ghost use Rattle.page_cache.specs.Pages.{bytes_at, is_page, with_clean, with_used};
 ghost use Rattle.cached_files.specs.Calls.{SureGoes};
-ghost use Rattle.cached_files.specs.Present.{IsKept, filled, present};
+ghost use Rattle.cached_files.specs.Present.{IsKept, IsSameButClean, filled, present};
 
 use crate::kept::Kept;
 use fs_model::{BLOCK_SIZE, Backing, Inode, StoreFault};
 use std::alloc::{AllocError, Global};
-use ubifs_base::Bytes;
+use ubifs_base::{Bytes, Memory};
 
 /// The inode of a number: the one that is kept, else the backing's.
 pub fn inode<B: Backing>(
@@ -131,18 +135,21 @@ fn fill_with(out: &mut [u8], bytes: &[u8])
     back.fill(0);
 }
 
-/// Reads so many bytes from a place of a file on, with zeros where no block has one.
+/// Reads so many bytes from a place of a file on, with zeros where no block has one. A page that the backing is asked for is
+/// kept as a clean one where there is memory for it, so that it is there when it is read again.
 pub fn bytes<B: Backing>(
     alloc: Global,
     backing: &mut B,
-    kept: &Kept,
+    kept: &mut Kept,
     ino: u32,
     offs: u64,
     n: u32,
 ) -> Result<Bytes, StoreFault>
-    requires kept { IsKept (B.state backing.old).tree kept.now }
+    requires kept { IsKept (B.state backing.old).tree kept.old }
     requires range { offs + n < 2 ^ 64 }
-    ensures bytes { IfOk result (λ bytes. bytes ≡ bytes_from (present (B.state backing.old).tree kept.now).tree.blocks ino offs n) }
+    ensures bytes { IfOk result (λ bytes. bytes ≡ bytes_from (present (B.state backing.old).tree kept.old).tree.blocks ino offs n) }
+    ensures kept { IsKept (B.state backing.new).tree kept.new }
+    ensures same { IsSameButClean kept.old kept.new }
     ensures reads { Reads (B.state backing.old) (B.state backing.new) }
     ensures goes { Goes 0 (B.state backing.old) (B.state backing.new) }
     ensures cause { HasCause (B.state backing.old) (B.state backing.new) result }
@@ -154,7 +161,7 @@ pub fn bytes<B: Backing>(
     let mut place = offs;
     while out.len() < n {
         let count = (BLOCK_SIZE - place % BLOCK_SIZE).min((n - out.len()) as u64);
-        push_bytes(backing, kept, ino, place, count as usize, &mut out)?;
+        push_bytes(alloc, backing, kept, ino, place, count as usize, &mut out)?;
         place += count;
     }
     Ok(Bytes::from_vec(out))
@@ -162,16 +169,19 @@ pub fn bytes<B: Backing>(
 
 // Appends so many bytes of one page, from a place of the file on.
 fn push_bytes<B: Backing>(
+    alloc: Global,
     backing: &mut B,
-    kept: &Kept,
+    kept: &mut Kept,
     ino: u32,
     place: u64,
     count: usize,
     out: &mut Vec<u8>,
 ) -> Result<(), StoreFault>
-    requires kept { IsKept (B.state backing.old).tree kept.now }
+    requires kept { IsKept (B.state backing.old).tree kept.old }
     requires page { place % 4096 + count ≤ 4096 }
-    ensures bytes { OnOk result (out.new.items ≡ out.old.items ++ bytes_from (present (B.state backing.old).tree kept.now).tree.blocks ino place count) }
+    ensures bytes { OnOk result (out.new.items ≡ out.old.items ++ bytes_from (present (B.state backing.old).tree kept.old).tree.blocks ino place count) }
+    ensures kept { IsKept (B.state backing.new).tree kept.new }
+    ensures same { IsSameButClean kept.old kept.new }
     ensures reads { Reads (B.state backing.old) (B.state backing.new) }
     ensures goes { Goes 0 (B.state backing.old) (B.state backing.new) }
     ensures cause { HasCause (B.state backing.old) (B.state backing.new) result }
@@ -179,8 +189,99 @@ fn push_bytes<B: Backing>(
     ensures sure { SureGoes (B.outlook backing.old) (B.outlook backing.new) (B.state backing.old) (B.state backing.new) }
 {
     let from = (place % BLOCK_SIZE) as usize;
+    let block = place / BLOCK_SIZE;
+    if block > u32::MAX as u64 {
+        push_piece(&[], from, count, out)?;
+        return Ok(());
+    }
+    let block = block as u32;
+    if push_kept(kept, ino, block, from, count, out)? {
+        return Ok(());
+    }
+    push_stored(alloc, backing, kept, ino, block, from, count, out)
+}
+
+// Appends so many bytes of a page that is kept, from a place of the page on, and answers whether it is kept.
+fn push_kept(
+    kept: &mut Kept,
+    ino: u32,
+    block: u32,
+    from: usize,
+    count: usize,
+    out: &mut Vec<u8>,
+) -> Result<bool, AllocError>
+    requires page { from + count ≤ 4096 }
+    ensures once { IsDistinct is_page (keys_of kept.old.pages.dirty) }
+    ensures found { IfOk result (λ found. found ≡ is_some (bytes_at kept.old.pages ino block)) }
+    ensures bytes { OnOk result (out.new.items ≡ out.old.items ++ option_map_or (λ bytes. piece_of bytes from count) (bytes_at kept.old.pages ino block) []) }
+    ensures used { kept.new ≡ record kept.old { pages = with_used kept.old.pages ino block } }
+{
+    // A caller's proof knows from this that no page is dirty twice.
+    let _dirty = kept.pages.dirty();
+    match kept.pages.get(ino, block) {
+        Some(bytes) => {
+            push_piece(bytes.as_slice(), from, count, out)?;
+            Ok(true)
+        }
+        None => Ok(false),
+    }
+}
+
+// Appends so many bytes of a block of the backing, from a place of the block on, and keeps the block.
+fn push_stored<B: Backing>(
+    alloc: Global,
+    backing: &mut B,
+    kept: &mut Kept,
+    ino: u32,
+    block: u32,
+    from: usize,
+    count: usize,
+    out: &mut Vec<u8>,
+) -> Result<(), StoreFault>
+    requires kept { IsKept (B.state backing.old).tree kept.old }
+    requires page { from + count ≤ 4096 }
+    ensures bytes { OnOk result (out.new.items ≡ out.old.items ++ piece_of (block_at (B.state backing.old).tree.blocks ino block) from count) }
+    ensures kept { IsKept (B.state backing.new).tree kept.new }
+    ensures same { IsSameButClean kept.old kept.new }
+    ensures reads { Reads (B.state backing.old) (B.state backing.new) }
+    ensures goes { Goes 0 (B.state backing.old) (B.state backing.new) }
+    ensures cause { HasCause (B.state backing.old) (B.state backing.new) result }
+    ensures mode { IsNotReadOnly result }
+    ensures sure { SureGoes (B.outlook backing.old) (B.outlook backing.new) (B.state backing.old) (B.state backing.new) }
+{
     let mut page = [0; 4096];
-    read_page(backing, kept, ino, place / BLOCK_SIZE, &mut page)?;
-    out.extend_from_slice(&page[from..from + count])?;
+    let stored = backing.read_block(ino, block, &mut page)? as usize;
+    push_piece(&page[..stored], from, count, out)?;
+    if stored > 0 {
+        let _ = keep_page(alloc, kept, ino, block, &page[..stored]);
+    }
+    Ok(())
+}
+
+// Keeps a page that was read. Where there is no memory for it all is as it was.
+fn keep_page(
+    alloc: Global,
+    kept: &mut Kept,
+    ino: u32,
+    block: u32,
+    bytes: &[u8],
+) -> Result<(), Memory>
+    ensures ok { OnOk result (kept.new ≡ record kept.old { pages = with_clean kept.old.pages ino block bytes.now }) }
+    ensures err { OnErr result (kept.new ≡ kept.old) }
+{
+    let page = Bytes::from_slice(alloc, bytes)?;
+    kept.pages.put_clean(ino, block, page)
+}
+
+// Appends so many of these bytes, from a place on, with zeros past their end.
+fn push_piece(bytes: &[u8], from: usize, count: usize, out: &mut Vec<u8>) -> Result<(), AllocError>
+    requires page { from + count ≤ 4096 }
+    ensures { OnOk result (out.new.items ≡ out.old.items ++ piece_of bytes.now from count) }
+{
+    let start = from.min(bytes.len());
+    let end = (from + count).min(bytes.len());
+    out.extend_from_slice(&bytes[start..end])?;
+    let len = out.len() + (count - (end - start));
+    out.resize(len, 0)?;
     Ok(())
 }

@@ -10,7 +10,7 @@ ghost use Rattle.fs_model.specs.Files.{inode_at, size_of};
 ghost use Rattle.fs_model.specs.Handles.{tree_written};
 ghost use Rattle.fs_model.specs.Making.{touched};
 ghost use Rattle.fs_model.specs.Proper.{ascends};
-ghost use Rattle.page_cache.specs.Pages.{dirty_at, with_all_dirty, new_pages, old_pages};
+ghost use Rattle.page_cache.specs.Pages.{dirty_at, with_all_dirty, new_pages, old_pages, IsTakenBack};
 ghost use Rattle.cached_files.specs.Calls.{SureGoes};
 ghost use Rattle.cached_files.specs.Present.{IsKept, newly_dirty, present};
 
@@ -115,7 +115,7 @@ fn keep(
     ensures pages { OnOk result (kept.new.pages ≡ with_all_dirty (with_all_dirty kept.old.pages ino (new_pages kept.old.pages ino pages.items)) ino (old_pages kept.old.pages ino pages.items)) }
     ensures handles { kept.new.handles ≡ kept.old.handles }
     ensures err { OnErr result (kept.new.inodes ≡ kept.old.inodes) }
-    ensures dirty { OnErr result (kept.new.pages.dirty ≡ kept.old.pages.dirty) }
+    ensures taken { OnErr result (IsTakenBack kept.old.pages kept.new.pages ino pages.items) }
 {
     let old = kept.inodes.insert(ino, inode)?;
     match kept.pages.put_all(alloc, ino, pages) {

@@ -132,10 +132,24 @@ setting_more old now ino block bytes rest put so = record { dirty = still_dirty 
 pub record Adding (old now : Pages) (ino : ℕ) (rest put : List (ℕ × List ℕ)) : Type 0 where
   pub added : Added old now
   pub new : AreNew old ino rest
+  pub first : List (ℕ × List ℕ)
+  pub split : first ++ rest ≡ put
+  pub made : now ≡ with_all_dirty old ino first
   pub whole : with_all_dirty now ino rest ≡ with_all_dirty old ino put
 
+all_dirty-append : (old : Pages) (ino : ℕ) (first rest : List (ℕ × List ℕ)) → with_all_dirty old ino (first ++ rest) ≡ with_all_dirty (with_all_dirty old ino first) ino rest
+all_dirty-append old ino [] rest = refl
+all_dirty-append old ino (p ∷ first) rest = all_dirty-append (with_dirty old ino p.0 p.1) ino first rest
+
 pub adding_more : (old now : Pages) (ino block : ℕ) (bytes : List ℕ) (rest put : List (ℕ × List ℕ)) → Adding old now ino ((block, bytes) ∷ rest) put → Adding old (with_dirty now ino block bytes) ino rest put
-adding_more old now ino block bytes rest put so = record { added = added_more old now ino block bytes so.added so.new.0; new = so.new.1; whole = so.whole }
+adding_more old now ino block bytes rest put so = record {
+  added = added_more old now ino block bytes so.added so.new.0;
+  new = so.new.1;
+  first = so.first ++ (block, bytes) ∷ [];
+  split = append_assoc so.first ((block, bytes) ∷ []) rest ∙ so.split;
+  made = ap (λ held. with_dirty held ino block bytes) so.made ∙ sym (all_dirty-append old ino so.first ((block, bytes) ∷ []));
+  whole = so.whole;
+}
 
 -- one page more is told apart
 pub parted_new : (pages : Pages) (ino block : ℕ) (bytes : List ℕ) (put rest new old : List (ℕ × List ℕ)) → Parted pages ino put ((block, bytes) ∷ rest) new old → is_some (dirty_at pages ino block) ≡ false → Parted pages ino put rest (new ++ (block, bytes) ∷ []) old
@@ -154,3 +168,10 @@ parted_old pages ino block bytes put rest new old so some =
 pub when_ok : {T E : Type 0} (r : Result T E) (P : Type 0) → IsOk r → OnOk r P → P
 when_ok (Ok t) P is told = told
 when_ok (Err e) P is told = absurd (false≢true is)
+
+-- and so they are where those behind the old ones are taken out
+pub kept_first : (old now put new : Pages) (ino len : ℕ) (rest pages : List (ℕ × List ℕ)) → Adding old now ino rest pages → len ≡ length old.dirty → put ≡ now → new ≡ record put { dirty = take len put.dirty }
+    → (first rest : List (ℕ × List ℕ)) × (first ++ rest ≡ pages) × (new ≡ record (with_all_dirty old ino first) { dirty = old.dirty })
+kept_first old now put new ino len rest pages so n same is =
+    let dirty : take len put.dirty ≡ old.dirty = ap (λ (held : Pages). take len held.dirty) same ∙ kept_front old now len so.added n in
+    (so.first, rest, so.split, is ∙ ap (λ d. record put { dirty = d }) dirty ∙ ap (λ (held : Pages). record held { dirty = old.dirty }) (same ∙ so.made))

@@ -1,10 +1,11 @@
 -- The pages of a cache. A page is named by its inode and its block's number.
-use Rattle.std.specs.Prelude.{◌≡◌, ℕ, ◌+◌, ◌-◌, ◌^◌, ◌≤◌, ◌==◌, ◌&&◌, nat_le, Bool, false, not, if◌then◌else◌, min, List, [], ◌∷◌, ◌++◌, All, filter, fold, length, slice_get, is_some, Some, IsSome, IsNone}
+use Rattle.std.specs.Prelude.{◌≡◌, ℕ, ◌+◌, ◌-◌, ◌^◌, ◌≤◌, ◌==◌, ◌&&◌, nat_le, Bool, false, not, if◌then◌else◌, min, List, [], ◌∷◌, ◌++◌, All, filter, fold, length, map, slice_get, is_some, Some, IsSome, IsNone}
 use Rattle.std.specs.declared.option.Option.{Option}
 use Rattle.std.specs.List.{IsDistinct}
 use Rattle.std.specs.Option.{option_map, option_map_or}
 use Rattle.std.specs.Map.{keys_of, values_of, lookup, remove_entry, set_value}
-use Rattle.lru.specs.LruCache.{LruCache, lru_cache, promoted, put_entries}
+use Rattle.lru.specs.LruCache.{LruCache}
+pub use Rattle.lru.specs.LruCache.{lru_cache, promoted, put_entries}
 use Rattle.page_cache.specs.declared.dirty_page.DirtyPage.{DirtyPage}
 use Rattle.page_cache.specs.declared.ticket.Ticket.{Ticket}
 
@@ -84,6 +85,13 @@ new_pages pages ino put = filter (λ page. not (is_some (dirty_at pages ino page
 abbrev pub old_pages : Pages → ℕ → List (ℕ × List ℕ) → List (ℕ × List ℕ)
 old_pages pages ino put = filter (λ page. is_some (dirty_at pages ino page.0)) put
 
+-- Where there was no memory for all of an inode's pages: the first of those that weren't dirty were put as dirty, and taken back. The dirty pages are as they were, and of the clean ones those are gone.
+pub record IsTakenBack (old new : Pages) (ino : ℕ) (put : List (ℕ × List ℕ)) : Type 0 where
+  pub first : List (ℕ × List ℕ)
+  pub rest : List (ℕ × List ℕ)
+  pub split : first ++ rest ≡ new_pages old ino put
+  pub made : new ≡ record (with_all_dirty old ino first) { dirty = old.dirty }
+
 -- after a page was put as clean, which is nothing where it is dirty: it was used last, and where the clean ones were as
 -- many as are kept, the one that wasn't used for the longest time is gone
 abbrev pub with_clean : Pages → ℕ → ℕ → List ℕ → Pages
@@ -121,6 +129,10 @@ next_of pages ino = option_map ticket_of (slice_get (pages_of pages.dirty ino) 0
 -- whether a ticket's page is dirty and has the ticket's version
 abbrev pub is_current : Pages → Ticket → Bool
 is_current pages ticket = option_map_or (λ page. page.version == ticket.version) (dirty_at pages ticket.ino ticket.block) false
+
+-- the tickets of an inode's dirty pages, in the order in which they became dirty
+abbrev pub tickets_of : Pages → ℕ → List Ticket
+tickets_of pages ino = map ticket_of (pages_of pages.dirty ino)
 
 -- without a page among the dirty ones
 abbrev pub without_dirty : Pages → ℕ → ℕ → Pages

@@ -1,13 +1,13 @@
 // The pages that are kept in memory.
 
-ghost use Rattle.std.specs.Prelude.{◌≡◌, ◌<◌, not, [], IfOk, OnOk, OnErr, IsOk, is_some, IsSome, IsNone, length, take, if◌then◌else◌};
+ghost use Rattle.std.specs.Prelude.{◌≡◌, ◌<◌, ℕ, List, ◌++◌, not, [], IfOk, OnOk, OnErr, IsOk, is_some, IsSome, IsNone, length, take, if◌then◌else◌};
 ghost use Rattle.std.specs.List.{AllByRecursion};
 ghost use Rattle.std.specs.Option.{option_copied};
-ghost use Rattle.page_cache.specs.Pages.{IsCache, dirty_at, bytes_at, with_dirty, with_all_dirty, new_pages, old_pages, with_clean, with_used, oldest_of, next_of, ticket_of, is_current, without_dirty, without_cut, cut_count};
+ghost use Rattle.page_cache.specs.Pages.{IsCache, dirty_at, bytes_at, with_dirty, with_all_dirty, new_pages, old_pages, with_clean, with_used, IsTakenBack, oldest_of, next_of, ticket_of, tickets_of, is_current, without_dirty, without_cut, cut_count};
 
 use crate::dirty_page::DirtyPage;
-use crate::page_list::PageList;
-use crate::ticket::Ticket;
+use crate::page_list::{PageList, tickets_of};
+use crate::ticket::{Ticket, ticket_of};
 use std::alloc::{AllocError, Global};
 use std::marker::Model;
 use std::num::NonZeroUsize;
@@ -78,7 +78,7 @@ impl Cache {
     }
 
     /// Puts pages of an inode as dirty, by their blocks' numbers, all or none: first those that become dirty, and then the
-    /// others, each as `put_dirty` does. Where there is no memory the dirty pages are as they were.
+    /// others, each as `put_dirty` does. Where there is no memory the dirty pages are as they were, but clean ones may be gone.
     pub fn put_all(
         &mut self,
         alloc: Global,
@@ -86,7 +86,7 @@ impl Cache {
         pages: Vec<(u32, Bytes)>,
     ) -> Result<(), Memory>
         ensures ok { OnOk result (self.new ≡ with_all_dirty (with_all_dirty self.old ino (new_pages self.old ino pages.items)) ino (old_pages self.old ino pages.items)) }
-        ensures err { OnErr result (self.new.dirty ≡ self.old.dirty) }
+        ensures err { OnErr result (IsTakenBack self.old self.new ino pages.items) }
     {
         let (new, old) = self.parted(alloc, ino, pages)?;
         self.put_new(ino, new)?;
@@ -121,7 +121,7 @@ impl Cache {
     fn put_new(&mut self, ino: u32, pages: Vec<(u32, Bytes)>) -> Result<(), Memory>
         requires { AllByRecursion (λ page. IsNone (dirty_at self.old ino page.0)) pages.items }
         ensures ok { OnOk result (self.new ≡ with_all_dirty self.old ino pages.items) }
-        ensures err { OnErr result (self.new.dirty ≡ self.old.dirty) }
+        ensures err { OnErr result ((first rest : List (ℕ × List ℕ)) × (first ++ rest ≡ pages.items) × (self.new ≡ record (with_all_dirty self.old ino first) { dirty = self.old.dirty })) }
     {
         let len = self.dirty.len();
         for (block, bytes) in pages {
@@ -234,6 +234,14 @@ impl Cache {
         }
     }
 
+    /// The tickets of an inode's dirty pages, in the order in which they became dirty. The time goes with the number of dirty
+    /// pages.
+    pub fn tickets_of(&self, alloc: Global, ino: u32) -> Result<Vec<Ticket>, AllocError>
+        ensures { IfOk result (λ tickets. tickets.items ≡ tickets_of self.now ino) }
+    {
+        tickets_of(alloc, &self.dirty, ino)
+    }
+
     /// Takes a page from the dirty ones if it has the ticket's version still, and answers whether it had. It isn't kept as a
     /// clean page, which would take memory; the order of the others stays. Takes no memory.
     pub fn mark_clean(&mut self, ticket: &Ticket) -> bool
@@ -247,8 +255,8 @@ impl Cache {
         current
     }
 
-    // Whether a ticket's page is dirty and has the ticket's version.
-    fn is_current(&self, ticket: &Ticket) -> bool
+    /// Whether a ticket's page is dirty and has the ticket's version. Takes no memory.
+    pub fn is_current(&self, ticket: &Ticket) -> bool
         ensures { result ≡ is_current self.now ticket.now }
     {
         match self.dirty.get((ticket.ino, ticket.block)) {
@@ -265,16 +273,5 @@ impl Cache {
     {
         self.clean.cut(ino, from);
         self.dirty.cut(ino, from)
-    }
-}
-
-// The ticket of a dirty page as it is now.
-fn ticket_of(name: (u32, u32), page: &DirtyPage) -> Ticket
-    ensures { result ≡ ticket_of (name, page.now) }
-{
-    Ticket {
-        ino: name.0,
-        block: name.1,
-        version: page.version,
     }
 }

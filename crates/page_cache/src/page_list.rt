@@ -1,15 +1,17 @@
 // Pages by name, in an order.
 
-ghost use Rattle.std.specs.Prelude.{◌≡◌, ◌-◌, ◌^◌, ◌<◌, ◌≤◌, ℕ, true, false, not, List, [], ◌∷◌, ◌++◌, if◌then◌else◌, IfOk, OnOk, OnErr, IsOk, is_some, IsSome, IsNone, length, slice_get, take};
+ghost use Rattle.std.specs.Prelude.{◌≡◌, ◌-◌, ◌^◌, ◌<◌, ◌≤◌, ℕ, true, false, not, List, [], ◌∷◌, ◌++◌, if◌then◌else◌, IfOk, OnOk, OnErr, IsOk, is_some, IsSome, IsNone, length, map, slice_get, take};
 ghost use Rattle.std.specs.Option.{option_map, option_copied};
 ghost use Rattle.std.specs.NonZero.{non_zero_usize_get};
 ghost use Rattle.std.specs.Map.{lookup, remove_entry, set_value};
 ghost use Rattle.std.specs.Map.Iter.{deref_pair};
 ghost use Rattle.lru.specs.LruCache.{lru_cache, promoted, put_entries, last_entry, IsValid};
-ghost use Rattle.page_cache.specs.Pages.{is_page, is_cut, pages_of, put_last, cut_list, cut_count};
+ghost use Rattle.page_cache.specs.Pages.{is_page, is_cut, pages_of, put_last, cut_list, cut_count, ticket_of};
 
+use crate::dirty_page::DirtyPage;
+use crate::ticket::{Ticket, ticket_of};
 use lru::LruCache;
-use std::alloc::Global;
+use std::alloc::{AllocError, Global};
 use std::marker::Model;
 use std::num::NonZeroUsize;
 use ubifs_base::Memory;
@@ -215,6 +217,23 @@ impl<V: Drop> PageList<V> {
         self.pages.promote(&name);
         0
     }
+}
+
+/// The tickets of an inode's dirty pages, in their order. The time goes with the number of pages.
+pub(crate) fn tickets_of(
+    alloc: Global,
+    list: &PageList<DirtyPage>,
+    ino: u32,
+) -> Result<Vec<Ticket>, AllocError>
+    ensures { IfOk result (λ tickets. tickets.items ≡ map ticket_of (pages_of list.now.entries ino)) }
+{
+    let mut tickets = Vec::new(alloc);
+    for (name, page) in list.pages.iter() {
+        if name.0 == ino {
+            tickets.push(ticket_of(*name, page))?;
+        }
+    }
+    Ok(tickets)
 }
 
 // Sets the page of a name, at its place, and answers whether there is one.

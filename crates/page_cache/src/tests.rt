@@ -33,6 +33,17 @@ fn ticket_of(ino: u32, block: u32, version: u64) -> Ticket {
     }
 }
 
+// Whether the tickets of an inode's dirty pages are these.
+fn has_tickets(
+    alloc: Global,
+    cache: &Cache,
+    ino: u32,
+    tickets: &[Ticket],
+) -> Result<bool, AllocError> {
+    let found = cache.tickets_of(alloc, ino)?;
+    Ok(found.as_slice() == tickets)
+}
+
 // The version and the first byte of a page that is dirty, or zeros.
 fn dirty_byte(cache: &Cache, ino: u32, block: u32) -> (u64, u8) {
     match cache.dirty_page(ino, block) {
@@ -111,5 +122,30 @@ fn clean_pages_make_room_for_those_used(rt: HostRuntime) -> Result<(), Fail> {
     assert_eq!(rt; byte_at(&mut cache, 64, 2), 4);
     assert_eq!(rt; cache.cut(64, 0), 1);
     assert_eq!(rt; byte_at(&mut cache, 64, 0), 0);
+    Ok(())
+}
+
+// The tickets of an inode's pages come in the order in which these became dirty.
+#[test]
+fn tickets_come_in_order(rt: HostRuntime) -> Result<(), Fail> {
+    let alloc = rt.alloc();
+    let mut cache = Cache::new(alloc, 2)?;
+    assert_eq!(rt; cache.put_dirty(64, 1, page_of(alloc, 1)?), Ok(true));
+    assert_eq!(rt; cache.put_dirty(65, 0, page_of(alloc, 2)?), Ok(true));
+    assert_eq!(rt; cache.put_dirty(64, 0, page_of(alloc, 3)?), Ok(true));
+    assert_eq!(rt;
+        has_tickets(
+            alloc,
+            &cache,
+            64,
+            &[ticket_of(64, 1, 1), ticket_of(64, 0, 3)]
+        )?,
+        true
+    );
+    assert_eq!(rt;
+        has_tickets(alloc, &cache, 65, &[ticket_of(65, 0, 2)])?,
+        true
+    );
+    assert_eq!(rt; has_tickets(alloc, &cache, 66, &[])?, true);
     Ok(())
 }

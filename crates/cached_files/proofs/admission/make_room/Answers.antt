@@ -1,5 +1,5 @@
-use Rattle.std.proofs.Common.{◌+◌, ◌*◌, arith}
-use Rattle.std.specs.Prelude.{length}
+use Rattle.std.proofs.Common.{◌+◌, ◌*◌, ◌∙◌, arith, length}
+use Rattle.cached_files.proofs.MakingRoom.{on_ok, all_put}
 use Rattle.cached_files.specs.CallLaws.{Goes-then, Goes-within}
 use Rattle.cached_files.proofs.admission.make_room.Goals as goal
 
@@ -11,3 +11,13 @@ returns-clause-goes g c =
     let new = g.B.Backing.state c.commit.new.backing in
     let n = 2 * length c.args.kept.now.pages.dirty in
     Goes-within (n + 0 + 0) n old new (omega arith) (Goes-then (n + 0) 0 old synced new (Goes-then n 0 old put synced c.write_back.ensures.goes c.sync_all.ensures.goes) c.commit.ensures.goes)
+
+pub returns-clause-room : goal.returns-clause-room
+returns-clause-room g c =
+    let old = g.B.Backing.state c.args.backing.now in
+    let put = g.B.Backing.state c.write_back.new.backing in
+    let new = g.B.Backing.state c.commit.new.backing in
+    on_ok c.commit.result (λ done.
+    all_put old put new c.args.kept.now c.write_back.new.kept done c.write_back.ensures.same c.in_ok-write_back.ensures.pages c.in_ok-write_back.ensures.inodes
+    (c.commit.ensures.files.tree ∙ c.sync_all.ensures.files.tree) (c.commit.ensures.files.credits ∙ c.sync_all.ensures.files.credits) c.write_back.ensures.issued
+    (g.met.B.Backing.used c.commit.new.backing) (g.met.B.Backing.main c.commit.new.backing) (returns-clause-goes g c)) c.commit.ensures.done

@@ -1,8 +1,9 @@
-use Rattle.std.proofs.Common.{◌*◌, length}
+use Rattle.std.proofs.Common.{rules, ◌*◌, length}
 use Rattle.fs_model.specs.declared.space.Grant.{Grant}
 use Rattle.cached_files.specs.Present.{present}
 use Rattle.cached_files.proofs.Applied.{built_alike, bytes_alike, names_alike, alike_put}
-use Rattle.cached_files.specs.CallLaws.{Goes-then}
+use Rattle.cached_files.proofs.MakingRoom.{put_refused}
+use Rattle.cached_files.specs.CallLaws.{Covered-then, Goes-then}
 use Rattle.cached_files.proofs.groups.apply_group.Goals as goal
 
 pub put_group-requires-clause-granted : goal.put_group-requires-clause-granted
@@ -36,3 +37,13 @@ returns-in-Ok-clause-goes g c =
 pub returns-in-Err-clause-goes : goal.returns-in-Err-clause-goes
 returns-in-Err-clause-goes g c =
     Goes-then (2 * length c.args.kept.now.pages.dirty) (length c.args.group.now) (g.B.Backing.state c.args.backing.now) (g.B.Backing.state c.admit.new.backing) (g.B.Backing.state c.put_group.new.backing) c.admit.ensures.goes c.put_group.ensures.goes
+
+pub returns-in-Ok-clause-admitted : goal.returns-in-Ok-clause-admitted
+returns-in-Ok-clause-admitted g c =
+    let need = c.args.need.now in
+    Covered-then (length c.args.group.now) (g.B.Backing.state c.args.backing.now) (g.B.Backing.state c.admit.new.backing) (g.B.Backing.state c.put_group.new.backing) c.args.kept.now need need c.in_ok-admit.ensures.tested c.put_group.ensures.goes
+
+pub returns-in-Err-clause-refused : goal.returns-in-Err-clause-refused
+returns-in-Err-clause-refused g c =
+    let why = put_refused (g.B.Backing.state c.args.backing.now) (g.B.Backing.state c.admit.new.backing) (g.B.Backing.state c.put_group.new.backing) c.put_group.new.kept c.args.need.now c.in-Err.fault c.admit.ensures.goes.faults c.in-Err.ensures.cause c.in-Err.ensures.mode in
+    search (rules, why)

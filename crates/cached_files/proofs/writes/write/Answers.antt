@@ -7,8 +7,8 @@ use Rattle.cached_files.proofs.writes.write.Goals as goal
 
 pub returns-in_err-keep-clause-kept : goal.returns-in_err-keep-clause-kept
 returns-in_err-keep-clause-kept g c =
-    let after = after_fault (g.B.Backing.state c.args.backing.now) (g.B.Backing.state c.written_pages.new.backing) c.args.kept.now c.keep.new.kept (newly_dirty c.args.kept.now.pages.dirty c.args.ino c.args.offs c.args.n)
-    c.written_pages.ensures.reads c.requires.kept c.requires.paid c.in_err-keep.ensures.err c.in_err-keep.ensures.dirty c.keep.ensures.handles in
+    let after = after_fault (g.B.Backing.state c.args.backing.now) (g.B.Backing.state c.written_pages.new.backing) c.args.kept.now c.keep.new.kept c.args.ino (newly_dirty c.args.kept.now.pages.dirty c.args.ino c.args.offs c.args.n) c.in_ok-pages.pages.items
+    c.written_pages.ensures.reads c.requires.kept c.requires.paid c.in_err-keep.ensures.err c.in_err-keep.ensures.taken c.keep.ensures.handles in
     after.fits
 
 done : (g : Over) (c : goal.In_ok-keep g) → AfterWrite (g.B.Backing.state c.args.backing.now) (g.B.Backing.state c.written_pages.new.backing) c.args.kept.now c.keep.new.kept c.args.ino c.args.inode.now c.args.offs c.args.n c.args.byte c.args.now

@@ -1,0 +1,43 @@
+use Rattle.std.proofs.Common.{is_some, ap, sym, ◌∙◌}
+use Rattle.cached_files.proofs.Putting.{at_ticket, putting_of, cleaned, AfterPut, after_put, is_file_page}
+use Rattle.cached_files.proofs.put.put_ticket.Given.{Over}
+use Rattle.cached_files.proofs.put.put_ticket.Goals as goal
+
+pub page_node-requires-clause-inode : goal.page_node-requires-clause-inode
+page_node-requires-clause-inode g c =
+    let o = at_ticket c.args.kept.now.pages c.args.ticket.now (sym c.is_current.ensures ∙ c.if-not-is_current.false) in
+    ap is_some (putting_of (g.B.Backing.state c.args.backing.now).tree c.args.kept.now c.args.ticket.now o c.requires.kept).found
+
+pub page_node-requires-clause-page : goal.page_node-requires-clause-page
+page_node-requires-clause-page g c = ap is_some (at_ticket c.args.kept.now.pages c.args.ticket.now (sym c.is_current.ensures ∙ c.if-not-is_current.false)).found
+
+pub put_page-requires-clause-fits : goal.put_page-requires-clause-fits
+put_page-requires-clause-fits g c proper =
+    let tree = (g.B.Backing.state c.args.backing.now).tree in
+    let o = at_ticket c.args.kept.now.pages c.args.ticket.now (sym c.is_current.ensures ∙ c.if-not-is_current.false) in
+    let p = putting_of tree c.args.kept.now c.args.ticket.now o c.requires.kept in
+    let shown = c.in_ok-page.ensures p.inode o.page p.found o.found in
+    c.a_page_keeps_trees_proper.ensures tree c.in_ok-page.page c.requires.kept.proper (is_file_page tree c.args.kept.now c.args.ticket.now c.in_ok-page.page o p shown)
+
+made : (g : Over) (c : goal.After-drop-page-3 g) → AfterPut (g.B.Backing.state c.args.backing.now) (g.B.Backing.state c.put_page.new.self) c.args.kept.now (record c.args.kept.now { pages = c.mark_clean.new.self })
+made g c =
+    let old = g.B.Backing.state c.args.backing.now in
+    let current = sym c.is_current.ensures ∙ c.if-not-is_current.false in
+    let o = at_ticket c.args.kept.now.pages c.args.ticket.now current in
+    let p = putting_of old.tree c.args.kept.now c.args.ticket.now o c.requires.kept in
+    let shown = c.in_ok-page.ensures p.inode o.page p.found o.found in
+    let whole = c.a_page_keeps_trees_proper.ensures old.tree c.in_ok-page.page c.requires.kept.proper (is_file_page old.tree c.args.kept.now c.args.ticket.now c.in_ok-page.page o p shown) in
+    after_put old (g.B.Backing.state c.put_page.new.self) c.args.kept.now c.mark_clean.new.self c.args.ticket.now c.in_ok-page.page o p c.requires.kept c.dirty-dirty.ensures.cache.apart
+    shown c.in_ok-put_page.ensures.ok whole.proper (cleaned c.args.kept.now.pages c.mark_clean.new.self c.args.ticket.now c.mark_clean.result current c.mark_clean.ensures.current c.mark_clean.ensures.pages)
+
+pub returns-clause-kept : goal.returns-clause-kept
+returns-clause-kept g c = (made g c).fits
+
+pub returns-clause-paid : goal.returns-clause-paid
+returns-clause-paid g c = (made g c).paid c.requires.paid
+
+pub returns-clause-same : goal.returns-clause-same
+returns-clause-same g c = (made g c).same
+
+pub returns-clause-issued : goal.returns-clause-issued
+returns-clause-issued g c = (made g c).issued
