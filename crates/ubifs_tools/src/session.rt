@@ -10,7 +10,7 @@ ghost use Rattle.plain_backing.specs.PlainBacking.{state_of};
 ghost use Rattle.script_text.specs.declared.part.Part.TheVariants.{Line, Mount, Unmount};
 ghost use Rattle.script_text.specs.Script.{MayStand};
 ghost use Rattle.vfs_ops.specs.declared.event.Outcome.TheVariants.{Replied};
-ghost use Rattle.vfs_ops.specs.Events.{HasFlushed};
+ghost use Rattle.vfs_ops.specs.Events.{HasSynced};
 ghost use Rattle.ubifs_tools.specs.Replies.{IsCalled, is_memory};
 ghost use Rattle.ubifs_tools.specs.Run.{IsAnswer, IsPart, opening};
 ghost use Rattle.ubifs_tools.specs.Sessions.{IsBare, IsSession, IsSteady, running_of, state_in};
@@ -175,7 +175,7 @@ fn replied(fs: &mut Fs<PlainBacking>, caller: u16, now: u64, op: Op) -> Result<R
     requires call { IsCalled (Line caller op) }
     ensures steady { OnOk result (IsSteady (state_of fs.old.backing).geometry fs.new.backing fs.new.kept) }
     ensures answer { IfOk result (λ reply. IsAnswer (state_of fs.old.backing).geometry (present (state_of fs.old.backing).tree fs.old.kept) caller now op reply (present (state_of fs.new.backing).tree fs.new.kept)) }
-    ensures flushed { IfOk result (λ reply. HasFlushed ReadWrite fs.new.kept op reply) }
+    ensures written { IfOk result (λ reply. HasSynced ReadWrite (state_of fs.new.backing) fs.old.kept fs.new.kept caller op reply) }
 {
     clean_files_are_those_of_the_backing();
     let event = Event::Call {

@@ -15,7 +15,7 @@ use Rattle.fs_model.specs.declared.refusal.Refusal.TheVariants.{Einval, Efbig}
 use Rattle.fs_model.specs.declared.reply.Reply.{Reply}
 use Rattle.fs_model.specs.declared.reply.Reply.TheVariants.{Count}
 use Rattle.fs_model.specs.declared.space.Need.{Need}
-use Rattle.fs_model.specs.Backing.{BackingState, Goes, IsModest, granted, given_back}
+use Rattle.fs_model.specs.Backing.{BackingState, Goes, IsModest, given_back}
 use Rattle.fs_model.specs.Cover.{needed, room_for}
 use Rattle.fs_model.specs.Files.{Files, inode_at, handle_at, pair_cmp, pages_of}
 use Rattle.fs_model.specs.Handles.{is_bad_slot, size_limit, bytes_written, tree_written}
@@ -68,20 +68,7 @@ modest_need dirty ino offs len grant newly lacking need few counted less asks =
     let n = few_new dirty ino offs len few in
     subst (λ q. IsModest q) (sym asks) (record { credits = omega (arith, n, counted, less); bytes = omega arith; nodes = omega arith })
 
--- to cover credits puts nothing
-pub goes_granted : (n : ℕ) (a b c : BackingState) (need : Need) → Goes n a b → c ≡ granted b need → Goes n a c
-goes_granted n a b c need goes same = subst (λ s. Goes n a s) (sym same) record {
-  geometry = goes.geometry;
-  orphan_limit = goes.orphan_limit;
-  mode = goes.mode;
-  faults = goes.faults;
-  weight = goes.weight;
-  index = goes.index;
-  nodes_put = goes.nodes_put;
-  told = goes.told;
-}
-
--- and neither does it to give them back
+-- to give credits back puts nothing
 pub goes_returned : (n : ℕ) (a b c : BackingState) (credits : ℕ) → Goes n a b → c ≡ given_back b credits → Goes n a c
 goes_returned n a b c credits goes same = subst (λ s. Goes n a s) (sym same) record {
   geometry = goes.geometry;
@@ -107,14 +94,19 @@ written_seen a b after ino inode now offs len byte same found made alike =
     let there : inode_at b.tree ino ≡ Some inode = subst (λ inodes. lookup (is_at (nat_cmp ino)) inodes ≡ Some inode) same.inodes found in
     subst (λ files. IsAlike (record a { tree = tree_written a.tree ino inode now offs len byte }) files) (sym (made there)) alike
 
+-- where no page is dirty a write lacks credits for all that it touches
+pub whole_need : (kept : Kept) (ino offs len grant newly lacking : ℕ) (need : Need) → need ≡ credits_need lacking → lacking ≡ newly - grant → newly ≡ newly_dirty kept.pages.dirty ino offs len → kept.pages.dirty ≡ [] → need ≡ write_need offs len grant
+whole_need kept ino offs len grant newly lacking need asks less counted none =
+    let all = all_new kept.pages.dirty ino offs len none in
+    let n : lacking ≡ length (pages_of offs len) - grant = omega (arith, less, counted, all) in
+    asks ∙ ap (λ k. credits_need k) n
+
 -- there is no room once no page is dirty
 pub no_room : (b c : BackingState) (kept : Kept) (ino offs len grant newly lacking : ℕ) (need : Need) (space : NoSpace) → c ≡ b → need ≡ credits_need lacking → lacking ≡ newly - grant → newly ≡ newly_dirty kept.pages.dirty ino offs len
     → kept.pages.dirty ≡ [] → HasCommitted b → (space.need ≡ needed b.space need) × (space.room ≡ room_for b.geometry b.space need) → (needed b.space need ≤ room_for b.geometry b.space need → ⊥)
     → (space.need ≡ needed c.space (write_need offs len grant)) × (space.room ≡ room_for c.geometry c.space (write_need offs len grant)) × (space.room < space.need) × (kept.pages.dirty ≡ []) × HasCommitted c
 no_room b c kept ino offs len grant newly lacking need space same asks less counted none done told fails =
-    let all = all_new kept.pages.dirty ino offs len none in
-    let n : lacking ≡ length (pages_of offs len) - grant = omega (arith, less, counted, all) in
-    let whole : need ≡ write_need offs len grant = asks ∙ ap (λ k. credits_need k) n in
+    let whole = whole_need kept ino offs len grant newly lacking need asks less counted none in
     let a = told.0 in
     let b1 = told.1 in
     let more : space.room < space.need = refuted (needed b.space need) (room_for b.geometry b.space need) space.need space.room a b1 fails in

@@ -1,3 +1,4 @@
+pub mod Admitted
 pub mod Buffering
 pub mod Closing
 pub mod Flushing

@@ -1,5 +1,5 @@
 -- What a step answers, from what each of its parts answers.
-use Rattle.std.proofs.Common.{◌≡◌, ℕ, ◌⊎◌, inl, inr, Bool, true, false, cond, Ok, Err, refl, sym, ap, subst, ◌∙◌, ◌-◌, length, Result, IfOk, IfErr, Option, None, Some}
+use Rattle.std.proofs.Common.{◌≡◌, ℕ, ◌⊎◌, inl, inr, Bool, true, false, cond, Ok, Err, refl, sym, ap, subst, ◌∙◌, ◌-◌, length, List, [], ◌++◌, Result, IfOk, OnOk, IfErr, Option, None, Some}
 use Rattle.fs_model.specs.declared.op.Op.{Op}
 use Rattle.fs_model.specs.declared.op.Op.TheVariants.{Create, Mkdir, Symlink, Link, Unlink, Rmdir, Rename, OpenFile, Close, Read, Write, Truncate, Fsync, Flush, List as ListDir, Stat, Readlink, Chmod}
 use Rattle.fs_model.specs.declared.refusal.Cause.{Cause}
@@ -8,21 +8,27 @@ use Rattle.fs_model.specs.declared.refusal.Refusal.TheVariants.{Eio, Enomem, Eno
 use Rattle.fs_model.specs.declared.space.Need.{Need}
 use Rattle.fs_model.specs.declared.reply.Reply.{Reply}
 use Rattle.fs_model.specs.declared.refusal.Refusal.{Refusal}
-use Rattle.fs_model.specs.Backing.{BackingState}
-use Rattle.fs_model.specs.Files.{Files}
+use Rattle.std.specs.BTreeMap.{is_at}
+use Rattle.std.specs.Map.{lookup}
+use Rattle.fs_model.specs.Backing.{BackingState, IsSynced}
+use Rattle.fs_model.specs.Files.{Files, pair_cmp}
 use Rattle.fs_model.specs.Operation.{outcome_of}
 use Rattle.fs_model.specs.Outcome.{Outcome}
 use Rattle.fs_model.specs.Orphan.{nameless, within_orphans}
 use Rattle.cached_files.specs.declared.kept.Kept.{Kept}
 use Rattle.cached_files.specs.Alike.{IsAlike}
+use Rattle.cached_files.specs.Calls.{IsNotEnospc}
+use Rattle.cached_files.specs.Present.{has_dirty}
 use Rattle.vfs_plans.specs.Answers.{IsFault, IsRefused}
 use Rattle.std.proofs.lemmas.Bool.{false≢true}
+use Rattle.std.proofs.lemmas.List.{append-nil}
 use Rattle.fs_model.specs.declared.backing_answers.Mode.{Mode}
 use Rattle.fs_model.specs.declared.backing_answers.Mode.TheVariants.{ReadWrite}
 use Rattle.fs_model.specs.declared.reply.Reply.TheVariants.{Done, Refused}
-use Rattle.vfs_ops.specs.Events.{HasFlushed}
+use Rattle.vfs_ops.specs.Events.{HasSynced}
+use Rattle.vfs_ops.specs.Writing.{Buffers, BuffersReply}
 use Rattle.vfs_ops.specs.Operations.{is_of_names}
-use Rattle.vfs_ops.specs.Steps.{IsDone, IsRefusedFor, IsLast, IsTurnedDown, IsUnsynced, allowed_on, asked}
+use Rattle.vfs_ops.specs.Steps.{IsDone, IsRefusedFor, IsLast, IsTurnedDown, IsUnsynced, allowed_on, asked, is_write, no_space_in}
 
 pub alike_self : (files : Files) → IsAlike files files
 alike_self files = record { inodes = refl; blocks = refl; entries = refl; highest = refl; handles = refl; sizes = λ ino inode found. refl }
@@ -118,12 +124,77 @@ pub or_unsynced_last : (old new : BackingState) (plain : Outcome) (refusal : Ref
 or_unsynced_last old new plain refusal (inl h) = inl h
 or_unsynced_last old new plain refusal (inr h) = inr (h, unsynced_last old new plain refusal h)
 
--- an operation on names is no flush
-pub names_flushed : (mode : Mode) (kept : Kept) (op : Op) (reply : Reply) → is_of_names op ≡ true → HasFlushed mode kept op reply
-names_flushed ReadWrite kept Flush Done h = absurd (false≢true h)
-names_flushed mode kept op reply h = tt
+-- an operation on names is no sync
+pub names_synced : (mode : Mode) (new : BackingState) (before after : Kept) (caller : ℕ) (op : Op) (reply : Reply) → is_of_names op ≡ true → HasSynced mode new before after caller op reply
+names_synced ReadWrite new before after caller Flush Done h = absurd (false≢true h)
+names_synced ReadWrite new before after caller (Fsync slot) Done h = absurd (false≢true h)
+names_synced mode new before after caller op reply h = tt
 
--- nor is a refusal a flush that is done
-pub refused_flushed : (mode : Mode) (kept : Kept) (op : Op) (refusal : Refusal) → HasFlushed mode kept op (Refused refusal)
-refused_flushed ReadWrite kept Flush refusal = tt
-refused_flushed mode kept op refusal = tt
+-- a sync that is done, by what it has done
+pub flush_synced : (mode : Mode) (new : BackingState) (before after : Kept) (caller : ℕ) (reply : Reply) → IsSynced new → after.pages.dirty ≡ [] → after.inodes ≡ [] → HasSynced mode new before after caller Flush reply
+flush_synced ReadWrite new before after caller Done synced pages inodes = (synced, pages, inodes)
+flush_synced mode new before after caller reply synced pages inodes = tt
+
+pub fsync_synced : (mode : Mode) (new : BackingState) (before after : Kept) (caller slot : ℕ) (reply : Reply) → IsSynced new → ((ino : ℕ) → lookup (is_at (pair_cmp (caller, slot))) before.handles ≡ Some ino → has_dirty after.pages.dirty ino ≡ false)
+    → HasSynced mode new before after caller (Fsync slot) reply
+fsync_synced ReadWrite new before after caller slot Done synced pages = (synced, pages)
+fsync_synced mode new before after caller slot reply synced pages = tt
+
+pub flush_written : (r : Result Reply Refusal) (mode : Mode) (new : BackingState) (before after : Kept) → OnOk r (IsSynced new) → OnOk r (after.pages.dirty ≡ []) → OnOk r (after.inodes ≡ []) → IfOk r (λ reply. (caller : ℕ) → HasSynced mode new before after caller Flush reply)
+flush_written (Ok reply) mode new before after synced pages inodes = λ caller. flush_synced mode new before after caller reply synced pages inodes
+flush_written (Err e) mode new before after synced pages inodes = tt
+
+pub fsync_written : (r : Result Reply Refusal) (mode : Mode) (new : BackingState) (before after : Kept) (caller slot : ℕ) → OnOk r (IsSynced new) → OnOk r ((ino : ℕ) → lookup (is_at (pair_cmp (caller, slot))) before.handles ≡ Some ino → has_dirty after.pages.dirty ino ≡ false)
+    → IfOk r (λ reply. HasSynced mode new before after caller (Fsync slot) reply)
+fsync_written (Ok reply) mode new before after caller slot synced pages = fsync_synced mode new before after caller slot reply synced pages
+fsync_written (Err e) mode new before after caller slot synced pages = tt
+
+-- the same of that operation
+pub synced_on : (mode : Mode) (new : BackingState) (before after : Kept) (caller : ℕ) (op other : Op) (reply : Reply) → op ≡ other → HasSynced mode new before after caller other reply → HasSynced mode new before after caller op reply
+synced_on mode new before after caller op other reply e synced = subst (λ (o : Op). HasSynced mode new before after caller o reply) (sym e) synced
+
+-- nor is a refusal a sync that is done
+pub refused_synced : (mode : Mode) (new : BackingState) (before after : Kept) (caller : ℕ) (op : Op) (refusal : Refusal) → HasSynced mode new before after caller op (Refused refusal)
+refused_synced ReadWrite new before after caller Flush refusal = tt
+refused_synced ReadWrite new before after caller (Fsync slot) refusal = tt
+refused_synced mode new before after caller op refusal = tt
+
+-- what is no write isn't buffered
+pub none_buffered : {T : Type 0} (old new : BackingState) (before after : Kept) (caller grant : ℕ) (op : Op) (result : Result T Refusal) → is_write op ≡ false → Buffers old new before after caller grant op result
+none_buffered old new before after caller grant (Write slot offs len byte) result h = absurd (false≢true (sym h))
+none_buffered old new before after caller grant op result h = tt
+
+pub not_write : (op : Op) → ((slot offs len byte : ℕ) → op ≡ Write slot offs len byte → ⊥) → is_write op ≡ false
+not_write (Write slot offs len byte) h = absurd (h slot offs len byte refl)
+not_write op h = refl
+
+-- what isn't want of room isn't told as that
+pub none_noted : (T : Type 0) (refusal noted : Refusal) → IsNotEnospc {T = T} (Err refusal) → (noted ≡ refusal) ⊎ ((noted ≡ Enomem) × ((space : NoSpace) × (refusal ≡ Enospc space))) → no_space_in (Refused noted) ≡ []
+none_noted T refusal noted room (inl same) = subst (λ r. no_space_in (Refused r) ≡ []) (sym same) (by refusal room)
+  where
+    by : (r : Refusal) → IsNotEnospc {T = T} (Err r) → no_space_in (Refused r) ≡ []
+    by (Enospc space) never = absurd never
+    by r other = refl
+none_noted T refusal noted room (inr (memory, full)) = subst (λ r. no_space_in (Refused r) ≡ []) (sym memory) refl
+
+-- a write that is refused is buffered still
+pub refused_buffered : (T : Type 0) (old new : BackingState) (before after : Kept) (first last : List NoSpace) (caller grant : ℕ) (op : Op) (refusal noted : Refusal)
+    → Buffers {T = T} old new before after caller grant op (Err refusal) → (noted ≡ refusal) ⊎ ((noted ≡ Enomem) × ((space : NoSpace) × (refusal ≡ Enospc space))) → last ≡ first ++ no_space_in (Refused noted)
+    → BuffersReply old new before after first last caller grant op (Refused noted)
+refused_buffered T old new before after first last caller grant (Write slot offs len byte) refusal noted buffers told more = λ ino found room.
+    let b = buffers ino found room in
+    record {
+      geometry = b.geometry;
+      tree = b.tree;
+      journal = b.journal;
+      room = more ∙ ap (λ sides. first ++ sides) (none_noted T refusal noted b.room told) ∙ append-nil first;
+      dirty = inl (noted, refl, b.refused);
+    }
+refused_buffered T old new before after first last caller grant op refusal noted buffers told more = tt
+
+-- and so is one that is done
+pub done_buffered : (T : Type 0) (old new : BackingState) (before after : Kept) (first : List NoSpace) (caller grant : ℕ) (op : Op) (done : T) (reply : Reply) → Buffers {T = T} old new before after caller grant op (Ok done) → BuffersReply old new before after first first caller grant op reply
+done_buffered T old new before after first caller grant (Write slot offs len byte) done reply buffers = λ ino found room.
+    let b = buffers ino found room in
+    record { geometry = b.geometry; tree = b.tree; journal = b.journal; room = refl; dirty = inr b.dirty }
+done_buffered T old new before after first caller grant op done reply buffers = tt

@@ -1,25 +1,28 @@
 -- What comes of an event.
-use Rattle.std.specs.Prelude.{◌≡◌, ℕ, ◌≤◌, false, List, []}
+use Rattle.std.specs.Prelude.{◌≡◌, ℕ, ◌≤◌, false, Some, List, []}
+use Rattle.std.specs.BTreeMap.{is_at}
+use Rattle.std.specs.Map.{lookup}
 use Rattle.fs_model.specs.declared.backing_answers.Mode.{Mode}
 use Rattle.fs_model.specs.declared.backing_answers.Mode.TheVariants.{ReadWrite}
 use Rattle.fs_model.specs.declared.change.Change.{Change}
 use Rattle.fs_model.specs.declared.op.Op.{Op}
-use Rattle.fs_model.specs.declared.op.Op.TheVariants.{Flush}
+use Rattle.fs_model.specs.declared.op.Op.TheVariants.{Fsync, Flush}
 use Rattle.fs_model.specs.declared.reply.Reply.{Reply}
 use Rattle.fs_model.specs.declared.reply.Reply.TheVariants.{Done}
 use Rattle.fs_model.specs.declared.refusal.NoSpace.{NoSpace}
-use Rattle.fs_model.specs.Backing.{BackingState}
-use Rattle.fs_model.specs.Files.{Files}
+use Rattle.fs_model.specs.Backing.{BackingState, IsSynced}
+use Rattle.fs_model.specs.Files.{Files, pair_cmp}
 use Rattle.fs_model.specs.Operation.{group_of}
 use Rattle.fs_laws.specs.Sound.{IsCall}
 use Rattle.cached_files.specs.declared.kept.Kept.{Kept}
-use Rattle.cached_files.specs.Present.{present}
+use Rattle.cached_files.specs.Present.{has_dirty, present}
 use Rattle.vfs_plans.specs.Operations.{is_truncate}
 use Rattle.vfs_ops.specs.declared.event.Event.{Event}
 use Rattle.vfs_ops.specs.declared.event.Event.TheVariants.{Call}
 use Rattle.vfs_ops.specs.declared.event.Outcome.{Outcome}
 use Rattle.vfs_ops.specs.declared.event.Outcome.TheVariants.{Replied}
-use Rattle.vfs_ops.specs.Steps.{IsAnswered}
+use Rattle.vfs_ops.specs.Steps.{IsAdmittedReply, IsAnswered, IsAtOnceReply}
+use Rattle.vfs_ops.specs.Writing.{BuffersReply}
 
 -- any operation but a truncation, that gives bytes
 abbrev pub IsCalled : Event → Type 0
@@ -42,10 +45,24 @@ IsAnswer old new before after refused_before refused_after (Call caller now gran
 abbrev pub left_of : Outcome → ℕ
 left_of (Replied reply left) = left
 
--- after a flush that is done on a store that could be written no page is dirty
-abbrev pub HasFlushed : Mode → Kept → Op → Reply → Type 0
-HasFlushed ReadWrite kept Flush Done = (kept.pages.dirty ≡ []) × (kept.inodes ≡ [])
-HasFlushed mode kept op reply = Unit {0}
+-- After a sync that is done on a store that could be written all that was put is synced, and no page is dirty: of any file after a flush, and of the slot's file after a sync of that one.
+abbrev pub HasSynced : Mode → BackingState → Kept → Kept → ℕ → Op → Reply → Type 0
+HasSynced ReadWrite new before after caller Flush Done = IsSynced new × (after.pages.dirty ≡ []) × (after.inodes ≡ [])
+HasSynced ReadWrite new before after caller (Fsync slot) Done =
+    IsSynced new × ((ino : ℕ) → lookup (is_at (pair_cmp (caller, slot))) before.handles ≡ Some ino → has_dirty after.pages.dirty ino ≡ false)
+HasSynced mode new before after caller op reply = Unit {0}
 
-abbrev pub IsWrittenBack : Mode → Kept → Event → Outcome → Type 0
-IsWrittenBack mode kept (Call caller now grant op) (Replied reply left) = HasFlushed mode kept op reply
+abbrev pub IsWrittenBack : Mode → BackingState → Kept → Kept → Event → Outcome → Type 0
+IsWrittenBack mode new before after (Call caller now grant op) (Replied reply left) = HasSynced mode new before after caller op reply
+
+-- what a call asks for that is done was admitted
+abbrev pub IsAdmittedCall : BackingState → BackingState → Kept → Event → Outcome → Type 0
+IsAdmittedCall old new before (Call caller now grant op) (Replied reply left) = IsAdmittedReply old new before caller now grant op reply
+
+-- where there is room at once nothing is refused for want of it
+abbrev pub IsAtOnceCall : BackingState → Kept → List NoSpace → List NoSpace → Event → Type 0
+IsAtOnceCall old before first last (Call caller now grant op) = IsAtOnceReply old before caller now op first last
+
+-- a write that its grant or the first test covers is buffered
+abbrev pub IsBufferedCall : BackingState → BackingState → Kept → Kept → List NoSpace → List NoSpace → Event → Outcome → Type 0
+IsBufferedCall old new before after first last (Call caller now grant op) (Replied reply left) = BuffersReply old new before after first last caller grant op reply

@@ -1,8 +1,7 @@
 -- A file with one page, made on a fresh volume: what a test puts.
-use Rattle.std.specs.Prelude.{ℕ, List, [], ◌∷◌}
+use Rattle.std.specs.Prelude.{List, [], ◌∷◌}
 use Rattle.fs_model.specs.declared.change.Change.{Change}
 use Rattle.fs_model.specs.declared.change.Change.TheVariants.{SetInode, SetEntry}
-use Rattle.fs_model.specs.declared.inode.Inode.{Inode}
 use Rattle.fs_model.specs.declared.inode.Kind.TheVariants.{File}
 use Rattle.fs_model.specs.declared.page_node.PageNode.{PageNode}
 use Rattle.fs_model.specs.Making.{new_dir, new_file}

@@ -10,9 +10,10 @@ ghost use Rattle.cached_files.specs.Alike.{IsAlike};
 ghost use Rattle.cached_files.specs.Calls.{SureGoes};
 ghost use Rattle.cached_files.specs.Present.{present};
 ghost use Rattle.vfs_plans.specs.Operations.{is_truncate};
-ghost use Rattle.vfs_ops.specs.Events.{HasFlushed};
+ghost use Rattle.vfs_ops.specs.Events.{HasSynced};
 ghost use Rattle.vfs_ops.specs.Operations.{is_of_names};
-ghost use Rattle.vfs_ops.specs.Steps.{IsReady, IsDone, IsTurnedDown, IsLast, IsRefusedFor, IsUnsynced, allowed_on, asked, is_write, read_only_cause};
+ghost use Rattle.vfs_ops.specs.Writing.{Buffers};
+ghost use Rattle.vfs_ops.specs.Steps.{IsReady, IsAtOnce, WasAdmitted, IsDone, IsTurnedDown, IsLast, IsRefusedFor, IsUnsynced, allowed_on, asked, is_write, read_only_cause};
 
 use crate::changes::change;
 use crate::handles::{close, open};
@@ -76,7 +77,10 @@ pub(crate) fn call<B: Backing>(
     ensures refused { IfErr result (λ refusal. IsRefusedFor (read_only_cause (B.state backing.old).mode op.now) (B.state backing.old) (B.state backing.new) kept.new (present (B.state backing.old).tree kept.old) caller now grant op.now refusal) }
     ensures issued { IfOk result (λ r. (B.state backing.new).space.credits + length kept.old.pages.dirty + grant ≡ (B.state backing.old).space.credits + length kept.new.pages.dirty + r.1) }
     ensures still { OnErr result ((B.state backing.new).space.credits + length kept.old.pages.dirty ≡ (B.state backing.old).space.credits + length kept.new.pages.dirty) }
-    ensures flushed { IfOk result (λ r. HasFlushed (B.state backing.old).mode kept.new op.now r.0) }
+    ensures written { IfOk result (λ r. HasSynced (B.state backing.old).mode (B.state backing.new) kept.old kept.new caller op.now r.0) }
+    ensures admitted { OnOk result (WasAdmitted (B.state backing.old) (B.state backing.new) kept.old caller now grant op.now) }
+    ensures at_once { IsAtOnce (B.state backing.old) kept.old caller now op.now result }
+    ensures buffered { Buffers (B.state backing.old) (B.state backing.new) kept.old kept.new caller grant op.now result }
     ensures goes { Goes (2 * length kept.old.pages.dirty + length (group_of (present (B.state backing.old).tree kept.old) caller now op.now)) (B.state backing.old) (B.state backing.new) }
     ensures sure { SureGoes (B.outlook backing.old) (B.outlook backing.new) (B.state backing.old) (B.state backing.new) }
 {
@@ -110,7 +114,10 @@ pub(crate) fn serve<B: Backing>(
         × IsLast (allowed_on (B.state backing.old) (present (B.state backing.old).tree kept.old) caller now op.now) refusal)) }
     ensures issued { IfOk result (λ r. (B.state backing.new).space.credits + length kept.old.pages.dirty + grant ≡ (B.state backing.old).space.credits + length kept.new.pages.dirty + r.1) }
     ensures still { OnErr result ((B.state backing.new).space.credits + length kept.old.pages.dirty ≡ (B.state backing.old).space.credits + length kept.new.pages.dirty) }
-    ensures flushed { IfOk result (λ r. HasFlushed (B.state backing.old).mode kept.new op.now r.0) }
+    ensures written { IfOk result (λ r. HasSynced (B.state backing.old).mode (B.state backing.new) kept.old kept.new caller op.now r.0) }
+    ensures admitted { OnOk result (WasAdmitted (B.state backing.old) (B.state backing.new) kept.old caller now grant op.now) }
+    ensures at_once { IsAtOnce (B.state backing.old) kept.old caller now op.now result }
+    ensures buffered { Buffers (B.state backing.old) (B.state backing.new) kept.old kept.new caller grant op.now result }
     ensures goes { Goes (2 * length kept.old.pages.dirty + length (group_of (present (B.state backing.old).tree kept.old) caller now op.now)) (B.state backing.old) (B.state backing.new) }
     ensures sure { SureGoes (B.outlook backing.old) (B.outlook backing.new) (B.state backing.old) (B.state backing.new) }
 {
@@ -153,7 +160,9 @@ fn serve_without<B: Backing>(
         ⊎ (IsTurnedDown (B.state backing.old) (B.state backing.new) kept.new (asked (present (B.state backing.old).tree kept.old) caller now grant op.now) op.now refusal
         × IsLast (allowed_on (B.state backing.old) (present (B.state backing.old).tree kept.old) caller now op.now) refusal)) }
     ensures issued { (B.state backing.new).space.credits + length kept.old.pages.dirty ≡ (B.state backing.old).space.credits + length kept.new.pages.dirty }
-    ensures flushed { IfOk result (λ reply. HasFlushed (B.state backing.old).mode kept.new op.now reply) }
+    ensures written { IfOk result (λ reply. HasSynced (B.state backing.old).mode (B.state backing.new) kept.old kept.new caller op.now reply) }
+    ensures admitted { OnOk result (WasAdmitted (B.state backing.old) (B.state backing.new) kept.old caller now grant op.now) }
+    ensures at_once { IsAtOnce (B.state backing.old) kept.old caller now op.now result }
     ensures goes { Goes (2 * length kept.old.pages.dirty + length (group_of (present (B.state backing.old).tree kept.old) caller now op.now)) (B.state backing.old) (B.state backing.new) }
     ensures sure { SureGoes (B.outlook backing.old) (B.outlook backing.new) (B.state backing.old) (B.state backing.new) }
 {
@@ -220,6 +229,7 @@ fn synced<B: Backing>(
     ensures done { IfOk result (λ reply. (now : ℕ) → outcome_of (present (B.state backing.old).tree kept.old) caller now (Fsync slot) ≡ Ok (reply, present (B.state backing.old).tree kept.old)) }
     ensures same { IsAlike (present (B.state backing.old).tree kept.old) (present (B.state backing.new).tree kept.new) }
     ensures refused { IfErr result (λ refusal. ((now : ℕ) → outcome_of (present (B.state backing.old).tree kept.old) caller now (Fsync slot) ≡ Err refusal) ⊎ IsUnsynced (B.state backing.old) (B.state backing.new) refusal) }
+    ensures written { IfOk result (λ reply. HasSynced (B.state backing.old).mode (B.state backing.new) kept.old kept.new caller (Fsync slot) reply) }
     ensures issued { (B.state backing.new).space.credits + length kept.old.pages.dirty ≡ (B.state backing.old).space.credits + length kept.new.pages.dirty }
     ensures goes { Goes (2 * length kept.old.pages.dirty) (B.state backing.old) (B.state backing.new) }
     ensures sure { SureGoes (B.outlook backing.old) (B.outlook backing.new) (B.state backing.old) (B.state backing.new) }
@@ -259,7 +269,7 @@ fn flushed<B: Backing>(alloc: Global, backing: &mut B, kept: &mut Kept) -> Resul
     ensures same { IsAlike (present (B.state backing.old).tree kept.old) (present (B.state backing.new).tree kept.new) }
     ensures refused { IfErr result (λ refusal. IsUnsynced (B.state backing.old) (B.state backing.new) refusal) }
     ensures issued { (B.state backing.new).space.credits + length kept.old.pages.dirty ≡ (B.state backing.old).space.credits + length kept.new.pages.dirty }
-    ensures flushed { IfOk result (λ reply. HasFlushed (B.state backing.old).mode kept.new Flush reply) }
+    ensures written { IfOk result (λ reply. (caller : ℕ) → HasSynced (B.state backing.old).mode (B.state backing.new) kept.old kept.new caller Flush reply) }
     ensures goes { Goes (2 * length kept.old.pages.dirty) (B.state backing.old) (B.state backing.new) }
     ensures sure { SureGoes (B.outlook backing.old) (B.outlook backing.new) (B.state backing.old) (B.state backing.new) }
 {

@@ -1,6 +1,7 @@
 // Operations whose changes are one group of inodes and names.
 
-ghost use Rattle.std.specs.Prelude.{◌≡◌, ◌⊎◌, ◌+◌, ◌-◌, ◌*◌, ◌≤◌, ◌==◌, ◌&&◌, true, Ok, IfOk, OnErr, IfErr, length};
+ghost use Rattle.std.specs.Prelude.{◌≡◌, ◌⊎◌, ◌+◌, ◌-◌, ◌*◌, ◌≤◌, ◌==◌, ◌&&◌, true, Ok, IfOk, OnOk, OnErr, IfErr, length};
+ghost use Rattle.fs_model.specs.declared.reply.Reply.{Reply as AnyReply};
 ghost use Rattle.fs_model.specs.Backing.{Goes};
 ghost use Rattle.fs_model.specs.Files.{Files};
 ghost use Rattle.fs_model.specs.Need.{need_of};
@@ -9,11 +10,12 @@ ghost use Rattle.fs_model.specs.Orphan.{nameless, within_orphans};
 ghost use Rattle.fs_model.specs.Path.{is_dir};
 ghost use Rattle.fs_laws.specs.Sound.{IsCall, IsSound};
 ghost use Rattle.cached_files.specs.Alike.{IsAlike};
-ghost use Rattle.cached_files.specs.Calls.{IsWithoutRoom, SureGoes};
+ghost use Rattle.cached_files.specs.Calls.{IsNotEnospc, IsWithoutRoom, SureGoes};
 ghost use Rattle.cached_files.specs.Present.{present, IsKept};
 ghost use Rattle.vfs_plans.specs.Answers.{IsRefused};
 ghost use Rattle.vfs_ops.specs.Operations.{is_of_names, is_orphaned, orphans};
 ghost use Rattle.vfs_ops.specs.Steps.{IsLast};
+ghost use Rattle.vfs_ops.specs.Writing.{HasGroupRoom, IsGroupAdmitted};
 
 use crate::needs::{class_of, need_of};
 use cached_files::{Kept, apply_group, present_files_are_sound};
@@ -50,6 +52,8 @@ pub fn change<B: Backing>(
     ensures refused { IfErr result (λ refusal. IsRefused (B.state backing.old) (B.state backing.new) (within_orphans ((B.state backing.old).orphan_limit - length (nameless (B.state backing.old).tree)) (B.state backing.old).orphan_limit (present (B.state backing.old).tree kept.old) (outcome_of (present (B.state backing.old).tree kept.old) caller now op.now)) refusal
         ⊎ (IsWithoutRoom (B.state backing.old) (B.state backing.new) kept.new (need_of (present (B.state backing.old).tree kept.old) caller now op.now) refusal
         × IsLast (within_orphans ((B.state backing.old).orphan_limit - length (nameless (B.state backing.old).tree)) (B.state backing.old).orphan_limit (present (B.state backing.old).tree kept.old) (outcome_of (present (B.state backing.old).tree kept.old) caller now op.now)) refusal)) }
+    ensures admitted { OnOk result (IsGroupAdmitted (B.state backing.old) (B.state backing.new) kept.old (group_of (present (B.state backing.old).tree kept.old) caller now op.now) (need_of (present (B.state backing.old).tree kept.old) caller now op.now)) }
+    ensures at_once { (done : AnyReply × Files) → outcome_of (present (B.state backing.old).tree kept.old) caller now op.now ≡ Ok done → HasGroupRoom (B.state backing.old) (need_of (present (B.state backing.old).tree kept.old) caller now op.now) → IsNotEnospc result }
     ensures issued { (B.state backing.new).space.credits + length kept.old.pages.dirty ≡ (B.state backing.old).space.credits + length kept.new.pages.dirty }
     ensures goes { Goes (2 * length kept.old.pages.dirty + length (group_of (present (B.state backing.old).tree kept.old) caller now op.now)) (B.state backing.old) (B.state backing.new) }
     ensures sure { SureGoes (B.outlook backing.old) (B.outlook backing.new) (B.state backing.old) (B.state backing.new) }

@@ -10,15 +10,16 @@ ghost use Rattle.fs_model.specs.Proper.{IsProper};
 ghost use Rattle.fs_model.specs.Operation.{group_of};
 ghost use Rattle.fs_laws.specs.Sound.{IsCall, IsSound};
 ghost use Rattle.cached_files.specs.Alike.{IsAlike};
-ghost use Rattle.cached_files.specs.Calls.{IsWithoutRoom, SureGoes};
+ghost use Rattle.cached_files.specs.Calls.{IsWithoutRoom, SureGoes, WasCovered};
 ghost use Rattle.cached_files.specs.Follow.{AreOfNames};
 ghost use Rattle.cached_files.specs.Present.{present};
 ghost use Rattle.fs_model.specs.declared.refusal.Refusal.TheVariants.{Enomem, Enospc};
 ghost use Rattle.fs_model.specs.declared.reply.Reply.TheVariants.{Refused};
 ghost use Rattle.vfs_plans.specs.Answers.{IsRefused, Looks};
 ghost use Rattle.vfs_plans.specs.Operations.{is_truncate};
-ghost use Rattle.vfs_ops.specs.Events.{HasFlushed, IsAnswer, IsCalled, IsWrittenBack, grant_of, group_in, left_of};
-ghost use Rattle.vfs_ops.specs.Steps.{HasOpen, IsAnswered, IsReady, no_space_from, no_space_in};
+ghost use Rattle.vfs_ops.specs.Events.{HasSynced, IsAdmittedCall, IsAnswer, IsAtOnceCall, IsBufferedCall, IsCalled, IsWrittenBack, grant_of, group_in, left_of};
+ghost use Rattle.vfs_ops.specs.Steps.{HasOpen, IsAdmittedReply, IsAnswered, IsAtOnceReply, IsReady, no_space_from, no_space_in};
+ghost use Rattle.vfs_ops.specs.Writing.{BuffersReply};
 
 use crate::answers::call;
 use crate::event::{Event, Outcome};
@@ -73,7 +74,10 @@ impl<B: Backing> Fs<B> {
         ensures ready { IsReady (B.state self.new.backing) self.new.kept }
         ensures answered { IsAnswer (B.state self.old.backing) (B.state self.new.backing) self.old.kept self.new.kept self.old.refused.items self.new.refused.items event.now result }
         ensures issued { (B.state self.new.backing).space.credits + length self.old.kept.pages.dirty + grant_of event.now ≡ (B.state self.old.backing).space.credits + length self.new.kept.pages.dirty + left_of result }
-        ensures written { IsWrittenBack (B.state self.old.backing).mode self.new.kept event.now result }
+        ensures written { IsWrittenBack (B.state self.old.backing).mode (B.state self.new.backing) self.old.kept self.new.kept event.now result }
+        ensures admitted { IsAdmittedCall (B.state self.old.backing) (B.state self.new.backing) self.old.kept event.now result }
+        ensures at_once { IsAtOnceCall (B.state self.old.backing) self.old.kept self.old.refused.items self.new.refused.items event.now }
+        ensures buffered { IsBufferedCall (B.state self.old.backing) (B.state self.new.backing) self.old.kept self.new.kept self.old.refused.items self.new.refused.items event.now result }
         ensures goes { Goes (2 * length self.old.kept.pages.dirty + length (group_in (present (B.state self.old.backing).tree self.old.kept) event.now)) (B.state self.old.backing) (B.state self.new.backing) }
         ensures sure { SureGoes (B.outlook self.old.backing) (B.outlook self.new.backing) (B.state self.old.backing) (B.state self.new.backing) }
     {
@@ -100,7 +104,10 @@ impl<B: Backing> Fs<B> {
         ensures answered { IsAnswered (B.state self.old.backing) (B.state self.new.backing) self.new.kept (present (B.state self.old.backing).tree self.old.kept) caller now grant op.now result.0 self.old.refused.items self.new.refused.items }
         ensures left { result.1 ≤ grant }
         ensures issued { (B.state self.new.backing).space.credits + length self.old.kept.pages.dirty + grant ≡ (B.state self.old.backing).space.credits + length self.new.kept.pages.dirty + result.1 }
-        ensures flushed { HasFlushed (B.state self.old.backing).mode self.new.kept op.now result.0 }
+        ensures written { HasSynced (B.state self.old.backing).mode (B.state self.new.backing) self.old.kept self.new.kept caller op.now result.0 }
+        ensures admitted { IsAdmittedReply (B.state self.old.backing) (B.state self.new.backing) self.old.kept caller now grant op.now result.0 }
+        ensures at_once { IsAtOnceReply (B.state self.old.backing) self.old.kept caller now op.now self.old.refused.items self.new.refused.items }
+        ensures buffered { BuffersReply (B.state self.old.backing) (B.state self.new.backing) self.old.kept self.new.kept self.old.refused.items self.new.refused.items caller grant op.now result.0 }
         ensures goes { Goes (2 * length self.old.kept.pages.dirty + length (group_of (present (B.state self.old.backing).tree self.old.kept) caller now op.now)) (B.state self.old.backing) (B.state self.new.backing) }
         ensures sure { SureGoes (B.outlook self.old.backing) (B.outlook self.new.backing) (B.state self.old.backing) (B.state self.new.backing) }
     {
@@ -134,6 +141,7 @@ impl<B: Backing> Fs<B> {
         ensures ready { IsReady (B.state self.new.backing) self.new.kept }
         ensures ok { OnOk result (IsAlike (record (present (B.state self.old.backing).tree self.old.kept) { tree = apply (present (B.state self.old.backing).tree self.old.kept).tree group.now }) (present (B.state self.new.backing).tree self.new.kept)) }
         ensures same { OnErr result (IsAlike (present (B.state self.old.backing).tree self.old.kept) (present (B.state self.new.backing).tree self.new.kept)) }
+        ensures admitted { OnOk result (WasCovered (B.state self.old.backing) (B.state self.new.backing) self.old.kept need.now need.now (length group.now)) }
         ensures why { IfErr result (IsWithoutRoom (B.state self.old.backing) (B.state self.new.backing) self.new.kept need.now) }
         ensures open { HasOpen (B.state self.old.backing).mode result }
         ensures refused { self.new.refused.items ≡ self.old.refused.items ++ no_space_from result }

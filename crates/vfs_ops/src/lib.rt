@@ -23,6 +23,8 @@ mod fs_tests;
 #[cfg(test)]
 mod look_tests;
 #[cfg(test)]
+mod page_tests;
+#[cfg(test)]
 mod tests;
 #[cfg(test)]
 mod write_tests;

@@ -114,7 +114,7 @@ fn read_there(alloc: Global, volume: &mut Volume) -> Result<u64, Refusal>
         offs: 0,
         len: 9,
     };
-    let reply = look(alloc, &mut volume.backing, &volume.kept, 1, &op)?;
+    let reply = look(alloc, &mut volume.backing, &mut volume.kept, 1, &op)?;
     Ok(number(&reply))
 }
 

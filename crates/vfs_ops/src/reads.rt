@@ -1,37 +1,38 @@
 // Questions about the files: pread(2), readdir(3), stat(2) and readlink(2).
 
-ghost use Rattle.std.specs.Prelude.{◌≡◌, ◌-◌, ℕ, true, min, Ok, Err, Some, IfOk, IfErr};
-ghost use Rattle.fs_model.specs.declared.backing_answers.StoreFault.{StoreFault as AnyFault};
+ghost use Rattle.std.specs.Prelude.{◌≡◌, ◌-◌, ℕ, true, min, Ok, Some, IfOk, IfErr};
 ghost use Rattle.fs_model.specs.Files.{bytes_from, inode_at, size_of};
 ghost use Rattle.fs_model.specs.Handles.{bytes_read};
 ghost use Rattle.fs_model.specs.Operation.{outcome_of};
 ghost use Rattle.fs_laws.specs.Sound.{IsSound};
-ghost use Rattle.cached_files.specs.Calls.{refusal_of};
-ghost use Rattle.cached_files.specs.Present.{present, IsKept};
+ghost use Rattle.cached_files.specs.Present.{present, IsKept, IsSameButClean};
 ghost use Rattle.vfs_plans.specs.Answers.{IsFault, IsRefused, Looks};
 ghost use Rattle.vfs_ops.specs.Kinds.{is_look};
 
 use cached_files::{Kept, bytes, size};
-use fs_model::{Backing, Inode, Op, Refusal, Reply, StoreFault};
+use fs_model::{Backing, Inode, Op, Refusal, Reply};
 use op_plans::{is_bad_len, is_bad_slot};
 use std::alloc::Global;
 use ubifs_base::Bytes;
-use vfs_plans::{inode, link_read, listed, told};
+use vfs_plans::{inode, link_read, listed, or_fault, told};
 
 /// Answers a caller's operation that looks at the files and leaves them: a read, a list of a directory, what an inode is, or
-/// where a symbolic link leads. A refusal is the definition's, or tells that the backing failed.
+/// where a symbolic link leads. A page that is read is kept as a clean one. A refusal is the definition's, or tells that the
+/// backing failed.
 pub(crate) fn look<B: Backing>(
     alloc: Global,
     backing: &mut B,
-    kept: &Kept,
+    kept: &mut Kept,
     caller: u16,
     op: &Op,
 ) -> Result<Reply, Refusal>
-    requires kept { IsKept (B.state backing.old).tree kept.now }
-    requires sound { IsSound (present (B.state backing.old).tree kept.now) }
+    requires kept { IsKept (B.state backing.old).tree kept.old }
+    requires sound { IsSound (present (B.state backing.old).tree kept.old) }
     requires op { is_look op.now ≡ true }
-    ensures found { IfOk result (λ reply. (now : ℕ) → outcome_of (present (B.state backing.old).tree kept.now) caller now op.now ≡ Ok (reply, present (B.state backing.old).tree kept.now)) }
-    ensures refused { IfErr result (λ refusal. (now : ℕ) → IsRefused (B.state backing.old) (B.state backing.new) (outcome_of (present (B.state backing.old).tree kept.now) caller now op.now) refusal) }
+    ensures found { IfOk result (λ reply. (now : ℕ) → outcome_of (present (B.state backing.old).tree kept.old) caller now op.now ≡ Ok (reply, present (B.state backing.old).tree kept.old)) }
+    ensures refused { IfErr result (λ refusal. (now : ℕ) → IsRefused (B.state backing.old) (B.state backing.new) (outcome_of (present (B.state backing.old).tree kept.old) caller now op.now) refusal) }
+    ensures kept { IsKept (B.state backing.new).tree kept.new }
+    ensures same { IsSameButClean kept.old kept.new }
     ensures looks { Looks (B.outlook backing.old) (B.outlook backing.new) (B.state backing.old) (B.state backing.new) }
 {
     match op {
@@ -60,15 +61,17 @@ pub(crate) fn look<B: Backing>(
 fn read<B: Backing>(
     alloc: Global,
     backing: &mut B,
-    kept: &Kept,
+    kept: &mut Kept,
     caller: u16,
     slot: u8,
     offs: u64,
     len: u32,
 ) -> Result<Reply, Refusal>
-    requires kept { IsKept (B.state backing.old).tree kept.now }
-    ensures found { IfOk result (λ reply. bytes_read (present (B.state backing.old).tree kept.now) caller slot offs len ≡ Ok (reply, present (B.state backing.old).tree kept.now)) }
-    ensures refused { IfErr result (IsRefused (B.state backing.old) (B.state backing.new) (bytes_read (present (B.state backing.old).tree kept.now) caller slot offs len)) }
+    requires kept { IsKept (B.state backing.old).tree kept.old }
+    ensures found { IfOk result (λ reply. bytes_read (present (B.state backing.old).tree kept.old) caller slot offs len ≡ Ok (reply, present (B.state backing.old).tree kept.old)) }
+    ensures refused { IfErr result (IsRefused (B.state backing.old) (B.state backing.new) (bytes_read (present (B.state backing.old).tree kept.old) caller slot offs len)) }
+    ensures kept { IsKept (B.state backing.new).tree kept.new }
+    ensures same { IsSameButClean kept.old kept.new }
     ensures looks { Looks (B.outlook backing.old) (B.outlook backing.new) (B.state backing.old) (B.state backing.new) }
 {
     if is_bad_slot(slot) || is_bad_len(len) {
@@ -90,16 +93,18 @@ fn read<B: Backing>(
 fn bytes_there<B: Backing>(
     alloc: Global,
     backing: &mut B,
-    kept: &Kept,
+    kept: &mut Kept,
     ino: u32,
     inode: &Inode,
     offs: u64,
     len: u32,
 ) -> Result<Bytes, Refusal>
-    requires kept { IsKept (B.state backing.old).tree kept.now }
-    requires present { inode_at (present (B.state backing.old).tree kept.now).tree ino ≡ Some inode.now }
-    ensures found { IfOk result (λ bytes. bytes ≡ bytes_from (present (B.state backing.old).tree kept.now).tree.blocks ino offs (min len (size_of (present (B.state backing.old).tree kept.now).tree ino inode.now - offs))) }
+    requires kept { IsKept (B.state backing.old).tree kept.old }
+    requires present { inode_at (present (B.state backing.old).tree kept.old).tree ino ≡ Some inode.now }
+    ensures found { IfOk result (λ bytes. bytes ≡ bytes_from (present (B.state backing.old).tree kept.old).tree.blocks ino offs (min len (size_of (present (B.state backing.old).tree kept.old).tree ino inode.now - offs))) }
     ensures refused { IfErr result (IsFault (B.state backing.old) (B.state backing.new)) }
+    ensures kept { IsKept (B.state backing.new).tree kept.new }
+    ensures same { IsSameButClean kept.old kept.new }
     ensures looks { Looks (B.outlook backing.old) (B.outlook backing.new) (B.state backing.old) (B.state backing.new) }
 {
     let size = size_there(backing, kept, ino, inode)?;
@@ -121,15 +126,4 @@ fn size_there<B: Backing>(
     ensures looks { Looks (B.outlook backing.old) (B.outlook backing.new) (B.state backing.old) (B.state backing.new) }
 {
     or_fault(size(backing, kept, ino, inode))
-}
-
-// What was found, or the backing's fault.
-fn or_fault<T>(found: Result<T, StoreFault>) -> Result<T, Refusal>
-    ensures ok { IfOk result (λ x. found ≡ Ok x) }
-    ensures err { IfErr result (λ refusal. (fault : AnyFault) × (found ≡ Err fault) × (refusal ≡ refusal_of fault)) }
-{
-    match found {
-        Ok(found) => Ok(found),
-        Err(fault) => Err(Refusal::from(fault)),
-    }
 }

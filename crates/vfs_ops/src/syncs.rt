@@ -10,10 +10,10 @@ ghost use Rattle.fs_model.specs.Operation.{outcome_of};
 ghost use Rattle.fs_laws.specs.Sound.{IsSound};
 ghost use Rattle.cached_files.specs.Alike.{IsAlike};
 ghost use Rattle.cached_files.specs.Calls.{SureGoes};
-ghost use Rattle.cached_files.specs.Present.{has_dirty, present, IsKept};
+ghost use Rattle.cached_files.specs.Present.{dirty_of_others, has_dirty, present, IsKept};
 ghost use Rattle.vfs_ops.specs.Kinds.{IsStopped};
 
-use cached_files::{Kept, present_files_are_sound, write_back};
+use cached_files::{Kept, present_files_are_sound, write_back, write_back_file};
 use fs_model::{Backing, Refusal, Reply};
 use op_plans::is_bad_slot;
 use std::alloc::Global;
@@ -47,7 +47,7 @@ pub(crate) fn flush<B: Backing>(
     Ok(Reply::Done)
 }
 
-/// Puts the dirty pages of a file that is open in a slot of a caller, and all others, and syncs. The definition refuses a
+/// Puts the dirty pages of a file that is open in a slot of a caller, and no others, and syncs. The definition refuses a
 /// slot that isn't open; other refusals are those of `flush`.
 pub(crate) fn fsync<B: Backing>(
     alloc: Global,
@@ -66,6 +66,7 @@ pub(crate) fn fsync<B: Backing>(
     ensures same { IsAlike (present (B.state backing.old).tree kept.old) (present (B.state backing.new).tree kept.new) }
     ensures synced { OnOk result (IsSynced (B.state backing.new)) }
     ensures pages { OnOk result ((ino : ℕ) → lookup (is_at (pair_cmp (caller, slot))) kept.old.handles ≡ Some ino → has_dirty kept.new.pages.dirty ino ≡ false) }
+    ensures others { (ino : ℕ) → lookup (is_at (pair_cmp (caller, slot))) kept.old.handles ≡ Some ino → dirty_of_others kept.new.pages.dirty ino ≡ dirty_of_others kept.old.pages.dirty ino }
     ensures refused { IfErr result (λ refusal. ((now : ℕ) → outcome_of (present (B.state backing.old).tree kept.old) caller now (Fsync slot) ≡ Err refusal) ⊎ IsStopped (B.state backing.old) (B.state backing.new) refusal) }
     ensures issued { (B.state backing.new).space.credits + length kept.old.pages.dirty ≡ (B.state backing.old).space.credits + length kept.new.pages.dirty }
     ensures goes { Goes (2 * length kept.old.pages.dirty) (B.state backing.old) (B.state backing.new) }
@@ -74,11 +75,38 @@ pub(crate) fn fsync<B: Backing>(
     if is_bad_slot(slot) {
         return Err(Refusal::Einval);
     }
-    let Some(_) = kept.handles.get(caller, slot) else {
+    let Some(ino) = kept.handles.get(caller, slot) else {
         return Err(Refusal::Ebadf);
     };
-    let reply = flush(alloc, backing, kept)?;
-    Ok(reply)
+    present_files_are_sound();
+    put_file(alloc, backing, kept, ino)?;
+    sync(backing)?;
+    Ok(Reply::Done)
+}
+
+// Puts the dirty pages of a file.
+fn put_file<B: Backing>(
+    alloc: Global,
+    backing: &mut B,
+    kept: &mut Kept,
+    ino: u32,
+) -> Result<(), Refusal>
+    requires kept { IsKept (B.state backing.old).tree kept.old }
+    requires paid { length kept.old.pages.dirty ≤ (B.state backing.old).space.credits }
+    ensures kept { IsKept (B.state backing.new).tree kept.new }
+    ensures paid { length kept.new.pages.dirty ≤ (B.state backing.new).space.credits }
+    ensures same { IsAlike (present (B.state backing.old).tree kept.old) (present (B.state backing.new).tree kept.new) }
+    ensures pages { OnOk result (has_dirty kept.new.pages.dirty ino ≡ false) }
+    ensures others { dirty_of_others kept.new.pages.dirty ino ≡ dirty_of_others kept.old.pages.dirty ino }
+    ensures refused { IfErr result (λ refusal. IsStopped (B.state backing.old) (B.state backing.new) refusal) }
+    ensures issued { (B.state backing.new).space.credits + length kept.old.pages.dirty ≡ (B.state backing.old).space.credits + length kept.new.pages.dirty }
+    ensures goes { Goes (2 * length kept.old.pages.dirty) (B.state backing.old) (B.state backing.new) }
+    ensures sure { SureGoes (B.outlook backing.old) (B.outlook backing.new) (B.state backing.old) (B.state backing.new) }
+{
+    match write_back_file(alloc, backing, kept, ino) {
+        Ok(()) => Ok(()),
+        Err(fault) => Err(Refusal::from(fault)),
+    }
 }
 
 // Puts all dirty pages.

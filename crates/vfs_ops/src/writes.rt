@@ -11,11 +11,11 @@ ghost use Rattle.fs_model.specs.Operation.{outcome_of};
 ghost use Rattle.fs_model.specs.Proper.{has_kind};
 ghost use Rattle.fs_laws.specs.Sound.{IsSound};
 ghost use Rattle.cached_files.specs.Alike.{IsAlike};
-ghost use Rattle.cached_files.specs.Calls.{IsWithoutRoom, SureGoes};
+ghost use Rattle.cached_files.specs.Calls.{IsCoveredAtLast, IsWithoutRoom, SureGoes};
 ghost use Rattle.cached_files.specs.Present.{IsKept, newly_dirty, present};
 ghost use Rattle.vfs_plans.specs.Answers.{IsFault, IsRefused, Looks};
 ghost use Rattle.vfs_ops.specs.Steps.{IsLast};
-ghost use Rattle.vfs_ops.specs.Writing.{HasRoom, IsBuffered, IsCovered, credits_need, write_need};
+ghost use Rattle.vfs_ops.specs.Writing.{HasRoom, IsBuffered, IsCovered, WasPaid, credits_need, write_need};
 
 use cached_files::{
     Kept, make_room, newly, present_files_are_sound, size, write as write_pages,
@@ -60,6 +60,7 @@ pub(crate) fn write<B: Backing>(
     ensures left { IfOk result (λ r. r.1 ≤ grant) }
     ensures issued { IfOk result (λ r. (B.state backing.new).space.credits + length kept.old.pages.dirty + grant ≡ (B.state backing.old).space.credits + length kept.new.pages.dirty + r.1) }
     ensures still_issued { OnErr result ((B.state backing.new).space.credits + length kept.old.pages.dirty ≡ (B.state backing.old).space.credits + length kept.new.pages.dirty) }
+    ensures admitted { OnOk result ((ino : _) → handle_at (present (B.state backing.old).tree kept.old) caller slot ≡ Some ino → WasPaid (B.state backing.old) (B.state backing.new) kept.old ino offs len grant) }
     ensures buffered { (ino : _) → handle_at (present (B.state backing.old).tree kept.old) caller slot ≡ Some ino → HasRoom (B.state backing.old) kept.old ino offs len grant
         → IsBuffered (B.state backing.old) (B.state backing.new) kept.old kept.new ino offs len result }
     ensures goes { Goes (2 * length kept.old.pages.dirty) (B.state backing.old) (B.state backing.new) }
@@ -113,6 +114,7 @@ fn write_some<B: Backing>(
     ensures left { IfOk result (λ left. left ≤ grant) }
     ensures issued { IfOk result (λ left. (B.state backing.new).space.credits + length kept.old.pages.dirty + grant ≡ (B.state backing.old).space.credits + length kept.new.pages.dirty + left) }
     ensures still_issued { OnErr result ((B.state backing.new).space.credits + length kept.old.pages.dirty ≡ (B.state backing.old).space.credits + length kept.new.pages.dirty) }
+    ensures admitted { OnOk result (WasPaid (B.state backing.old) (B.state backing.new) kept.old ino offs len grant) }
     ensures buffered { HasRoom (B.state backing.old) kept.old ino offs len grant → IsBuffered (B.state backing.old) (B.state backing.new) kept.old kept.new ino offs len result }
     ensures goes { Goes (2 * length kept.old.pages.dirty) (B.state backing.old) (B.state backing.new) }
     ensures sure { SureGoes (B.outlook backing.old) (B.outlook backing.new) (B.state backing.old) (B.state backing.new) }
@@ -152,6 +154,7 @@ fn cover<B: Backing>(
     ensures still_issued { OnErr result ((B.state backing.new).space.credits + length kept.old.pages.dirty ≡ (B.state backing.old).space.credits + length kept.new.pages.dirty) }
     ensures same { IsAlike (present (B.state backing.old).tree kept.old) (present (B.state backing.new).tree kept.new) }
     ensures refused { IfErr result (IsWithoutRoom (B.state backing.old) (B.state backing.new) kept.new (write_need offs len grant)) }
+    ensures admitted { OnOk result (WasPaid (B.state backing.old) (B.state backing.new) kept.old ino offs len grant) }
     ensures covered { HasRoom (B.state backing.old) kept.old ino offs len grant → IsCovered (B.state backing.old) (B.state backing.new) kept.old kept.new result }
     ensures goes { Goes (2 * length kept.old.pages.dirty) (B.state backing.old) (B.state backing.new) }
     ensures sure { SureGoes (B.outlook backing.old) (B.outlook backing.new) (B.state backing.old) (B.state backing.new) }
@@ -188,6 +191,7 @@ fn cover_again<B: Backing>(
     ensures issued { IfOk result (λ have. (B.state backing.new).space.credits + length kept.old.pages.dirty + grant ≡ (B.state backing.old).space.credits + length kept.new.pages.dirty + have) }
     ensures still_issued { OnErr result ((B.state backing.new).space.credits + length kept.old.pages.dirty ≡ (B.state backing.old).space.credits + length kept.new.pages.dirty) }
     ensures same { IsAlike (present (B.state backing.old).tree kept.old) (present (B.state backing.new).tree kept.new) }
+    ensures admitted { OnOk result (IsCoveredAtLast (B.state backing.old) (B.state backing.new) kept.old (write_need offs len grant) 0) }
     ensures refused { IfErr result (IsWithoutRoom (B.state backing.old) (B.state backing.new) kept.new (write_need offs len grant)) }
     ensures goes { Goes (2 * length kept.old.pages.dirty) (B.state backing.old) (B.state backing.new) }
     ensures sure { SureGoes (B.outlook backing.old) (B.outlook backing.new) (B.state backing.old) (B.state backing.new) }

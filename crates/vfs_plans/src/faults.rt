@@ -20,8 +20,8 @@ pub(crate) fn or_memory<T>(found: Result<T, Memory>) -> Result<T, Refusal>
     }
 }
 
-/// What was found, or the backing's fault.
-pub(crate) fn or_fault<T>(found: Result<T, StoreFault>) -> Result<T, Refusal>
+/// What was found, or the backing's fault, told as a refusal.
+pub fn or_fault<T>(found: Result<T, StoreFault>) -> Result<T, Refusal>
     ensures ok { IfOk result (λ x. found ≡ Ok x) }
     ensures err { IfErr result (λ refusal. (fault : AnyFault) × (found ≡ Err fault) × (refusal ≡ refusal_of fault)) }
 {

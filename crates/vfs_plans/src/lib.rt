@@ -18,6 +18,7 @@ mod stats;
 mod walks;
 
 pub use crate::attributes::{found, link_read, listed, mode_set};
+pub use crate::faults::or_fault;
 pub use crate::groups::plan;
 pub use crate::links::{dir_removed, linked, unlinked};
 pub use crate::lookups::{entries, entry, inode};

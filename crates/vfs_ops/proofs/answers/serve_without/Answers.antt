@@ -1,6 +1,7 @@
 use Rattle.std.proofs.Common.{inr, refl, sym, ◌∙◌}
 use Rattle.cached_files.specs.Present.{present}
-use Rattle.vfs_ops.proofs.Serving.{alike_self, done_on, refused_on, ok_map, err_map, at_now, names_flushed, or_fault_last, or_unsynced_last, unsynced_last}
+use Rattle.vfs_ops.proofs.Admitted.{after_ok, names_admitted, none_admitted, on_ok, other_at_once}
+use Rattle.vfs_ops.proofs.Serving.{alike_self, done_on, refused_on, ok_map, err_map, at_now, names_synced, or_fault_last, or_unsynced_last, synced_on, unsynced_last}
 use Rattle.vfs_ops.proofs.answers.serve_without.Goals as goal
 
 pub returns-in-OpenFile-clause-done : goal.returns-in-OpenFile-clause-done
@@ -43,5 +44,49 @@ returns-in-Fsync-clause-refused g c =
     let files = present (g.B.Backing.state c.args.backing.now).tree c.args.kept.now in
     err_map c.synced.result (λ refusal h. refused_on (g.B.Backing.state c.args.backing.now) (g.B.Backing.state c.synced.new.backing) c.synced.new.kept files c.args.caller c.args.now c.args.grant c.args.op.now _ refusal c.in-Fsync.is refl (or_unsynced_last (g.B.Backing.state c.args.backing.now) (g.B.Backing.state c.synced.new.backing) _ refusal (at_now c.args.now h))) c.synced.ensures.refused
 
-pub returns-then-is_of_names-clause-flushed : goal.returns-then-is_of_names-clause-flushed
-returns-then-is_of_names-clause-flushed g c = ok_map c.change.result (λ reply h. names_flushed (g.B.Backing.state c.args.backing.now).mode _ c.args.op.now reply (sym c.is_of_names.ensures ∙ c.if-is_of_names.true)) c.change.ensures.done
+pub returns-then-is_of_names-clause-written : goal.returns-then-is_of_names-clause-written
+returns-then-is_of_names-clause-written g c =
+    ok_map c.change.result (λ reply h. names_synced (g.B.Backing.state c.args.backing.now).mode (g.B.Backing.state c.change.new.backing) c.args.kept.now c.change.new.kept c.args.caller c.args.op.now reply (sym c.is_of_names.ensures ∙ c.if-is_of_names.true)) c.change.ensures.done
+
+pub returns-in-Flush-clause-written : goal.returns-in-Flush-clause-written
+returns-in-Flush-clause-written g c =
+    ok_map c.flushed.result (λ reply h. synced_on (g.B.Backing.state c.args.backing.now).mode (g.B.Backing.state c.flushed.new.backing) c.args.kept.now c.flushed.new.kept c.args.caller c.args.op.now _ reply c.in-Flush.is (h c.args.caller)) c.flushed.ensures.written
+
+pub returns-in-Fsync-clause-written : goal.returns-in-Fsync-clause-written
+returns-in-Fsync-clause-written g c =
+    ok_map c.synced.result (λ reply h. synced_on (g.B.Backing.state c.args.backing.now).mode (g.B.Backing.state c.synced.new.backing) c.args.kept.now c.synced.new.kept c.args.caller c.args.op.now _ reply c.in-Fsync.is h) c.synced.ensures.written
+
+pub returns-then-is_of_names-clause-admitted : goal.returns-then-is_of_names-clause-admitted
+returns-then-is_of_names-clause-admitted g c =
+    on_ok c.change.result (λ h. names_admitted (g.B.Backing.state c.args.backing.now) (g.B.Backing.state c.change.new.backing) c.args.kept.now c.args.caller c.args.now c.args.grant c.args.op.now (sym c.is_of_names.ensures ∙ c.if-is_of_names.true) h) c.change.ensures.admitted
+
+pub returns-in-OpenFile-clause-admitted : goal.returns-in-OpenFile-clause-admitted
+returns-in-OpenFile-clause-admitted g c =
+    after_ok c.open.result (none_admitted (g.B.Backing.state c.args.backing.now) (g.B.Backing.state c.open.new.backing) c.args.kept.now c.args.caller c.args.now c.args.grant c.args.op.now (sym c.is_of_names.ensures ∙ c.if-is_of_names.false) c.requires.without)
+
+pub returns-in-Close-clause-admitted : goal.returns-in-Close-clause-admitted
+returns-in-Close-clause-admitted g c =
+    after_ok c.close.result (none_admitted (g.B.Backing.state c.args.backing.now) (g.B.Backing.state c.close.new.backing) c.args.kept.now c.args.caller c.args.now c.args.grant c.args.op.now (sym c.is_of_names.ensures ∙ c.if-is_of_names.false) c.requires.without)
+
+pub returns-in-Fsync-clause-admitted : goal.returns-in-Fsync-clause-admitted
+returns-in-Fsync-clause-admitted g c =
+    after_ok c.synced.result (none_admitted (g.B.Backing.state c.args.backing.now) (g.B.Backing.state c.synced.new.backing) c.args.kept.now c.args.caller c.args.now c.args.grant c.args.op.now (sym c.is_of_names.ensures ∙ c.if-is_of_names.false) c.requires.without)
+
+pub returns-in-Flush-clause-admitted : goal.returns-in-Flush-clause-admitted
+returns-in-Flush-clause-admitted g c =
+    after_ok c.flushed.result (none_admitted (g.B.Backing.state c.args.backing.now) (g.B.Backing.state c.flushed.new.backing) c.args.kept.now c.args.caller c.args.now c.args.grant c.args.op.now (sym c.is_of_names.ensures ∙ c.if-is_of_names.false) c.requires.without)
+
+pub returns-then-is_of_names-clause-at_once : goal.returns-then-is_of_names-clause-at_once
+returns-then-is_of_names-clause-at_once g c = λ is done out room. c.change.ensures.at_once done out room
+
+pub returns-in-OpenFile-clause-at_once : goal.returns-in-OpenFile-clause-at_once
+returns-in-OpenFile-clause-at_once g c = other_at_once _ (g.B.Backing.state c.args.backing.now) c.args.kept.now c.args.caller c.args.now c.args.op.now c.open.result (sym c.is_of_names.ensures ∙ c.if-is_of_names.false)
+
+pub returns-in-Close-clause-at_once : goal.returns-in-Close-clause-at_once
+returns-in-Close-clause-at_once g c = other_at_once _ (g.B.Backing.state c.args.backing.now) c.args.kept.now c.args.caller c.args.now c.args.op.now c.close.result (sym c.is_of_names.ensures ∙ c.if-is_of_names.false)
+
+pub returns-in-Fsync-clause-at_once : goal.returns-in-Fsync-clause-at_once
+returns-in-Fsync-clause-at_once g c = other_at_once _ (g.B.Backing.state c.args.backing.now) c.args.kept.now c.args.caller c.args.now c.args.op.now c.synced.result (sym c.is_of_names.ensures ∙ c.if-is_of_names.false)
+
+pub returns-in-Flush-clause-at_once : goal.returns-in-Flush-clause-at_once
+returns-in-Flush-clause-at_once g c = other_at_once _ (g.B.Backing.state c.args.backing.now) c.args.kept.now c.args.caller c.args.now c.args.op.now c.flushed.result (sym c.is_of_names.ensures ∙ c.if-is_of_names.false)

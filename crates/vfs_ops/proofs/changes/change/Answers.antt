@@ -10,12 +10,15 @@ use Rattle.fs_model.specs.Operation.{group_of, outcome_of}
 use Rattle.cached_files.specs.Follow.{AreOfNames}
 use Rattle.cached_files.specs.Present.{present}
 use Rattle.fs_model.specs.Orphan.{within_orphans}
+use Rattle.vfs_ops.proofs.Admitted.{group_admitted, plan_refused, room_looked}
 use Rattle.vfs_ops.proofs.Groups.{AreFitting, group_fits, leaves, names_of}
 use Rattle.vfs_ops.proofs.Orphans.{within_none, within_full, within_done, done_alike, orphan_room_on, orphan_limit_on}
 use Rattle.vfs_ops.proofs.States.{both, tree_on}
 use Rattle.vfs_ops.proofs.Takes.{alike_on, alike_sound, sound_done, sound_on, fits_on, goes_looked, goes_whole, group_is, need_whole, not_truncate, pays_whole, refused_whole, last_done}
 use Rattle.vfs_ops.proofs.changes.change.Given.{Over}
 use Rattle.vfs_ops.specs.Operations.{orphans}
+use Rattle.vfs_ops.specs.Writing.{HasGroupRoom}
+use Rattle.std.proofs.lemmas.Bool.{eqb-true}
 use Rattle.fs_model.specs.declared.refusal.Refusal.TheVariants.{Enfile}
 use Rattle.fs_model.specs.declared.refusal.Table.TheVariants.{Orphans as OrphanTable}
 use Rattle.vfs_ops.proofs.changes.change.Goals as goal
@@ -175,3 +178,33 @@ returns-clause-done g c =
     ap (λ n. (n == 0) && orphans c.in_ok-reply.group) (sym (orphan_room_on c.plan.ensures.looks)) ∙ sym c.lacks_orphan_room.ensures ∙ c.if-lacks_orphan_room.false in
     done_alike (limit - length (nameless tree)) limit later tree c.args.kept.now c.args.caller c.args.now c.args.op.now c.in_ok-reply.reply c.in_ok-reply.group (present (g.B.Backing.state c.apply_group.new.backing).tree c.apply_group.new.kept)
     c.requires.sound c.requires.op (tree_on (both c.plan.ensures.looks c.need_of.ensures.looks)) c.in_ok-reply.ensures.found free c.in_ok-apply_group.ensures.ok
+
+pub returns-then-is_empty-clause-admitted : goal.returns-then-is_empty-clause-admitted
+returns-then-is_empty-clause-admitted g c =
+    let files = present (g.B.Backing.state c.args.backing.now).tree c.args.kept.now in
+    let none : (length c.in_ok-reply.group == 0) ≡ true = ap (λ (group : List Change). length group == 0) (sym c.as_slice.ensures) ∙ sym c.is_empty.ensures ∙ c.if-is_empty.true in
+    let made = group_is files c.args.caller c.args.now c.args.op.now c.in_ok-reply.reply c.in_ok-reply.group c.in_ok-reply.ensures.found in
+    inl (ap (λ group. length group) made ∙ eqb-true (length c.in_ok-reply.group) 0 none)
+
+pub returns-clause-admitted : goal.returns-clause-admitted
+returns-clause-admitted g c =
+    let files = present (g.B.Backing.state c.args.backing.now).tree c.args.kept.now in
+    let made = group_is files c.args.caller c.args.now c.args.op.now c.in_ok-reply.reply c.in_ok-reply.group c.in_ok-reply.ensures.found in
+    let is = need_whole (g.B.Backing.state c.plan.new.backing).tree (g.B.Backing.state c.args.backing.now).tree c.args.kept.now c.args.caller c.args.now c.args.op.now c.in_ok-reply.group c.class_of.result c.in_ok-need.need c.requires.op (tree_on c.plan.ensures.looks) made c.class_of.ensures c.in_ok-need.ensures.need in
+    group_admitted (both c.plan.ensures.looks c.need_of.ensures.looks) (g.B.Backing.state c.apply_group.new.backing) c.args.kept.now c.in_ok-need.need (need_of files c.args.caller c.args.now c.args.op.now) (group_of files c.args.caller c.args.now c.args.op.now) c.in_ok-reply.group
+    is made c.in_ok-apply_group.ensures.admitted
+
+pub returns-in_err-reply-clause-at_once : goal.returns-in_err-reply-clause-at_once
+returns-in_err-reply-clause-at_once g c done out room =
+    let files = present (g.B.Backing.state c.args.backing.now).tree c.args.kept.now in
+    let never = plan_refused (g.B.Backing.state c.args.backing.now) (g.B.Backing.state c.plan.new.backing) files c.args.caller c.args.now c.args.op.now c.in_err-reply.field-0.0 done c.requires.op c.in_err-reply.ensures.refused out in
+    search (rules, never)
+
+pub returns-in_err-apply_group-clause-at_once : goal.returns-in_err-apply_group-clause-at_once
+returns-in_err-apply_group-clause-at_once g c done out room =
+    let b = g.B.Backing.state c.need_of.new.backing in
+    let made = group_is (present (g.B.Backing.state c.args.backing.now).tree c.args.kept.now) c.args.caller c.args.now c.args.op.now c.in_ok-reply.reply c.in_ok-reply.group c.in_ok-reply.ensures.found in
+    let is = need_whole (g.B.Backing.state c.plan.new.backing).tree (g.B.Backing.state c.args.backing.now).tree c.args.kept.now c.args.caller c.args.now c.args.op.now c.in_ok-reply.group c.class_of.result c.in_ok-need.need c.requires.op (tree_on c.plan.ensures.looks) made c.class_of.ensures c.in_ok-need.ensures.need in
+    let there = subst (λ need. HasGroupRoom b need) (sym is) (room_looked (both c.plan.ensures.looks c.need_of.ensures.looks) (need_of (present (g.B.Backing.state c.args.backing.now).tree c.args.kept.now) c.args.caller c.args.now c.args.op.now) room) in
+    let never = c.in_err-apply_group.ensures.at_once there in
+    search (rules, never)

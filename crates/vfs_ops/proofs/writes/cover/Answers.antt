@@ -1,6 +1,28 @@
+use Rattle.std.proofs.Common.{inl, inr, refl, ap, subst, ◌∙◌, ◌-◌, arith}
+use Rattle.fs_model.specs.Backing.{BackingState}
+use Rattle.cached_files.specs.Calls.{IsCoveredAtLast}
+use Rattle.vfs_ops.specs.Writing.{HasGroupRoom, credits_need, write_need}
+use Rattle.vfs_ops.proofs.Admitted.{on_ok}
 use Rattle.vfs_ops.proofs.Buffering.{modest_need}
 use Rattle.vfs_ops.proofs.writes.cover.Goals as goal
 
 pub admit-requires-clause-modest : goal.admit-requires-clause-modest
 admit-requires-clause-modest g c =
     modest_need c.args.kept.now.pages.dirty c.args.ino c.args.offs c.args.len c.args.grant c.newly.result c.saturating_sub-lacking.result c.credits_need.result c.requires.few c.newly.ensures c.saturating_sub-lacking.ensures c.credits_need.ensures
+
+pub returns-then-lacking-eq0-clause-admitted : goal.returns-then-lacking-eq0-clause-admitted
+returns-then-lacking-eq0-clause-admitted g c =
+    let none = c.if-lacking-eq0.true in
+    let less = c.saturating_sub-lacking.ensures in
+    let counted = c.newly.ensures in
+    inl (omega (arith, none, less, counted))
+
+pub returns-in-Ok-clause-admitted : goal.returns-in-Ok-clause-admitted
+returns-in-Ok-clause-admitted g c =
+    let asks = c.credits_need.ensures ∙ ap (λ n. credits_need n) (c.saturating_sub-lacking.ensures ∙ ap (λ n. n - c.args.grant) c.newly.ensures) in
+    inr (inl (subst (λ need. HasGroupRoom (g.B.Backing.state c.args.backing.now) need) asks (c.in-Ok.ensures.covered.0 refl)))
+
+pub returns-in-Err-clause-admitted : goal.returns-in-Err-clause-admitted
+returns-in-Err-clause-admitted g c =
+    let need = write_need c.args.offs c.args.len c.args.grant in
+    on_ok c.cover_again.result (λ last. inr (inr (subst (λ (s : BackingState). IsCoveredAtLast s (g.B.Backing.state c.cover_again.new.backing) c.args.kept.now need 0) c.in-Err.ensures.err last))) c.cover_again.ensures.admitted

@@ -1,9 +1,10 @@
-use Rattle.std.proofs.Common.{◌≡◌, inl, sym, refl, ◌∙◌, arith, Some, rules}
+use Rattle.std.proofs.Common.{◌≡◌, inl, sym, subst, refl, ◌∙◌, arith, Some, rules}
 use Rattle.fs_model.specs.declared.reply.Reply.TheVariants.{Count}
 use Rattle.fs_model.specs.Files.{Files, handle_at}
 use Rattle.fs_model.specs.Handles.{bytes_written, tree_written}
 use Rattle.cached_files.specs.Present.{present}
-use Rattle.vfs_ops.specs.Writing.{write_need}
+use Rattle.vfs_ops.specs.Writing.{WasPaid, write_need}
+use Rattle.vfs_ops.proofs.Admitted.{none_new}
 use Rattle.vfs_ops.proofs.Buffering.{at_hand, bad_len, bad_slot, none_written, open_file, some_written, sound_written, too_far}
 use Rattle.vfs_ops.proofs.Takes.{alike_on, alike_sound, last_done, refused_last}
 use Rattle.vfs_ops.proofs.writes.write.Goals as goal
@@ -76,3 +77,12 @@ returns-in_err-left-clause-refused g c =
     let plain = bytes_written files c.args.caller c.args.now c.args.slot c.args.offs c.args.len c.args.byte in
     let refused = refused_last old (g.B.Backing.state c.write_some.new.backing) c.write_some.new.kept (write_need c.args.offs c.args.len c.args.grant) plain c.in_err-left.field-0.0 (last_done plain (Count c.args.len, after) c.in_err-left.field-0.0 answer) c.in_err-left.ensures.refused in
     search (rules, refused)
+
+pub returns-then-len-eq0-clause-admitted : goal.returns-then-len-eq0-clause-admitted
+returns-then-len-eq0-clause-admitted g c ino found = inl (none_new c.args.kept.now.pages.dirty ino c.args.offs c.args.len c.args.grant c.if-len-eq0.true)
+
+pub returns-clause-admitted : goal.returns-clause-admitted
+returns-clause-admitted g c ino found =
+    let one : Some c.in-Some.ino ≡ Some ino = sym (sym c.get.ensures ∙ c.in-Some.is) ∙ found in
+    let same : c.in-Some.ino ≡ ino = cc one in
+    subst (λ i. WasPaid (g.B.Backing.state c.args.backing.now) (g.B.Backing.state c.write_some.new.backing) c.args.kept.now i c.args.offs c.args.len c.args.grant) same c.in_ok-left.ensures.admitted

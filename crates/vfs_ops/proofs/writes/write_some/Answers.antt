@@ -1,5 +1,6 @@
 use Rattle.std.proofs.Common.{◌*◌, length}
 use Rattle.cached_files.specs.Present.{present}
+use Rattle.vfs_ops.proofs.Admitted.{paid_then}
 use Rattle.vfs_ops.proofs.Buffering.{goes_returned, goes_seen, written_seen}
 use Rattle.vfs_ops.proofs.writes.write_some.Goals as goal
 
@@ -20,3 +21,7 @@ returns-in-Err-clause-goes g c =
     let old = g.B.Backing.state c.args.backing.now in
     let seen = g.B.Backing.state c.write_covered.new.backing in
     goes_returned n old seen (g.B.Backing.state c.give_back.new.self) _ (goes_seen n old (g.B.Backing.state c.cover.new.backing) seen c.cover.ensures.goes c.write_covered.ensures.looks.goes) c.give_back.ensures.given
+
+pub returns-in-Ok-clause-admitted : goal.returns-in-Ok-clause-admitted
+returns-in-Ok-clause-admitted g c =
+    paid_then (g.B.Backing.state c.args.backing.now) (g.B.Backing.state c.cover.new.backing) (g.B.Backing.state c.write_covered.new.backing) c.args.kept.now c.args.ino c.args.offs c.args.len c.args.grant c.in_ok-have.ensures.admitted c.write_covered.ensures.looks.goes

@@ -1,7 +1,9 @@
-use Rattle.std.proofs.Common.{inr, refl}
+use Rattle.std.proofs.Common.{ℕ, inr, refl}
+use Rattle.fs_model.specs.declared.reply.Reply.{Reply}
 use Rattle.cached_files.specs.Present.{present}
 use Rattle.vfs_ops.specs.Steps.{read_only_cause}
-use Rattle.vfs_ops.proofs.Serving.{noted_for, refused_flushed}
+use Rattle.vfs_ops.proofs.Admitted.{told_at_once}
+use Rattle.vfs_ops.proofs.Serving.{done_buffered, noted_for, refused_buffered, refused_synced}
 use Rattle.vfs_ops.proofs.fs.Fs.answer.Goals as goal
 
 pub returns-in-Err-clause-answered : goal.returns-in-Err-clause-answered
@@ -19,5 +21,20 @@ returns-in-Err-clause-answered g c =
       c.noted-refusal.ensures.noted,
     )
 
-pub returns-in-Err-clause-flushed : goal.returns-in-Err-clause-flushed
-returns-in-Err-clause-flushed g c = refused_flushed (g.B.Backing.state c.args.self.now.backing).mode c.call.new.kept c.args.op.now c.noted-refusal.result
+pub returns-in-Err-clause-written : goal.returns-in-Err-clause-written
+returns-in-Err-clause-written g c =
+    refused_synced (g.B.Backing.state c.args.self.now.backing).mode (g.B.Backing.state c.call.new.backing) c.args.self.now.kept c.call.new.kept c.args.caller c.args.op.now c.noted-refusal.result
+
+pub returns-in-Err-clause-buffered : goal.returns-in-Err-clause-buffered
+returns-in-Err-clause-buffered g c =
+    refused_buffered _ (g.B.Backing.state c.args.self.now.backing) (g.B.Backing.state c.call.new.backing) c.args.self.now.kept c.call.new.kept c.args.self.now.refused.items c.noted-refusal.new.refused.items c.args.caller c.args.grant c.args.op.now c.in-Err.refusal c.noted-refusal.result
+    c.in-Err.ensures.buffered c.noted-refusal.ensures.refusal c.noted-refusal.ensures.noted
+
+pub returns-in-Err-clause-at_once : goal.returns-in-Err-clause-at_once
+returns-in-Err-clause-at_once g c =
+    told_at_once (Reply × ℕ) (g.B.Backing.state c.args.self.now.backing) c.args.self.now.kept c.args.caller c.args.now c.args.op.now c.args.self.now.refused.items c.noted-refusal.new.refused.items c.in-Err.refusal c.noted-refusal.result
+    c.in-Err.ensures.at_once c.noted-refusal.ensures.refusal c.noted-refusal.ensures.noted
+
+pub returns-in-Ok-clause-buffered : goal.returns-in-Ok-clause-buffered
+returns-in-Ok-clause-buffered g c =
+    done_buffered _ (g.B.Backing.state c.args.self.now.backing) (g.B.Backing.state c.call.new.backing) c.args.self.now.kept c.call.new.kept c.args.self.now.refused.items c.args.caller c.args.grant c.args.op.now c.in-Ok.done c.in-Ok.done.0 c.in-Ok.ensures.buffered

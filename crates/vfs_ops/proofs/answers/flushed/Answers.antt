@@ -1,0 +1,6 @@
+use Rattle.vfs_ops.proofs.Serving.{flush_written}
+use Rattle.vfs_ops.proofs.answers.flushed.Goals as goal
+
+pub returns-in-ReadWrite-clause-written : goal.returns-in-ReadWrite-clause-written
+returns-in-ReadWrite-clause-written g c =
+    flush_written c.flush.result (g.B.Backing.state c.args.backing.now).mode (g.B.Backing.state c.flush.new.backing) c.args.kept.now c.flush.new.kept c.flush.ensures.synced c.flush.ensures.pages c.flush.ensures.inodes
