@@ -41,16 +41,16 @@ below_or_above lnum from ne = elim (cases_lt lnum from) [
   | inr above ↦ elim (cases_lt from lnum) [ inl more ↦ inr more | inr other ↦ absurd (ne (omega (arith, above, other))) ]
 ]
 
-left_below : (geo : RawGeometry) (from lnum : ℕ) → lnum ≤ from → left_of geo from lnum ≡ from - lnum
+pub left_below : (geo : RawGeometry) (from lnum : ℕ) → lnum ≤ from → left_of geo from lnum ≡ from - lnum
 left_below geo from lnum h = rw (le-ltb from lnum h) refl
 
-left_above : (geo : RawGeometry) (from lnum : ℕ) → from < lnum → left_of geo from lnum ≡ (from + lpt_first geo) - (lnum + 3)
+pub left_above : (geo : RawGeometry) (from lnum : ℕ) → from < lnum → left_of geo from lnum ≡ (from + lpt_first geo) - (lnum + 3)
 left_above geo from lnum h = rw (lt-ltb from lnum h) refl
 
-next_here : (geo : RawGeometry) (lnum : ℕ) → lnum + 1 < lpt_first geo → next_leb geo lnum ≡ lnum + 1
+pub next_here : (geo : RawGeometry) (lnum : ℕ) → lnum + 1 < lpt_first geo → next_leb geo lnum ≡ lnum + 1
 next_here geo lnum h = rw (lt-ltb (lnum + 1) (lpt_first geo) h) refl
 
-next_round : (geo : RawGeometry) (lnum : ℕ) → lpt_first geo ≤ lnum + 1 → next_leb geo lnum ≡ 3
+pub next_round : (geo : RawGeometry) (lnum : ℕ) → lpt_first geo ≤ lnum + 1 → next_leb geo lnum ≡ 3
 next_round geo lnum h = rw (le-ltb (lnum + 1) (lpt_first geo) h) refl
 
 -- one step round the ring

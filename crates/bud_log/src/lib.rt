@@ -7,12 +7,20 @@
 //! start's: so an older section, of which the unmapping was undone by a power cut, is never read, and one that a commit began
 //! and a cut left unfinished is. `specs/LogText.antt` says what the text of one LEB says, `specs/Buds.antt` what references
 //! name, and `specs/Log.antt` which LEBs are read and where the log ends, over any contents, so also over what a cut leaves.
+//!
+//! A `Log` is written by three calls: a bud is opened, a commit starts a section, and after it the sections before are
+//! unmapped. The invariant is `IsReady` of `specs/Writing.antt`: a cut leaves the LEBs that are read as they are, and whatever
+//! it leaves of the ring's other LEBs begins with no number above the first commit start's, so that none of it is read.
+//! `specs/LogAt.antt` says where the log goes on and when it is full, and `specs/LogCalls.antt` what a cut leaves of each LEB.
 #![tactic(auto)]
 
 mod buds;
 mod head_at;
 mod laws;
+mod laying;
+mod log;
 mod log_end;
+mod log_fault;
 mod log_read;
 mod reading;
 mod ring;
@@ -20,9 +28,13 @@ mod seen;
 
 pub use crate::head_at::HeadAt;
 pub use crate::laws::one_log;
+pub use crate::log::Log;
+pub use crate::log_fault::LogFault;
 pub use crate::log_read::LogRead;
 pub use crate::reading::read_log;
 pub use crate::ring::next_leb;
 
 #[cfg(test)]
 mod tests;
+#[cfg(test)]
+mod writing_tests;

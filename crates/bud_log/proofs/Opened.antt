@@ -1,0 +1,197 @@
+-- A LEB is made a journal head's, and nodes are written to the log: over all calls together.
+use Rattle.std.proofs.Common.{◌≡◌, ◌⊎◌, inl, inr, ℕ, zero, suc, ◌+◌, ◌-◌, ◌%◌, ◌^◌, ◌<◌, ◌≤◌, ◌==◌, Bool, true, false, List, [], ◌∷◌, ◌++◌, length, take, drop, replicate, refl, ap, sym, ◌∙◌, subst, arith, append_assoc, length-append, length-drop}
+use Rattle.std.specs.Prelude.{◌≢◌, fold}
+use Rattle.std.proofs.lemmas.Bool.{and_parts, cases_eq}
+use Rattle.std.proofs.lemmas.List.{drop-drop, take_at, drop_at, length-take-le, length-replicate}
+use Rattle.ubifs_base.specs.Gap.{gap_of}
+use Rattle.ubifs_base.specs.declared.raw_geometry.RawGeometry.{RawGeometry}
+use Rattle.ubi_volume.specs.Volume.{VolumeState, Each, filled, put, WorksOn, Leaves, WriteUnderWay}
+use Rattle.media_sys.specs.SystemNode.{SystemNode}
+use Rattle.leb_scan.specs.Text.{is_blank, IsText}
+use Rattle.leb_scan.specs.declared.tail.Tail.TheVariants.{Clean}
+use Rattle.bud_log.specs.Buds.{named}
+use Rattle.bud_log.specs.Log.{IsLogLeb, next_leb, Run}
+use Rattle.bud_log.specs.LogAt.{LogAt, lnum_at, offs_at}
+use Rattle.bud_log.specs.LogCalls.{IsBegun, IsAdded, AddDuring, OpenUnderWay, StartUnderWay}
+use Rattle.bud_log.specs.LogText.{LogText, IsTextOf}
+use Rattle.bud_log.specs.Writing.{references_in, AreSpelled, AreNodes, laid, IsAmong, IsOlder, IsChain, last_end, IsReady, NamesSome, IsMeant, IsOldOrMeant}
+use Rattle.bud_log.specs.declared.head_at.HeadAt.{HeadAt}
+use Rattle.bud_log.specs.declared.log_end.LogEnd.{LogEnd}
+use Rattle.bud_log.proofs.Appended.{quiet_left, quiet_names, ready_works, here_names}
+use Rattle.bud_log.proofs.Chains.{among_log}
+use Rattle.bud_log.proofs.Gaps.{gap_length}
+use Rattle.bud_log.proofs.Laid.{AreLaid, laid_there}
+use Rattle.bud_log.proofs.ReadyAgain.{ready_here, ready_next, next_names}
+use Rattle.bud_log.proofs.References.{OneNode}
+use Rattle.bud_log.proofs.Works.{Leaves-weaker}
+
+pub blank_drop : (n : ℕ) (bytes : List ℕ) → is_blank bytes ≡ true → is_blank (drop n bytes) ≡ true
+blank_drop zero bytes h = h
+blank_drop (suc n) [] h = refl
+blank_drop (suc n) (x ∷ bytes) h = blank_drop n bytes (and_parts (x == 0xFF) (is_blank bytes) h).1
+
+pub blank_replicate : (n : ℕ) → is_blank (replicate n 255) ≡ true
+blank_replicate zero = refl
+blank_replicate (suc n) = blank_replicate n
+
+-- an unwritten LEB begins with no node
+pub blank_older : (start lnum size : ℕ) → IsOlder start lnum (filled size [])
+blank_older start lnum size = (
+  record { nodes = []; references = []; ends = record { lnum = lnum; offs = 0; tail = Clean } },
+  record { items = []; is_text = record { stand = refl; ends = blank_replicate (size - 0) }; here = refl; nodes = refl; refer = refl },
+  refl,
+)
+
+-- the LEB behind a chain is the next one
+run_past : (c : ℕ → List ℕ) (geo : RawGeometry) (from number l past lnum offs : ℕ) (first : LogEnd) (texts : List LogText) → Run c geo from number l texts past → l ≡ next_leb geo first.lnum → last_end first texts ≡ record { lnum = lnum; offs = offs; tail = Clean }
+    → past ≡ next_leb geo lnum
+run_past c geo from number l past lnum offs first [] h e last = sym h ∙ e ∙ ap (λ (z : LogEnd). next_leb geo z.lnum) last
+run_past c geo from number l past lnum offs first (text ∷ texts) h e last = run_past c geo from number (next_leb geo l) past lnum offs text.ends texts h.3 (ap (next_leb geo) (sym h.1.here)) last
+
+pub past_is : (a : VolumeState) (geo : RawGeometry) (from lnum offs number : ℕ) (buds : List HeadAt) (h : IsReady a geo from lnum offs number buds) → h.past ≡ next_leb geo lnum
+past_is a geo from lnum offs number buds h = run_past a.holds geo from h.start (next_leb geo from) h.past lnum offs h.first.ends h.more h.chain.run (ap (next_leb geo) (sym h.chain.is_first.here)) h.last
+
+-- the last text
+run_end : (c : ℕ → List ℕ) (geo : RawGeometry) (from number l past : ℕ) (text : LogText) (texts : List LogText) (old : LogEnd) → Run c geo from number l (text ∷ texts) past → last_end text.ends texts ≡ old
+    → (t : LogText) × IsTextOf (c old.lnum) old.lnum t × (t.ends ≡ old)
+run_end c geo from number l past text [] old h last =
+    let P : ℕ → Type 0 = λ n. IsTextOf (c n) n text in
+    (text, subst P (sym h.1.here ∙ ap (λ (z : LogEnd). z.lnum) last) h.1, last)
+run_end c geo from number l past text (other ∷ texts) old h last = run_end c geo from number (next_leb geo l) past other texts old h.3 last
+
+chain_end : (c : ℕ → List ℕ) (geo : RawGeometry) (from start past : ℕ) (first : LogText) (more : List LogText) (old : LogEnd) → IsChain c geo from start first more past → last_end first.ends more ≡ old → (t : LogText) × IsTextOf (c old.lnum) old.lnum t × (t.ends ≡ old)
+chain_end c geo from start past first [] old h last =
+    let P : ℕ → Type 0 = λ n. IsTextOf (c n) n first in
+    (first, subst P (sym h.is_first.here ∙ ap (λ (z : LogEnd). z.lnum) last) h.is_first, last)
+chain_end c geo from start past first (text ∷ texts) old h last = run_end c geo from start (next_leb geo from) past text texts old h.run last
+
+-- nothing is written behind the end
+pub end_blank : (a : VolumeState) (geo : RawGeometry) (from lnum offs number : ℕ) (buds : List HeadAt) (h : IsReady a geo from lnum offs number buds) → is_blank (drop offs (a.holds lnum)) ≡ true
+end_blank a geo from lnum offs number buds h =
+    let old : LogEnd = record { lnum = lnum; offs = offs; tail = Clean } in
+    let t = chain_end a.holds geo from h.start h.past h.first h.more old h.chain h.last in
+    let P : LogEnd → Type 0 = λ z. IsText (a.holds lnum) 0 t.1.items z.offs z.tail in
+    (subst P t.2 t.1.is_text).ends
+
+-- nodes and a gap that were put where nothing was written
+pub put_laid : (old bytes : List ℕ) (offs number g : ℕ) (nodes : List SystemNode) → AreSpelled number nodes → bytes ≡ laid number nodes ++ gap_of g → offs + length bytes ≤ length old → is_blank (drop offs old) ≡ true → offs % 8 ≡ 0 → g < 2 ^ 32 → g % 8 ≡ 0
+    → length (gap_of g) ≡ g → AreLaid (put offs bytes old) offs (offs + length bytes) number nodes
+put_laid old bytes offs number g nodes spelled e room blank even fits even_gap wide =
+    let front : List ℕ = take offs old in
+    let back : List ℕ = drop (offs + length bytes) old in
+    let leb : List ℕ = put offs bytes old in
+    let at : length front ≡ offs = length-take-le offs old (omega (arith, room)) in
+    let all : leb ≡ front ++ (bytes ++ back) = append_assoc front bytes back in
+    let here : drop offs leb ≡ bytes ++ back = ap (drop offs) all ∙ drop_at front (bytes ++ back) offs at in
+    let there : drop offs leb ≡ laid number nodes ++ (gap_of g ++ back) = here ∙ ap (λ (b : List ℕ). b ++ back) e ∙ append_assoc (laid number nodes) (gap_of g) back in
+    let l1 : length leb ≡ length front + length (bytes ++ back) = ap length all ∙ length-append front (bytes ++ back) in
+    let R : List ℕ → Type 0 = λ b. is_blank b ≡ true in
+    let clear : is_blank back ≡ true = subst R (drop-drop (length bytes) offs old) (blank_drop (length bytes) (drop offs old) blank) in
+    let size : length bytes ≡ length (laid number nodes) + g = ap length e ∙ length-append (laid number nodes) (gap_of g) ∙ ap (λ (n : ℕ). length (laid number nodes) + n) wide in
+    let end : offs + length (laid number nodes) + g ≡ offs + length bytes = omega (arith, size) in
+    let P : ℕ → Type 0 = λ z. AreLaid leb offs z number nodes in
+    subst P end (laid_there leb offs number nodes g back spelled there (omega (arith, l1, at)) even fits even_gap clear)
+
+-- the front stays, and the length
+pub put_front : (old bytes : List ℕ) (offs : ℕ) → offs + length bytes ≤ length old → (take offs old ≡ take offs (put offs bytes old)) × (length old ≡ length (put offs bytes old))
+put_front old bytes offs room =
+    let front : List ℕ = take offs old in
+    let back : List ℕ = drop (offs + length bytes) old in
+    let at : length front ≡ offs = length-take-le offs old (omega (arith, room)) in
+    let all : put offs bytes old ≡ front ++ (bytes ++ back) = append_assoc front bytes back in
+    let l1 : length (put offs bytes old) ≡ length front + length (bytes ++ back) = ap length all ∙ length-append front (bytes ++ back) in
+    let l2 : length (bytes ++ back) ≡ length bytes + length back = length-append bytes back in
+    let l3 : length back ≡ length old - (offs + length bytes) = length-drop (offs + length bytes) old in
+    (sym (ap (take offs) all ∙ take_at front (bytes ++ back) offs at), omega (arith, l1, l2, l3, at, room))
+
+-- and at the start of a LEB that was unmapped
+pub begun_laid : (a b : VolumeState) (there number : ℕ) (bytes : List ℕ) (nodes : List SystemNode) → IsBegun a b there bytes → AreNodes bytes number nodes → 0 + length bytes ≤ a.leb_size → AreLaid (b.holds there) 0 (0 + length bytes) number nodes
+begun_laid a b there number bytes nodes w are room =
+    let old : List ℕ = filled a.leb_size [] in
+    let size : length old ≡ a.leb_size - 0 = length-replicate (a.leb_size - 0) 255 in
+    let fits : 0 + length bytes ≤ length old = omega (arith, room, size) in
+    let P : List ℕ → Type 0 = λ leb. AreLaid leb 0 (0 + length bytes) number nodes in
+    subst P (sym w.holds) (put_laid old bytes 0 number are.gap nodes are.spelled are.are fits (blank_replicate (a.leb_size - 0)) (omega arith) are.fits are.even (gap_length are.gap))
+
+-- what a cut may leave where no unmapping is undone is among all that it may leave
+abbrev pub HasMapped : VolumeState → Type 0
+HasMapped state = (k : ℕ) (bytes : List ℕ) → state.left_mapped k bytes → state.left_now k bytes
+
+-- a LEB outside of the log is none that is read
+aside_of : (a : VolumeState) (geo : RawGeometry) (from lnum offs number bud : ℕ) (buds : List HeadAt) (h : IsReady a geo from lnum offs number buds) → IsLogLeb geo from → (IsLogLeb geo bud → ⊥) → IsAmong bud (h.first ∷ h.more) → ⊥
+aside_of a geo from lnum offs number bud buds h f out there = out (among_log a.holds geo from h.start h.past bud h.first h.more f h.chain there)
+
+-- the bud's LEB was unmapped and mapped, whatever the answer
+pub bud_ready : (a b : VolumeState) (geo : RawGeometry) (from lnum offs number bud : ℕ) (buds : List HeadAt) (D : List ℕ → Type 0) → IsReady a geo from lnum offs number buds → IsLogLeb geo from → (IsLogLeb geo bud → ⊥) → WorksOn a b bud D
+    → IsReady b geo from lnum offs number buds
+bud_ready a b geo from lnum offs number bud buds D h f out w = ready_works a b geo from lnum offs number buds h bud D (aside_of a geo from lnum offs number bud buds h f out) (λ c is d. absurd (out is)) w
+
+-- nodes were added to the log
+pub added_ready : (here : Bool) (a b : VolumeState) (at : LogAt) (from number next : ℕ) (buds : List HeadAt) (node : SystemNode) (nodes : List SystemNode) (bytes : List ℕ) → IsReady a at.geo from at.lnum at.offs number buds → IsLogLeb at.geo from
+    → (here ≡ false → next_leb at.geo at.lnum ≢ from) → number < next → HasMapped a → IsAdded here a b at bytes → WorksOn a b (lnum_at here at) (AddDuring here a at (length bytes)) → AreNodes bytes number (node ∷ nodes)
+    → length (a.holds at.lnum) ≡ a.leb_size → offs_at here at + length bytes ≤ a.leb_size → at.offs % 8 ≡ 0
+    → IsReady b at.geo from (lnum_at here at) (offs_at here at + length bytes) next (fold named buds (references_in (node ∷ nodes)))
+added_ready true a b at from number next buds node nodes bytes h f free later sub w works are size room even =
+    let old = a.holds at.lnum in
+    let fits : at.offs + length bytes ≤ length old = omega (arith, room, size) in
+    let front = put_front old bytes at.offs fits in
+    let P : List ℕ → Type 0 = λ leb. AreLaid leb at.offs (at.offs + length bytes) number (node ∷ nodes) in
+    let laid = subst P (sym w.holds) (put_laid old bytes at.offs number are.gap (node ∷ nodes) are.spelled are.are fits (end_blank a at.geo from at.lnum at.offs number buds h) even are.fits are.even (gap_length are.gap)) in
+    ready_here a b at.geo from at.lnum at.offs number next (at.offs + length bytes) (length bytes) buds (node ∷ nodes) bytes h f (sub at.lnum) (omega (arith, later)) w works
+    (front.0 ∙ ap (take at.offs) (sym w.holds)) (front.1 ∙ ap length (sym w.holds)) laid
+added_ready false a b at from number next buds node nodes bytes h f free later sub w works are size room even =
+    let there = next_leb at.geo at.lnum in
+    let e : h.past ≡ there = past_is a at.geo from at.lnum at.offs number buds h in
+    let laid = begun_laid a b there number bytes (node ∷ nodes) w are room in
+    let B : ℕ → Type 0 = λ n. IsBegun a b n bytes in
+    let N : ℕ → Type 0 = λ n. n ≢ from in
+    let W : ℕ → Type 0 = λ n. WorksOn a b n (AddDuring false a at (length bytes)) in
+    let L : ℕ → Type 0 = λ n. AreLaid (b.holds n) 0 (0 + length bytes) number (node ∷ nodes) in
+    let R : ℕ → Type 0 = λ n. IsReady b at.geo from n (0 + length bytes) next (fold named buds (references_in (node ∷ nodes))) in
+    subst R e (ready_next a b at.geo from at.lnum at.offs number next (0 + length bytes) buds node nodes bytes (AddDuring false a at (length bytes)) h f (subst N (sym e) (free refl)) later (subst B (sym e) w) (subst W (sym e) works) (subst L (sym e) laid))
+
+-- and whatever a cut leaves on the way
+pub added_names : OneNode → (here : Bool) (a : VolumeState) (at : LogAt) (from number n : ℕ) (buds : List HeadAt) (nodes : List SystemNode) (x : ℕ → List ℕ) → IsReady a at.geo from at.lnum at.offs number buds → IsLogLeb at.geo from
+    → (here ≡ false → next_leb at.geo at.lnum ≢ from) → HasMapped a → AreSpelled number nodes → ((k : ℕ) → IsLogLeb at.geo k → k ≢ lnum_at here at → a.left_now k (x k)) → a.left_now (lnum_at here at) (x (lnum_at here at)) ⊎ AddDuring here a at n (x (lnum_at here at))
+    → IsOldOrMeant a (lnum_at here at) (offs_at here at) number nodes (x (lnum_at here at)) → NamesSome x at.geo from buds (references_in nodes)
+added_names one here a at from number n buds nodes x h f free sub spelled others there (inl old) =
+    let all : (k : ℕ) → IsLogLeb at.geo k → a.left_now k (x k) = λ k is. elim (cases_eq k (lnum_at here at)) [
+      | inl e ↦ let P : ℕ → Type 0 = λ m. a.left_now m (x m) in subst P (sym e) old
+      | inr ne ↦ others k is ne
+    ] in
+    (0, quiet_names a at.geo from at.lnum at.offs number buds h x f (quiet_left a at.geo from at.lnum at.offs number buds h x f all))
+added_names one true a at from number n buds nodes x h f free sub spelled others there (inr meant) =
+    let here : WriteUnderWay a at.lnum at.offs n (x at.lnum) = elim there [ inl now ↦ inl now | inr w ↦ w ] in
+    here_names one a at.geo from at.lnum at.offs number n buds nodes h x f (sub at.lnum) spelled others here meant
+added_names one false a at from number n buds nodes x h f free sub spelled others there (inr meant) =
+    let e : h.past ≡ next_leb at.geo at.lnum = past_is a at.geo from at.lnum at.offs number buds h in
+    let N : ℕ → Type 0 = λ m. m ≢ from in
+    let O : ℕ → Type 0 = λ m. (k : ℕ) → IsLogLeb at.geo k → k ≢ m → a.left_now k (x k) in
+    let M : ℕ → Type 0 = λ m. IsMeant number 0 nodes (x m) in
+    next_names one a at.geo from at.lnum at.offs number buds nodes h x f (subst N (sym e) (free refl)) spelled (subst O (sym e) others) (subst M (sym e) meant)
+
+-- a bud was opened, or the call failed on the way
+pub opened_moment : OneNode → (here : Bool) (a b : VolumeState) (at : LogAt) (bud from number n : ℕ) (buds : List HeadAt) (nodes : List SystemNode) → IsReady a at.geo from at.lnum at.offs number buds → IsLogLeb at.geo from
+    → (here ≡ false → next_leb at.geo at.lnum ≢ from) → HasMapped a → AreSpelled number nodes → (IsLogLeb at.geo bud → ⊥) → IsLogLeb at.geo (lnum_at here at) → Leaves a b (Each (OpenUnderWay here a at bud n))
+    → Leaves a b (λ left. IsOldOrMeant a (lnum_at here at) (offs_at here at) number nodes (left (lnum_at here at)) → NamesSome left at.geo from buds (references_in nodes))
+opened_moment one here a b at bud from number n buds nodes h f free sub spelled out is time =
+    let there = lnum_at here at in
+    Leaves-weaker a b (Each (OpenUnderWay here a at bud n)) (λ left. IsOldOrMeant a there (offs_at here at) number nodes (left there) → NamesSome left at.geo from buds (references_in nodes))
+    (λ x each meant. added_names one here a at from number n buds nodes x h f free sub spelled
+    (λ k in_log ne. elim (each k) [ inl now ↦ now | inr rest ↦ elim rest [ inl at_bud ↦ let P : ℕ → Type 0 = λ m. IsLogLeb at.geo m in absurd (out (subst P at_bud.0 in_log)) | inr add ↦ absurd (ne add.0) ] ])
+    (elim (each there) [ inl now ↦ inl now | inr rest ↦ elim rest [ inl at_bud ↦ let P : ℕ → Type 0 = λ m. IsLogLeb at.geo m in absurd (out (subst P at_bud.0 is)) | inr add ↦ inr add.1 ] ])
+    meant)
+    time
+
+-- a section was started, or the call failed on the way
+pub started_moment : OneNode → (a b : VolumeState) (at : LogAt) (from number n : ℕ) (buds : List HeadAt) (nodes : List SystemNode) → IsReady a at.geo from at.lnum at.offs number buds → IsLogLeb at.geo from → next_leb at.geo at.lnum ≢ from → HasMapped a → AreSpelled number nodes
+    → Leaves a b (Each (StartUnderWay a at n))
+    → Leaves a b (λ left. IsOldOrMeant a (next_leb at.geo at.lnum) 0 number nodes (left (next_leb at.geo at.lnum)) → NamesSome left at.geo from buds (references_in nodes))
+started_moment one a b at from number n buds nodes h f free sub spelled time =
+    let there = next_leb at.geo at.lnum in
+    Leaves-weaker a b (Each (StartUnderWay a at n)) (λ left. IsOldOrMeant a there 0 number nodes (left there) → NamesSome left at.geo from buds (references_in nodes))
+    (λ x each meant. added_names one false a at from number n buds nodes x h f (λ e. free) sub spelled
+    (λ k in_log ne. elim (each k) [ inl now ↦ now | inr add ↦ absurd (ne add.0) ])
+    (elim (each there) [ inl now ↦ inl now | inr add ↦ inr add.1 ])
+    meant)
+    time

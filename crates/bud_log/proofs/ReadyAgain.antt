@@ -1,0 +1,203 @@
+-- After nodes were written the volume is ready for the next ones.
+use Rattle.std.proofs.Common.{◌≡◌, inl, inr, ℕ, ◌+◌, ◌<◌, ◌≤◌, true, false, List, [], ◌∷◌, ◌++◌, Some, length, take, refl, ap, sym, ◌∙◌, subst, arith, append-nil}
+use Rattle.std.specs.Prelude.{◌≢◌, fold}
+use Rattle.std.proofs.lemmas.Bool.{cases_eq, cases_Bool, lt-ltb, le-ltb}
+use Rattle.ubifs_base.specs.declared.raw_geometry.RawGeometry.{RawGeometry}
+use Rattle.ubi_volume.specs.Volume.{VolumeState, put, WorksOn, IsWritten, WriteUnderWay}
+use Rattle.media_sys.specs.SystemNode.{SystemNode, commit_start}
+use Rattle.media_sys.specs.declared.commit_start.CommitStart.{CommitStart}
+use Rattle.leb_scan.specs.Text.{nodes_of, IsText}
+use Rattle.leb_scan.specs.declared.found.Found.{Found}
+use Rattle.leb_scan.specs.declared.tail.Tail.TheVariants.{Clean}
+use Rattle.bud_log.specs.Buds.{named, buds_of}
+use Rattle.bud_log.specs.Log.{IsLogLeb, next_leb, references_of}
+use Rattle.bud_log.specs.LogCalls.{IsBegun}
+use Rattle.bud_log.specs.LogText.{LogText, IsTextOf, begins_with, start_of, is_later}
+use Rattle.bud_log.specs.Writing.{references_in, IsAmong, IsOlder, AreSpelled, last_end, IsReady, NamesBuds, NamesSome, IsMeant}
+use Rattle.bud_log.specs.declared.head_at.HeadAt.{HeadAt}
+use Rattle.bud_log.specs.declared.log_end.LogEnd.{LogEnd}
+use Rattle.bud_log.proofs.Appended.{past_free, names_chain, IsQuiet, quiet_names, end_among}
+use Rattle.bud_log.proofs.Chains.{among_log, chain_alike, chain_more, last_first, last_more, Grows, chain_grown, references_grown, last_end_grown, among_grown, buds_behind, references_added, last_end_added, among_added}
+use Rattle.bud_log.proofs.Grown.{grown, grown_text}
+use Rattle.bud_log.proofs.Laid.{AreLaid, FirstIs}
+use Rattle.bud_log.proofs.Below.{older_more, below_more, below_last, below_grown, none_above}
+use Rattle.bud_log.proofs.Parts.{part_references}
+use Rattle.bud_log.proofs.References.{OneNode, some_references}
+
+-- nodes behind the end of the log
+pub ready_here : (a b : VolumeState) (geo : RawGeometry) (from lnum offs number next end len : ℕ) (buds : List HeadAt) (nodes : List SystemNode) (bytes : List ℕ) (h : IsReady a geo from lnum offs number buds) → IsLogLeb geo from
+    → ((c : List ℕ) → a.left_mapped lnum c → a.left_now lnum c) → number ≤ next → IsWritten a b lnum offs bytes → WorksOn a b lnum (WriteUnderWay a lnum offs len) → take offs (a.holds lnum) ≡ take offs (b.holds lnum)
+    → length (a.holds lnum) ≡ length (b.holds lnum) → AreLaid (b.holds lnum) offs end number nodes → IsReady b geo from lnum end next (fold named buds (references_in nodes))
+ready_here a b geo from lnum offs number next end len buds nodes bytes h f sub later w works front long laid =
+    let there = end_among a geo from lnum offs number buds h in
+    let all : List LogText = h.first ∷ h.more in
+    let only = h.settled lnum there in
+    let old : LogEnd = record { lnum = lnum; offs = offs; tail = Clean } in
+    let ends : LogEnd = record { lnum = lnum; offs = end; tail = Clean } in
+    let found = nodes_of laid.items in
+    let references = references_in nodes in
+    let grows : Grows a.holds b.holds old found references ends = λ text is e.
+    let E : LogEnd → Type 0 = λ z. take z.offs (a.holds lnum) ≡ take z.offs (b.holds lnum) in
+    let F : LogEnd → Type 0 = λ z. IsText (b.holds lnum) z.offs laid.items end Clean in
+    grown (a.holds lnum) (b.holds lnum) lnum end Clean text laid.items references is (subst E (sym e) front) long (subst F (sym e) laid.is_text) laid.refer in
+    let g : LogText → LogText = λ t. grown_text t found references ends in
+    let same : (last_end h.first.ends h.more).lnum ≡ ends.lnum = ap (λ (e : LogEnd). e.lnum) h.last in
+    let low = h.low in
+    record {
+      start = h.start;
+      first = last_first g h.first h.more;
+      more = last_more g h.more;
+      past = h.past;
+      chain = chain_grown a.holds b.holds geo from h.start h.past h.first h.more found references old ends f h.chain h.last (λ k ne is. sym (works.others k ne)) grows;
+      low = omega (arith, low, later);
+      below = below_more number next (last_first g h.first h.more ∷ last_more g h.more) later (below_grown a.holds geo from h.start h.past number h.first h.more found references ends h.chain h.below);
+      buds_are = ap (λ (bs : List HeadAt). fold named bs references) h.buds_are ∙ sym (buds_behind (references_of all) references) ∙ ap buds_of (sym (references_grown h.first h.more found references ends));
+      last = last_end_grown h.first h.more found references ends;
+      settled = λ k is c left. elim (cases_eq k lnum) [
+        | inl e ↦
+            let L : ℕ → Type 0 = λ n. b.left_now n c in
+            let H : ℕ → Type 0 = λ n. c ≡ b.holds n in
+            let d = w.left c (subst L e left) in
+            subst H (sym e) (d.2 ∙ ap (put offs bytes) (only d.0 (sub d.0 d.1)) ∙ sym w.holds)
+        | inr ne ↦ h.settled k ((among_grown k h.first h.more found references ends same).0 is) c (works.others_left k c ne left) ∙ sym (works.others k ne)
+      ];
+      spare = λ k leb is none left.
+          let old_none : IsAmong k all → ⊥ = λ i. none ((among_grown k h.first h.more found references ends same).1 i) in
+          let ne : k ≢ lnum = λ e. let P : ℕ → Type 0 = λ n. IsAmong n all in old_none (subst P (sym e) there) in
+          h.spare k leb is old_none (works.others_left k leb ne left);
+    }
+
+later_first : (start number place : ℕ) (nodes : List SystemNode) (node : SystemNode) (found : List Found) → FirstIs 0 number (node ∷ nodes) found → start ≤ number → is_later start (begins_with found) ≡ true
+later_first start number place nodes node [] first low = absurd cc
+later_first start number place nodes node (f ∷ found) (g, e, offs, sqnum, kind) low =
+    let same : f ≡ g = cc in
+    let o : f.offs ≡ 0 = ap (λ (x : Found). x.offs) same ∙ offs in
+    let s : f.sqnum ≡ number + 1 = ap (λ (x : Found). x.sqnum) same ∙ sqnum in
+    rw o (lt-ltb start f.sqnum (omega (arith, s, low)))
+
+-- the text that was laid at the start of a LEB
+pub laid_text : (leb : List ℕ) (lnum end number : ℕ) (nodes : List SystemNode) (h : AreLaid leb 0 end number nodes)
+    → IsTextOf leb lnum (record { nodes = nodes_of h.items; references = references_in nodes; ends = record { lnum = lnum; offs = end; tail = Clean } })
+laid_text leb lnum end number nodes h = record { items = h.items; is_text = h.is_text; here = refl; nodes = refl; refer = h.refer }
+
+among_old : (k : ℕ) (first : LogText) (more : List LogText) (text : LogText) (past : ℕ) → k ≢ past → text.ends.lnum ≡ past → IsAmong k (first ∷ (more ++ text ∷ [])) → IsAmong k (first ∷ more)
+among_old k first more text past ne e (inl same) = inl same
+among_old k first more text past ne e (inr there) = elim ((among_added k more text).0 there) [ inl old ↦ inr old | inr same ↦ absurd (ne (same ∙ e)) ]
+
+among_new : (k : ℕ) (first : LogText) (more : List LogText) (text : LogText) → IsAmong k (first ∷ more) → IsAmong k (first ∷ (more ++ text ∷ []))
+among_new k first more text (inl same) = inl same
+among_new k first more text (inr there) = inr ((among_added k more text).1 (inl there))
+
+-- it begins with the first number, and not with one above it
+not_above : (next number : ℕ) (nodes : List SystemNode) (node : SystemNode) (found : List Found) → FirstIs 0 number (node ∷ nodes) found → number < next → is_later next (begins_with found) ≡ false
+not_above next number nodes node [] first low = refl
+not_above next number nodes node (f ∷ found) (g, e, offs, sqnum, kind) low =
+    let same : f ≡ g = cc in
+    let o : f.offs ≡ 0 = ap (λ (x : Found). x.offs) same ∙ offs in
+    let s : f.sqnum ≡ number + 1 = ap (λ (x : Found). x.sqnum) same ∙ sqnum in
+    rw o (le-ltb next f.sqnum (omega (arith, s, low)))
+
+-- a LEB that begins with a commit start of the first number
+starts_there : (number : ℕ) (nodes : List SystemNode) (start : CommitStart) (found : List Found) → FirstIs 0 number (commit_start start ∷ nodes) found → start_of (begins_with found) ≡ Some (number + 1)
+starts_there number nodes start [] first = absurd cc
+starts_there number nodes start (f ∷ found) (g, e, offs, sqnum, kind) =
+    let same : f ≡ g = cc in
+    let o : f.offs ≡ 0 = ap (λ (x : Found). x.offs) same ∙ offs in
+    let s : f.sqnum ≡ number + 1 = ap (λ (x : Found). x.sqnum) same ∙ sqnum in
+    let k : f.kind ≡ 10 = ap (λ (x : Found). x.kind) same ∙ kind in
+    rw (o, k, s) refl
+
+-- nodes at the start of the next LEB, which was unmapped
+pub ready_next : (a b : VolumeState) (geo : RawGeometry) (from lnum offs number next end : ℕ) (buds : List HeadAt) (node : SystemNode) (nodes : List SystemNode) (bytes : List ℕ) (D : List ℕ → Type 0) (h : IsReady a geo from lnum offs number buds) → IsLogLeb geo from
+    → h.past ≢ from → number < next → IsBegun a b h.past bytes → WorksOn a b h.past D → AreLaid (b.holds h.past) 0 end number (node ∷ nodes) → IsReady b geo from h.past end next (fold named buds (references_in (node ∷ nodes)))
+ready_next a b geo from lnum offs number next end buds node nodes bytes D h f ne later w works laid =
+    let all : List LogText = h.first ∷ h.more in
+    let past = h.past in
+    let references = references_in (node ∷ nodes) in
+    let text : LogText = record { nodes = nodes_of laid.items; references = references; ends = record { lnum = past; offs = end; tail = Clean } } in
+    let free = past_free a.holds geo from h.start past h.first h.more f h.chain ne in
+    let apart : (k : ℕ) → IsAmong k all → k ≢ past = λ k is e. let P : ℕ → Type 0 = λ n. IsAmong n all in free (subst P e is) in
+    let low = h.low in
+    let more : number ≤ next = omega (arith, later) in
+    let old = chain_alike a.holds b.holds geo from h.start past h.first h.more (λ k is. sym (works.others k (apart k is))) h.chain in
+    record {
+      start = h.start;
+      first = h.first;
+      more = h.more ++ text ∷ [];
+      past = next_leb geo past;
+      chain = chain_more b.holds geo from h.start past h.first h.more text old ne (laid_text (b.holds past) past end number (node ∷ nodes) laid) (later_first h.start number 0 nodes node (nodes_of laid.items) laid.first low);
+      low = omega (arith, low, later);
+      below = below_last next all text (below_more number next all more h.below) (not_above next number nodes node (nodes_of laid.items) laid.first later);
+      buds_are = ap (λ (bs : List HeadAt). fold named bs references) h.buds_are ∙ sym (buds_behind (references_of all) references) ∙ ap buds_of (sym (references_added h.first h.more text));
+      last = last_end_added h.first.ends h.more text;
+      settled = λ k is c left. elim (cases_eq k past) [
+        | inl e ↦
+            let L : ℕ → Type 0 = λ n. b.left_now n c in
+            let H : ℕ → Type 0 = λ n. c ≡ b.holds n in
+            subst H (sym e) (w.left c (subst L e left) ∙ sym w.holds)
+        | inr other ↦ h.settled k (among_old k h.first h.more text past other refl is) c (works.others_left k c other left) ∙ sym (works.others k other)
+      ];
+      spare = λ k leb is none left.
+          let other : k ≢ past = λ e. none (inr ((among_added k h.more text).1 (inr e))) in
+          h.spare k leb is (λ i. none (among_new k h.first h.more text i)) (works.others_left k leb other left);
+    }
+
+-- a commit start and nodes behind it at the start of a LEB: the log that is read from there on
+pub ready_section : (a b : VolumeState) (geo : RawGeometry) (from lnum offs number next end there : ℕ) (buds : List HeadAt) (start : CommitStart) (nodes : List SystemNode) (bytes : List ℕ) (D : List ℕ → Type 0) → IsReady a geo from lnum offs number buds → IsLogLeb geo there
+    → number < next → IsBegun a b there bytes → WorksOn a b there D → AreLaid (b.holds there) 0 end number (commit_start start ∷ nodes) → IsReady b geo there there end next (buds_of (references_in (commit_start start ∷ nodes)))
+ready_section a b geo from lnum offs number next end there buds start nodes bytes D h is later w works laid =
+    let references = references_in (commit_start start ∷ nodes) in
+    let text : LogText = record { nodes = nodes_of laid.items; references = references; ends = record { lnum = there; offs = end; tail = Clean } } in
+    record {
+      start = number + 1;
+      first = text;
+      more = [];
+      past = next_leb geo there;
+      chain = record { is_first = laid_text (b.holds there) there end number (commit_start start ∷ nodes) laid; starts = starts_there number nodes start (nodes_of laid.items) laid.first; run = refl };
+      low = omega (arith, later);
+      below = (not_above next number nodes (commit_start start) (nodes_of laid.items) laid.first later, tt);
+      buds_are = ap buds_of (sym (append-nil references));
+      last = refl;
+      settled = λ k among c left.
+          let e : k ≡ there = elim among [ inl same ↦ same | inr none ↦ absurd none ] in
+          let L : ℕ → Type 0 = λ n. b.left_now n c in
+          let H : ℕ → Type 0 = λ n. c ≡ b.holds n in
+          subst H (sym e) (w.left c (subst L e left) ∙ sym w.holds);
+      spare = λ k leb in_log none left.
+          let other : k ≢ there = λ e. none (inl e) in
+          older_more number (number + 1) k leb (omega arith) (none_above a geo from lnum offs number buds h k leb in_log (works.others_left k leb other left));
+    }
+
+-- what was torn at the start of the next LEB
+pub next_names : OneNode → (a : VolumeState) (geo : RawGeometry) (from lnum offs number : ℕ) (buds : List HeadAt) (nodes : List SystemNode) (h : IsReady a geo from lnum offs number buds) (x : ℕ → List ℕ) → IsLogLeb geo from → h.past ≢ from
+    → AreSpelled number nodes → ((k : ℕ) → IsLogLeb geo k → k ≢ h.past → a.left_now k (x k)) → IsMeant number 0 nodes (x h.past) → NamesSome x geo from buds (references_in nodes)
+next_names one a geo from lnum offs number buds nodes h x f ne spelled others meant =
+    let all : List LogText = h.first ∷ h.more in
+    let past = h.past in
+    let free = past_free a.holds geo from h.start past h.first h.more f h.chain ne in
+    let apart : (k : ℕ) → IsAmong k all → k ≢ past = λ k is e. let P : ℕ → Type 0 = λ n. IsAmong n all in free (subst P e is) in
+    let in_log : (k : ℕ) → IsAmong k all → IsLogLeb geo k = λ k is. among_log a.holds geo from h.start past k h.first h.more f h.chain is in
+    let some = some_references (x past) meant.items 0 meant.end meant.is_text.stand in
+    let text : LogText = record { nodes = nodes_of meant.items; references = some.0; ends = record { lnum = past; offs = meant.end; tail = meant.tail } } in
+    let is_text : IsTextOf (x past) past text = record { items = meant.items; is_text = meant.is_text; here = refl; nodes = refl; refer = some.1 } in
+    elim (cases_Bool (is_later h.start (begins_with text.nodes))) [
+      | inl later ↦
+          let part = part_references one (x past) (nodes_of meant.items) 0 number nodes some.0 spelled meant.part some.1 in
+          let old = chain_alike a.holds x geo from h.start past h.first h.more (λ k is. sym (h.settled k is (x k) (others k (in_log k is) (apart k is)))) h.chain in
+          let chain = chain_more x geo from h.start past h.first h.more text old ne is_text later in
+          let names = names_chain x geo from h.start (next_leb geo past) h.first (h.more ++ text ∷ []) f chain
+          (λ k is none. let other : k ≢ past = λ e. none (inr ((among_added k h.more text).1 (inr e))) in h.spare k (x k) is (λ i. none (among_new k h.first h.more text i)) (others k is other)) in
+          let P : List HeadAt → Type 0 = λ bs. NamesBuds x geo from bs in
+          let e : buds_of (references_of (h.first ∷ (h.more ++ text ∷ []))) ≡ fold named buds (take part.0 (references_in nodes)) =
+          ap buds_of (references_added h.first h.more text) ∙ buds_behind (references_of all) some.0 ∙ ap (λ (b : List HeadAt). fold named b some.0) (sym h.buds_are) ∙ ap (fold named buds) part.1 in
+          (part.0, subst P e names)
+      | inr not_later ↦
+          let quiet : IsQuiet a geo from h.start all x = record {
+            read = λ k is. h.settled k is (x k) (others k (in_log k is) (apart k is));
+            not_read = λ k is none. elim (cases_eq k past) [
+              | inl e ↦ let Q : ℕ → Type 0 = λ n. IsOlder h.start n (x n) in subst Q (sym e) (text, is_text, not_later)
+              | inr other ↦ h.spare k (x k) is none (others k is other)
+            ];
+          } in
+          (0, quiet_names a geo from lnum offs number buds h x f quiet)
+    ]

@@ -1,0 +1,293 @@
+-- Steps round the ring.
+use Rattle.std.proofs.Common.{◌≡◌, ◌⊎◌, inl, inr, ℕ, ◌+◌, ◌-◌, ◌<◌, ◌≤◌, refl, ◌∙◌, subst, arith}
+use Rattle.std.specs.Prelude.{◌≢◌}
+use Rattle.std.proofs.lemmas.Bool.{cases_lt, lt-ltb, le-ltb}
+use Rattle.ubifs_base.specs.Areas.{lpt_first}
+use Rattle.ubifs_base.specs.declared.raw_geometry.RawGeometry.{RawGeometry}
+use Rattle.bud_log.specs.Log.{IsLogLeb, next_leb}
+use Rattle.bud_log.specs.LogAt.{LogAt, IsStart, steps_to}
+use Rattle.bud_log.proofs.RingRuns.{left_of, left_below, left_above, next_here, next_round}
+
+-- by which way
+pub steps_are : (geo : RawGeometry) (from lnum : ℕ) → ((lnum < from) × (steps_to geo from lnum ≡ lnum + geo.log_lebs - from)) ⊎ ((from ≤ lnum) × (steps_to geo from lnum ≡ lnum - from))
+steps_are geo from lnum = elim (cases_lt lnum from) [
+  | inl below ↦ inl (below, rw (lt-ltb lnum from below) refl)
+  | inr above ↦ inr (above, rw (le-ltb lnum from above) refl)
+]
+
+pub next_is : (geo : RawGeometry) (lnum : ℕ) → ((lnum + 1 < 3 + geo.log_lebs) × (next_leb geo lnum ≡ lnum + 1)) ⊎ ((3 + geo.log_lebs ≤ lnum + 1) × (next_leb geo lnum ≡ 3))
+next_is geo lnum = elim (cases_lt (lnum + 1) (lpt_first geo)) [
+  | inl here ↦ inl (here, next_here geo lnum here)
+  | inr round ↦ inr (round, next_round geo lnum round)
+]
+
+-- one step more
+pub steps_next : (geo : RawGeometry) (from lnum : ℕ) → IsLogLeb geo from → IsLogLeb geo lnum → steps_to geo from lnum + 1 < geo.log_lebs → steps_to geo from (next_leb geo lnum) ≡ steps_to geo from lnum + 1
+steps_next geo from lnum f l room =
+    let f1 = f.low in
+    let f2 = f.high in
+    let l1 = l.low in
+    let l2 = l.high in
+    let next = next_leb geo lnum in
+    elim (steps_are geo from lnum) [
+      | inl (below, s) ↦ elim (next_is geo lnum) [
+        | inl (here, n) ↦ elim (steps_are geo from next) [ inl (lower, t) ↦ omega (arith, f1, f2, l1, l2, below, s, here, n, lower, t, room) | inr (upper, t) ↦ absurd (omega (arith, f1, f2, l1, l2, below, s, here, n, upper, t, room)) ]
+        | inr (round, n) ↦ absurd (omega (arith, f1, f2, l1, l2, below, round))
+      ]
+      | inr (above, s) ↦ elim (next_is geo lnum) [
+        | inl (here, n) ↦ elim (steps_are geo from next) [ inl (lower, t) ↦ absurd (omega (arith, above, n, lower)) | inr (upper, t) ↦ omega (arith, above, s, n, t) ]
+        | inr (round, n) ↦ elim (steps_are geo from next) [ inl (lower, t) ↦ omega (arith, f1, f2, l1, l2, above, s, round, n, lower, t, room) | inr (upper, t) ↦ absurd (omega (arith, f1, f2, l1, l2, above, s, round, n, upper, t, room)) ]
+      ]
+    ]
+
+pub steps_none : (geo : RawGeometry) (from : ℕ) → steps_to geo from from ≡ 0
+steps_none geo from = elim (steps_are geo from from) [ inl (below, s) ↦ absurd (omega (arith, below)) | inr (above, s) ↦ omega (arith, s) ]
+
+-- the next LEB is none in which a section starts that is needed
+pub next_free : (at : LogAt) (from : ℕ) → IsLogLeb at.geo at.first → IsLogLeb at.geo at.lnum → steps_to at.geo at.first at.section ≤ steps_to at.geo at.first at.lnum → steps_to at.geo at.first at.lnum + 1 < at.geo.log_lebs → IsStart at from
+    → next_leb at.geo at.lnum ≢ from
+next_free at from f l way room (inl first) = λ e.
+    let P : ℕ → Type 0 = λ n. steps_to at.geo at.first n ≡ steps_to at.geo at.first at.lnum + 1 in
+    let more = subst P (e ∙ first) (steps_next at.geo at.first at.lnum f l room) in
+    let none = steps_none at.geo at.first in
+    absurd (omega (arith, more, none))
+next_free at from f l way room (inr section) = λ e.
+    let P : ℕ → Type 0 = λ n. steps_to at.geo at.first n ≡ steps_to at.geo at.first at.lnum + 1 in
+    let more = subst P (e ∙ section) (steps_next at.geo at.first at.lnum f l room) in
+    absurd (omega (arith, more, way))
+
+-- and the way to the present section leads on to it
+pub way_next : (at : LogAt) → IsLogLeb at.geo at.first → IsLogLeb at.geo at.lnum → steps_to at.geo at.first at.section ≤ steps_to at.geo at.first at.lnum → steps_to at.geo at.first at.lnum + 1 < at.geo.log_lebs
+    → steps_to at.geo at.first at.section ≤ steps_to at.geo at.first (next_leb at.geo at.lnum)
+way_next at f l way room = let more = steps_next at.geo at.first at.lnum f l room in omega (arith, more, way)
+
+pub steps_small : (geo : RawGeometry) (from lnum : ℕ) → IsLogLeb geo from → IsLogLeb geo lnum → steps_to geo from lnum < geo.log_lebs
+steps_small geo from lnum f l =
+    let f1 = f.low in
+    let f2 = f.high in
+    let l1 = l.low in
+    let l2 = l.high in
+    elim (steps_are geo from lnum) [ inl (below, s) ↦ omega (arith, f1, f2, l1, l2, below, s) | inr (above, s) ↦ omega (arith, f1, f2, l1, l2, above, s) ]
+
+-- LEBs as many steps away are one
+pub same_steps : (geo : RawGeometry) (from a b : ℕ) → IsLogLeb geo from → IsLogLeb geo a → IsLogLeb geo b → steps_to geo from a ≡ steps_to geo from b → a ≡ b
+same_steps geo from a b f g h e =
+    let f1 = f.low in
+    let f2 = f.high in
+    let a1 = g.low in
+    let a2 = g.high in
+    let b1 = h.low in
+    let b2 = h.high in
+    elim (steps_are geo from a) [
+      | inl (p, s) ↦ elim (steps_are geo from b) [ inl (q, t) ↦ omega (arith, f1, f2, a1, a2, b1, b2, p, s, q, t, e) | inr (q, t) ↦ absurd (omega (arith, f1, f2, a1, a2, b1, b2, p, s, q, t, e)) ]
+      | inr (p, s) ↦ elim (steps_are geo from b) [ inl (q, t) ↦ absurd (omega (arith, f1, f2, a1, a2, b1, b2, p, s, q, t, e)) | inr (q, t) ↦ omega (arith, f1, f2, a1, a2, b1, b2, p, s, q, t, e) ]
+    ]
+
+left_is : (geo : RawGeometry) (from lnum : ℕ) → ((lnum ≤ from) × (left_of geo from lnum ≡ from - lnum)) ⊎ ((from < lnum) × (left_of geo from lnum ≡ (from + (3 + geo.log_lebs)) - (lnum + 3)))
+left_is geo from lnum = elim (cases_lt from lnum) [
+  | inl above ↦ inr (above, left_above geo from lnum above)
+  | inr below ↦ inl (below, left_below geo from lnum below)
+]
+
+-- a LEB before a section isn't reached from there to a LEB of it
+pub before_left : (geo : RawGeometry) (first section lnum k : ℕ) → IsLogLeb geo first → IsLogLeb geo section → IsLogLeb geo lnum → IsLogLeb geo k → steps_to geo first k < steps_to geo first section → steps_to geo first section ≤ steps_to geo first lnum
+    → left_of geo section k ≤ left_of geo section (next_leb geo lnum)
+before_left geo first section lnum k f s l h before way =
+    let f1 = f.low in
+    let f2 = f.high in
+    let s1 = s.low in
+    let s2 = s.high in
+    let l1 = l.low in
+    let l2 = l.high in
+    let k1 = h.low in
+    let k2 = h.high in
+    elim (steps_are geo first k) [
+      | inl (p0, q0) ↦ elim (steps_are geo first section) [
+        | inl (p1, q1) ↦ elim (steps_are geo first lnum) [
+          | inl (p2, q2) ↦ elim (next_is geo lnum) [
+            | inl (p3, q3) ↦ elim (left_is geo section k) [
+              | inl (p4, q4) ↦ elim (left_is geo section (next_leb geo lnum)) [
+                | inl (p5, q5) ↦ omega (arith, f1, f2, s1, s2, l1, l2, k1, k2, before, way, p0, q0, p1, q1, p2, q2, p3, q3, p4, q4, p5, q5)
+                | inr (p5, q5) ↦ omega (arith, f1, f2, s1, s2, l1, l2, k1, k2, before, way, p0, q0, p1, q1, p2, q2, p3, q3, p4, q4, p5, q5)
+              ]
+              | inr (p4, q4) ↦ elim (left_is geo section (next_leb geo lnum)) [
+                | inl (p5, q5) ↦ omega (arith, f1, f2, s1, s2, l1, l2, k1, k2, before, way, p0, q0, p1, q1, p2, q2, p3, q3, p4, q4, p5, q5)
+                | inr (p5, q5) ↦ omega (arith, f1, f2, s1, s2, l1, l2, k1, k2, before, way, p0, q0, p1, q1, p2, q2, p3, q3, p4, q4, p5, q5)
+              ]
+            ]
+            | inr (p3, q3) ↦ elim (left_is geo section k) [
+              | inl (p4, q4) ↦ elim (left_is geo section (next_leb geo lnum)) [
+                | inl (p5, q5) ↦ omega (arith, f1, f2, s1, s2, l1, l2, k1, k2, before, way, p0, q0, p1, q1, p2, q2, p3, q3, p4, q4, p5, q5)
+                | inr (p5, q5) ↦ omega (arith, f1, f2, s1, s2, l1, l2, k1, k2, before, way, p0, q0, p1, q1, p2, q2, p3, q3, p4, q4, p5, q5)
+              ]
+              | inr (p4, q4) ↦ elim (left_is geo section (next_leb geo lnum)) [
+                | inl (p5, q5) ↦ omega (arith, f1, f2, s1, s2, l1, l2, k1, k2, before, way, p0, q0, p1, q1, p2, q2, p3, q3, p4, q4, p5, q5)
+                | inr (p5, q5) ↦ omega (arith, f1, f2, s1, s2, l1, l2, k1, k2, before, way, p0, q0, p1, q1, p2, q2, p3, q3, p4, q4, p5, q5)
+              ]
+            ]
+          ]
+          | inr (p2, q2) ↦ elim (next_is geo lnum) [
+            | inl (p3, q3) ↦ elim (left_is geo section k) [
+              | inl (p4, q4) ↦ elim (left_is geo section (next_leb geo lnum)) [
+                | inl (p5, q5) ↦ omega (arith, f1, f2, s1, s2, l1, l2, k1, k2, before, way, p0, q0, p1, q1, p2, q2, p3, q3, p4, q4, p5, q5)
+                | inr (p5, q5) ↦ omega (arith, f1, f2, s1, s2, l1, l2, k1, k2, before, way, p0, q0, p1, q1, p2, q2, p3, q3, p4, q4, p5, q5)
+              ]
+              | inr (p4, q4) ↦ elim (left_is geo section (next_leb geo lnum)) [
+                | inl (p5, q5) ↦ omega (arith, f1, f2, s1, s2, l1, l2, k1, k2, before, way, p0, q0, p1, q1, p2, q2, p3, q3, p4, q4, p5, q5)
+                | inr (p5, q5) ↦ omega (arith, f1, f2, s1, s2, l1, l2, k1, k2, before, way, p0, q0, p1, q1, p2, q2, p3, q3, p4, q4, p5, q5)
+              ]
+            ]
+            | inr (p3, q3) ↦ elim (left_is geo section k) [
+              | inl (p4, q4) ↦ elim (left_is geo section (next_leb geo lnum)) [
+                | inl (p5, q5) ↦ omega (arith, f1, f2, s1, s2, l1, l2, k1, k2, before, way, p0, q0, p1, q1, p2, q2, p3, q3, p4, q4, p5, q5)
+                | inr (p5, q5) ↦ omega (arith, f1, f2, s1, s2, l1, l2, k1, k2, before, way, p0, q0, p1, q1, p2, q2, p3, q3, p4, q4, p5, q5)
+              ]
+              | inr (p4, q4) ↦ elim (left_is geo section (next_leb geo lnum)) [
+                | inl (p5, q5) ↦ omega (arith, f1, f2, s1, s2, l1, l2, k1, k2, before, way, p0, q0, p1, q1, p2, q2, p3, q3, p4, q4, p5, q5)
+                | inr (p5, q5) ↦ omega (arith, f1, f2, s1, s2, l1, l2, k1, k2, before, way, p0, q0, p1, q1, p2, q2, p3, q3, p4, q4, p5, q5)
+              ]
+            ]
+          ]
+        ]
+        | inr (p1, q1) ↦ elim (steps_are geo first lnum) [
+          | inl (p2, q2) ↦ elim (next_is geo lnum) [
+            | inl (p3, q3) ↦ elim (left_is geo section k) [
+              | inl (p4, q4) ↦ elim (left_is geo section (next_leb geo lnum)) [
+                | inl (p5, q5) ↦ omega (arith, f1, f2, s1, s2, l1, l2, k1, k2, before, way, p0, q0, p1, q1, p2, q2, p3, q3, p4, q4, p5, q5)
+                | inr (p5, q5) ↦ omega (arith, f1, f2, s1, s2, l1, l2, k1, k2, before, way, p0, q0, p1, q1, p2, q2, p3, q3, p4, q4, p5, q5)
+              ]
+              | inr (p4, q4) ↦ elim (left_is geo section (next_leb geo lnum)) [
+                | inl (p5, q5) ↦ omega (arith, f1, f2, s1, s2, l1, l2, k1, k2, before, way, p0, q0, p1, q1, p2, q2, p3, q3, p4, q4, p5, q5)
+                | inr (p5, q5) ↦ omega (arith, f1, f2, s1, s2, l1, l2, k1, k2, before, way, p0, q0, p1, q1, p2, q2, p3, q3, p4, q4, p5, q5)
+              ]
+            ]
+            | inr (p3, q3) ↦ elim (left_is geo section k) [
+              | inl (p4, q4) ↦ elim (left_is geo section (next_leb geo lnum)) [
+                | inl (p5, q5) ↦ omega (arith, f1, f2, s1, s2, l1, l2, k1, k2, before, way, p0, q0, p1, q1, p2, q2, p3, q3, p4, q4, p5, q5)
+                | inr (p5, q5) ↦ omega (arith, f1, f2, s1, s2, l1, l2, k1, k2, before, way, p0, q0, p1, q1, p2, q2, p3, q3, p4, q4, p5, q5)
+              ]
+              | inr (p4, q4) ↦ elim (left_is geo section (next_leb geo lnum)) [
+                | inl (p5, q5) ↦ omega (arith, f1, f2, s1, s2, l1, l2, k1, k2, before, way, p0, q0, p1, q1, p2, q2, p3, q3, p4, q4, p5, q5)
+                | inr (p5, q5) ↦ omega (arith, f1, f2, s1, s2, l1, l2, k1, k2, before, way, p0, q0, p1, q1, p2, q2, p3, q3, p4, q4, p5, q5)
+              ]
+            ]
+          ]
+          | inr (p2, q2) ↦ elim (next_is geo lnum) [
+            | inl (p3, q3) ↦ elim (left_is geo section k) [
+              | inl (p4, q4) ↦ elim (left_is geo section (next_leb geo lnum)) [
+                | inl (p5, q5) ↦ omega (arith, f1, f2, s1, s2, l1, l2, k1, k2, before, way, p0, q0, p1, q1, p2, q2, p3, q3, p4, q4, p5, q5)
+                | inr (p5, q5) ↦ omega (arith, f1, f2, s1, s2, l1, l2, k1, k2, before, way, p0, q0, p1, q1, p2, q2, p3, q3, p4, q4, p5, q5)
+              ]
+              | inr (p4, q4) ↦ elim (left_is geo section (next_leb geo lnum)) [
+                | inl (p5, q5) ↦ omega (arith, f1, f2, s1, s2, l1, l2, k1, k2, before, way, p0, q0, p1, q1, p2, q2, p3, q3, p4, q4, p5, q5)
+                | inr (p5, q5) ↦ omega (arith, f1, f2, s1, s2, l1, l2, k1, k2, before, way, p0, q0, p1, q1, p2, q2, p3, q3, p4, q4, p5, q5)
+              ]
+            ]
+            | inr (p3, q3) ↦ elim (left_is geo section k) [
+              | inl (p4, q4) ↦ elim (left_is geo section (next_leb geo lnum)) [
+                | inl (p5, q5) ↦ omega (arith, f1, f2, s1, s2, l1, l2, k1, k2, before, way, p0, q0, p1, q1, p2, q2, p3, q3, p4, q4, p5, q5)
+                | inr (p5, q5) ↦ omega (arith, f1, f2, s1, s2, l1, l2, k1, k2, before, way, p0, q0, p1, q1, p2, q2, p3, q3, p4, q4, p5, q5)
+              ]
+              | inr (p4, q4) ↦ elim (left_is geo section (next_leb geo lnum)) [
+                | inl (p5, q5) ↦ omega (arith, f1, f2, s1, s2, l1, l2, k1, k2, before, way, p0, q0, p1, q1, p2, q2, p3, q3, p4, q4, p5, q5)
+                | inr (p5, q5) ↦ omega (arith, f1, f2, s1, s2, l1, l2, k1, k2, before, way, p0, q0, p1, q1, p2, q2, p3, q3, p4, q4, p5, q5)
+              ]
+            ]
+          ]
+        ]
+      ]
+      | inr (p0, q0) ↦ elim (steps_are geo first section) [
+        | inl (p1, q1) ↦ elim (steps_are geo first lnum) [
+          | inl (p2, q2) ↦ elim (next_is geo lnum) [
+            | inl (p3, q3) ↦ elim (left_is geo section k) [
+              | inl (p4, q4) ↦ elim (left_is geo section (next_leb geo lnum)) [
+                | inl (p5, q5) ↦ omega (arith, f1, f2, s1, s2, l1, l2, k1, k2, before, way, p0, q0, p1, q1, p2, q2, p3, q3, p4, q4, p5, q5)
+                | inr (p5, q5) ↦ omega (arith, f1, f2, s1, s2, l1, l2, k1, k2, before, way, p0, q0, p1, q1, p2, q2, p3, q3, p4, q4, p5, q5)
+              ]
+              | inr (p4, q4) ↦ elim (left_is geo section (next_leb geo lnum)) [
+                | inl (p5, q5) ↦ omega (arith, f1, f2, s1, s2, l1, l2, k1, k2, before, way, p0, q0, p1, q1, p2, q2, p3, q3, p4, q4, p5, q5)
+                | inr (p5, q5) ↦ omega (arith, f1, f2, s1, s2, l1, l2, k1, k2, before, way, p0, q0, p1, q1, p2, q2, p3, q3, p4, q4, p5, q5)
+              ]
+            ]
+            | inr (p3, q3) ↦ elim (left_is geo section k) [
+              | inl (p4, q4) ↦ elim (left_is geo section (next_leb geo lnum)) [
+                | inl (p5, q5) ↦ omega (arith, f1, f2, s1, s2, l1, l2, k1, k2, before, way, p0, q0, p1, q1, p2, q2, p3, q3, p4, q4, p5, q5)
+                | inr (p5, q5) ↦ omega (arith, f1, f2, s1, s2, l1, l2, k1, k2, before, way, p0, q0, p1, q1, p2, q2, p3, q3, p4, q4, p5, q5)
+              ]
+              | inr (p4, q4) ↦ elim (left_is geo section (next_leb geo lnum)) [
+                | inl (p5, q5) ↦ omega (arith, f1, f2, s1, s2, l1, l2, k1, k2, before, way, p0, q0, p1, q1, p2, q2, p3, q3, p4, q4, p5, q5)
+                | inr (p5, q5) ↦ omega (arith, f1, f2, s1, s2, l1, l2, k1, k2, before, way, p0, q0, p1, q1, p2, q2, p3, q3, p4, q4, p5, q5)
+              ]
+            ]
+          ]
+          | inr (p2, q2) ↦ elim (next_is geo lnum) [
+            | inl (p3, q3) ↦ elim (left_is geo section k) [
+              | inl (p4, q4) ↦ elim (left_is geo section (next_leb geo lnum)) [
+                | inl (p5, q5) ↦ omega (arith, f1, f2, s1, s2, l1, l2, k1, k2, before, way, p0, q0, p1, q1, p2, q2, p3, q3, p4, q4, p5, q5)
+                | inr (p5, q5) ↦ omega (arith, f1, f2, s1, s2, l1, l2, k1, k2, before, way, p0, q0, p1, q1, p2, q2, p3, q3, p4, q4, p5, q5)
+              ]
+              | inr (p4, q4) ↦ elim (left_is geo section (next_leb geo lnum)) [
+                | inl (p5, q5) ↦ omega (arith, f1, f2, s1, s2, l1, l2, k1, k2, before, way, p0, q0, p1, q1, p2, q2, p3, q3, p4, q4, p5, q5)
+                | inr (p5, q5) ↦ omega (arith, f1, f2, s1, s2, l1, l2, k1, k2, before, way, p0, q0, p1, q1, p2, q2, p3, q3, p4, q4, p5, q5)
+              ]
+            ]
+            | inr (p3, q3) ↦ elim (left_is geo section k) [
+              | inl (p4, q4) ↦ elim (left_is geo section (next_leb geo lnum)) [
+                | inl (p5, q5) ↦ omega (arith, f1, f2, s1, s2, l1, l2, k1, k2, before, way, p0, q0, p1, q1, p2, q2, p3, q3, p4, q4, p5, q5)
+                | inr (p5, q5) ↦ omega (arith, f1, f2, s1, s2, l1, l2, k1, k2, before, way, p0, q0, p1, q1, p2, q2, p3, q3, p4, q4, p5, q5)
+              ]
+              | inr (p4, q4) ↦ elim (left_is geo section (next_leb geo lnum)) [
+                | inl (p5, q5) ↦ omega (arith, f1, f2, s1, s2, l1, l2, k1, k2, before, way, p0, q0, p1, q1, p2, q2, p3, q3, p4, q4, p5, q5)
+                | inr (p5, q5) ↦ omega (arith, f1, f2, s1, s2, l1, l2, k1, k2, before, way, p0, q0, p1, q1, p2, q2, p3, q3, p4, q4, p5, q5)
+              ]
+            ]
+          ]
+        ]
+        | inr (p1, q1) ↦ elim (steps_are geo first lnum) [
+          | inl (p2, q2) ↦ elim (next_is geo lnum) [
+            | inl (p3, q3) ↦ elim (left_is geo section k) [
+              | inl (p4, q4) ↦ elim (left_is geo section (next_leb geo lnum)) [
+                | inl (p5, q5) ↦ omega (arith, f1, f2, s1, s2, l1, l2, k1, k2, before, way, p0, q0, p1, q1, p2, q2, p3, q3, p4, q4, p5, q5)
+                | inr (p5, q5) ↦ omega (arith, f1, f2, s1, s2, l1, l2, k1, k2, before, way, p0, q0, p1, q1, p2, q2, p3, q3, p4, q4, p5, q5)
+              ]
+              | inr (p4, q4) ↦ elim (left_is geo section (next_leb geo lnum)) [
+                | inl (p5, q5) ↦ omega (arith, f1, f2, s1, s2, l1, l2, k1, k2, before, way, p0, q0, p1, q1, p2, q2, p3, q3, p4, q4, p5, q5)
+                | inr (p5, q5) ↦ omega (arith, f1, f2, s1, s2, l1, l2, k1, k2, before, way, p0, q0, p1, q1, p2, q2, p3, q3, p4, q4, p5, q5)
+              ]
+            ]
+            | inr (p3, q3) ↦ elim (left_is geo section k) [
+              | inl (p4, q4) ↦ elim (left_is geo section (next_leb geo lnum)) [
+                | inl (p5, q5) ↦ omega (arith, f1, f2, s1, s2, l1, l2, k1, k2, before, way, p0, q0, p1, q1, p2, q2, p3, q3, p4, q4, p5, q5)
+                | inr (p5, q5) ↦ omega (arith, f1, f2, s1, s2, l1, l2, k1, k2, before, way, p0, q0, p1, q1, p2, q2, p3, q3, p4, q4, p5, q5)
+              ]
+              | inr (p4, q4) ↦ elim (left_is geo section (next_leb geo lnum)) [
+                | inl (p5, q5) ↦ omega (arith, f1, f2, s1, s2, l1, l2, k1, k2, before, way, p0, q0, p1, q1, p2, q2, p3, q3, p4, q4, p5, q5)
+                | inr (p5, q5) ↦ omega (arith, f1, f2, s1, s2, l1, l2, k1, k2, before, way, p0, q0, p1, q1, p2, q2, p3, q3, p4, q4, p5, q5)
+              ]
+            ]
+          ]
+          | inr (p2, q2) ↦ elim (next_is geo lnum) [
+            | inl (p3, q3) ↦ elim (left_is geo section k) [
+              | inl (p4, q4) ↦ elim (left_is geo section (next_leb geo lnum)) [
+                | inl (p5, q5) ↦ omega (arith, f1, f2, s1, s2, l1, l2, k1, k2, before, way, p0, q0, p1, q1, p2, q2, p3, q3, p4, q4, p5, q5)
+                | inr (p5, q5) ↦ omega (arith, f1, f2, s1, s2, l1, l2, k1, k2, before, way, p0, q0, p1, q1, p2, q2, p3, q3, p4, q4, p5, q5)
+              ]
+              | inr (p4, q4) ↦ elim (left_is geo section (next_leb geo lnum)) [
+                | inl (p5, q5) ↦ omega (arith, f1, f2, s1, s2, l1, l2, k1, k2, before, way, p0, q0, p1, q1, p2, q2, p3, q3, p4, q4, p5, q5)
+                | inr (p5, q5) ↦ omega (arith, f1, f2, s1, s2, l1, l2, k1, k2, before, way, p0, q0, p1, q1, p2, q2, p3, q3, p4, q4, p5, q5)
+              ]
+            ]
+            | inr (p3, q3) ↦ elim (left_is geo section k) [
+              | inl (p4, q4) ↦ elim (left_is geo section (next_leb geo lnum)) [
+                | inl (p5, q5) ↦ omega (arith, f1, f2, s1, s2, l1, l2, k1, k2, before, way, p0, q0, p1, q1, p2, q2, p3, q3, p4, q4, p5, q5)
+                | inr (p5, q5) ↦ omega (arith, f1, f2, s1, s2, l1, l2, k1, k2, before, way, p0, q0, p1, q1, p2, q2, p3, q3, p4, q4, p5, q5)
+              ]
+              | inr (p4, q4) ↦ elim (left_is geo section (next_leb geo lnum)) [
+                | inl (p5, q5) ↦ omega (arith, f1, f2, s1, s2, l1, l2, k1, k2, before, way, p0, q0, p1, q1, p2, q2, p3, q3, p4, q4, p5, q5)
+                | inr (p5, q5) ↦ omega (arith, f1, f2, s1, s2, l1, l2, k1, k2, before, way, p0, q0, p1, q1, p2, q2, p3, q3, p4, q4, p5, q5)
+              ]
+            ]
+          ]
+        ]
+      ]
+    ]

@@ -1,0 +1,55 @@
+use Rattle.std.proofs.Common.{ℕ, ◌+◌, ◌*◌, List, length, sym, ◌∙◌, subst, arith}
+use Rattle.std.specs.Prelude.{fold}
+use Rattle.media_sys.specs.declared.ref_node.RefNode.{RefNode}
+use Rattle.ubi_volume.specs.Volume.{Leaves}
+use Rattle.bud_log.specs.Buds.{named, buds_of}
+use Rattle.bud_log.specs.Log.{next_leb}
+use Rattle.bud_log.specs.LogAt.{LogAt, room_of, references_to, section_nodes}
+use Rattle.bud_log.specs.Writing.{IsReady, NamesSome, IsOldOrMeant}
+use Rattle.bud_log.proofs.OneBud.{start_in, free_of, section_moment}
+use Rattle.bud_log.proofs.Spelled.{references_same}
+use Rattle.bud_log.proofs.Works.{started_works}
+use Rattle.bud_log.proofs.log.Log.start_section.Goals as goal
+
+pub returns-in_err-write_section-clause-any_moment : goal.returns-in_err-write_section-clause-any_moment
+returns-in_err-write_section-clause-any_moment g c = λ from buds start h.
+    let a = g.V.Volume.state c.args.volume.now in
+    let b = g.V.Volume.state c.write_section.new.volume in
+    let at = c.args.self.now in
+    let nodes = section_nodes c.args.cmt_no c.args.heads.now in
+    let there = next_leb at.geo at.lnum in
+    let S : List RefNode → Type 0 = λ r. Leaves a b (λ left. IsOldOrMeant a there 0 c.args.sqnum.now nodes (left there) → NamesSome left at.geo from buds r) in
+    subst S (references_same c.args.heads.now)
+    (section_moment c.one_node.ensures a b at from c.args.sqnum.now (room_of at.geo.min_io (32 + 64 * length c.args.heads.now)) buds nodes c.requires.at c.requires.kept start (g.met.V.Volume.mapped_now c.args.volume.now) c.write_section.ensures.spelled c.write_section.ensures.works h)
+
+pub returns-clause-done : goal.returns-clause-done
+returns-clause-done g c = λ from buds start h.
+    let a = g.V.Volume.state c.args.volume.now in
+    let b = g.V.Volume.state c.write_section.new.volume in
+    let at = c.args.self.now in
+    let next : ℕ = c.args.sqnum.now + (1 + length c.args.heads.now) in
+    let P : LogAt → Type 0 = λ z. IsReady b z.geo from z.lnum z.offs next (fold named buds (references_to c.args.heads.now)) in
+    subst P (sym (c.self.view_is ∙ c.in_ok-write_section.ensures.moved)) (c.in_ok-write_section.ensures.done from next buds (start_in a at from c.requires.at start) (free_of a at from c.requires.at start c.requires.kept) (omega arith) h)
+
+pub returns-clause-section : goal.returns-clause-section
+returns-clause-section g c = λ from buds start h.
+    let b = g.V.Volume.state c.write_section.new.volume in
+    let next : ℕ = c.args.sqnum.now + (1 + length c.args.heads.now) in
+    let P : LogAt → Type 0 = λ z. IsReady b z.geo z.lnum z.lnum z.offs next (buds_of (references_to c.args.heads.now)) in
+    subst P (sym (c.self.view_is ∙ c.in_ok-write_section.ensures.moved)) (c.in_ok-write_section.ensures.section from next buds (omega arith) h)
+
+pub returns-clause-any_moment : goal.returns-clause-any_moment
+returns-clause-any_moment g c = λ from buds start h.
+    let a = g.V.Volume.state c.args.volume.now in
+    let b = g.V.Volume.state c.write_section.new.volume in
+    let at = c.args.self.now in
+    let nodes = section_nodes c.args.cmt_no c.args.heads.now in
+    let there = next_leb at.geo at.lnum in
+    let S : List RefNode → Type 0 = λ r. Leaves a b (λ left. IsOldOrMeant a there 0 c.args.sqnum.now nodes (left there) → NamesSome left at.geo from buds r) in
+    subst S (references_same c.args.heads.now)
+    (section_moment c.one_node.ensures a b at from c.args.sqnum.now (room_of at.geo.min_io (32 + 64 * length c.args.heads.now)) buds nodes c.requires.at c.requires.kept start (g.met.V.Volume.mapped_now c.args.volume.now) c.write_section.ensures.spelled c.write_section.ensures.works h)
+
+pub returns-clause-works : goal.returns-clause-works
+returns-clause-works g c =
+    let at = c.args.self.now in
+    started_works (g.V.Volume.state c.args.volume.now) (g.V.Volume.state c.write_section.new.volume) at (room_of at.geo.min_io (32 + 64 * length c.args.heads.now)) c.write_section.ensures.works

@@ -1,0 +1,133 @@
+-- A log that is written on: what it takes to be ready for its next nodes, and what a cut leaves while they are written.
+use Rattle.std.specs.Prelude.{◌≡◌, ◌≢◌, ◌⊎◌, ⊤, ℕ, ◌+◌, ◌%◌, ◌^◌, ◌<◌, ◌≤◌, IsFalse, Some, List, [], ◌∷◌, ◌++◌, take, drop, length, fold}
+use Rattle.ubifs_base.specs.Gap.{gap_of}
+use Rattle.ubifs_base.specs.NodeLaws.{IsBytes}
+use Rattle.ubifs_base.specs.declared.raw_geometry.RawGeometry.{RawGeometry}
+use Rattle.ubi_volume.specs.Volume.{VolumeState, Only}
+use Rattle.media_sys.specs.SystemNode.{SystemNode, padding, superblock, master, reference, index, commit_start, orphans, type_of, written, IsSystemNode}
+use Rattle.media_sys.specs.declared.ref_node.RefNode.{RefNode}
+use Rattle.leb_scan.specs.Text.{IsText, nodes_of}
+use Rattle.leb_scan.specs.declared.found.Found.{Found}
+use Rattle.leb_scan.specs.declared.item.Item.{Item}
+use Rattle.leb_scan.specs.declared.tail.Tail.{Tail}
+use Rattle.leb_scan.specs.declared.tail.Tail.TheVariants.{Clean}
+use Rattle.bud_log.specs.Buds.{named, buds_of}
+use Rattle.bud_log.specs.Log.{Log, IsLog, IsLogLeb, next_leb, Run, references_of}
+use Rattle.bud_log.specs.LogText.{LogText, IsTextOf, begins_with, start_of, is_later}
+use Rattle.bud_log.specs.declared.head_at.HeadAt.{HeadAt}
+use Rattle.bud_log.specs.declared.log_end.LogEnd.{LogEnd}
+
+-- the reference that a node is
+abbrev pub reference_in : SystemNode → List RefNode
+reference_in (padding node) = []
+reference_in (superblock node) = []
+reference_in (master node) = []
+reference_in (reference node) = node ∷ []
+reference_in (index node) = []
+reference_in (commit_start node) = []
+reference_in (orphans node) = []
+
+-- the references among nodes
+abbrev pub references_in : List SystemNode → List RefNode
+references_in [] = []
+references_in (node ∷ nodes) = reference_in node ++ references_in nodes
+
+-- a node whose one spelling is its own, of whole words, and no padding
+pub record IsSpelled (number : ℕ) (node : SystemNode) : Type 0 where
+  pub bytes : IsBytes (written number 0 node)
+  pub is : IsSystemNode (written number 0 node) number 0 node
+  pub long : 0 < length (written number 0 node)
+  pub even : length (written number 0 node) % 8 ≡ 0
+  pub other : type_of node ≢ 5
+
+-- nodes with the numbers behind this one
+abbrev pub AreSpelled : ℕ → List SystemNode → Type 0
+AreSpelled number [] = ⊤
+AreSpelled number (node ∷ nodes) = IsSpelled (number + 1) node × AreSpelled (number + 1) nodes
+
+-- nodes in their one spelling, one behind another, with the numbers behind this one
+abbrev pub laid : ℕ → List SystemNode → List ℕ
+laid number [] = []
+laid number (node ∷ nodes) = written (number + 1) 0 node ++ laid (number + 1) nodes
+
+-- these bytes are these nodes, and a gap behind them
+pub record AreNodes (bytes : List ℕ) (number : ℕ) (nodes : List SystemNode) : Type 0 where
+  pub gap : ℕ
+  pub spelled : AreSpelled number nodes
+  pub are : bytes ≡ laid number nodes ++ gap_of gap
+  pub fits : gap < 2 ^ 32
+  pub even : gap % 8 ≡ 0
+
+-- this number of a LEB is that of one of these texts
+abbrev pub IsAmong : ℕ → List LogText → Type 0
+IsAmong lnum [] = ⊥
+IsAmong lnum (text ∷ texts) = (lnum ≡ text.ends.lnum) ⊎ IsAmong lnum texts
+
+-- the LEB doesn't begin with a greater number
+abbrev pub IsOlder : ℕ → ℕ → List ℕ → Type 0
+IsOlder number lnum leb = (text : LogText) × IsTextOf leb lnum text × IsFalse (is_later number (begins_with text.nodes))
+
+-- each of these texts begins with a number that isn't above this one
+abbrev pub AreBelow : ℕ → List LogText → Type 0
+AreBelow number [] = ⊤
+AreBelow number (text ∷ texts) = IsFalse (is_later number (begins_with text.nodes)) × AreBelow number texts
+
+-- where the last of these texts ends
+abbrev pub last_end : LogEnd → List LogText → LogEnd
+last_end first [] = first
+last_end first (text ∷ texts) = last_end text.ends texts
+
+-- these texts are read, from a commit start of this number on
+pub record IsChain (contents : ℕ → List ℕ) (geo : RawGeometry) (from start : ℕ) (first : LogText) (more : List LogText) (past : ℕ) : Type 0 where
+  pub is_first : IsTextOf (contents from) from first
+  pub starts : start_of (begins_with first.nodes) ≡ Some start
+  pub run : Run contents geo from start (next_leb geo from) more past
+
+-- The volume holds a log of these buds, which ends here, and is ready for its next node: what is read of it a cut leaves as it
+-- is, and whatever a cut leaves of the ring's other LEBs isn't read. No LEB begins with a number above this one.
+pub record IsReady (state : VolumeState) (geo : RawGeometry) (from lnum offs number : ℕ) (buds : List HeadAt) : Type 0 where
+  pub start : ℕ
+  pub first : LogText
+  pub more : List LogText
+  pub past : ℕ
+  pub chain : IsChain state.holds geo from start first more past
+  pub low : start ≤ number
+  pub below : AreBelow number (first ∷ more)
+  pub buds_are : buds ≡ buds_of (references_of (first ∷ more))
+  pub last : last_end first.ends more ≡ record { lnum = lnum; offs = offs; tail = Clean }
+  pub settled : (k : ℕ) → IsAmong k (first ∷ more) → Only (state.holds k) (state.left_now k)
+  pub spare : (k : ℕ) (leb : List ℕ) → IsLogLeb geo k → (IsAmong k (first ∷ more) → ⊥) → state.left_now k leb → IsOlder start k leb
+
+-- the log that is read from this LEB on names these buds
+abbrev pub NamesBuds : (ℕ → List ℕ) → RawGeometry → ℕ → List HeadAt → Type 0
+NamesBuds contents geo from buds = (log : Log) × IsLog contents geo from log × (log.buds ≡ buds)
+
+-- it names these buds, and of these references the first ones
+abbrev pub NamesSome : (ℕ → List ℕ) → RawGeometry → ℕ → List HeadAt → List RefNode → Type 0
+NamesSome contents geo from buds references = (n : ℕ) × NamesBuds contents geo from (fold named buds (take n references))
+
+-- this node was found whole, at this place
+pub record IsWhole (left : List ℕ) (place number : ℕ) (node : SystemNode) (found : Found) : Type 0 where
+  pub offs : found.offs ≡ place
+  pub kind : found.kind ≡ type_of node
+  pub bytes : take found.len (drop place left) ≡ written number 0 node
+
+-- what was found from a place on are, padding aside, the first of these nodes, each whole and at its place
+abbrev pub ArePart : List ℕ → ℕ → ℕ → List SystemNode → List Found → Type 0
+ArePart left place number nodes [] = ⊤
+ArePart left place number nodes (found ∷ others) =
+    ((found.kind ≡ 5) × ArePart left place number nodes others)
+    ⊎ ((node : SystemNode) × (more : List SystemNode) × (nodes ≡ node ∷ more) × IsWhole left place (number + 1) node found × ArePart left (place + found.len) (number + 1) more others)
+
+-- Of what a cut may leave of a LEB while nodes are written from a place on, this is what is meant: no torn node has a
+-- matching checksum. So the text from the place on has the first of these nodes alone.
+pub record IsMeant (number place : ℕ) (nodes : List SystemNode) (left : List ℕ) : Type 0 where
+  pub items : List Item
+  pub end : ℕ
+  pub tail : Tail
+  pub is_text : IsText left place items end tail
+  pub part : ArePart left place number nodes (nodes_of items)
+
+-- the same of a LEB that a cut may have left as it was before the write began
+abbrev pub IsOldOrMeant : VolumeState → ℕ → ℕ → ℕ → List SystemNode → List ℕ → Type 0
+IsOldOrMeant old lnum place number nodes left = old.left_now lnum left ⊎ IsMeant number place nodes left

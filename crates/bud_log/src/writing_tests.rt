@@ -1,0 +1,104 @@
+// Logs that are written to a volume in memory, with LEBs of 16,384 bytes and the log in LEBs 3 to 6.
+
+ghost use Rattle.std.specs.Prelude.{◌≡◌, IfOk};
+ghost use Rattle.ubifs_base.specs.Geometry.{plain_geometry};
+ghost use Rattle.ubifs_base.specs.RawOf.{raw_of};
+
+use crate::{HeadAt, Log, LogFault, read_log};
+use leb_scan::Tail;
+use std::test::Fail;
+use ubi_volume::{MemVolume, VolShape};
+use ubifs_base::{Geometry, RawGeometry};
+
+const SHAPE: VolShape = VolShape {
+    leb_size: 16384,
+    min_io: 512,
+    leb_cnt: 24,
+};
+
+fn small_geometry() -> Result<Geometry, Fail>
+    ensures { IfOk result (λ geometry. raw_of geometry ≡ plain_geometry 16384 512 64 8) }
+{
+    let Ok(geometry) = Geometry::new(&RawGeometry::plain(16384, 512, 64, 8)) else {
+        return Err(Fail::from("no geometry"));
+    };
+    Ok(geometry)
+}
+
+#[test]
+fn written_section_is_read(rt: HostRuntime) -> Result<(), Fail> {
+    let geometry = small_geometry()?;
+    let mut volume = MemVolume::new(rt.alloc(), SHAPE)?;
+    let mut sqnum = 7;
+    let mut log = Log::at(&geometry, 3, 3, 0);
+    let heads = [HeadAt {
+        head: 1,
+        lnum: 20,
+        offs: 512,
+    }];
+    let Ok(()) = log.start_section(&mut volume, 1, &heads, &mut sqnum) else {
+        return Err(Fail::from("no section"));
+    };
+    let Ok(()) = log.end_section(&mut volume) else {
+        return Err(Fail::from("no end"));
+    };
+    let Ok(()) = log.open_bud(&mut volume, 2, 21, &mut sqnum) else {
+        return Err(Fail::from("no bud"));
+    };
+    assert_eq!(rt; (log.section(), sqnum), (4, 10));
+    let Ok(read) = read_log(rt.alloc(), &mut volume, &geometry, 4) else {
+        return Err(Fail::from("no answer"));
+    };
+    let bud = HeadAt {
+        head: 2,
+        lnum: 21,
+        offs: 0,
+    };
+    assert_eq!(rt; read.buds.as_slice(), [heads[0], bud].as_slice());
+    assert_eq!(rt; (read.lnum, read.offs, read.tail), (4, 1024, Tail::Clean));
+    Ok(())
+}
+
+#[test]
+fn two_lebs_are_kept(rt: HostRuntime) -> Result<(), Fail> {
+    let geometry = small_geometry()?;
+    let mut volume = MemVolume::new(rt.alloc(), SHAPE)?;
+    let mut sqnum = 7;
+    let mut log = Log::at(&geometry, 3, 4, 16384);
+    let full = log.open_bud(&mut volume, 1, 20, &mut sqnum);
+    assert_eq!(rt; full, Err(LogFault::Full { used: 2, limit: 2 }));
+    assert_eq!(rt; sqnum, 7);
+    Ok(())
+}
+
+#[test]
+fn lebs_in_use_are_counted_round_the_ring(rt: HostRuntime) -> Result<(), Fail> {
+    let geometry = small_geometry()?;
+    let mut volume = MemVolume::new(rt.alloc(), SHAPE)?;
+    let mut sqnum = 7;
+    let mut log = Log::at(&geometry, 5, 3, 16384);
+    let full = log.open_bud(&mut volume, 1, 20, &mut sqnum);
+    assert_eq!(rt; full, Err(LogFault::Full { used: 3, limit: 2 }));
+    assert_eq!(rt; sqnum, 7);
+    Ok(())
+}
+
+#[test]
+fn next_leb_is_begun(rt: HostRuntime) -> Result<(), Fail> {
+    let geometry = small_geometry()?;
+    let mut volume = MemVolume::new(rt.alloc(), SHAPE)?;
+    let mut sqnum = 7;
+    let mut log = Log::at(&geometry, 6, 6, 16384);
+    assert_eq!(rt; log.open_bud(&mut volume, 1, 20, &mut sqnum), Ok(()));
+    let Ok(read) = read_log(rt.alloc(), &mut volume, &geometry, 3) else {
+        return Err(Fail::from("no answer"));
+    };
+    let bud = HeadAt {
+        head: 1,
+        lnum: 20,
+        offs: 0,
+    };
+    assert_eq!(rt; read.buds.as_slice(), [bud].as_slice());
+    assert_eq!(rt; (read.lnum, read.offs, sqnum), (3, 512, 8));
+    Ok(())
+}
