@@ -40,7 +40,7 @@ main-some geo h = let less = h.leb_cnt.0 in omega (arith, less)
 pub max_leb_cnt-lt : (geo : RawGeometry) → IsGeometry geo → geo.max_leb_cnt ≤ 2 ^ 30
 max_leb_cnt-lt geo h =
     let size = h.leb_size.0 in
-    let all = h.max_leb_cnt.0 in
+    let all = h.max_leb_cnt in
     let more : geo.max_leb_cnt * 1 ≤ geo.max_leb_cnt * geo.leb_size = mul-le-mul_left geo.max_leb_cnt (omega (arith, size)) in
     omega (arith, more, all)
 

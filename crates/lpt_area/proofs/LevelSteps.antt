@@ -198,7 +198,7 @@ pub level_fits : (geo : RawGeometry) (offs len n level : ℕ) → IsGeometry geo
     → offs + n * len ≡ pnode_count geo * pnode_len geo + nnodes_up_to (pnode_count geo) level * nnode_len geo → offs + n * len + quarter n * nnode_len geo + ltab_len geo ≤ geo.leb_size
 level_fits geo offs len n level h lower count end =
     let P = pnode_count geo in
-    let tree = h.max_leb_cnt.1 in
+    let tree = h.one_leb in
     let sum = add-mul (nnodes_up_to P level) (level_nodes P (suc level)) (nnode_len geo) in
     let this : quarter n * nnode_len geo ≡ level_nodes P (suc level) * nnode_len geo = ap (λ (m : ℕ). quarter m * nnode_len geo) count in
     let all : nnodes_up_to P (suc level) * nnode_len geo ≤ nnode_count geo * nnode_len geo = mul-le-mul_right (nnode_len geo) (nnodes_up_to-mono P (suc level) (tree_height P) (omega (arith, lower))) in

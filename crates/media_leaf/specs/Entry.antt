@@ -4,6 +4,8 @@ use Rattle.std.specs.List.{list_all}
 use Rattle.byteorder.specs.Endian.{little_number}
 use Rattle.ubifs_base.specs.declared.key.Key.{Key}
 use Rattle.ubifs_base.specs.declared.key.Key.TheVariants.{Dent, Xent}
+use Rattle.ubifs_base.specs.NodeType.{type_number}
+use Rattle.ubifs_base.specs.declared.node_type.NodeType.TheVariants as types
 use Rattle.ubifs_base.specs.R5.{r5_of}
 use Rattle.node_fields.specs.Fields.{Field, number, ignored, key_fields}
 use Rattle.media_leaf.specs.declared.dent_node.DentNode.{DentNode}
@@ -24,9 +26,9 @@ pub record IsDentNode (node : DentNode) : Type 0 where
 abbrev pub entry_key : DentNode → Key
 entry_key node = if node.attribute then Xent node.dir (r5_of node.name) else Dent node.dir (r5_of node.name)
 
--- 2 for the entry of a directory, 3 for that of an attribute
+-- the type of an attribute's entry, or of a directory's
 abbrev pub entry_type : DentNode → ℕ
-entry_type node = if node.attribute then 3 else 2
+entry_type node = if node.attribute then type_number types.Attribute else type_number types.Entry
 
 -- after the header: the key, the inode, its kind, the name's length, and the ignored cookie
 abbrev pub entry_fields : DentNode → List Field

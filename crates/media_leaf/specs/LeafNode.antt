@@ -4,6 +4,8 @@ use Rattle.media_leaf.specs.declared.data_node.DataNode.{DataNode}
 use Rattle.media_leaf.specs.declared.dent_node.DentNode.{DentNode}
 use Rattle.media_leaf.specs.declared.ino_node.InoNode.{InoNode}
 use Rattle.media_leaf.specs.declared.trun_node.TrunNode.{TrunNode}
+use Rattle.ubifs_base.specs.NodeType.{type_number}
+use Rattle.ubifs_base.specs.declared.node_type.NodeType.TheVariants as types
 use Rattle.node_fields.specs.Fields.{Field}
 use Rattle.node_fields.specs.Form.{Form, IsOf, written_as}
 use Rattle.media_leaf.specs.Data.{IsDataNode, data_fields}
@@ -18,12 +20,12 @@ pub data LeafNode : Type 0 where
   entry : DentNode → LeafNode
   truncation : TrunNode → LeafNode
 
--- the node type in the header
+-- the number of its type in the header
 abbrev pub type_of : LeafNode → ℕ
-type_of (inode node) = 0
-type_of (block node) = 1
+type_of (inode node) = type_number types.Inode
+type_of (block node) = type_number types.Data
 type_of (entry node) = entry_type node
-type_of (truncation node) = 4
+type_of (truncation node) = type_number types.Truncation
 
 -- what follows the header
 abbrev pub fields_of : LeafNode → List Field

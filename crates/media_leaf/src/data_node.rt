@@ -8,7 +8,7 @@ ghost use Rattle.node_fields.specs.Opening.{decoded};
 
 use node_fields::{opened_node, put_key, put_last, put_u32, u16_at, u32_at};
 use std::alloc::Global;
-use ubifs_base::{Bytes, Head, Key, Memory, frame};
+use ubifs_base::{Bytes, Head, Key, Memory, NodeType, frame};
 
 /// The bytes of a block of a file: `ubifs_data_node` of ubifs-media.h, not compressed.
 #[derive(Debug, Drop)]
@@ -18,7 +18,7 @@ pub struct DataNode {
     pub bytes: Bytes,
 }
 
-const KIND: u8 = 1;
+const KIND: u8 = NodeType::Data as u8;
 
 impl DataNode {
     /// How many bytes the node takes, header and all.

@@ -15,7 +15,7 @@ use node_fields::{
     opened_node, put_key, put_name, put_u8, put_u16, put_u32, put_u64, u16_at, u32_at, u64_at,
 };
 use std::alloc::Global;
-use ubifs_base::{Head, Key, Memory, Name, frame, r5};
+use ubifs_base::{Head, Key, Memory, Name, NodeType, frame, r5};
 
 /// A name in a directory, or the name of an attribute: `ubifs_dent_node` of ubifs-media.h. An `inum`
 /// of 0 says that the entry is deleted. The kind is that of the inode.
@@ -28,9 +28,9 @@ pub struct DentNode {
     pub attribute: bool,
 }
 
-const KIND: u8 = 2;
+const KIND: u8 = NodeType::Entry as u8;
 
-const ATTRIBUTE_KIND: u8 = 3;
+const ATTRIBUTE_KIND: u8 = NodeType::Attribute as u8;
 
 impl DentNode {
     /// How many bytes the node takes, header and all.

@@ -10,7 +10,7 @@ ghost use Rattle.node_fields.specs.Opening.{decoded};
 
 use node_fields::{opened_node, put_key, put_last, put_u32, put_u64, u32_at, u64_at};
 use std::alloc::Global;
-use ubifs_base::{Bytes, Head, Key, Memory, frame};
+use ubifs_base::{Bytes, Head, Key, Memory, NodeType, frame};
 
 /// The attributes of a file, directory or other inode: `ubifs_ino_node` of ubifs-media.h. Times are
 /// seconds; `bytes` is a symbolic link's target or a device's number.
@@ -32,7 +32,7 @@ pub struct InoNode {
     pub bytes: Bytes,
 }
 
-const KIND: u8 = 0;
+const KIND: u8 = NodeType::Inode as u8;
 
 impl InoNode {
     /// How many bytes the node takes, header and all.

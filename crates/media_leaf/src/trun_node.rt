@@ -8,7 +8,7 @@ ghost use Rattle.media_leaf.specs.Truncation.{is_truncation, read_truncation, tr
 
 use node_fields::{opened_node, put_u32, put_u64, u32_at, u64_at};
 use std::alloc::Global;
-use ubifs_base::{Head, Memory, frame};
+use ubifs_base::{Head, Memory, NodeType, frame};
 
 /// A file was cut from one size to another: `ubifs_trun_node` of ubifs-media.h.
 #[derive(Clone, Copy, Debug, PartialEq, Eq)]
@@ -18,7 +18,7 @@ pub struct TrunNode {
     pub new_size: u64,
 }
 
-const KIND: u8 = 4;
+const KIND: u8 = NodeType::Truncation as u8;
 
 impl TrunNode {
     /// How many bytes the node takes, header and all.

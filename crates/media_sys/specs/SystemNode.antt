@@ -1,5 +1,8 @@
 -- The grammar of system nodes: bytes, and the sequence number, group type and node that they stand for.
 use Rattle.std.specs.Prelude.{ℕ, ◌||◌, Bool, List, [], ⊤}
+use Rattle.ubifs_base.specs.NodeType.{type_number}
+use Rattle.ubifs_base.specs.declared.node_type.NodeType.{NodeType}
+use Rattle.ubifs_base.specs.declared.node_type.NodeType.TheVariants as types
 use Rattle.node_fields.specs.Fields.{Field}
 use Rattle.node_fields.specs.Form.{Form, IsOf, written_as}
 use Rattle.media_sys.specs.declared.commit_start.CommitStart.{CommitStart}
@@ -14,7 +17,7 @@ use Rattle.media_sys.specs.Index.{Index, index_of, IsIdxNode, index_fields, is_i
 use Rattle.media_sys.specs.Master.{IsMasterNode, master_fields, is_master}
 use Rattle.media_sys.specs.Orphans.{Orphans, orphans_of, IsOrphNode, orphan_fields, is_orphans}
 use Rattle.media_sys.specs.Padding.{padding_fields, is_padding}
-use Rattle.media_sys.specs.Reference.{IsRefNode, reference_fields, is_reference}
+use Rattle.media_sys.specs.Reference.{reference_fields, is_reference}
 use Rattle.media_sys.specs.Superblock.{IsSuperNode, super_fields, is_super}
 
 -- the seven kinds of system node
@@ -27,15 +30,19 @@ pub data SystemNode : Type 0 where
   commit_start : CommitStart → SystemNode
   orphans : Orphans → SystemNode
 
--- the node type in the header
+-- its type
+abbrev pub node_type : SystemNode → NodeType
+node_type (padding node) = types.Padding
+node_type (superblock node) = types.Superblock
+node_type (master node) = types.Master
+node_type (reference node) = types.Reference
+node_type (index node) = types.Index
+node_type (commit_start node) = types.CommitStart
+node_type (orphans node) = types.Orphans
+
+-- the type's number in the header
 abbrev pub type_of : SystemNode → ℕ
-type_of (padding node) = 5
-type_of (superblock node) = 6
-type_of (master node) = 7
-type_of (reference node) = 8
-type_of (index node) = 9
-type_of (commit_start node) = 10
-type_of (orphans node) = 11
+type_of node = type_number (node_type node)
 
 -- what follows the header
 abbrev pub fields_of : SystemNode → List Field
@@ -56,7 +63,7 @@ abbrev pub IsSystem : SystemNode → Type 0
 IsSystem (padding node) = ⊤
 IsSystem (superblock node) = IsSuperNode node
 IsSystem (master node) = IsMasterNode node
-IsSystem (reference node) = IsRefNode node
+IsSystem (reference node) = ⊤
 IsSystem (index node) = IsIdxNode node
 IsSystem (commit_start node) = ⊤
 IsSystem (orphans node) = IsOrphNode node

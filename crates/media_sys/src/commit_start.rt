@@ -9,7 +9,7 @@ ghost use Rattle.media_sys.specs.Tested.{tested};
 
 use node_fields::{opened_node, put_u64, u64_at};
 use std::alloc::Global;
-use ubifs_base::{Head, Memory, frame};
+use ubifs_base::{Head, Memory, NodeType, frame};
 
 /// A commit begins, of this number, and with it a section of the log: `ubifs_cs_node` of
 /// ubifs-media.h.
@@ -18,7 +18,7 @@ pub struct CommitStart {
     pub cmt_no: u64,
 }
 
-const KIND: u8 = 10;
+const KIND: u8 = NodeType::CommitStart as u8;
 
 impl CommitStart {
     /// How many bytes the node takes, header and all.

@@ -13,7 +13,7 @@ ghost use Rattle.media_sys.specs.Tested.{tested};
 use crate::branch::Branch;
 use node_fields::{opened_node, put_bytes, put_u16, put_u32, u16_at, u32_at};
 use std::alloc::Global;
-use ubifs_base::{Head, Key, Memory, frame, key_bytes, read_key};
+use ubifs_base::{Head, Key, Memory, NodeType, frame, key_bytes, read_key};
 
 /// A node of the index: `ubifs_idx_node` of ubifs-media.h. Its level is 0 where its branches point to
 /// leaves. It has 1 to 256 branches, in the order of their keys, and only the keys of entries may be
@@ -24,12 +24,12 @@ pub struct IdxNode {
     pub branches: Vec<Branch>,
 }
 
-const KIND: u8 = 9;
-
 const BRANCH_LEN: usize = 20;
 
 // The bits of a key's value, below its type.
 const VALUE_BITS: u32 = 29;
+
+const KIND: u8 = NodeType::Index as u8;
 
 impl IdxNode {
     /// How many bytes the node takes, header and all.

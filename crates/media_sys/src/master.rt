@@ -11,7 +11,7 @@ ghost use Rattle.media_sys.specs.Tested.{tested};
 use crate::zeros::put_zeros;
 use node_fields::{opened_node, put_u32, put_u64, u32_at, u64_at};
 use std::alloc::Global;
-use ubifs_base::{Head, Memory, frame};
+use ubifs_base::{Head, Memory, NodeType, frame};
 
 /// Where a commit left the index, the properties tree and the rest: `ubifs_mst_node` of ubifs-media.h.
 /// `index_size` and the totals are bytes, and `flags` has 1 for a volume that is mounted, 2 for one
@@ -48,7 +48,7 @@ pub struct Master {
     pub leb_cnt: u32,
 }
 
-const KIND: u8 = 7;
+const KIND: u8 = NodeType::Master as u8;
 
 impl Master {
     /// How many bytes the node takes, header and all.

@@ -10,7 +10,7 @@ ghost use Rattle.media_sys.specs.Tested.{tested};
 
 use node_fields::{opened_node, put_u64, u64_at};
 use std::alloc::Global;
-use ubifs_base::{Head, Memory, frame};
+use ubifs_base::{Head, Memory, NodeType, frame};
 
 /// Inodes that are open and have no name: `ubifs_orph_node` of ubifs-media.h. A commit's number is
 /// below 2^63, and `last` says whether this is the last orphan node of that commit.
@@ -21,11 +21,11 @@ pub struct OrphNode {
     pub inos: Vec<u32>,
 }
 
-const KIND: u8 = 11;
-
 const INO_LEN: usize = 8;
 
 const LAST: u64 = 1 << 63;
+
+const KIND: u8 = NodeType::Orphans as u8;
 
 impl OrphNode {
     /// How many bytes the node takes, header and all.

@@ -10,7 +10,7 @@ ghost use Rattle.media_sys.specs.Tested.{tested};
 
 use node_fields::{opened_node, put_u32, u32_at};
 use std::alloc::Global;
-use ubifs_base::{Head, Memory, frame};
+use ubifs_base::{Head, Memory, NodeType, frame};
 
 /// So many bytes behind the node are passed over: `ubifs_pad_node` of ubifs-media.h.
 #[derive(Clone, Copy, Debug, PartialEq, Eq)]
@@ -18,7 +18,7 @@ pub struct PadNode {
     pub pad_len: u32,
 }
 
-const KIND: u8 = 5;
+const KIND: u8 = NodeType::Padding as u8;
 
 impl PadNode {
     /// How many bytes the node takes, header and all, without those that it announces.

@@ -3,24 +3,23 @@
 ghost use Rattle.std.specs.Prelude.{◌≡◌, List, ◌≤◌, ℕ, length, [], IfOk, IfSome, IfNone, IsOk, IsTrue};
 ghost use Rattle.node_fields.specs.Fields.{AllFit, spelling};
 ghost use Rattle.node_fields.specs.Opening.{decoded};
-ghost use Rattle.media_sys.specs.Reference.{IsRefNode, reference_fields, is_reference as is_reference_node, reference_at};
+ghost use Rattle.media_sys.specs.Reference.{reference_fields, is_reference as is_reference_node, reference_at, head_at};
 ghost use Rattle.media_sys.specs.SystemNode.{IsRef, reference, written};
 ghost use Rattle.media_sys.specs.Tested.{tested};
 
 use node_fields::{opened_node, put_u32, put_u64, u32_at};
 use std::alloc::Global;
-use ubifs_base::{Head, Memory, frame};
+use ubifs_base::{Head, JournalHead, Memory, NodeType, frame};
 
-/// A journal head goes on in a LEB from an offset on: `ubifs_ref_node` of ubifs-media.h. Head 0 is the
-/// collector's, 1 is for nodes other than data, and 2 for data.
+/// A journal head goes on in a LEB from an offset on: `ubifs_ref_node` of ubifs-media.h.
 #[derive(Clone, Copy, Debug, PartialEq, Eq)]
 pub struct RefNode {
     pub lnum: u32,
     pub offs: u32,
-    pub jhead: u32,
+    pub head: JournalHead,
 }
 
-const KIND: u8 = 8;
+const KIND: u8 = NodeType::Reference as u8;
 
 impl RefNode {
     /// How many bytes the node takes, header and all.
@@ -33,7 +32,6 @@ impl RefNode {
     /// Writes the node's one spelling, in which all that is ignored is 0, over all of `out`. A group
     /// type is 0 for none, 1 in a group, 2 for the last of one.
     pub fn encode(&self, sqnum: u64, group: u8, out: &mut [u8])
-        requires node { IsRefNode self.now }
         requires group { group ≤ 2 }
         requires room { length out.old ≡ 64 }
         ensures spelling { out.new ≡ written sqnum group (reference self.now) }
@@ -74,7 +72,7 @@ fn write_body(body: &mut [u8], node: &RefNode)
     put_u64(body, 28, 0);
     put_u64(body, 20, 0);
     put_u64(body, 12, 0);
-    put_u32(body, 8, node.jhead);
+    put_u32(body, 8, node.head.number() as u32);
     put_u32(body, 4, node.offs);
     put_u32(body, 0, node.lnum);
 }
@@ -109,6 +107,18 @@ fn node_at(body: &[u8]) -> RefNode
     RefNode {
         lnum: u32_at(body, 0),
         offs: u32_at(body, 4),
-        jhead: u32_at(body, 8),
+        head: head_at(body),
+    }
+}
+
+#[tactic(auto, unfolding(crate::specs::Reference::head_at))]
+fn head_at(body: &[u8]) -> JournalHead
+    requires { length body.now ≡ 40 }
+    ensures { result ≡ head_at body.now }
+{
+    match u32_at(body, 8) {
+        0 => JournalHead::Collector,
+        1 => JournalHead::Base,
+        _ => JournalHead::Data,
     }
 }

@@ -16,7 +16,7 @@ use node_fields::{
     opened_node, put_bytes, put_u8, put_u16, put_u32, put_u64, u16_at, u32_at, u64_at,
 };
 use std::alloc::Global;
-use ubifs_base::{Head, Memory, RawGeometry, frame};
+use ubifs_base::{Head, Memory, NodeType, RawGeometry, frame};
 
 /// The layout of a volume: `ubifs_sb_node` of ubifs-media.h. Sizes are bytes, `rp_size` and
 /// `max_bud_bytes` too, and `time_gran` is nanoseconds.
@@ -46,8 +46,6 @@ pub struct Super {
     pub ro_compat_version: u32,
 }
 
-const KIND: u8 = 6;
-
 const BIG_MODEL: u32 = 0x02;
 
 const DOUBLE_HASH: u32 = 0x08;
@@ -58,6 +56,8 @@ const AUTHENTICATION: u32 = 0x20;
 
 // All but these and that a volume's space is still to be fixed up (0x04).
 const OTHERS: u32 = 0xffff_ffc1;
+
+const KIND: u8 = NodeType::Superblock as u8;
 
 impl Super {
     /// How many bytes the node takes, header and all.

@@ -3,7 +3,7 @@
 use super::*;
 use node_fields::u32_at;
 use std::test::*;
-use ubifs_base::Key;
+use ubifs_base::{JournalHead, Key};
 
 // Head 2 goes on in LEB 12 from 4096 on: sequence number 11.
 const REFERENCE: &[u8; 64] =
@@ -40,7 +40,7 @@ fn reference(rt: HostRuntime) -> Result<(), Fail> {
     let node = RefNode {
         lnum: 12,
         offs: 4096,
-        jhead: 2,
+        head: JournalHead::Data,
     };
     assert_eq!(rt; node.len(), 64);
     let mut out = [0xff; 64];

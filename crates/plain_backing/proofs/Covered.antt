@@ -17,7 +17,7 @@ room_small geo h space need main =
     let index = index_room geo space.index (space.weight + 2 * (space.credits + need.credits) + need.nodes) in
     let part = part_of_volume (main_first geo) geo.leb_cnt geo.max_leb_cnt geo.leb_size (index + reserve need.class) (leb_reserve geo) h.leb_cnt.1 in
     let same : space.main - index - reserve need.class ≡ geo.leb_cnt - main_first geo - (index + reserve need.class) = omega (arith, main) in
-    let most = h.max_leb_cnt.0 in
+    let most = h.max_leb_cnt in
     rw same (omega (arith, part, most))
 
 pub few_credits : (geo : RawGeometry) → IsGeometry geo → (space : Space) (need : Need) → space.main ≡ main_lebs geo → needed space need ≤ room_for geo space need → space.credits + need.credits < 2 ^ 40

@@ -41,9 +41,13 @@ IsOrphLebs geo = (1 ≤ geo.orph_lebs) × (geo.orph_lebs ≤ 1024)
 abbrev pub IsLebCnt : RawGeometry → Type 0
 IsLebCnt geo = (main_first geo < geo.leb_cnt) × (geo.leb_cnt ≤ geo.max_leb_cnt)
 
--- at most 2^30 bytes in all, and the properties tree fits one LEB
+-- at most 2^30 bytes in all
 abbrev pub IsMaxLebCnt : RawGeometry → Type 0
-IsMaxLebCnt geo = (geo.max_leb_cnt * geo.leb_size ≤ 2 ^ 30) × (tree_len geo ≤ geo.leb_size)
+IsMaxLebCnt geo = geo.max_leb_cnt * geo.leb_size ≤ 2 ^ 30
+
+-- the properties tree fits one LEB, as the small model asks
+abbrev pub FitsOneLeb : RawGeometry → Type 0
+FitsOneLeb geo = tree_len geo ≤ geo.leb_size
 
 -- 3 to 256
 abbrev pub IsFanout : RawGeometry → Type 0
@@ -58,6 +62,7 @@ pub record IsGeometry (geo : RawGeometry) : Type 0 where
   pub orph_lebs : IsOrphLebs geo
   pub leb_cnt : IsLebCnt geo
   pub max_leb_cnt : IsMaxLebCnt geo
+  pub one_leb : FitsOneLeb geo
   pub fanout : IsFanout geo
 
 -- the geometry that a plain volume with so many main LEBs has

@@ -4,9 +4,9 @@ use Rattle.ubifs_base.specs.declared.raw_geometry.RawGeometry.{RawGeometry}
 use Rattle.ubifs_base.specs.declared.raw_geometry.GeomField.{GeomField}
 use Rattle.ubifs_base.specs.declared.raw_geometry.GeomField.TheVariants.{LebSize, MinIo, LogLebs, LptLebs, OrphLebs, LebCnt, MaxLebCnt, Fanout, LsaveCnt}
 use Rattle.ubifs_base.specs.declared.raw_geometry.GeomFault.{GeomFault}
-use Rattle.ubifs_base.specs.Geometry.{IsMinIo, IsLebSize, IsLogLebs, IsLptLebs, IsOrphLebs, IsLebCnt, IsMaxLebCnt, IsFanout}
+use Rattle.ubifs_base.specs.Geometry.{IsMinIo, IsLebSize, IsLogLebs, IsLptLebs, IsOrphLebs, IsLebCnt, IsMaxLebCnt, FitsOneLeb, IsFanout}
 
--- the field is in its range; any lsave_cnt is
+-- the field is in its range; any lsave_cnt is, and too many LEBs are those over which the properties tree doesn't fit one LEB too
 abbrev pub InRange : RawGeometry → GeomField → Type 0
 InRange geo MinIo = IsMinIo geo
 InRange geo LebSize = IsLebSize geo
@@ -14,7 +14,7 @@ InRange geo LogLebs = IsLogLebs geo
 InRange geo LptLebs = IsLptLebs geo
 InRange geo OrphLebs = IsOrphLebs geo
 InRange geo LebCnt = IsLebCnt geo
-InRange geo MaxLebCnt = IsMaxLebCnt geo
+InRange geo MaxLebCnt = IsMaxLebCnt geo × FitsOneLeb geo
 InRange geo Fanout = IsFanout geo
 InRange geo LsaveCnt = ⊤
 

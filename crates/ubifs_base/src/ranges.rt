@@ -1,7 +1,7 @@
 // The ranges of a geometry's fields.
 
 ghost use Rattle.std.specs.Prelude.{◌≡◌, ◌↔◌, ◌<◌, ◌≤◌, IsTrue, OnOk, IfErr};
-ghost use Rattle.ubifs_base.specs.Geometry.{IsGeometry, IsMinIo, IsLebSize, IsLogLebs, IsLptLebs, IsOrphLebs, IsLebCnt, IsMaxLebCnt, IsFanout, leb_reserve};
+ghost use Rattle.ubifs_base.specs.Geometry.{IsGeometry, IsMinIo, IsLebSize, IsLogLebs, IsLptLebs, IsOrphLebs, IsLebCnt, IsMaxLebCnt, FitsOneLeb, IsFanout, leb_reserve};
 ghost use Rattle.ubifs_base.specs.GeometryFaults.{IsFirstOut, tested_fields};
 
 use crate::properties::tree_len;
@@ -64,7 +64,7 @@ fn is_max_leb_cnt(geo: &RawGeometry) -> bool
     requires log_lebs { geo.now.log_lebs ≤ 1024 }
     requires lpt_lebs { geo.now.lpt_lebs ≤ 1024 }
     requires orph_lebs { geo.now.orph_lebs ≤ 1024 }
-    ensures { IsTrue result ↔ IsMaxLebCnt geo.now }
+    ensures { IsTrue result ↔ IsMaxLebCnt geo.now × FitsOneLeb geo.now }
 {
     let most_bytes = geo.max_leb_cnt as u64 * geo.leb_size as u64;
     most_bytes <= 1 << 30 && tree_len(geo) <= geo.leb_size as u64

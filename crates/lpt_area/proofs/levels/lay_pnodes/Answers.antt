@@ -14,7 +14,7 @@ pub loop-i-preserved : goal.loop-i-preserved
 loop-i-preserved c =
     let geo = raw_of c.args.geo.now in
     let at = ap (λ n. c.loop-i.i * n) c.pnode_len-len.ensures in
-    let tree = c.args.geo.now.in_range.max_leb_cnt.1 in
+    let tree = c.args.geo.now.in_range.one_leb in
     let one = one_more_fits c.loop-i.i (pnode_count geo) (pnode_len geo) (omega (arith, c.loop-i-test.true, c.pnode_count-count.ensures)) in
     let long = c.loop-i.invariant.1 in (
       pnodes_next geo c.args.props.now c.loop-i.out c.lay_pnode.new.out c.loop-i.i _ c.pnode_of-node.result c.lay_pnode.ensures at c.pnode_of-node.ensures.says (omega (arith, at, tree, one, long)) c.loop-i.invariant.0,

@@ -12,4 +12,4 @@ pub returns-clause-grammar : goal.returns-clause-grammar
 returns-clause-grammar c =
     let node = reference c.args.self.now in
     let P : List ℕ → Type 0 = λ b. IsSystemNode b c.args.sqnum c.args.group node in
-    subst P (sym (returns-clause-spelling c)) (written_is system_form c.args.sqnum c.args.group node (omega arith) c.requires.group (omega arith) c.write_body.ensures.fits (omega arith) c.requires.node)
+    subst P (sym (returns-clause-spelling c)) (written_is system_form c.args.sqnum c.args.group node (omega arith) c.requires.group (omega arith) c.write_body.ensures.fits (omega arith) tt)
