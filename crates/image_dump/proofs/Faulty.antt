@@ -1,8 +1,9 @@
 -- What is wrong with an image, step by step.
 use Rattle.std.proofs.Common.{◌≡◌, ℕ, ◌<◌, ◌≤◌, List, Option, Some, IfSome, length, take, sym, subst, ◌∙◌, inl, inr, arith}
 use Rattle.ubifs_base.specs.declared.raw_geometry.RawGeometry.{RawGeometry}
-use Rattle.ubi_volume.specs.Loading.{IsLoaded, IsUnloaded, IsWrittenPart}
-use Rattle.ubi_volume.specs.Volume.{VolumeState, Keeps, SameShape}
+use Rattle.ubi_volume.specs.Loading.{IsLoaded, IsUnloaded}
+use Rattle.ubi_volume.specs.FoundLaws.{IsLoaded-holds}
+use Rattle.ubi_volume.specs.Volume.{VolumeState}
 use Rattle.ubi_volume.specs.declared.fault.LoadFault.{LoadFault}
 use Rattle.ubi_volume.specs.declared.fault.LoadFault.TheVariants as load
 use Rattle.ubi_volume.specs.declared.mem_volume.VolShape.{VolShape}
@@ -35,31 +36,15 @@ unloaded image geo (load.Long len most) has h = (geo, has, h.0, h.1, h.2)
 pub of_some : {X : Type 0} (P : X → Type 0) (o : Option X) (x : X) → o ≡ Some x → IfSome o P → P x
 of_some {X = X} P o x e h = let Q : Option X → Type 0 = λ v. IfSome v P in subst Q e h
 
--- what was loaded and is kept is loaded still
-pub kept_loaded : (shape : VolShape) (image : List ℕ) (old new : VolumeState) → IsLoaded shape image old → Keeps old new → SameShape old new → new.sure → new.faults ≡ old.faults → IsLoaded shape image new
-kept_loaded shape image old new loaded keeps same sure faults = record {
-  leb_size = same.leb_size ∙ loaded.leb_size;
-  min_io = same.min_io ∙ loaded.min_io;
-  leb_cnt = same.leb_cnt ∙ loaded.leb_cnt;
-  holds = λ k inside. keeps.holds k ∙ loaded.holds k inside;
-  written = λ k inside.
-      let P : List ℕ → Type 0 = λ b. IsWrittenPart shape.min_io b (new.written k) in
-      let Q : ℕ → Type 0 = λ n. IsWrittenPart shape.min_io (old.holds k) n in
-      subst P (sym (keeps.holds k)) (subst Q (sym (keeps.written k)) (loaded.written k inside));
-  left = λ k c h. loaded.left k c ((keeps.left k c).0 h) ∙ sym (keeps.holds k);
-  faults = faults ∙ loaded.faults;
-  sure = sure;
-}
-
 -- the latest master of what was loaded is that of the image
 pub master_of : (image : List ℕ) (geo : RawGeometry) (state : VolumeState) (latest : PlacedMaster) → HasVolume image geo → 2 < geo.leb_cnt → IsLoaded (shape_of geo) image state → IsLatest (state.holds 1) (state.holds 2) latest → HasMaster image geo latest
 master_of image geo state latest volume more loaded is_latest =
     let P : List ℕ → Type 0 = λ one. IsLatest one (state.holds 2) latest in
     let Q : List ℕ → Type 0 = λ two. IsLatest (lebs_of geo image 1) two latest in
-    record { volume = volume; is_latest = subst Q (loaded.holds 2 (omega (arith, more))) (subst P (loaded.holds 1 (omega (arith, more))) is_latest) }
+    record { volume = volume; is_latest = subst Q (IsLoaded-holds (shape_of geo) image state loaded 2 (omega (arith, more))) (subst P (IsLoaded-holds (shape_of geo) image state loaded 1 (omega (arith, more))) is_latest) }
 
 pub no_master_of : (image : List ℕ) (geo : RawGeometry) (state : VolumeState) → 2 < geo.leb_cnt → IsLoaded (shape_of geo) image state → HasNoMaster (state.holds 1) → HasNoMaster (state.holds 2)
     → HasNoMaster (lebs_of geo image 1) × HasNoMaster (lebs_of geo image 2)
 no_master_of image geo state more loaded one two =
     let P : List ℕ → Type 0 = λ b. HasNoMaster b in
-    (subst P (loaded.holds 1 (omega (arith, more))) one, subst P (loaded.holds 2 (omega (arith, more))) two)
+    (subst P (IsLoaded-holds (shape_of geo) image state loaded 1 (omega (arith, more))) one, subst P (IsLoaded-holds (shape_of geo) image state loaded 2 (omega (arith, more))) two)

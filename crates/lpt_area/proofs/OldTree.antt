@@ -33,6 +33,7 @@ changes_none a lnum = (
     left = λ x h. inl h;
     time = Leaves-none a (UnderWay a lnum (ChangeUnderWay a lnum []));
     spent = λ h. h;
+    unbroken = λ h. h;
   },
 )
 

@@ -41,6 +41,7 @@ works_after a b c lnum D E more keeps works = record {
   time = Leaves-then a b c (UnderWay a lnum E) (UnderWay b lnum D) (UnderWay a lnum E) (λ x h. h) (λ x h. (λ k ne. (keeps.left k (x k)).0 (h.0 k ne), more (x lnum) h.1))
       (Leaves-keeps a b (UnderWay a lnum E) keeps) works.time;
   spent = λ h. works.spent (keeps.spent h);
+  unbroken = λ h. keeps.unbroken (works.unbroken h);
 }
 
 pub put_copying : (a b : VolumeState) (lnum room : ℕ) (copy : List ℕ) (place : Option ℕ) → Keeps a b → b.leb_size ≡ a.leb_size → length copy ≡ room → IsBytes (a.holds lnum) → IfSome place (IsPlace (a.holds lnum) room)

@@ -54,7 +54,7 @@ loaded_leb_is : (size unit : ℕ) (bytes : List ℕ) (leb : Leb) → length byte
 loaded_leb_is size unit bytes leb fits loaded =
     let long : length leb.content.items ≡ size = ap length loaded.content ∙ length-append bytes (replicate (size - length bytes) 255) ∙ rw length-replicate (omega (arith, fits)) in
     record {
-      content = long;
+      content = record { len = long; bytes = loaded.is_bytes };
       before = loaded.before;
       blank = loaded.written.behind ∙ ap (λ n. replicate (n - leb.written) 255) long;
     }
@@ -83,15 +83,18 @@ loaded-state v image loaded =
       leb_size = refl;
       min_io = refl;
       leb_cnt = refl;
-      holds = λ k inside.
-          let leb = leb_at size lebs k (omega (arith, inside, count)) v.sizes in
-          let P : Option Leb → Type 0 = λ o. bytes_in o ≡ leb_of size image k in
-          subst P (sym leb.1) (loaded.each k leb.0 leb.1).content;
-      written = λ k inside.
-          let leb = leb_at size lebs k (omega (arith, inside, count)) v.sizes in
-          let P : Option Leb → Type 0 = λ o. IsWrittenPart unit (bytes_in o) (written_in o) in
-          subst P (sym leb.1) (loaded.each k leb.0 leb.1).written;
-      left = λ k c left. only_content (slice_get lebs k) c (λ leb there. (loaded.each k leb there).undo) left;
+      found = record {
+        holds = λ k inside.
+            let leb = leb_at size lebs k (omega (arith, inside, count)) v.sizes in
+            let P : Option Leb → Type 0 = λ o. bytes_in o ≡ leb_of size image k in
+            subst P (sym leb.1) (loaded.each k leb.0 leb.1).content;
+        written = λ k inside.
+            let leb = leb_at size lebs k (omega (arith, inside, count)) v.sizes in
+            let P : Option Leb → Type 0 = λ o. IsWrittenPart unit (bytes_in o) (written_in o) in
+            subst P (sym leb.1) (loaded.each k leb.0 leb.1).written;
+        left = λ k c left. only_content (slice_get lebs k) c (λ leb there. (loaded.each k leb there).undo) left;
+        sure = tt;
+        unbroken = tt;
+      };
       faults = refl;
-      sure = tt;
     }

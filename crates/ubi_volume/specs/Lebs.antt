@@ -1,6 +1,7 @@
 -- The LEBs of a volume in memory.
 use Rattle.std.specs.Prelude.{◌≡◌, ◌≢◌, ◌⊎◌, IsTrue, false, ℕ, ◌-◌, ◌*◌, take, List, [], Option, Some, None, slice_get, length, drop, replicate, All}
-use Rattle.ubi_volume.specs.Volume.{filled}
+use Rattle.ubifs_base.specs.NodeLaws.{IsBytes}
+use Rattle.ubi_volume.specs.Volume.{filled, IsLebBytes}
 use Rattle.ubi_volume.specs.Loading.{IsWrittenPart}
 use Rattle.ubi_volume.specs.declared.leb.Leb.{Leb}
 
@@ -21,8 +22,8 @@ IsLeft None c = c ≡ []
 
 -- a LEB of this size, of which what isn't written is 255
 pub record IsLeb (size : ℕ) (leb : Leb) : Type 0 where
-  pub content : length leb.content.items ≡ size
-  pub before : length leb.before.items ≡ size
+  pub content : IsLebBytes size leb.content.items
+  pub before : IsLebBytes size leb.before.items
   pub blank : drop leb.written leb.content.items ≡ replicate (size - leb.written) 255
 
 -- one LEB has other bytes, and the rest is the same
@@ -36,14 +37,15 @@ pub record IsReplaced (size : ℕ) (old new : List Leb) (n : ℕ) (bytes : List 
 -- an unwritten LEB, of which a cut leaves nothing else
 pub record IsBlankLeb (size : ℕ) (leb : Leb) : Type 0 where
   pub content : leb.content.items ≡ replicate size 255
-  pub before : length leb.before.items ≡ size
+  pub before : IsLebBytes size leb.before.items
   pub written : leb.written ≡ 0
   pub undo : leb.undo ≡ false
 
 -- a LEB with these bytes, of which a cut leaves nothing else
 pub record IsLoadedLeb (size unit : ℕ) (bytes : List ℕ) (leb : Leb) : Type 0 where
   pub content : leb.content.items ≡ filled size bytes
-  pub before : length leb.before.items ≡ size
+  pub is_bytes : IsBytes leb.content.items
+  pub before : IsLebBytes size leb.before.items
   pub written : IsWrittenPart unit leb.content.items leb.written
   pub undo : leb.undo ≡ false
 

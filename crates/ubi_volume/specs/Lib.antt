@@ -1,10 +1,14 @@
 pub mod Volume
 pub mod VolumeLaws
+pub mod Frame
+pub mod FrameLaws
+pub mod Geometry
 pub mod TornLaws
 pub mod Faults
 pub mod FaultLaws
 pub mod Lebs
 pub mod Shape
 pub mod Loading
+pub mod FoundLaws
 pub mod MemVolume
 pub mod MemVolumeLaws

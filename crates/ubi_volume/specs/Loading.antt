@@ -19,16 +19,22 @@ pub record IsWrittenPart (unit : ℕ) (bytes : List ℕ) (n : ℕ) : Type 0 wher
 abbrev pub leb_of : ℕ → List ℕ → ℕ → List ℕ
 leb_of size image lnum = filled size (take size (drop (lnum * size) image))
 
--- a volume that holds the image, and of which a cut leaves nothing else
+-- A volume that was found with these contents, as after a cut: of each LEB the part up to the last unit that isn't erased
+-- counts as written, a cut leaves nothing else, no call fails, and none that failed is under way.
+pub record IsFound (contents : ℕ → List ℕ) (state : VolumeState) : Type 0 where
+  pub holds : (k : ℕ) → k < state.leb_cnt → state.holds k ≡ contents k
+  pub written : (k : ℕ) → k < state.leb_cnt → IsWrittenPart state.min_io (state.holds k) (state.written k)
+  pub left : (k : ℕ) → Only (state.holds k) (state.left_now k)
+  pub sure : state.sure
+  pub unbroken : state.unbroken
+
+-- a volume that was found with the LEBs of an image
 pub record IsLoaded (shape : VolShape) (image : List ℕ) (state : VolumeState) : Type 0 where
   pub leb_size : state.leb_size ≡ shape.leb_size
   pub min_io : state.min_io ≡ shape.min_io
   pub leb_cnt : state.leb_cnt ≡ shape.leb_cnt
-  pub holds : (k : ℕ) → k < shape.leb_cnt → state.holds k ≡ leb_of shape.leb_size image k
-  pub written : (k : ℕ) → k < shape.leb_cnt → IsWrittenPart shape.min_io (state.holds k) (state.written k)
-  pub left : (k : ℕ) → Only (state.holds k) (state.left_now k)
+  pub found : IsFound (leb_of shape.leb_size image) state
   pub faults : state.faults ≡ 0
-  pub sure : state.sure
 
 -- an image of fewer than 4,096 bytes, or with a part of a LEB
 abbrev pub IsShort : ℕ → List ℕ → Type 0

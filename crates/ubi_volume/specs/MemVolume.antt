@@ -20,6 +20,7 @@ state_of v = record {
   faults = 0;
   sure = Unit {0};
   spent = ⊥;
+  unbroken = Unit {0};
 }
 
 -- a volume of which each LEB is unwritten, whatever cut may come
@@ -32,3 +33,4 @@ pub record IsBlank (shape : VolShape) (state : VolumeState) : Type 0 where
   pub left : (k : ℕ) → Only (state.holds k) (state.left_now k)
   pub faults : state.faults ≡ 0
   pub sure : state.sure
+  pub unbroken : state.unbroken

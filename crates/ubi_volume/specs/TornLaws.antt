@@ -1,9 +1,9 @@
 -- Writes that are cut off, one behind another in a LEB.
 use Rattle.std.specs.Prelude.{◌≡◌, ℕ, ◌+◌, ◌≤◌, List, ◌++◌, length, take, drop}
-use Rattle.std.proofs.Common.{ap, sym, subst, ◌∙◌, arith, length-append, length-take, length-drop, append_assoc}
+use Rattle.std.proofs.Common.{inr, ap, sym, subst, ◌∙◌, arith, length-append, length-take, length-drop, append_assoc}
 use Rattle.std.proofs.Math.Seq.{take-append_seam, drop-append_seam}
 use Rattle.std.proofs.lemmas.List.{drop-drop, take-take}
-use Rattle.ubi_volume.specs.Volume.{put, Torn}
+use Rattle.ubi_volume.specs.Volume.{put, Torn, IsTornInUnits}
 
 front_len : (offs : ℕ) (bytes old : List ℕ) → offs + length bytes ≤ length old → length (take offs old) ≡ offs
 front_len offs bytes old fits = rw length-take (omega (arith, fits))
@@ -39,3 +39,19 @@ Torn-then offs n m a b c ab bc =
       back = subst P e (bc.back ∙ sym (drop-drop m (offs + n) b) ∙ ap (drop m) ab.back ∙ drop-drop m (offs + n) a);
       len = bc.len ∙ ab.len;
     }
+
+unit_len : (unit k : ℕ) (a b : List ℕ) → length a ≡ length b → length (take unit (drop k a)) ≡ length (take unit (drop k b))
+unit_len unit k a b same = simp (length-take, length-drop) (omega (arith, same))
+
+-- Unit by unit it says the same, whatever the unit and the bytes,
+pub Torn-units : (unit offs : ℕ) (bytes old new : List ℕ) → Torn offs (length bytes) old new → IsTornInUnits unit offs bytes old new
+Torn-units unit offs bytes old new torn = record {
+  front = torn.front;
+  back = torn.back;
+  len = torn.len;
+  units = λ k behind inside at_unit. inr (inr (unit_len unit k new old torn.len));
+}
+
+-- and the other way.
+pub units-Torn : (unit offs : ℕ) (bytes old new : List ℕ) → IsTornInUnits unit offs bytes old new → Torn offs (length bytes) old new
+units-Torn unit offs bytes old new torn = record { front = torn.front; back = torn.back; len = torn.len }

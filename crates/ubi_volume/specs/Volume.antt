@@ -1,6 +1,7 @@
 -- What a volume holds, what its calls do, and what a power cut may leave of it. Contents are a list of bytes for each
 -- number of a LEB (logical erase block).
 use Rattle.std.specs.Prelude.{◌≡◌, ◌≢◌, ◌⊎◌, ◌↔◌, ℕ, ◌+◌, ◌-◌, ◌%◌, ◌<◌, ◌≤◌, suc, zero, List, [], ◌++◌, length, take, drop, replicate}
+use Rattle.ubifs_base.specs.NodeLaws.{IsBytes}
 
 -- what there is to say of a volume at one moment
 pub record VolumeState : Type 1 where
@@ -23,6 +24,8 @@ pub record VolumeState : Type 1 where
   pub sure : Type 0
   -- it takes no more writing, and so for good
   pub spent : Type 0
+  -- no call that failed is under way
+  pub unbroken : Type 0
 
 -- these contents, LEB by LEB
 abbrev pub Each : (ℕ → List ℕ → Type 0) → (ℕ → List ℕ) → Type 0
@@ -45,11 +48,31 @@ abbrev pub image_of : (ℕ → List ℕ) → ℕ → List ℕ
 image_of holds zero = []
 image_of holds (suc n) = image_of holds n ++ holds n
 
--- a write of n bytes under way: each of its units is old, new or anything, and all other bytes are as they were
+-- bytes that a LEB of this size can have
+pub record IsLebBytes (size : ℕ) (leb : List ℕ) : Type 0 where
+  pub len : length leb ≡ size
+  pub bytes : IsBytes leb
+
+-- what a cut leaves of a unit of a write under way: as it was, as it is to be, or anything of its length
+abbrev pub IsUnitLeft : List ℕ → List ℕ → List ℕ → Type 0
+IsUnitLeft old new left = (left ≡ old) ⊎ ((left ≡ new) ⊎ (length left ≡ length old))
+
+-- A write of n bytes under way, which are whole units: each unit by itself, in any order, is as it was, as it is to be, or
+-- anything of its length, and all other bytes are as they were. 'Anything' covers the other two, so nothing is said of the
+-- bytes between offs and offs + n but how many they are; TornLaws has it unit by unit. No order of units is promised: a
+-- later one may be new in front of which an earlier one is old, or reads as a gap. So what is built on this is safe only
+-- under the premise that an item whose bytes aren't all as they were meant begins no item.
 pub record Torn (offs n : ℕ) (old new : List ℕ) : Type 0 where
   pub front : take offs new ≡ take offs old
   pub back : drop (offs + n) new ≡ drop (offs + n) old
   pub len : length new ≡ length old
+
+-- the same, said unit by unit of a write of these bytes
+pub record IsTornInUnits (unit offs : ℕ) (bytes old new : List ℕ) : Type 0 where
+  pub front : take offs new ≡ take offs old
+  pub back : drop (offs + length bytes) new ≡ drop (offs + length bytes) old
+  pub len : length new ≡ length old
+  pub units : (k : ℕ) → offs ≤ k → k + unit ≤ offs + length bytes → k % unit ≡ 0 → IsUnitLeft (take unit (drop k old)) (take unit (drop k (put offs bytes old))) (take unit (drop k new))
 
 -- a positive number of whole units, which begins at a unit
 pub record AreUnits (unit offs n : ℕ) : Type 0 where
@@ -81,6 +104,7 @@ pub record WorksOn (old new : VolumeState) (lnum : ℕ) (During : List ℕ → T
   pub left : (c : List ℕ) → new.left_now lnum c → During c
   pub time : Leaves old new (UnderWay old lnum During)
   pub spent : old.spent → new.spent
+  pub unbroken : new.unbroken → old.unbroken
 
 -- a call that leaves contents and outcomes as they were
 pub record Keeps (old new : VolumeState) : Type 0 where
@@ -91,6 +115,7 @@ pub record Keeps (old new : VolumeState) : Type 0 where
   pub later : old.moment ≤ new.moment
   pub time : (t : ℕ) (c : ℕ → List ℕ) → t ≤ old.moment → new.left_since t c ↔ old.left_since t c
   pub spent : old.spent → new.spent
+  pub unbroken : new.unbroken → old.unbroken
 
 -- the LEB was replaced as a whole
 pub record IsChanged (old new : VolumeState) (lnum : ℕ) (bytes : List ℕ) : Type 0 where

@@ -42,6 +42,23 @@ Only-written old new lnum offs bytes one only sub written c is =
 pub Leaves-none : (a : VolumeState) (P : (ℕ → List ℕ) → Type 0) → Leaves a a P
 Leaves-none a P = record { later = omega arith; nothing_else = λ t x early left. inl left }
 
+-- what each moment leaves, where it implies more
+pub Leaves-more : (a b : VolumeState) (P R : (ℕ → List ℕ) → Type 0) → ((x : ℕ → List ℕ) → P x → R x) → Leaves a b P → Leaves a b R
+Leaves-more a b P R more h = record {
+  later = h.later;
+  nothing_else = λ t x early left. elim (h.nothing_else t x early left) [ inl before ↦ inl before | inr p ↦ inr (more x p) ];
+}
+
+-- two claims on one run of calls
+pub Leaves-both : (a b : VolumeState) (P Q : (ℕ → List ℕ) → Type 0) → Leaves a b P → Leaves a b Q → Leaves a b (λ x. P x × Q x)
+Leaves-both a b P Q one two = record {
+  later = one.later;
+  nothing_else = λ t x early left. elim (one.nothing_else t x early left) [
+    | inl before ↦ inl before
+    | inr p ↦ elim (two.nothing_else t x early left) [ inl before ↦ inl before | inr q ↦ inr (p, q) ]
+  ];
+}
+
 -- the shape over one call after another
 pub SameShape-then : (a b c : VolumeState) → SameShape a b → SameShape b c → SameShape a c
 SameShape-then a b c ab bc = record {
@@ -60,6 +77,7 @@ Keeps-none a = record {
   later = omega arith;
   time = λ t c early. (λ h. h, λ h. h);
   spent = λ h. h;
+  unbroken = λ h. h;
 }
 
 -- what keeps all, one call after another
@@ -75,6 +93,7 @@ Keeps-then a b c ab bc =
       later = omega (arith, first, second);
       time = λ t x early. (λ h. (ab.time t x early).0 ((bc.time t x (omega (arith, early, first))).0 h), λ h. (bc.time t x (omega (arith, early, first))).1 ((ab.time t x early).1 h));
       spent = λ h. bc.spent (ab.spent h);
+      unbroken = λ h. ab.unbroken (bc.unbroken h);
     }
 
 -- Two calls that work on one LEB. P and Q are what each moment of the first and of the second leaves of it, and R is what both imply.
@@ -88,6 +107,7 @@ WorksOn-then a b c lnum P Q R pr qr ab bc = record {
   left = λ x h. qr x (bc.left x h);
   time = Leaves-then a b c (UnderWay a lnum P) (UnderWay b lnum Q) (UnderWay a lnum R) (λ x h. (h.0, pr (x lnum) h.1)) (λ x h. (λ k ne. ab.others_left k (x k) ne (h.0 k ne), qr (x lnum) h.1)) ab.time bc.time;
   spent = λ h. bc.spent (ab.spent h);
+  unbroken = λ h. ab.unbroken (bc.unbroken h);
 }
 
 -- a call on a LEB, where what each moment leaves of it implies more
@@ -100,6 +120,7 @@ WorksOn-more a b lnum P R more works = record {
   left = λ x h. more x (works.left x h);
   time = Leaves-then a a b (UnderWay a lnum R) (UnderWay a lnum P) (UnderWay a lnum R) (λ x h. h) (λ x h. (h.0, more (x lnum) h.1)) (Leaves-none a (UnderWay a lnum R)) works.time;
   spent = works.spent;
+  unbroken = works.unbroken;
 }
 
 -- a call that keeps all works on no LEB
@@ -112,4 +133,33 @@ WorksOn-keeps a b lnum P more keeps = record {
   left = λ x h. more x ((keeps.left lnum x).0 h);
   time = Leaves-keeps a b (UnderWay a lnum P) keeps;
   spent = keeps.spent;
+  unbroken = keeps.unbroken;
+}
+
+-- a call on a LEB, after one that keeps all
+pub WorksOn-after : (a b c : VolumeState) (lnum : ℕ) (P R : List ℕ → Type 0) → ((x : List ℕ) → P x → R x) → Keeps a b → WorksOn b c lnum P → WorksOn a c lnum R
+WorksOn-after a b c lnum P R more keeps works = record {
+  others = λ k ne. works.others k ne ∙ keeps.holds k;
+  others_written = λ k ne. works.others_written k ne ∙ keeps.written k;
+  others_left = λ k x ne h. (keeps.left k x).0 (works.others_left k x ne h);
+  others_mapped = λ k x ne h. (keeps.left_mapped k x).0 (works.others_mapped k x ne h);
+  left = λ x h. more x (works.left x h);
+  time = Leaves-then a b c (UnderWay a lnum R) (UnderWay b lnum P) (UnderWay a lnum R) (λ x h. h) (λ x h. (λ k ne. (keeps.left k (x k)).0 (h.0 k ne), more (x lnum) h.1))
+      (Leaves-keeps a b (UnderWay a lnum R) keeps) works.time;
+  spent = λ h. works.spent (keeps.spent h);
+  unbroken = λ h. keeps.unbroken (works.unbroken h);
+}
+
+-- two claims on one call
+pub WorksOn-both : (a b : VolumeState) (lnum : ℕ) (P Q : List ℕ → Type 0) → WorksOn a b lnum P → WorksOn a b lnum Q → WorksOn a b lnum (λ x. P x × Q x)
+WorksOn-both a b lnum P Q one two = record {
+  others = one.others;
+  others_written = one.others_written;
+  others_left = one.others_left;
+  others_mapped = one.others_mapped;
+  left = λ x h. (one.left x h, two.left x h);
+  time = Leaves-more a b (λ x. UnderWay a lnum P x × UnderWay a lnum Q x) (UnderWay a lnum (λ x. P x × Q x)) (λ x h. (h.0.0, (h.0.1, h.1.1)))
+      (Leaves-both a b (UnderWay a lnum P) (UnderWay a lnum Q) one.time two.time);
+  spent = one.spent;
+  unbroken = one.unbroken;
 }

@@ -1,6 +1,7 @@
 // One logical erase block in memory.
 
 ghost use Rattle.std.specs.Prelude.{◌≡◌, ◌⊎◌, ◌+◌, ◌-◌, ◌<◌, ◌≤◌, ◌++◌, ℕ, List, [], length, drop, replicate, All, slice_get, IfOk};
+ghost use Rattle.ubifs_base.specs.NodeLaws.{IsBytes};
 ghost use Rattle.ubi_volume.specs.Lebs.{bytes_in, written_in, IsLeft, IsLeb, IsBlankLeb, IsReplaced};
 ghost use Rattle.ubi_volume.specs.Volume.{put, filled, image_of, Torn};
 
@@ -55,7 +56,8 @@ pub(crate) fn all_bytes(alloc: Global, size: usize, lebs: &[Leb]) -> Result<Vec<
 // The bytes, and erased bytes behind them.
 pub(crate) fn fill_with(buffer: &mut [u8], bytes: &[u8])
     requires { length bytes.now ≤ length buffer.old }
-    ensures { buffer.new ≡ filled (length buffer.old) bytes.now }
+    ensures filled { buffer.new ≡ filled (length buffer.old) bytes.now }
+    ensures bytes { IsBytes buffer.new }
 {
     let (front, back) = buffer.split_at_mut(bytes.len());
     front.copy_from_slice(bytes);
@@ -67,6 +69,7 @@ fn put_at(buffer: &mut [u8], offs: usize, bytes: &[u8])
     requires { offs + length bytes.now ≤ length buffer.old }
     ensures put { buffer.new ≡ put offs bytes.now buffer.old }
     ensures torn { Torn offs (length bytes.now) buffer.old buffer.new }
+    ensures bytes { IsBytes buffer.new }
     ensures blank { (written size : ℕ) → written ≤ offs → drop written buffer.old ≡ replicate (size - written) 255
         → drop (offs + length bytes.now) buffer.new ≡ replicate (size - (offs + length bytes.now)) 255 }
 {

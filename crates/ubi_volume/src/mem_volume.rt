@@ -66,11 +66,17 @@ impl Volume for MemVolume {
     ghost use Rattle.std.specs.Prelude.{slice_get};
     ghost use Rattle.std.proofs.Common.{refl};
     ghost use Rattle.ubi_volume.specs.MemVolume.{state_of};
-    ghost use Rattle.ubi_volume.specs.MemVolumeLaws.{left_now, leb_len_of, blank_of};
+    ghost use Rattle.ubi_volume.specs.MemVolumeLaws.{left_now, leb_len_of, leb_bytes_of, left_bytes_of, blank_of};
 
     ghost state = { state_of };
 
     ghost leb_len = { leb_len_of };
+
+    ghost leb_bytes = { leb_bytes_of };
+
+    ghost left_bytes = { left_bytes_of };
+
+    ghost since_bytes = { λ v t n c early inside each. left_bytes_of v n (c n) inside (each n) };
 
     ghost blank = { blank_of };
 

@@ -1,7 +1,8 @@
 // What file systems are written against.
 
-ghost use Rattle.std.specs.Prelude.{◌≡◌, ◌+◌, ◌-◌, ◌<◌, ◌≤◌, ℕ, List, [], length, slice_range, drop, replicate, OnOk};
-ghost use Rattle.ubi_volume.specs.Volume.{VolumeState, Each, SameShape, Keeps, WorksOn, AreUnits, IsChanged, IsWritten, IsUnmapped, IsMapped, ChangeUnderWay, WriteUnderWay};
+ghost use Rattle.std.specs.Prelude.{◌≡◌, ◌+◌, ◌-◌, ◌<◌, ◌≤◌, ℕ, List, [], length, slice_range, drop, replicate, OnOk, OnErr};
+ghost use Rattle.ubifs_base.specs.NodeLaws.{IsBytes};
+ghost use Rattle.ubi_volume.specs.Volume.{VolumeState, Each, IsLebBytes, SameShape, Keeps, WorksOn, AreUnits, IsChanged, IsWritten, IsUnmapped, IsMapped, ChangeUnderWay, WriteUnderWay};
 ghost use Rattle.ubi_volume.specs.Faults.{HasCause, StaysSure};
 
 use crate::VolFault;
@@ -10,7 +11,7 @@ use ubifs_base::Arm;
 /// A volume of logical erase blocks (LEBs). No call takes memory. What a power cut may leave is as the UBI documentation
 /// says: units that were written stay, each unit of a write under way is old, new or anything, a change is wholly done or
 /// not at all, and an unmapping may be undone until the LEB is mapped, written or changed. The units of a call that
-/// answered `Failed` are as under way.
+/// answered `Failed` are as under way, and that call was the last one that did anything unless it kept all (`failed`).
 pub trait Volume {
     /// All that there is to say of the volume now.
     ghost state: { Self → VolumeState };
@@ -45,6 +46,7 @@ pub trait Volume {
         requires open { (state self.old).written lnum ≤ offs }
         ensures done { OnOk result (IsWritten (state self.old) (state self.new) lnum offs bytes.now) }
         ensures works { WorksOn (state self.old) (state self.new) lnum (WriteUnderWay (state self.old) lnum offs (length bytes.now)) }
+        ensures failed { OnErr result ((state self.new).unbroken → Keeps (state self.old) (state self.new)) }
         ensures shape { SameShape (state self.old) (state self.new) }
         ensures cause { HasCause (state self.old).faults (state self.new).faults result }
         ensures sure { StaysSure (state self.old) (state self.new) result };
@@ -56,6 +58,7 @@ pub trait Volume {
         requires units { AreUnits (state self.old).min_io 0 (length bytes.now) }
         ensures done { OnOk result (IsChanged (state self.old) (state self.new) lnum bytes.now) }
         ensures works { WorksOn (state self.old) (state self.new) lnum (ChangeUnderWay (state self.old) lnum bytes.now) }
+        ensures failed { OnErr result ((state self.new).unbroken → Keeps (state self.old) (state self.new)) }
         ensures shape { SameShape (state self.old) (state self.new) }
         ensures cause { HasCause (state self.old).faults (state self.new).faults result }
         ensures sure { StaysSure (state self.old) (state self.new) result };
@@ -65,6 +68,7 @@ pub trait Volume {
         requires { lnum < (state self.old).leb_cnt }
         ensures done { OnOk result (IsUnmapped (state self.old) (state self.new) lnum) }
         ensures works { WorksOn (state self.old) (state self.new) lnum (ChangeUnderWay (state self.old) lnum []) }
+        ensures failed { OnErr result ((state self.new).unbroken → Keeps (state self.old) (state self.new)) }
         ensures shape { SameShape (state self.old) (state self.new) }
         ensures cause { HasCause (state self.old).faults (state self.new).faults result }
         ensures sure { StaysSure (state self.old) (state self.new) result };
@@ -74,6 +78,7 @@ pub trait Volume {
         requires { lnum < (state self.old).leb_cnt }
         ensures done { OnOk result (IsMapped (state self.old) (state self.new) lnum) }
         ensures works { WorksOn (state self.old) (state self.new) lnum ((state self.old).left_now lnum) }
+        ensures failed { OnErr result ((state self.new).unbroken → Keeps (state self.old) (state self.new)) }
         ensures shape { SameShape (state self.old) (state self.new) }
         ensures cause { HasCause (state self.old).faults (state self.new).faults result }
         ensures sure { StaysSure (state self.old) (state self.new) result };
@@ -90,6 +95,16 @@ pub trait Volume {
 
     /// A LEB has its size.
     ghost leb_len: { (volume : Self) (lnum : ℕ) → lnum < (state volume).leb_cnt → length ((state volume).holds lnum) ≡ (state volume).leb_size };
+
+    /// And its bytes are bytes.
+    ghost leb_bytes: { (volume : Self) (lnum : ℕ) → lnum < (state volume).leb_cnt → IsBytes ((state volume).holds lnum) };
+
+    /// So is what a cut may leave of it,
+    ghost left_bytes: { (volume : Self) (lnum : ℕ) (c : List ℕ) → lnum < (state volume).leb_cnt → (state volume).left_now lnum c → IsLebBytes (state volume).leb_size c };
+
+    /// at any moment.
+    ghost since_bytes: { (volume : Self) (t lnum : ℕ) (c : ℕ → List ℕ) → t ≤ (state volume).moment → lnum < (state volume).leb_cnt → (state volume).left_since t c
+        → IsLebBytes (state volume).leb_size (c lnum) };
 
     /// What isn't written is 255.
     ghost blank: { (volume : Self) (lnum : ℕ) → lnum < (state volume).leb_cnt

@@ -3,8 +3,9 @@ use Rattle.std.proofs.Common.{◌≡◌, ℕ, suc, zero, ◌<◌, List, [], ◌+
 use Rattle.ubifs_base.specs.RawOf.{raw_of}
 use Rattle.ubifs_base.specs.declared.raw_geometry.RawGeometry.{RawGeometry}
 use Rattle.ubi_volume.specs.MemVolume.{state_of}
+use Rattle.ubi_volume.specs.FoundLaws.{IsLoaded-holds}
 use Rattle.image_dump.specs.Listing.{IsListing, IsLebListing}
-use Rattle.image_dump.specs.Sound.{IsOpened, IsSound, lebs_of}
+use Rattle.image_dump.specs.Sound.{IsOpened, IsSound, lebs_of, shape_of}
 use Rattle.image_dump.specs.declared.opening.Opened.{Opened}
 
 -- LEBs with the same bytes have the same listing
@@ -21,5 +22,5 @@ listed_of image opened out is listed =
     let geo = raw_of opened.geometry in
     let P : ℕ → Type 0 = λ n. IsListing geo (state_of opened.volume).holds n listed.0 in
     let Q : List ℕ → Type 0 = λ t. IsListing geo (lebs_of geo image) geo.leb_cnt t in
-    let whole = listing_same geo (state_of opened.volume).holds (lebs_of geo image) geo.leb_cnt listed.0 is.loaded.holds (subst P is.loaded.leb_cnt listed.1) in
+    let whole = listing_same geo (state_of opened.volume).holds (lebs_of geo image) geo.leb_cnt listed.0 (IsLoaded-holds (shape_of geo) image (state_of opened.volume) is.loaded) (subst P is.loaded.leb_cnt listed.1) in
     (geo, is.sound, subst Q (sym listed.2) whole)

@@ -1,12 +1,16 @@
 use Rattle.std.proofs.Common.{◌≢◌, arith}
 use Rattle.ubi_volume.specs.VolumeLaws.{Only-written}
-use Rattle.ubi_volume.proofs.TwoWrites.{two_writes, on_ok}
+use Rattle.ubi_volume.proofs.TwoWrites.{one_write, two_writes, on_ok}
 use Rattle.ubi_volume.proofs.caller.append_both.Goals as goal
 
 pub returns-clause-any_moment : goal.returns-clause-any_moment
 returns-clause-any_moment g c = two_writes (g.V.Volume.state c.args.volume.now) (g.V.Volume.state c.write.new.self) (g.V.Volume.state c.write-2.new.self)
     c.args.offs c.args.bytes.now (g.met.V.Volume.mapped_now c.args.volume.now) (g.met.V.Volume.mapped_now c.write.new.self) c.requires.first c.requires.second
     c.in_ok-write.ensures.done c.in_ok-write.ensures.works c.write-2.ensures.works
+
+pub returns-in_err-write-clause-any_moment : goal.returns-in_err-write-clause-any_moment
+returns-in_err-write-clause-any_moment g c = one_write (g.V.Volume.state c.args.volume.now) (g.V.Volume.state c.write.new.self)
+    c.args.offs c.args.bytes.now (g.met.V.Volume.mapped_now c.args.volume.now) c.requires.first c.requires.second c.write.ensures.works
 
 pub returns-clause-done : goal.returns-clause-done
 returns-clause-done g c =
