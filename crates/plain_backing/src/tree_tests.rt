@@ -105,58 +105,10 @@ fn inodes_of(entries: &[Entry]) -> (u32, u32) {
     }
 }
 
-// Each call after one group and after two.
+// Two groups make a tree, and each call tells of it. A group that is refused memory changes nothing, and leaves no empty cell;
+// after a group no cell is empty.
 #[test]
 fn groups_make_a_tree(rt: HostRuntime) -> Result<(), Fail> {
-    let alloc = rt.alloc();
-    let mut tree = Tree::new(alloc, 64);
-    assert_eq!(rt; (tree.highest(), tree.bytes()), (64, 0));
-    tree.apply(alloc, &first_group(alloc)?)?;
-    assert_eq!(rt; tree.highest(), 67);
-    // Two inodes of 160, three names of 64, and blocks of 56, 56 and 56.
-    assert_eq!(rt; tree.bytes(), 680);
-    assert_eq!(rt; tree.inode(65).ok_or("no inode")?.mode, 0o644);
-    assert!(rt; tree.inode(67).is_none());
-    let a = Name::from_slice(alloc, b"a".as_slice())?;
-    let found = tree.entry(alloc, 2, &a)?.ok_or("no entry")?;
-    assert_eq!(rt; (found.dir, found.ino), (2, 66));
-    assert!(rt; tree.entry(alloc, 3, &a)?.is_none());
-    let entries = tree.entries_in(alloc, 1)?;
-    assert_eq!(rt; inodes_of(entries.as_slice()), (65, 66));
-    assert_eq!(rt; tree.block(65, 0), b"abc".as_slice());
-    assert_eq!(rt;
-        (
-            tree.has_block(65, 7),
-            tree.has_block(65, 6),
-            tree.has_block(67, 1)
-        ),
-        (true, false, false)
-    );
-    assert_eq!(rt;
-        (
-            tree.last_block(65),
-            tree.last_block(66),
-            tree.last_block(67)
-        ),
-        (Some(7), Some(1), None)
-    );
-    tree.apply(alloc, &second_group(alloc)?)?;
-    assert_eq!(rt; tree.highest(), 70);
-    // One inode, three names, and the block 0.
-    assert_eq!(rt; tree.bytes(), 408);
-    assert_eq!(rt; (tree.last_block(65), tree.last_block(66)), (Some(0), None));
-    assert_eq!(rt;
-        (tree.inode(66).is_none(), tree.inode(70).is_none()),
-        (true, true)
-    );
-    let entries = tree.entries_in(alloc, 1)?;
-    assert_eq!(rt; inodes_of(entries.as_slice()), (65, 65));
-    Ok(())
-}
-
-// A group that is refused memory changes nothing, and leaves no empty cell; after a group no cell is empty.
-#[test]
-fn a_refused_group_changes_nothing(rt: HostRuntime) -> Result<(), Fail> {
     let alloc = rt.alloc();
     let first = match first_group(alloc) {
         Ok(group) => group,
@@ -174,9 +126,18 @@ fn a_refused_group_changes_nothing(rt: HostRuntime) -> Result<(), Fail> {
         );
         tree.apply(alloc, &first)?;
     }
+    // Two inodes of 160, three names of 64, and blocks of 56, 56 and 56.
     assert_eq!(rt;
         (tree.highest(), tree.bytes(), tree.count_cells()),
         (67, 680, (2, 3, 3))
+    );
+    assert_eq!(rt;
+        (
+            tree.has_block(65, 7),
+            tree.has_block(67, 1),
+            tree.last_block(65)
+        ),
+        (true, false, Some(7))
     );
     if tree.apply(alloc, &second).is_err() {
         assert_eq!(rt;
@@ -189,9 +150,17 @@ fn a_refused_group_changes_nothing(rt: HostRuntime) -> Result<(), Fail> {
         );
         tree.apply(alloc, &second)?;
     }
+    // One inode, three names, and the block 0.
     assert_eq!(rt;
         (tree.highest(), tree.bytes(), tree.count_cells()),
         (70, 408, (1, 1, 3))
     );
+    assert_eq!(rt; tree.inode(65).ok_or("no inode")?.mode, 0o644);
+    assert_eq!(rt; tree.block(65, 0), b"abc".as_slice());
+    assert_eq!(rt; tree.last_block(65), Some(0));
+    let a = Name::from_slice(alloc, b"a".as_slice())?;
+    assert_eq!(rt; tree.entry(alloc, 2, &a)?.ok_or("no entry")?.ino, 66);
+    let entries = tree.entries_in(alloc, 1)?;
+    assert_eq!(rt; inodes_of(entries.as_slice()), (65, 65));
     Ok(())
 }
