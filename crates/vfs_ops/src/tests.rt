@@ -10,6 +10,7 @@ ghost use Rattle.vfs_plans.specs.Operations.{is_truncate};
 ghost use Rattle.vfs_ops.specs.Steps.{IsReady};
 
 use crate::{Event, Fs, Outcome};
+use fs_laws::a_fresh_volume_is_sound;
 use fs_model::{Backing, Change, Group, Inode, Kind, Op, Reply, Space};
 use plain_backing::{PlainBacking, Tree};
 use std::alloc::Global;
@@ -74,6 +75,7 @@ pub(crate) fn fresh_backing(alloc: Global) -> Result<PlainBacking, Fail>
 pub(crate) fn fresh_files(alloc: Global) -> Result<Fs<PlainBacking>, Fail>
     ensures { IfOk result (λ fs. IsReady (state_of fs.backing) fs.kept) }
 {
+    a_fresh_volume_is_sound();
     let backing = fresh_backing(alloc)?;
     match Fs::new(alloc, backing, 4) {
         Ok(fs) => Ok(fs),
@@ -88,35 +90,36 @@ pub(crate) fn path(alloc: Global, bytes: &[u8]) -> Result<Name, Memory>
     Ok(Name::from_slice(alloc, bytes)?)
 }
 
-// The operation of a letter on the file `/f`: it is created, opened in the slot 0 or 1, closed there, and unlinked; 4,100 bytes
-// of 7 are written and 9 bytes read in the slot 0; and it is synced, alone or with all. Any other letter asks what it is.
+// The operation of a letter on the file `/f`: it is created, opened in the slot 0 or 1, closed there, and unlinked; in the
+// slot 0, 4,100 bytes of 7 are written and 9 bytes read from 4,095 on; and it is synced, alone or with all. Any other letter
+// asks what it is.
 fn op_of(alloc: Global, letter: u8) -> Result<Op, Memory>
     ensures call { IfOk result (λ op. IsCall op) }
     ensures kind { IfOk result (λ op. is_truncate op ≡ false) }
 {
     let path = path(alloc, b"/f")?;
-    Ok(match letter {
-        b'c' => Op::Create { path, mode: 420 },
-        b'o' => Op::OpenFile { path, slot: 0 },
-        b'p' => Op::OpenFile { path, slot: 1 },
-        b'u' => Op::Unlink { path },
-        b'w' => Op::Write {
+    match letter {
+        b'c' => Ok(Op::Create { path, mode: 420 }),
+        b'o' => Ok(Op::OpenFile { path, slot: 0 }),
+        b'p' => Ok(Op::OpenFile { path, slot: 1 }),
+        b'u' => Ok(Op::Unlink { path }),
+        b'w' => Ok(Op::Write {
             slot: 0,
             offs: 0,
             len: 4100,
             byte: 7,
-        },
-        b'r' => Op::Read {
+        }),
+        b'r' => Ok(Op::Read {
             slot: 0,
             offs: 4095,
             len: 9,
-        },
-        b's' => Op::Fsync { slot: 0 },
-        b'a' => Op::Flush,
-        b'x' => Op::Close { slot: 0 },
-        b'y' => Op::Close { slot: 1 },
-        _ => Op::Stat { path },
-    })
+        }),
+        b's' => Ok(Op::Fsync { slot: 0 }),
+        b'a' => Ok(Op::Flush),
+        b'x' => Ok(Op::Close { slot: 0 }),
+        b'y' => Ok(Op::Close { slot: 1 }),
+        _ => Ok(Op::Stat { path }),
+    }
 }
 
 // What a reply tells as a number: an inode's, a size, or how many bytes; 0 where it is done, and 1 where it is anything else.
