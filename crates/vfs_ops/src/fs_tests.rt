@@ -1,62 +1,21 @@
-// A file system over a backing in memory, call by call, and a caller of the backing's own.
+// The looks of a file system, and a caller of the backing's own.
 
-ghost use Rattle.std.specs.Prelude.{◌≡◌, ◌≤◌, ◌+◌, length, IfOk, OnOk};
+ghost use Rattle.std.specs.Prelude.{◌≡◌, ◌≤◌, ◌+◌, length, IfOk};
 ghost use Rattle.fs_model.specs.Making.{new_file};
-ghost use Rattle.cached_files.specs.Present.{IsKept};
 ghost use Rattle.plain_backing.specs.PlainBacking.{state_of};
 ghost use Rattle.vfs_ops.specs.Sample.{sample_group, sample_page};
 ghost use Rattle.vfs_ops.specs.Steps.{IsReady};
 
-use crate::tests::{Volume, create, fresh_backing, fresh_volume, path, root};
-use crate::{Event, Fs, Outcome};
+use crate::Fs;
+use crate::tests::{answered, fresh_backing, fresh_files, path, root};
 use fs_model::caller::{CallFault, make_and_read};
 use fs_model::{
-    Change, Class, Entry, Group, Inode, Kind, Mode, Need, PageNode, Refusal, Reply, StoreFault,
+    Change, Class, Entry, Group, Inode, Kind, Mode, Need, PageNode, Refusal, StoreFault,
 };
 use plain_backing::PlainBacking;
 use std::alloc::Global;
 use std::test::Fail;
 use ubifs_base::{Bytes, Memory, Name};
-
-// A file system over a fresh volume.
-fn fresh_files(alloc: Global) -> Result<Fs<PlainBacking>, Fail>
-    ensures { IfOk result (λ fs. IsReady (state_of fs.backing) fs.kept) }
-{
-    let volume = fresh_volume(alloc)?;
-    let fs = files_over(alloc, volume)?;
-    Ok(fs)
-}
-
-// A file system over a volume.
-fn files_over(alloc: Global, volume: Volume) -> Result<Fs<PlainBacking>, Memory>
-    requires { IsKept (state_of volume.backing).tree volume.kept }
-    ensures { IfOk result (λ fs. IsReady (state_of fs.backing) fs.kept) }
-{
-    match Fs::new(alloc, volume.backing, 4) {
-        Ok(fs) => Ok(fs),
-        Err((fault, _)) => Err(fault),
-    }
-}
-
-// Makes a file at the moment 7, and answers its inode's number.
-fn made(alloc: Global, fs: &mut Fs<PlainBacking>, bytes: &[u8]) -> Result<u32, Memory>
-    requires { IsReady (state_of fs.old.backing) fs.old.kept }
-    ensures { IsReady (state_of fs.new.backing) fs.new.kept }
-{
-    let op = create(alloc, bytes)?;
-    let event = Event::Call {
-        caller: 1,
-        now: 7,
-        grant: 0,
-        op,
-    };
-    match fs.step(&event) {
-        Outcome::Replied { reply, left: _ } => match reply {
-            Reply::Ino { ino } => Ok(ino),
-            _ => Ok(0),
-        },
-    }
-}
 
 // The number of the inode to which a path leads.
 fn walked_to(alloc: Global, fs: &mut Fs<PlainBacking>, bytes: &[u8]) -> Result<u32, Refusal>
@@ -80,30 +39,6 @@ fn nothing_put(alloc: Global, fs: &mut Fs<PlainBacking>) -> Result<(), Refusal>
         class: Class::Ordinary,
     };
     fs.apply_group(&Group::new(alloc), &need)
-}
-
-// A file that is made is found by its path.
-#[test]
-fn a_step_is_answered(rt: HostRuntime) -> Result<(), Fail> {
-    let alloc = rt.alloc();
-    let mut fs = fresh_files(alloc)?;
-    assert_eq!(rt; made(alloc, &mut fs, b"/f"), Ok(65));
-    assert_eq!(rt; made(alloc, &mut fs, b"/f"), Ok(0));
-    assert_eq!(rt; walked_to(alloc, &mut fs, b"/f"), Ok(65));
-    assert_eq!(rt; (fs.highest(), fs.mode()), (65, Mode::ReadWrite));
-    Ok(())
-}
-
-// The root is there, and what isn't is refused.
-#[test]
-fn paths_are_walked(rt: HostRuntime) -> Result<(), Fail> {
-    let alloc = rt.alloc();
-    let mut fs = fresh_files(alloc)?;
-    assert_eq!(rt; walked_to(alloc, &mut fs, b"/"), Ok(1));
-    assert_eq!(rt; walked_to(alloc, &mut fs, b"/g"), Err(Refusal::Enoent));
-    assert_eq!(rt; nothing_put(alloc, &mut fs), Ok(()));
-    assert_eq!(rt; fs.refused().len(), 0);
-    Ok(())
 }
 
 // How many entries the root has, and the number behind the name `f`, 0 where there is none.
@@ -130,15 +65,22 @@ fn changed_at(fs: &mut Fs<PlainBacking>, ino: u32) -> Result<u64, StoreFault>
     }
 }
 
-// A file that is made is found by its name and its number.
+// A file that is made is found by its path, by its name and by its number; and a group of no change is put.
 #[test]
 fn what_is_made_is_looked_up(rt: HostRuntime) -> Result<(), Fail> {
     let alloc = rt.alloc();
     let mut fs = fresh_files(alloc)?;
     assert_eq!(rt; looked_up(alloc, &mut fs), Ok((0, 0)));
-    assert_eq!(rt; made(alloc, &mut fs, b"/f"), Ok(65));
+    assert_eq!(rt; answered(alloc, &mut fs, b'c'), Ok(65));
+    assert_eq!(rt; walked_to(alloc, &mut fs, b"/f"), Ok(65));
+    assert_eq!(rt; walked_to(alloc, &mut fs, b"/g"), Err(Refusal::Enoent));
     assert_eq!(rt; looked_up(alloc, &mut fs), Ok((1, 65)));
     assert_eq!(rt; changed_at(&mut fs, 65), Ok(7));
+    assert_eq!(rt; nothing_put(alloc, &mut fs), Ok(()));
+    assert_eq!(rt;
+        (fs.highest(), fs.mode(), fs.refused().len()),
+        (65, Mode::ReadWrite, 0)
+    );
     Ok(())
 }
 

@@ -21,10 +21,6 @@ pub use crate::fs::Fs;
 #[cfg(test)]
 mod fs_tests;
 #[cfg(test)]
-mod look_tests;
-#[cfg(test)]
 mod page_tests;
 #[cfg(test)]
 mod tests;
-#[cfg(test)]
-mod write_tests;

@@ -1,50 +1,21 @@
-// Operations over a backing in memory, from a fresh volume on.
+// A fresh volume, and a file of it from its making to its end.
 
-ghost use Rattle.std.specs.Prelude.{◌≡◌, ◌≤◌, true, length, IfOk, IsTrue};
+ghost use Rattle.std.specs.Prelude.{◌≡◌, false, IfOk, IsTrue};
 ghost use Rattle.fs_model.specs.Making.{new_dir};
 ghost use Rattle.fs_model.specs.Proper.{are_bytes};
 ghost use Rattle.fs_model.specs.Worked.{fresh};
-ghost use Rattle.fs_laws.specs.Sound.{IsCall, IsSound};
-ghost use Rattle.cached_files.specs.Present.{present, IsKept};
+ghost use Rattle.fs_laws.specs.Sound.{IsCall};
 ghost use Rattle.plain_backing.specs.PlainBacking.{state_of};
-ghost use Rattle.vfs_ops.specs.Operations.{is_of_names};
+ghost use Rattle.vfs_plans.specs.Operations.{is_truncate};
+ghost use Rattle.vfs_ops.specs.Steps.{IsReady};
 
-use crate::change;
-use cached_files::Kept;
+use crate::{Event, Fs, Outcome};
 use fs_laws::a_fresh_volume_is_sound;
-use fs_model::{Change, Group, Inode, Kind, Op, Refusal, Reply, Space};
+use fs_model::{Backing, Change, Group, Inode, Kind, Op, Reply, Space};
 use plain_backing::{PlainBacking, Tree};
 use std::alloc::Global;
 use std::test::Fail;
 use ubifs_base::{Bytes, Geometry, Memory, Name, RawGeometry};
-
-// Files in memory, and what is kept in front of them.
-#[derive(Drop)]
-pub(crate) struct Volume {
-    pub(crate) backing: PlainBacking,
-    pub(crate) kept: Kept,
-}
-
-impl Volume {
-    // Does an operation of the caller 1. Answers the number of the inode that was made, `None` where it is done, and 0,
-    // which no inode has, for any other reply.
-    pub(crate) fn answer(&mut self, alloc: Global, op: &Op) -> Result<Option<u32>, Refusal>
-        requires kept { IsKept (state_of self.old.backing).tree self.old.kept }
-        requires paid { length self.old.kept.pages.dirty ≤ (state_of self.old.backing).space.credits }
-        requires sound { IsSound (present (state_of self.old.backing).tree self.old.kept) }
-        requires op { is_of_names op.now ≡ true }
-        requires call { IsCall op.now }
-        ensures kept { IsKept (state_of self.new.backing).tree self.new.kept }
-        ensures paid { length self.new.kept.pages.dirty ≤ (state_of self.new.backing).space.credits }
-        ensures sound { IsSound (present (state_of self.new.backing).tree self.new.kept) }
-    {
-        match change(alloc, &mut self.backing, &mut self.kept, 1, 0, op)? {
-            Reply::Ino { ino } => Ok(Some(ino)),
-            Reply::Done => Ok(None),
-            _ => Ok(Some(0)),
-        }
-    }
-}
 
 // The root's inode on a fresh volume.
 pub(crate) fn root(alloc: Global) -> Inode
@@ -79,7 +50,7 @@ fn fresh_tree(alloc: Global) -> Result<Tree, Memory>
     Ok(tree)
 }
 
-// A fresh volume of 64 main LEBs, which takes two orphans.
+// A fresh volume of 64 main LEBs, which takes one orphan.
 pub(crate) fn fresh_backing(alloc: Global) -> Result<PlainBacking, Fail>
     ensures tree { IfOk result (λ backing. (state_of backing).tree ≡ fresh.tree) }
     ensures credits { IfOk result (λ backing. (state_of backing).space.credits ≡ 0) }
@@ -97,19 +68,19 @@ pub(crate) fn fresh_backing(alloc: Global) -> Result<PlainBacking, Fail>
         weight: 1,
         main: geo.main_lebs(),
     };
-    Ok(PlainBacking::new(alloc, geo, tree, space, 2)?)
+    Ok(PlainBacking::new(alloc, geo, tree, space, 1)?)
 }
 
-// A fresh volume, with nothing in front of it.
-pub(crate) fn fresh_volume(alloc: Global) -> Result<Volume, Fail>
-    ensures kept { IfOk result (λ v. IsKept (state_of v.backing).tree v.kept) }
-    ensures paid { IfOk result (λ v. length v.kept.pages.dirty ≤ (state_of v.backing).space.credits) }
-    ensures sound { IfOk result (λ v. IsSound (present (state_of v.backing).tree v.kept)) }
+// A file system over a fresh volume.
+pub(crate) fn fresh_files(alloc: Global) -> Result<Fs<PlainBacking>, Fail>
+    ensures { IfOk result (λ fs. IsReady (state_of fs.backing) fs.kept) }
 {
     a_fresh_volume_is_sound();
     let backing = fresh_backing(alloc)?;
-    let kept = Kept::new(alloc, 4)?;
-    Ok(Volume { backing, kept })
+    match Fs::new(alloc, backing, 4) {
+        Ok(fs) => Ok(fs),
+        Err((fault, _)) => Err(fault)?,
+    }
 }
 
 // A path of these bytes.
@@ -119,77 +90,97 @@ pub(crate) fn path(alloc: Global, bytes: &[u8]) -> Result<Name, Memory>
     Ok(Name::from_slice(alloc, bytes)?)
 }
 
-pub(crate) fn create(alloc: Global, bytes: &[u8]) -> Result<Op, Memory>
-    ensures op { IfOk result (λ op. is_of_names op ≡ true) }
+// The operation of a letter on the file `/f`: it is created, opened in the slot 0 or 1, closed there, and unlinked; in the
+// slot 0, 4,100 bytes of 7 are written and 9 bytes read from 4,095 on; and it is synced, alone or with all. Any other letter
+// asks what it is.
+fn op_of(alloc: Global, letter: u8) -> Result<Op, Memory>
     ensures call { IfOk result (λ op. IsCall op) }
+    ensures kind { IfOk result (λ op. is_truncate op ≡ false) }
 {
-    let path = path(alloc, bytes)?;
-    Ok(Op::Create { path, mode: 420 })
+    let path = path(alloc, b"/f")?;
+    match letter {
+        b'c' => Ok(Op::Create { path, mode: 420 }),
+        b'o' => Ok(Op::OpenFile { path, slot: 0 }),
+        b'p' => Ok(Op::OpenFile { path, slot: 1 }),
+        b'u' => Ok(Op::Unlink { path }),
+        b'w' => Ok(Op::Write {
+            slot: 0,
+            offs: 0,
+            len: 4100,
+            byte: 7,
+        }),
+        b'r' => Ok(Op::Read {
+            slot: 0,
+            offs: 4095,
+            len: 9,
+        }),
+        b's' => Ok(Op::Fsync { slot: 0 }),
+        b'a' => Ok(Op::Flush),
+        b'x' => Ok(Op::Close { slot: 0 }),
+        b'y' => Ok(Op::Close { slot: 1 }),
+        _ => Ok(Op::Stat { path }),
+    }
 }
 
-pub(crate) fn mkdir(alloc: Global, bytes: &[u8]) -> Result<Op, Memory>
-    ensures op { IfOk result (λ op. is_of_names op ≡ true) }
-    ensures call { IfOk result (λ op. IsCall op) }
-{
-    let path = path(alloc, bytes)?;
-    Ok(Op::Mkdir { path, mode: 493 })
+// What a reply tells as a number: an inode's, a size, or how many bytes; 0 where it is done, and 1 where it is anything else.
+fn number(reply: &Reply) -> u64 {
+    match reply {
+        Reply::Ino { ino } => *ino as u64,
+        Reply::Count { n } => *n as u64,
+        Reply::Bytes { bytes } => bytes.len() as u64,
+        Reply::Stat { size, .. } => *size,
+        Reply::Done => 0,
+        _ => 1,
+    }
 }
 
-fn rename(alloc: Global, old: &[u8], new: &[u8]) -> Result<Op, Memory>
-    ensures op { IfOk result (λ op. is_of_names op ≡ true) }
-    ensures call { IfOk result (λ op. IsCall op) }
+// Does the operation of a letter at the moment 7, and answers the number of its reply.
+pub(crate) fn answered(alloc: Global, fs: &mut Fs<PlainBacking>, letter: u8) -> Result<u64, Memory>
+    requires { IsReady (state_of fs.old.backing) fs.old.kept }
+    ensures { IsReady (state_of fs.new.backing) fs.new.kept }
 {
-    let old = path(alloc, old)?;
-    let new = path(alloc, new)?;
-    Ok(Op::Rename { old, new })
+    let op = op_of(alloc, letter)?;
+    let event = Event::Call {
+        caller: 1,
+        now: 7,
+        grant: 0,
+        op,
+    };
+    match fs.step(&event) {
+        Outcome::Replied { reply, left: _ } => Ok(number(&reply)),
+    }
 }
 
-pub(crate) fn unlink(alloc: Global, bytes: &[u8]) -> Result<Op, Memory>
-    ensures op { IfOk result (λ op. is_of_names op ≡ true) }
-    ensures call { IfOk result (λ op. IsCall op) }
+// Does the operations of the letters in turn, and answers the numbers of their replies.
+pub(crate) fn answers(
+    alloc: Global,
+    fs: &mut Fs<PlainBacking>,
+    letters: &[u8],
+) -> Result<Vec<u64>, Memory>
+    requires { IsReady (state_of fs.old.backing) fs.old.kept }
+    ensures { IsReady (state_of fs.new.backing) fs.new.kept }
 {
-    let path = path(alloc, bytes)?;
-    Ok(Op::Unlink { path })
+    let mut numbers = Vec::new(alloc);
+    for letter in letters {
+        let number = answered(alloc, fs, *letter)?;
+        numbers.push(number)?;
+    }
+    Ok(numbers)
 }
 
-fn rmdir(alloc: Global, bytes: &[u8]) -> Result<Op, Memory>
-    ensures op { IfOk result (λ op. is_of_names op ≡ true) }
-    ensures call { IfOk result (λ op. IsCall op) }
-{
-    let path = path(alloc, bytes)?;
-    Ok(Op::Rmdir { path })
-}
-
-// A directory and a file come, and a name that is there or isn't empty is refused.
+// A file is made, written, synced and read. It outlives its name until its last slot is closed, and takes the place of the
+// one orphan that the backing has room for. Pages that go dirty with their file give their credits back.
 #[test]
-fn what_is_made_is_answered(rt: HostRuntime) -> Result<(), Fail> {
+fn an_open_file_outlives_its_name(rt: HostRuntime) -> Result<(), Fail> {
     let alloc = rt.alloc();
-    let mut volume = fresh_volume(alloc)?;
-    let directory = mkdir(alloc, b"/d")?;
-    let file = create(alloc, b"/d/f")?;
-    assert_eq!(rt; volume.answer(alloc, &directory), Ok(Some(65)));
-    assert_eq!(rt; volume.answer(alloc, &file), Ok(Some(66)));
-    assert_eq!(rt; volume.answer(alloc, &file), Err(Refusal::Eexist));
-    let removal = rmdir(alloc, b"/d")?;
-    assert_eq!(rt; volume.answer(alloc, &removal), Err(Refusal::Enotempty));
-    Ok(())
-}
-
-// A file moves out of its directory, and both go.
-#[test]
-fn what_is_made_goes(rt: HostRuntime) -> Result<(), Fail> {
-    let alloc = rt.alloc();
-    let mut volume = fresh_volume(alloc)?;
-    assert_eq!(rt; volume.answer(alloc, &mkdir(alloc, b"/d")?), Ok(Some(65)));
-    assert_eq!(rt;
-        volume.answer(alloc, &create(alloc, b"/d/f")?),
-        Ok(Some(66))
-    );
-    assert_eq!(rt;
-        volume.answer(alloc, &rename(alloc, b"/d/f", b"/g")?),
-        Ok(None)
-    );
-    assert_eq!(rt; volume.answer(alloc, &unlink(alloc, b"/g")?), Ok(None));
-    assert_eq!(rt; volume.answer(alloc, &rmdir(alloc, b"/d")?), Ok(None));
+    let mut fs = fresh_files(alloc)?;
+    let told = answers(alloc, &mut fs, b"ccowswarpu?ywrcpuxuycowxu")?;
+    let want: [u64; 25] = [
+        65, 1, 65, 4100, 0, 4100, 0, 5, 65, 0, 1, 0, 4100, 5, 66, 66, 1, 0, 0, 0, 67, 67, 4100, 0,
+        0,
+    ];
+    assert_eq!(rt; told.as_slice(), want.as_slice());
+    let backing = fs.into_parts();
+    assert_eq!(rt; (backing.orphan_room(), backing.space().credits), (1, 0));
     Ok(())
 }
