@@ -1,6 +1,6 @@
 // A small tree is laid, and its nodes are read back.
 
-ghost use Rattle.std.specs.Prelude.{◌≡◌, ◌+◌, ◌≤◌, ◌++◌, ◌∷◌, [], length, IfOk, OnOk};
+ghost use Rattle.std.specs.Prelude.{◌≡◌, ◌++◌, ◌∷◌, [], IfOk, OnOk};
 ghost use Rattle.ubifs_base.specs.Geometry.{plain_geometry};
 ghost use Rattle.ubifs_base.specs.RawOf.{raw_of};
 ghost use Rattle.fs_model.specs.declared.change.Change.TheVariants.{SetInode, SetEntry, SetBlock};
@@ -131,9 +131,7 @@ fn plain() -> Result<Geometry, Fail>
 }
 
 // The first bytes of the first two main LEBs.
-fn laid(alloc: Global) -> Result<(Vec<u8>, Vec<u8>), Fail>
-    ensures first { IfOk result (λ lebs. length lebs.0.items ≡ 1032) }
-{
+fn laid(alloc: Global) -> Result<(Vec<u8>, Vec<u8>), Fail> {
     let geometry = plain()?;
     let tree = sample_tree(alloc)?;
     let shape = VolShape {
@@ -152,62 +150,70 @@ fn laid(alloc: Global) -> Result<(Vec<u8>, Vec<u8>), Fail>
     Ok((first, second))
 }
 
-// Bytes of a LEB.
-fn piece(leb: &[u8], from: usize, len: usize) -> &[u8]
-    requires { from + len ≤ length leb.now }
-    ensures { length result.now ≡ len }
-{
-    leb.split_at(from).1.split_at(len).0
+// Bytes of a LEB, none where it has fewer.
+fn bytes_at(leb: &[u8], from: usize, len: usize) -> &[u8] {
+    match leb.split_at_checked(from) {
+        Some((_, rest)) => match rest.split_at_checked(len) {
+            Some((bytes, _)) => bytes,
+            None => b"",
+        },
+        None => b"",
+    }
 }
 
-// The number, size, links and data of an inode's node.
-fn inode_at(alloc: Global, bytes: &[u8]) -> Result<(u32, u64, u32, usize), Fail> {
-    let node = InoNode::decode(alloc, bytes)?.ok_or("an inode")?;
-    Ok((node.ino, node.size, node.nlink, node.bytes.len()))
+// An inode's number, size, links and bytes of data; an entry's directory, inode, kind and the first byte of its name; or a
+// block's inode, number and bytes.
+fn told(alloc: Global, bytes: &[u8]) -> Result<(u8, u32, u64, u32, u32), Fail> {
+    if let Some(node) = InoNode::decode(alloc, bytes)? {
+        return Ok((0, node.ino, node.size, node.nlink, node.bytes.len() as u32));
+    }
+    if let Some(node) = DentNode::decode(alloc, bytes)? {
+        let first = match node.name.as_slice().first() {
+            Some(first) => *first,
+            None => 0,
+        };
+        return Ok((
+            2,
+            node.dir,
+            node.inum as u64,
+            node.kind as u32,
+            first as u32,
+        ));
+    }
+    if let Some(node) = DataNode::decode(alloc, bytes)? {
+        return Ok((1, node.ino, node.block as u64, node.bytes.len() as u32, 0));
+    }
+    Ok((5, 0, 0, 0, 0))
 }
 
-// The directory, inode and kind of an entry's node, and the first byte of its name.
-fn entry_at(alloc: Global, bytes: &[u8]) -> Result<(u32, u32, u8, u8), Fail> {
-    let node = DentNode::decode(alloc, bytes)?.ok_or("an entry")?;
-    let first = match node.name.as_slice() {
-        [first, ..] => *first,
-        [] => 0,
-    };
-    Ok((node.dir, node.inum, node.kind, first))
-}
+// Where a node is laid, its bytes, and what it says.
+type Row = (usize, usize, (u8, u32, u64, u32, u32));
 
-// The inode and number of a block's node, and how many bytes it has.
-fn block_at(alloc: Global, bytes: &[u8]) -> Result<(u32, u32, usize), Fail> {
-    let node = DataNode::decode(alloc, bytes)?.ok_or("a block")?;
-    Ok((node.ino, node.block, node.bytes.len()))
-}
+// Each node stands where the sum of those before it, rounded up to 8, says. In the root are one directory and three entries
+// of 64 bytes.
+const ROWS: &[Row] = &[
+    (0, 160, (0, 1, 352, 3, 0)),
+    (160, 58, (2, 1, 66, 1, 0x64)),
+    (224, 59, (2, 1, 65, 0, 0x61)),
+    (288, 59, (2, 1, 65, 0, 0x62)),
+    (352, 160, (0, 65, 8193, 2, 0)),
+    (512, 51, (1, 65, 0, 3, 0)),
+    (568, 49, (1, 65, 2, 1, 0)),
+    (624, 160, (0, 66, 224, 2, 0)),
+    (784, 58, (2, 66, 67, 2, 0x73)),
+    (848, 162, (0, 67, 2, 1, 2)),
+];
 
-// Each node stands where the sum of those before it, rounded up to 8, says.
 #[test]
-fn the_root_and_the_file_are_laid(rt: HostRuntime) -> Result<(), Fail> {
-    let alloc = rt.alloc();
-    let (leb, _) = laid(alloc)?;
-    // One directory is in the root, and three entries of 64 bytes.
-    assert_eq!(rt; inode_at(alloc, piece(&leb, 0, 160))?, (1, 352, 3, 0));
-    assert_eq!(rt; entry_at(alloc, piece(&leb, 160, 58))?, (1, 66, 1, b'd'));
-    assert_eq!(rt; entry_at(alloc, piece(&leb, 224, 59))?, (1, 65, 0, b'a'));
-    assert_eq!(rt; entry_at(alloc, piece(&leb, 288, 59))?, (1, 65, 0, b'b'));
-    assert_eq!(rt; inode_at(alloc, piece(&leb, 352, 160))?, (65, 8193, 2, 0));
-    assert_eq!(rt; block_at(alloc, piece(&leb, 512, 51))?, (65, 0, 3));
-    assert_eq!(rt; block_at(alloc, piece(&leb, 568, 49))?, (65, 2, 1));
-    Ok(())
-}
-
-#[test]
-fn the_directory_and_the_link_are_laid(rt: HostRuntime) -> Result<(), Fail> {
+fn each_node_is_laid(rt: HostRuntime) -> Result<(), Fail> {
     let alloc = rt.alloc();
     let (leb, next) = laid(alloc)?;
-    assert_eq!(rt; inode_at(alloc, piece(&leb, 624, 160))?, (66, 224, 2, 0));
-    assert_eq!(rt; entry_at(alloc, piece(&leb, 784, 58))?, (66, 67, 2, b's'));
-    assert_eq!(rt; inode_at(alloc, piece(&leb, 848, 162))?, (67, 2, 1, 2));
+    for (from, len, wanted) in ROWS {
+        assert_eq!(rt; told(alloc, bytes_at(&leb, *from, *len))?, *wanted);
+    }
     // 0xCE up to a multiple of 8, a gap up to the unit, and nothing behind it.
-    assert_eq!(rt; piece(&leb, 1010, 6), [0xce; 6].as_slice());
-    assert_eq!(rt; piece(&leb, 1024, 8), [0xff; 8].as_slice());
+    assert_eq!(rt; bytes_at(&leb, 1010, 6), [0xce; 6].as_slice());
+    assert_eq!(rt; bytes_at(&leb, 1024, 8), [0xff; 8].as_slice());
     assert_eq!(rt; next.as_slice(), [0xff; 8].as_slice());
     Ok(())
 }
