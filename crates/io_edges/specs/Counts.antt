@@ -1,9 +1,5 @@
 -- Counts of faults and of calls. A count that reached 2 ^ 64 - 1 stays there.
-use Rattle.std.specs.Prelude.{◌≡◌, ◌⊎◌, ◌↔◌, ℕ, ◌<◌, ◌≤◌, ◌+◌, min, List, Contains}
-
--- a count rose, or it stands at its end
-abbrev pub Rose : ℕ → ℕ → Type 0
-Rose before now = (before < now) ⊎ (18446744073709551615 ≤ now)
+use Rattle.std.specs.Prelude.{◌≡◌, ◌↔◌, ℕ, ◌+◌, min, List, Contains}
 
 -- the count after one more
 abbrev pub next_count : ℕ → ℕ

@@ -2,7 +2,7 @@
 use Rattle.std.specs.Prelude.{◌≡◌, ◌≤◌, ℕ, Bool, List, Option, Some, Result, Ok, Err}
 use Rattle.std.specs.Str.{bytes_eq}
 use Rattle.std.specs.Map.{update}
-use Rattle.io_edges.specs.Counts.{Rose}
+use Rattle.ubifs_base.specs.Faults.{IsCause}
 use Rattle.io_edges.specs.declared.keeper.KeepFault.{KeepFault}
 use Rattle.io_edges.specs.declared.keeper.KeepFault.TheVariants.{Failed, Missing, Memory}
 
@@ -31,7 +31,7 @@ IsFailed (Ok x) = ⊥
 
 -- Failed comes exactly where the count of faults rose in the call, and tells it; any other answer leaves the count
 abbrev pub IsCounted : {T : Type 0} → ℕ → ℕ → Result T KeepFault → Type 0
-IsCounted before now (Err (Failed count)) = (before ≤ now) × (Rose before now × (count ≡ now))
+IsCounted before now (Err (Failed count)) = IsCause before now count
 IsCounted before now (Err Missing) = now ≡ before
 IsCounted before now (Err Memory) = now ≡ before
 IsCounted before now (Ok x) = now ≡ before

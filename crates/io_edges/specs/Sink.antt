@@ -1,6 +1,6 @@
 -- What a sink's call promises.
 use Rattle.std.specs.Prelude.{◌≡◌, ◌≤◌, ◌++◌, ℕ, Bool, List, take, Result, Ok, Err}
-use Rattle.io_edges.specs.Counts.{Rose}
+use Rattle.ubifs_base.specs.Faults.{Rose, IsCause}
 use Rattle.io_edges.specs.declared.sink.SinkFault.{SinkFault}
 use Rattle.io_edges.specs.declared.sink.SinkFault.TheVariants.{Failed, Memory}
 
@@ -25,7 +25,7 @@ IsFailed (Ok x) = ⊥
 
 -- Failed comes exactly where the count of faults rose in the call, and tells it; any other answer leaves the count
 abbrev pub IsCounted : {T : Type 0} → ℕ → ℕ → Result T SinkFault → Type 0
-IsCounted before now (Err (Failed count)) = (before ≤ now) × (Rose before now × (count ≡ now))
+IsCounted before now (Err (Failed count)) = IsCause before now count
 IsCounted before now (Err Memory) = now ≡ before
 IsCounted before now (Ok x) = now ≡ before
 

@@ -1,7 +1,8 @@
 // Which calls fail.
 
 ghost use Rattle.std.specs.Prelude.{◌≡◌, ◌≤◌, IsSome, IfSome, OnSome};
-ghost use Rattle.io_edges.specs.Counts.{Rose, TakesCall};
+ghost use Rattle.io_edges.specs.Counts.{TakesCall};
+ghost use Rattle.ubifs_base.specs.Faults.{Rose};
 
 use std::marker::Model;
 

@@ -3,7 +3,7 @@
 ghost use Rattle.std.specs.Prelude.{◌≡◌, ◌++◌, List, ℕ, Some, Option, IsTrue, OnOk, IfErr};
 ghost use Rattle.std.specs.Str.{bytes_eq};
 ghost use Rattle.std.specs.Map.{update};
-ghost use Rattle.io_edges.specs.Counts.{Rose};
+ghost use Rattle.ubifs_base.specs.Faults.{Rose};
 ghost use Rattle.io_edges.specs.declared.keeper.KeepFault.TheVariants.{Missing};
 
 use crate::{FileKeeper, KeepFault, Keeper, MemKeeper, MemSink, OutSink, Sink, SinkFault};

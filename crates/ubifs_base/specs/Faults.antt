@@ -1,5 +1,5 @@
 -- When a call may answer that something outside failed. A count of faults that reached 2^64 - 1 stays there.
-use Rattle.std.specs.Prelude.{◌≡◌, ◌⊎◌, ℕ, ◌<◌, ◌≤◌, Option, Some, None}
+use Rattle.std.specs.Prelude.{◌≡◌, ◌⊎◌, ℕ, ◌<◌, ◌≤◌}
 use Rattle.std.proofs.Common.{inl, inr, arith}
 
 -- the count of faults rose, or it stands at its end
@@ -9,11 +9,6 @@ Rose before now = (before < now) ⊎ (18446744073709551615 ≤ now)
 -- something failed, and this is its count of faults at the end
 abbrev pub IsCause : ℕ → ℕ → ℕ → Type 0
 IsCause before now count = (before ≤ now) × (Rose before now × (count ≡ now))
-
--- the count never falls; a fault that tells a count comes only where it rose, and tells it
-abbrev pub IsCounted : ℕ → ℕ → Option ℕ → Type 0
-IsCounted before now None = before ≤ now
-IsCounted before now (Some count) = IsCause before now count
 
 -- a count that was lower before rose too
 pub Rose-before : (a b c : ℕ) → a ≤ b → Rose b c → Rose a c
@@ -27,8 +22,3 @@ Rose-after a b c (inr end) le = inr (omega (arith, le, end))
 
 pub IsCause-before : (a b c count : ℕ) → a ≤ b → IsCause b c count → IsCause a c count
 IsCause-before a b c count le cause = (omega (arith, le, cause.0), (Rose-before a b c le cause.1.0, cause.1.1))
-
--- a fault of the second of two calls is one of both
-pub IsCounted-before : (a b c : ℕ) (told : Option ℕ) → a ≤ b → IsCounted b c told → IsCounted a c told
-IsCounted-before a b c None le cause = omega (arith, le, cause)
-IsCounted-before a b c (Some count) le cause = IsCause-before a b c count le cause

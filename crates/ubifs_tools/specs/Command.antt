@@ -11,7 +11,7 @@ use Rattle.ubi_volume.specs.Volume.{image_of}
 use Rattle.fs_model.specs.Files.{Tree}
 use Rattle.cached_files.specs.declared.kept.Kept.{Kept}
 use Rattle.cached_files.specs.Present.{IsKept, present}
-use Rattle.io_edges.specs.Counts.{Rose}
+use Rattle.ubifs_base.specs.Faults.{Rose}
 use Rattle.io_edges.specs.Keeper.{KeeperState}
 use Rattle.io_edges.specs.Sink.{SinkState}
 use Rattle.image_maker.specs.Leaves.{live_leaves}

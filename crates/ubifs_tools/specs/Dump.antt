@@ -10,7 +10,7 @@ use Rattle.image_dump.specs.Listing.{IsListing}
 use Rattle.image_dump.specs.Sound.{IsSound, IsFaulty, lebs_of}
 use Rattle.image_dump.specs.declared.fault.ImageFault.{ImageFault}
 use Rattle.image_dump.specs.declared.fault.ImageFault.TheVariants as fault
-use Rattle.io_edges.specs.Counts.{Rose}
+use Rattle.ubifs_base.specs.Faults.{Rose}
 use Rattle.io_edges.specs.Keeper.{KeeperState, SameFiles}
 use Rattle.text_lines.specs.Lines.{line_of}
 use Rattle.ubifs_tools.specs.Command.{IsFileName, IsMissing, Told, file_line}

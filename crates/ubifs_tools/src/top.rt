@@ -2,7 +2,7 @@
 
 ghost use Rattle.std.specs.Prelude.{◌≡◌, ◌≢◌, ◌≤◌, ◌⊎◌, ◌↔◌, ◌++◌, ◌∷◌, [], ℕ, List, IsTrue, map, codes};
 ghost use Rattle.std.specs.String.{string_bytes};
-ghost use Rattle.io_edges.specs.Counts.{Rose};
+ghost use Rattle.ubifs_base.specs.Faults.{Rose};
 ghost use Rattle.text_lines.specs.Lines.{line_of};
 ghost use Rattle.io_edges.specs.Keeper.{SameFiles};
 ghost use Rattle.ubifs_tools.specs.Command.{IsRun, OnRun, IsPrinted, IsTold, IsUnread, IsBadText, IsBadGeometry};
