@@ -5,7 +5,7 @@ use Rattle.bud_log.specs.declared.head_at.HeadAt.{HeadAt}
 
 -- a reference more: a LEB that is named already keeps its head, and the lesser offset counts; else it comes last
 abbrev pub named : List HeadAt → RefNode → List HeadAt
-named [] node = record { head = node.jhead; lnum = node.lnum; offs = node.offs } ∷ []
+named [] node = record { head = node.head; lnum = node.lnum; offs = node.offs } ∷ []
 named (bud ∷ buds) node = if bud.lnum == node.lnum then record { head = bud.head; lnum = bud.lnum; offs = min bud.offs node.offs } ∷ buds else bud ∷ named buds node
 
 -- the buds that these references name

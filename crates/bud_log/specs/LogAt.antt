@@ -98,7 +98,7 @@ without_old at = record { geo = at.geo; first = at.section; section = at.section
 
 -- the reference to a place where a head goes on
 abbrev pub reference_to : HeadAt → RefNode
-reference_to at = record { lnum = at.lnum; offs = at.offs; jhead = at.head }
+reference_to at = record { lnum = at.lnum; offs = at.offs; head = at.head }
 
 abbrev pub references_to : List HeadAt → List RefNode
 references_to [] = []
@@ -112,11 +112,6 @@ head_nodes (at ∷ heads) = reference (reference_to at) ∷ head_nodes heads
 -- the nodes with which the section of a commit begins
 abbrev pub section_nodes : ℕ → List HeadAt → List SystemNode
 section_nodes cmt_no heads = commit_start (record { cmt_no = cmt_no }) ∷ head_nodes heads
-
--- each is one of the three heads
-abbrev pub AreHeads : List HeadAt → Type 0
-AreHeads [] = ⊤
-AreHeads (at ∷ heads) = (at.head < 3) × AreHeads heads
 
 -- Full comes exactly where the log is full, with its numbers
 abbrev pub IsFullExactly : {T : Type 0} → LogAt → Result T LogFault → Type 0

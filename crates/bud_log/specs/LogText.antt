@@ -1,5 +1,7 @@
 -- What the text of a log LEB says.
 use Rattle.std.specs.Prelude.{◌≡◌, ◌≢◌, ◌⊎◌, ℕ, ◌==◌, nat_lt, not, Bool, false, if◌then◌else◌, Option, Some, None, List, [], ◌∷◌, filter, take, drop}
+use Rattle.ubifs_base.specs.NodeType.{type_number}
+use Rattle.ubifs_base.specs.declared.node_type.NodeType.TheVariants as types
 use Rattle.media_sys.specs.SystemNode.{IsRef}
 use Rattle.media_sys.specs.declared.ref_node.RefNode.{RefNode}
 use Rattle.leb_scan.specs.Text.{IsText, nodes_of}
@@ -21,8 +23,8 @@ IsReferenceAt leb found node = IsRef (take found.len (drop found.offs leb)) foun
 abbrev pub Refer : List ℕ → List Found → List RefNode → Type 0
 Refer leb [] references = references ≡ []
 Refer leb (found ∷ nodes) references =
-    ((found.kind ≢ 8) × Refer leb nodes references)
-    ⊎ ((found.kind ≡ 8) × (node : RefNode) × (others : List RefNode) × IsReferenceAt leb found node × (references ≡ node ∷ others) × Refer leb nodes others)
+    ((found.kind ≢ type_number types.Reference) × Refer leb nodes references)
+    ⊎ ((found.kind ≡ type_number types.Reference) × (node : RefNode) × (others : List RefNode) × IsReferenceAt leb found node × (references ≡ node ∷ others) × Refer leb nodes others)
 
 -- the LEB of this number has this text
 pub record IsTextOf (leb : List ℕ) (lnum : ℕ) (text : LogText) : Type 0 where
@@ -49,7 +51,7 @@ begins_with nodes = at_start (first_of nodes)
 -- the number of the commit start with which a LEB begins
 abbrev pub start_of : Option Found → Option ℕ
 start_of None = None
-start_of (Some found) = if found.kind == 10 then Some found.sqnum else None
+start_of (Some found) = if found.kind == type_number types.CommitStart then Some found.sqnum else None
 
 -- whether a LEB begins with a node whose number is greater than this one
 abbrev pub is_later : ℕ → Option Found → Bool
@@ -58,12 +60,12 @@ is_later number (Some found) = nat_lt number found.sqnum
 
 -- the nodes that are no padding
 abbrev pub others : List Found → List Found
-others nodes = filter (λ (found : Found). not (found.kind == 5)) nodes
+others nodes = filter (λ (found : Found). not (found.kind == type_number types.Padding)) nodes
 
 -- whether these nodes are one commit start
 abbrev pub is_one_start : List Found → Bool
 is_one_start [] = false
-is_one_start (found ∷ []) = found.kind == 10
+is_one_start (found ∷ []) = found.kind == type_number types.CommitStart
 is_one_start (found ∷ (other ∷ more)) = false
 
 -- whether a text, padding aside, is a commit start alone

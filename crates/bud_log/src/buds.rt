@@ -11,8 +11,9 @@ use crate::head_at::HeadAt;
 use leb_scan::{Found, Scanner};
 use media_sys::{RefNode, one_node};
 use std::alloc::{AllocError, Global};
+use ubifs_base::NodeType;
 
-const REFERENCE_NODE: u8 = 8;
+const REFERENCE_NODE: u8 = NodeType::Reference as u8;
 
 /// Names the references of a LEB behind those that were named before. The error is want of memory.
 pub(crate) fn name_buds(alloc: Global, leb: &[u8], buds: &mut Vec<HeadAt>) -> Result<(), AllocError>
@@ -55,7 +56,6 @@ fn reference_of(alloc: Global, bytes: &[u8]) -> Option<RefNode>
 
 // Names a bud.
 fn name_bud(buds: &mut Vec<HeadAt>, node: RefNode) -> Result<(), AllocError>
-    requires { node.jhead ≤ 2 }
     ensures { OnOk result (buds.new.items ≡ named buds.old.items node) }
 {
     for index in 0..buds.len() {
@@ -65,7 +65,7 @@ fn name_bud(buds: &mut Vec<HeadAt>, node: RefNode) -> Result<(), AllocError>
         }
     }
     buds.push(HeadAt {
-        head: node.jhead as u8,
+        head: node.head,
         lnum: node.lnum,
         offs: node.offs,
     })?;

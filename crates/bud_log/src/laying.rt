@@ -2,8 +2,7 @@
 
 ghost use Rattle.std.specs.Prelude.{◌≡◌, ◌<◌, ◌≤◌, ◌+◌, ◌-◌, ◌*◌, ◌%◌, ◌^◌, ℕ, [], ◌∷◌, length};
 ghost use Rattle.media_sys.specs.SystemNode.{reference};
-ghost use Rattle.media_sys.specs.Reference.{IsRefNode};
-ghost use Rattle.bud_log.specs.LogAt.{room_of, AreHeads, head_nodes, section_nodes};
+ghost use Rattle.bud_log.specs.LogAt.{room_of, head_nodes, section_nodes};
 ghost use Rattle.bud_log.specs.Writing.{AreNodes};
 
 use crate::head_at::HeadAt;
@@ -31,7 +30,6 @@ pub(crate) fn room_for(unit: u32, len: u32) -> u32
 
 // A reference with the number behind this one, and a gap.
 pub(crate) fn lay_reference(node: &RefNode, number: u64, bytes: &mut [u8])
-    requires node { IsRefNode node.now }
     requires number { number < 2 ^ 63 + 2 ^ 57 }
     requires room { 64 ≤ length bytes.old }
     requires size { length bytes.old < 2 ^ 32 }
@@ -54,7 +52,6 @@ fn lay_gap(number: u64, bytes: &mut [u8])
 
 // References to where heads go on, with the numbers behind this one, and a gap.
 fn lay_references(heads: &[HeadAt], number: u64, bytes: &mut [u8])
-    requires heads { AreHeads heads.now }
     requires number { number + length heads.now < 2 ^ 63 + 2 ^ 57 }
     requires room { 64 * length heads.now ≤ length bytes.old }
     requires size { length bytes.old < 2 ^ 32 }
@@ -68,7 +65,7 @@ fn lay_references(heads: &[HeadAt], number: u64, bytes: &mut [u8])
     let node = RefNode {
         lnum: head.lnum,
         offs: head.offs,
-        jhead: head.head as u32,
+        head: head.head,
     };
     let (front, rest) = bytes.split_at_mut(REFERENCE_LEN);
     node.encode(number + 1, 0, front);
@@ -77,7 +74,6 @@ fn lay_references(heads: &[HeadAt], number: u64, bytes: &mut [u8])
 
 // The nodes with which a section begins, and a gap.
 pub(crate) fn lay_section(cmt_no: u64, heads: &[HeadAt], number: u64, bytes: &mut [u8])
-    requires heads { AreHeads heads.now }
     requires number { number + 1 + length heads.now < 2 ^ 63 + 2 ^ 57 }
     requires room { 32 + 64 * length heads.now ≤ length bytes.old }
     requires size { length bytes.old < 2 ^ 32 }

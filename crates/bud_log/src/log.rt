@@ -6,10 +6,9 @@ ghost use Rattle.ubifs_base.specs.RawOf.{raw_of};
 ghost use Rattle.ubi_volume.specs.Volume.{AreUnits, filled, Keeps, Leaves, WorksOn, SameShape, ChangeUnderWay};
 ghost use Rattle.ubi_volume.specs.Faults.{HasCause, StaysSure};
 ghost use Rattle.media_sys.specs.SystemNode.{reference};
-ghost use Rattle.media_sys.specs.Reference.{IsRefNode};
 ghost use Rattle.bud_log.specs.Buds.{named, buds_of};
 ghost use Rattle.bud_log.specs.Log.{IsLogLeb, next_leb as leb_behind};
-ghost use Rattle.bud_log.specs.LogAt.{LogAt, IsAt, IsStart, IsBetween, IsEnded, IsFull, IsFullExactly, IfFull, IsRaised, HasLogCause, StaysSureLog, AreHeads, room_of, used_lebs, most_lebs, has_room as has_room_at, next_lnum, next_offs, lnum_at, offs_at, ending, starting, without_old, references_to, section_nodes};
+ghost use Rattle.bud_log.specs.LogAt.{LogAt, IsAt, IsStart, IsBetween, IsEnded, IsFull, IsFullExactly, IfFull, IsRaised, HasLogCause, StaysSureLog, room_of, used_lebs, most_lebs, has_room as has_room_at, next_lnum, next_offs, lnum_at, offs_at, ending, starting, without_old, references_to, section_nodes};
 ghost use Rattle.bud_log.specs.LogCalls.{WorksOnSome, IsEmptied, IsBegun, BeginUnderWay, IsAdded, AddDuring, OpenUnderWay, StartUnderWay, UnmapUnderWay, EndUnderWay};
 ghost use Rattle.bud_log.specs.Writing.{AreSpelled, IsReady, NamesBuds, NamesSome, IsOldOrMeant};
 ghost use Rattle.bud_log.specs.declared.head_at.HeadAt.{HeadAt as AHead};
@@ -21,7 +20,7 @@ use crate::ring::next_leb;
 use media_sys::{RefNode, one_node};
 use std::marker::Model;
 use ubi_volume::{VolFault, Volume};
-use ubifs_base::Geometry;
+use ubifs_base::{Geometry, JournalHead};
 
 // The most bytes that a write of the log takes: the greatest unit, into which a commit start and three references fit.
 const MOST: usize = 16384;
@@ -76,12 +75,11 @@ impl Log {
     pub fn open_bud<V: Volume>(
         &mut self,
         volume: &mut V,
-        head: u8,
+        head: JournalHead,
         lnum: u32,
         sqnum: &mut u64,
     ) -> Result<(), LogFault>
         requires at { IsAt (V.state volume.old) self.old }
-        requires head { head < 3 }
         requires main { main_first self.old.geo ≤ lnum }
         requires bud { lnum < (V.state volume.old).leb_cnt }
         requires number { sqnum.old < 2 ^ 63 + 2 ^ 56 }
@@ -89,12 +87,12 @@ impl Log {
         ensures untouched { IfFull result (Keeps (V.state volume.old) (V.state volume.new)) }
         ensures done { OnOk result ((from : ℕ) (buds : List AHead) → IsStart self.old from
             → IsReady (V.state volume.old) self.old.geo from self.old.lnum self.old.offs sqnum.old buds
-            → IsReady (V.state volume.new) self.new.geo from self.new.lnum self.new.offs sqnum.new (named buds (record { lnum = lnum; offs = 0; jhead = head }))) }
+            → IsReady (V.state volume.new) self.new.geo from self.new.lnum self.new.offs sqnum.new (named buds (record { lnum = lnum; offs = 0; head = head }))) }
         ensures any_moment { (from : ℕ) (buds : List AHead) → IsStart self.old from
             → IsReady (V.state volume.old) self.old.geo from self.old.lnum self.old.offs sqnum.old buds
             → Leaves (V.state volume.old) (V.state volume.new) (λ left.
-            IsOldOrMeant (V.state volume.old) (next_lnum self.old) (next_offs self.old) sqnum.old (reference (record { lnum = lnum; offs = 0; jhead = head }) ∷ []) (left (next_lnum self.old))
-            → NamesSome left self.old.geo from buds (record { lnum = lnum; offs = 0; jhead = head } ∷ [])) }
+            IsOldOrMeant (V.state volume.old) (next_lnum self.old) (next_offs self.old) sqnum.old (reference (record { lnum = lnum; offs = 0; head = head }) ∷ []) (left (next_lnum self.old))
+            → NamesSome left self.old.geo from buds (record { lnum = lnum; offs = 0; head = head } ∷ [])) }
         ensures works { WorksOnSome (V.state volume.old) (V.state volume.new) (λ k. (k ≡ lnum) ⊎ (k ≡ next_lnum self.old))
             (OpenUnderWay (has_room_at self.old) (V.state volume.old) self.old lnum (room_of self.old.geo.min_io 64)) }
         ensures emptied { OnOk result (IsEmptied (V.state volume.old) (V.state volume.new) lnum) }
@@ -117,7 +115,7 @@ impl Log {
         let node = RefNode {
             lnum,
             offs: 0,
-            jhead: head as u32,
+            head,
         };
         let number = *sqnum;
         *sqnum = number + 1;
@@ -141,7 +139,6 @@ impl Log {
         requires at { IsAt (V.state volume.old) self.old }
         requires kept { used_lebs self.old < self.old.geo.log_lebs }
         requires three { length heads.now ≤ 3 }
-        requires heads { AreHeads heads.now }
         requires number { sqnum.old < 2 ^ 63 + 2 ^ 56 }
         ensures done { OnOk result ((from : ℕ) (buds : List AHead) → IsStart self.old from
             → IsReady (V.state volume.old) self.old.geo from self.old.lnum self.old.offs sqnum.old buds
@@ -205,7 +202,6 @@ impl Log {
         here: bool,
     ) -> Result<(), VolFault>
         requires at { IsAt (V.state volume.old) self.old }
-        requires node { IsRefNode node.now }
         requires number { number < 2 ^ 63 + 2 ^ 57 }
         requires here { here ≡ has_room_at self.old }
         requires kept { (here ≡ false) → used_lebs self.old < self.old.geo.log_lebs }
@@ -238,7 +234,6 @@ impl Log {
     ) -> Result<(), VolFault>
         requires at { IsAt (V.state volume.old) self.old }
         requires three { length heads.now ≤ 3 }
-        requires heads { AreHeads heads.now }
         requires number { number < 2 ^ 63 + 2 ^ 56 }
         requires kept { used_lebs self.old < self.old.geo.log_lebs }
         ensures spelled { AreSpelled number (section_nodes cmt_no heads.now) }

@@ -5,10 +5,11 @@ ghost use Rattle.bud_log.specs.LogText.{at_start as at_the_start, start_of as st
 ghost use Rattle.bud_log.specs.Seen.{IsSeen, earlier_of};
 
 use leb_scan::{Found, Scanner, Tail};
+use ubifs_base::NodeType;
 
-const PADDING_NODE: u8 = 5;
+const PADDING_NODE: u8 = NodeType::Padding as u8;
 
-const COMMIT_START_NODE: u8 = 10;
+const COMMIT_START_NODE: u8 = NodeType::CommitStart as u8;
 
 /// The node with which the LEB begins, whether its text is a commit start alone, and where and how the text ends.
 #[derive(Clone, Copy, Debug, PartialEq, Eq)]

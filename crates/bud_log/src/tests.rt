@@ -10,7 +10,7 @@ use std::alloc::Global;
 use std::process::Abort;
 use std::test::Fail;
 use ubi_volume::{MemVolume, VolFault, VolShape, Volume};
-use ubifs_base::{Geometry, RawGeometry};
+use ubifs_base::{Geometry, JournalHead, RawGeometry};
 
 const SHAPE: VolShape = VolShape {
     leb_size: 16384,
@@ -22,10 +22,11 @@ const SHAPE: VolShape = VolShape {
 #[derive(Clone, Copy)]
 enum Laid {
     Start(u64),
-    Bud(u64, u32, u32, u32),
+    Bud(u64, JournalHead, u32, u32),
     Torn,
 }
 
+use JournalHead::{Base, Collector, Data};
 use Laid::{Bud, Start, Torn};
 
 // The nodes one behind another, and padding bytes to the end.
@@ -49,7 +50,7 @@ fn lay(nodes: &[Laid], leb: &mut [u8])
                 let node = RefNode {
                     lnum: *lnum,
                     offs: *offs,
-                    jhead: *head % 3,
+                    head: *head,
                 };
                 node.encode(*sqnum, 0, rest.split_at_mut(64).0);
                 place += 64;
@@ -115,7 +116,7 @@ fn is_log(
     Ok(())
 }
 
-fn bud(head: u8, lnum: u32, offs: u32) -> HeadAt {
+fn bud(head: JournalHead, lnum: u32, offs: u32) -> HeadAt {
     HeadAt { head, lnum, offs }
 }
 
@@ -135,11 +136,15 @@ fn references_name_buds(rt: HostRuntime) -> Result<(), Fail> {
     // The three heads.
     let three = [
         Start(10),
-        Bud(11, 0, 20, 512),
-        Bud(12, 1, 30, 0),
-        Bud(13, 2, 25, 4096),
+        Bud(11, Collector, 20, 512),
+        Bud(12, Base, 30, 0),
+        Bud(13, Data, 25, 4096),
     ];
-    let buds = [bud(0, 20, 512), bud(1, 30, 0), bud(2, 25, 4096)];
+    let buds = [
+        bud(Collector, 20, 512),
+        bud(Base, 30, 0),
+        bud(Data, 25, 4096),
+    ];
     is_log(
         &rt,
         alloc,
@@ -151,12 +156,12 @@ fn references_name_buds(rt: HostRuntime) -> Result<(), Fail> {
     // A LEB that is named twice: its first head, and the least offset.
     let twice = [
         Start(10),
-        Bud(11, 0, 20, 512),
-        Bud(12, 1, 21, 512),
-        Bud(13, 2, 20, 0),
-        Bud(14, 1, 21, 1024),
+        Bud(11, Collector, 20, 512),
+        Bud(12, Base, 21, 512),
+        Bud(13, Data, 20, 0),
+        Bud(14, Base, 21, 1024),
     ];
-    let buds = [bud(0, 20, 0), bud(1, 21, 512)];
+    let buds = [bud(Collector, 20, 0), bud(Base, 21, 512)];
     is_log(
         &rt,
         alloc,
@@ -166,13 +171,18 @@ fn references_name_buds(rt: HostRuntime) -> Result<(), Fail> {
         (3, 1024, Tail::Clean),
     )?;
     // A torn end.
-    let torn = [Start(10), Bud(11, 0, 20, 0), Torn, Bud(12, 1, 21, 0)];
+    let torn = [
+        Start(10),
+        Bud(11, Collector, 20, 0),
+        Torn,
+        Bud(12, Base, 21, 0),
+    ];
     is_log(
         &rt,
         alloc,
         (&torn, &[], &[], &[]),
         3,
-        &[bud(0, 20, 0)],
+        &[bud(Collector, 20, 0)],
         (3, 96, Tail::Torn),
     )
 }
@@ -180,10 +190,10 @@ fn references_name_buds(rt: HostRuntime) -> Result<(), Fail> {
 #[test]
 fn reading_goes_on_where_numbers_are_greater(rt: HostRuntime) -> Result<(), Fail> {
     let alloc = rt.alloc();
-    let first = [Start(10), Bud(11, 1, 20, 0)];
+    let first = [Start(10), Bud(11, Base, 20, 0)];
     // A section goes on in the next LEB.
-    let more = [Bud(12, 2, 21, 0)];
-    let buds = [bud(1, 20, 0), bud(2, 21, 0)];
+    let more = [Bud(12, Data, 21, 0)];
+    let buds = [bud(Base, 20, 0), bud(Data, 21, 0)];
     is_log(
         &rt,
         alloc,
@@ -193,32 +203,32 @@ fn reading_goes_on_where_numbers_are_greater(rt: HostRuntime) -> Result<(), Fail
         (4, 1024, Tail::Clean),
     )?;
     // An older section, and one that begins with the same number, isn't read.
-    let older = [Start(9), Bud(12, 2, 21, 0)];
+    let older = [Start(9), Bud(12, Data, 21, 0)];
     is_log(
         &rt,
         alloc,
         (&first, &older, &more, &[]),
         3,
-        &[bud(1, 20, 0)],
+        &[bud(Base, 20, 0)],
         (3, 1024, Tail::Clean),
     )?;
-    let same = [Start(10), Bud(12, 2, 21, 0)];
+    let same = [Start(10), Bud(12, Data, 21, 0)];
     is_log(
         &rt,
         alloc,
         (&first, &same, &more, &[]),
         3,
-        &[bud(1, 20, 0)],
+        &[bud(Base, 20, 0)],
         (3, 1024, Tail::Clean),
     )?;
     // Nor is a LEB in which the first node doesn't stand at its start.
-    let behind = [Torn, Bud(12, 2, 21, 0)];
+    let behind = [Torn, Bud(12, Data, 21, 0)];
     is_log(
         &rt,
         alloc,
         (&first, &behind, &more, &[]),
         3,
-        &[bud(1, 20, 0)],
+        &[bud(Base, 20, 0)],
         (3, 1024, Tail::Clean),
     )
 }
@@ -226,9 +236,9 @@ fn reading_goes_on_where_numbers_are_greater(rt: HostRuntime) -> Result<(), Fail
 #[test]
 fn sections_of_unfinished_commits_are_read(rt: HostRuntime) -> Result<(), Fail> {
     let alloc = rt.alloc();
-    let first = [Start(10), Bud(11, 1, 20, 0)];
-    let second = [Start(12), Bud(13, 1, 20, 4096), Bud(14, 2, 22, 0)];
-    let buds = [bud(1, 20, 0), bud(2, 22, 0)];
+    let first = [Start(10), Bud(11, Base, 20, 0)];
+    let second = [Start(12), Bud(13, Base, 20, 4096), Bud(14, Data, 22, 0)];
+    let buds = [bud(Base, 20, 0), bud(Data, 22, 0)];
     is_log(
         &rt,
         alloc,
@@ -243,7 +253,7 @@ fn sections_of_unfinished_commits_are_read(rt: HostRuntime) -> Result<(), Fail> 
         alloc,
         (&first, &[Start(12)], &[], &[]),
         3,
-        &[bud(1, 20, 0)],
+        &[bud(Base, 20, 0)],
         (3, 1024, Tail::Clean),
     )?;
     is_log(
@@ -259,11 +269,11 @@ fn sections_of_unfinished_commits_are_read(rt: HostRuntime) -> Result<(), Fail> 
 #[test]
 fn reading_goes_round_the_ring_once(rt: HostRuntime) -> Result<(), Fail> {
     let alloc = rt.alloc();
-    let buds = [bud(0, 20, 0), bud(1, 21, 0), bud(2, 22, 0)];
+    let buds = [bud(Collector, 20, 0), bud(Base, 21, 0), bud(Data, 22, 0)];
     let lebs = (
-        [Bud(11, 0, 20, 0)].as_slice(),
-        [Bud(12, 1, 21, 0)].as_slice(),
-        [Bud(13, 2, 22, 0)].as_slice(),
+        [Bud(11, Collector, 20, 0)].as_slice(),
+        [Bud(12, Base, 21, 0)].as_slice(),
+        [Bud(13, Data, 22, 0)].as_slice(),
         [Start(10)].as_slice(),
     );
     is_log(&rt, alloc, lebs, 6, &buds, (5, 1024, Tail::Clean))?;
@@ -273,7 +283,7 @@ fn reading_goes_round_the_ring_once(rt: HostRuntime) -> Result<(), Fail> {
         alloc,
         lebs,
         4,
-        &[bud(1, 21, 0)],
+        &[bud(Base, 21, 0)],
         (4, 1024, Tail::Clean),
     )
 }

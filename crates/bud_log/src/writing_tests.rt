@@ -8,7 +8,7 @@ use crate::{HeadAt, Log, LogFault, read_log};
 use leb_scan::Tail;
 use std::test::Fail;
 use ubi_volume::{MemVolume, VolShape};
-use ubifs_base::{Geometry, RawGeometry};
+use ubifs_base::{Geometry, JournalHead, RawGeometry};
 
 const SHAPE: VolShape = VolShape {
     leb_size: 16384,
@@ -32,7 +32,7 @@ fn written_section_is_read(rt: HostRuntime) -> Result<(), Fail> {
     let mut sqnum = 7;
     let mut log = Log::at(&geometry, 3, 3, 0);
     let heads = [HeadAt {
-        head: 1,
+        head: JournalHead::Base,
         lnum: 20,
         offs: 512,
     }];
@@ -42,7 +42,7 @@ fn written_section_is_read(rt: HostRuntime) -> Result<(), Fail> {
     let Ok(()) = log.end_section(&mut volume) else {
         return Err(Fail::from("no end"));
     };
-    let Ok(()) = log.open_bud(&mut volume, 2, 21, &mut sqnum) else {
+    let Ok(()) = log.open_bud(&mut volume, JournalHead::Data, 21, &mut sqnum) else {
         return Err(Fail::from("no bud"));
     };
     assert_eq!(rt; (log.section(), sqnum), (4, 10));
@@ -50,7 +50,7 @@ fn written_section_is_read(rt: HostRuntime) -> Result<(), Fail> {
         return Err(Fail::from("no answer"));
     };
     let bud = HeadAt {
-        head: 2,
+        head: JournalHead::Data,
         lnum: 21,
         offs: 0,
     };
@@ -65,7 +65,7 @@ fn two_lebs_are_kept(rt: HostRuntime) -> Result<(), Fail> {
     let mut volume = MemVolume::new(rt.alloc(), SHAPE)?;
     let mut sqnum = 7;
     let mut log = Log::at(&geometry, 3, 4, 16384);
-    let full = log.open_bud(&mut volume, 1, 20, &mut sqnum);
+    let full = log.open_bud(&mut volume, JournalHead::Base, 20, &mut sqnum);
     assert_eq!(rt; full, Err(LogFault::Full { used: 2, limit: 2 }));
     assert_eq!(rt; sqnum, 7);
     Ok(())
@@ -77,7 +77,7 @@ fn lebs_in_use_are_counted_round_the_ring(rt: HostRuntime) -> Result<(), Fail> {
     let mut volume = MemVolume::new(rt.alloc(), SHAPE)?;
     let mut sqnum = 7;
     let mut log = Log::at(&geometry, 5, 3, 16384);
-    let full = log.open_bud(&mut volume, 1, 20, &mut sqnum);
+    let full = log.open_bud(&mut volume, JournalHead::Base, 20, &mut sqnum);
     assert_eq!(rt; full, Err(LogFault::Full { used: 3, limit: 2 }));
     assert_eq!(rt; sqnum, 7);
     Ok(())
@@ -89,12 +89,15 @@ fn next_leb_is_begun(rt: HostRuntime) -> Result<(), Fail> {
     let mut volume = MemVolume::new(rt.alloc(), SHAPE)?;
     let mut sqnum = 7;
     let mut log = Log::at(&geometry, 6, 6, 16384);
-    assert_eq!(rt; log.open_bud(&mut volume, 1, 20, &mut sqnum), Ok(()));
+    assert_eq!(rt;
+        log.open_bud(&mut volume, JournalHead::Base, 20, &mut sqnum),
+        Ok(())
+    );
     let Ok(read) = read_log(rt.alloc(), &mut volume, &geometry, 3) else {
         return Err(Fail::from("no answer"));
     };
     let bud = HeadAt {
-        head: 1,
+        head: JournalHead::Base,
         lnum: 20,
         offs: 0,
     };

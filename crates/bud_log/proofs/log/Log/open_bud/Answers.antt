@@ -14,7 +14,7 @@ pub returns-in_err-clear_bud-clause-any_moment : goal.returns-in_err-clear_bud-c
 returns-in_err-clear_bud-clause-any_moment g c = λ from buds start h.
     let a = g.V.Volume.state c.args.volume.now in
     let at = c.args.self.now in
-    let node : RefNode = record { lnum = c.args.lnum; offs = 0; jhead = c.args.head } in
+    let node : RefNode = record { lnum = c.args.lnum; offs = 0; head = c.args.head } in
     bud_moment a (g.V.Volume.state c.clear_bud.new.volume) at from c.args.sqnum.now c.args.lnum buds (node ∷ []) (λ left. IsOldOrMeant a (next_lnum at) (next_offs at) c.args.sqnum.now (reference node ∷ []) (left (next_lnum at))) (ChangeUnderWay a c.args.lnum [])
     c.requires.at start c.requires.main h c.clear_bud.ensures.works
 
@@ -24,7 +24,7 @@ returns-in_err-write_reference-clause-any_moment g c = λ from buds start h.
     let b = g.V.Volume.state c.clear_bud.new.volume in
     let e = g.V.Volume.state c.write_reference.new.volume in
     let at = c.args.self.now in
-    let node : RefNode = record { lnum = c.args.lnum; offs = 0; jhead = c.args.head } in
+    let node : RefNode = record { lnum = c.args.lnum; offs = 0; head = c.args.head } in
     both_moment c.one_node.ensures c.has_room-here.result a b e at c.args.lnum from c.args.sqnum.now (room_of at.geo.min_io 64) buds node c.requires.at c.has_room-here.ensures (c.is_full.ensures.kept c.if-is_full.false) c.requires.main start
     (g.met.V.Volume.mapped_now c.args.volume.now) c.write_reference.ensures.spelled c.clear_bud.ensures.shape.leb_size c.clear_bud.ensures.works c.write_reference.ensures.works h
 
@@ -42,7 +42,7 @@ returns-clause-done g c = λ from buds start h.
     let b = g.V.Volume.state c.clear_bud.new.volume in
     let e = g.V.Volume.state c.write_reference.new.volume in
     let at = c.args.self.now in
-    let node : RefNode = record { lnum = c.args.lnum; offs = 0; jhead = c.args.head } in
+    let node : RefNode = record { lnum = c.args.lnum; offs = 0; head = c.args.head } in
     let f = start_in a at from c.requires.at start in
     let kept = c.is_full.ensures.kept c.if-is_full.false in
     let ready = bud_ready a b at.geo from at.lnum at.offs c.args.sqnum.now c.args.lnum buds (ChangeUnderWay a c.args.lnum []) h f (main_out at.geo c.args.lnum c.requires.main) c.clear_bud.ensures.works in
@@ -55,7 +55,7 @@ returns-clause-any_moment g c = λ from buds start h.
     let b = g.V.Volume.state c.clear_bud.new.volume in
     let e = g.V.Volume.state c.write_reference.new.volume in
     let at = c.args.self.now in
-    let node : RefNode = record { lnum = c.args.lnum; offs = 0; jhead = c.args.head } in
+    let node : RefNode = record { lnum = c.args.lnum; offs = 0; head = c.args.head } in
     both_moment c.one_node.ensures c.has_room-here.result a b e at c.args.lnum from c.args.sqnum.now (room_of at.geo.min_io 64) buds node c.requires.at c.has_room-here.ensures (c.is_full.ensures.kept c.if-is_full.false) c.requires.main start
     (g.met.V.Volume.mapped_now c.args.volume.now) c.write_reference.ensures.spelled c.clear_bud.ensures.shape.leb_size c.clear_bud.ensures.works c.write_reference.ensures.works h
 
