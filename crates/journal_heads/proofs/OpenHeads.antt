@@ -1,12 +1,12 @@
 -- Heads that are open stay so while one of them is worked on.
-use Rattle.std.proofs.Common.{◌≡◌, ◌≢◌, ℕ, Option, Some, None, List, ◌++◌, take, refl, ap, sym, subst, ◌∙◌, inl, inr, arith}
-use Rattle.std.specs.Prelude.{IsSome, Result, Ok, Err, OnOk}
+use Rattle.std.proofs.Common.{◌≡◌, ◌≢◌, ℕ, Option, Some, None, List, refl, ap, sym, subst, ◌∙◌, inl, inr, arith}
+use Rattle.std.specs.Prelude.{IsSome, Result, Ok, Err, IfOk, OnOk}
 use Rattle.std.proofs.lemmas.Bool.{cases_eq, false≢true}
 use Rattle.std.proofs.lemmas.Option.{none-some}
 use Rattle.ubi_volume.specs.Volume.{VolumeState, SameShape, WorksOn}
-use Rattle.write_buffer.specs.Buffer.{Buffered, IsOpenFor, number_of, text_of}
+use Rattle.write_buffer.specs.Buffer.{Buffered, IsOpenFor, Stands, number_of}
 use Rattle.journal_heads.specs.declared.heads.Heads.{Heads}
-use Rattle.journal_heads.specs.Heads.{AreOpen, IsOn, KeepsOthers, buffer_of}
+use Rattle.journal_heads.specs.Heads.{AddsTo, AreOpen, IsOn, buffer_of}
 
 -- a buffer is open for its LEB as before, while another LEB is worked on
 pub open_still : (a b : VolumeState) (x : Buffered) (lnum other : ℕ) (D : List ℕ → Type 0) → lnum ≢ other → WorksOn a b other D → SameShape a b → IsOpenFor a x lnum → IsOpenFor b x lnum
@@ -63,19 +63,26 @@ open_after a b x y head lnum D open_before on works shape others size is =
       size = size ∙ open_before.size ∙ sym shape.leb_size;
     }
 
--- what was put on the other heads is as it was
-pub keeps_others : (a b : VolumeState) (x y : Heads) (head lnum : ℕ) (D : List ℕ → Type 0) → AreOpen a x → IsOn x head lnum → WorksOn a b lnum D
-    → ((k : ℕ) → k ≢ head → buffer_of y k ≡ buffer_of x k) → y.leb_size ≡ x.leb_size → KeepsOthers a b x y head
-keeps_others a b x y head lnum D open_before on works others size = record {
-  buffers = others;
-  texts = λ k l ne on_k. ap (λ (z : Buffered). text_of b z l) (others k ne)
-      ∙ ap (λ (leb : List ℕ). take (buffer_of x k).place leb ++ (buffer_of x k).tail) (works.others l (other_leb a x k head l lnum open_before ne on_k on));
+-- bytes are added to a head that has a LEB
+pub adds_on : (a b : VolumeState) (x y : Heads) (head lnum : ℕ) (bytes : List ℕ) → IsOn x head lnum → Stands a b (buffer_of x head) (buffer_of y head) lnum bytes → ((k : ℕ) → k ≢ head → buffer_of y k ≡ buffer_of x k) → y.leb_size ≡ x.leb_size
+    → SameShape a b → AddsTo a b x y head bytes
+adds_on a b x y head lnum bytes on stands others size shape = record {
+  leb = stands.leb;
+  stands = λ l there. let P : ℕ → Type 0 = λ n. Stands a b (buffer_of x head) (buffer_of y head) n bytes in subst P (ap number_of (sym on ∙ there)) stands;
+  others = others;
   size = size;
+  shape = shape;
 }
 
--- nothing happened
-pub none_others : (a : VolumeState) (x : Heads) (head : ℕ) → KeepsOthers a a x x head
-none_others a x head = record { buffers = λ k ne. refl; texts = λ k l ne on. refl; size = refl }
+-- where it has none, nothing happened
+pub adds_none : (a : VolumeState) (x : Heads) (head : ℕ) (bytes : List ℕ) → (buffer_of x head).leb ≡ None → AddsTo a a x x head bytes
+adds_none a x head bytes off = record {
+  leb = refl;
+  stands = λ l there. absurd (none-some l (sym off ∙ there));
+  others = λ k ne. refl;
+  size = refl;
+  shape = record { leb_size = refl; min_io = refl; leb_cnt = refl };
+}
 
 -- a head that has a LEB is on it
 pub on_number : (o : Option ℕ) → IsSome o → o ≡ Some (number_of o)
@@ -85,3 +92,7 @@ on_number None h = absurd (false≢true h)
 pub on_ok : {T E : Type 0} (r : Result T E) (A B : Type 0) → (A → B) → OnOk r A → OnOk r B
 on_ok (Ok x) A B f h = f h
 on_ok (Err e) A B f h = h
+
+pub if_ok_both : {T E : Type 0} (r : Result T E) (A : Type 0) (P : T → Type 0) → OnOk r A → IfOk r P → IfOk r (λ x. A × P x)
+if_ok_both (Ok x) A P h k = (h, k)
+if_ok_both (Err e) A P h k = k

@@ -1,13 +1,14 @@
--- Which heads are open from the start, and after one was turned to an empty LEB.
-use Rattle.std.specs.Prelude.{◌≡◌, ◌≢◌, ◌⊎◌, ℕ, zero, suc, ◌<◌, Some, None, [], length}
+-- Which heads are open from the start, and after one was turned to an empty LEB; and what a call on one head leaves of the others.
+use Rattle.std.specs.Prelude.{◌≡◌, ◌≢◌, ◌⊎◌, ℕ, zero, suc, ◌<◌, Some, None, List, [], ◌++◌, length, take}
 use Rattle.std.proofs.Common.{refl, ap, sym, subst, ◌∙◌, inl, inr, arith}
 use Rattle.std.proofs.lemmas.Bool.{cases_eq}
 use Rattle.std.proofs.lemmas.List.{get_or-set_same, get_or-set_other}
 use Rattle.std.proofs.lemmas.Option.{none-some}
 use Rattle.ubi_volume.specs.Volume.{VolumeState}
-use Rattle.write_buffer.specs.Buffer.{Buffered, IsOpenFor, number_of}
+use Rattle.ubi_volume.specs.Frame.{Works}
+use Rattle.write_buffer.specs.Buffer.{Buffered, IsOpenFor, number_of, text_of}
 use Rattle.journal_heads.specs.declared.heads.Heads.{Heads}
-use Rattle.journal_heads.specs.Heads.{AreOpen, IsEmptyLeb, IsFree, IsOn, attached, buffer_of, fresh, fresh_buffer}
+use Rattle.journal_heads.specs.Heads.{AddsTo, AreOpen, IsEmptyLeb, IsFree, IsOn, attached, buffer_of, fresh, fresh_buffer}
 
 -- a head at its start
 pub buffer_of-fresh : (unit size head : ℕ) → ((buffer_of (fresh unit size) head).leb ≡ None) × ((buffer_of (fresh unit size) head).tail ≡ [])
@@ -84,3 +85,10 @@ AreOpen-attached state heads head lnum inside is free empty =
       ];
       size = is.size;
     }
+
+-- what was put on the other heads is as it was, where the LEB of one head was worked on alone
+pub other_text : (old new : VolumeState) (before after : Heads) (head : ℕ) (bytes : List ℕ) (P : (ℕ → List ℕ) → Type 0) → AreOpen old before → AddsTo old new before after head bytes → Works old new (IsOn before head) P
+    → (other lnum : ℕ) → other ≢ head → IsOn before other lnum → text_of new (buffer_of after other) lnum ≡ text_of old (buffer_of before other) lnum
+other_text old new before after head bytes P is adds works other lnum ne on =
+    let off : IsOn before head lnum → ⊥ = λ h. ne (is.apart other head lnum on h) in
+    ap (λ (z : Buffered). text_of new z lnum) (adds.others other ne) ∙ ap (λ (leb : List ℕ). take (buffer_of before other).place leb ++ (buffer_of before other).tail) (works.others lnum off).holds

@@ -1,7 +1,8 @@
--- The heads of the journal: 0 of the collector, 1 of nodes that aren't data, and 2 of data. Each is a buffer in front of a LEB.
-use Rattle.std.specs.Prelude.{◌≡◌, ◌≢◌, ℕ, ◌+◌, ◌%◌, ◌<◌, ◌≤◌, Option, Some, None, IsSome, List, [], ◌∷◌, slice_index_or, slice_set}
-use Rattle.ubi_volume.specs.Volume.{VolumeState, Keeps, Only, Torn, WorksOn}
-use Rattle.write_buffer.specs.Buffer.{Buffered, IsAppended, IsOpenFor, IsSynced, Stands, end_of, lnum_of, padding_of, text_of}
+-- The heads of the journal, by their numbers: 0 of the collector, 1 of nodes that aren't data, and 2 of data. Each is a
+-- buffer in front of a LEB.
+use Rattle.std.specs.Prelude.{◌≡◌, ◌≢◌, ℕ, ◌+◌, ◌%◌, ◌<◌, ◌≤◌, Option, Some, None, IsSome, List, [], ◌∷◌, length, slice_index_or, slice_set}
+use Rattle.ubi_volume.specs.Volume.{VolumeState, Only, SameShape, Torn}
+use Rattle.write_buffer.specs.Buffer.{Buffered, IsAppended, IsOpenFor, IsSynced, Stands, end_of, lnum_of, padding_of, whole_of}
 use Rattle.journal_heads.specs.declared.heads.Heads.{Heads}
 use Rattle.journal_heads.specs.declared.place.Place.{Place}
 
@@ -61,16 +62,23 @@ place_in None offs = None
 abbrev pub place_of : Heads → ℕ → Option Place
 place_of heads head = place_in (buffer_of heads head).leb (end_of (buffer_of heads head))
 
--- the other heads, and what was put on them, are as they were
-pub record KeepsOthers (old new : VolumeState) (before after : Heads) (head : ℕ) : Type 0 where
-  pub buffers : (other : ℕ) → other ≢ head → buffer_of after other ≡ buffer_of before other
-  pub texts : (other lnum : ℕ) → other ≢ head → IsOn before other lnum → text_of new (buffer_of after other) lnum ≡ text_of old (buffer_of before other) lnum
+-- Bytes are added to what was put on a head, whatever the call answers: the head keeps its LEB, what was put on it stands,
+-- with a first part of these bytes behind it, and the other heads are as they were.
+pub record AddsTo (old new : VolumeState) (before after : Heads) (head : ℕ) (bytes : List ℕ) : Type 0 where
+  pub leb : (buffer_of after head).leb ≡ (buffer_of before head).leb
+  pub stands : (lnum : ℕ) → IsOn before head lnum → Stands old new (buffer_of before head) (buffer_of after head) lnum bytes
+  pub others : (other : ℕ) → other ≢ head → buffer_of after other ≡ buffer_of before other
   pub size : after.leb_size ≡ before.leb_size
+  pub shape : SameShape old new
 
 -- these nodes were put on a head, behind what was put on it before
 pub record ArePut (old new : VolumeState) (before after : Heads) (head : ℕ) (nodes : List ℕ) : Type 0 where
   pub appended : IsAppended old new (buffer_of before head) (buffer_of after head) (lnum_of (buffer_of before head)) nodes
   pub open_after : AreOpen new after
+
+-- what a cut leaves of the LEB of a head while so many bytes are put: what is written stands, and the units that fill may be anything
+abbrev pub PutUnderWay : VolumeState → Buffered → ℕ → List ℕ → Type 0
+PutUnderWay old buffer n left = Torn buffer.place (whole_of buffer.unit (length buffer.tail + n)) (old.holds (lnum_of buffer)) left
 
 -- nothing of the head waits, and a cut leaves of its LEB what was put on it
 pub record IsSyncedHead (old new : VolumeState) (before after : Heads) (head : ℕ) : Type 0 where
@@ -78,28 +86,29 @@ pub record IsSyncedHead (old new : VolumeState) (before after : Heads) (head : �
   pub synced : (lnum : ℕ) → IsOn before head lnum → IsSynced old new (buffer_of before head) (buffer_of after head) lnum
   pub open_after : AreOpen new after
 
+-- what is appended where a head is synced
+abbrev pub head_padding : Heads → ℕ → List ℕ
+head_padding heads head = padding_of (buffer_of heads head).unit (buffer_of heads head).tail
+
 -- what was put on a head stands, with a first part of a gap behind it
 abbrev pub StandsHead : VolumeState → VolumeState → Heads → Heads → ℕ → Type 0
-StandsHead old new before after head =
-    (lnum : ℕ) → IsOn before head lnum → Stands old new (buffer_of before head) (buffer_of after head) lnum (padding_of (buffer_of before head).unit (buffer_of before head).tail)
+StandsHead old new before after head = (lnum : ℕ) → IsOn before head lnum → Stands old new (buffer_of before head) (buffer_of after head) lnum (head_padding before head)
 
--- a sync works on the LEB of the head, where there is one: what is written there stands, and one unit behind it may be anything
-abbrev pub WorksOnHead : VolumeState → VolumeState → Buffered → Option ℕ → Type 0
-WorksOnHead old new buffer (Some lnum) = WorksOn old new lnum (Torn buffer.place buffer.unit (old.holds lnum))
-WorksOnHead old new buffer None = Keeps old new
+-- What a cut leaves while one head is synced: of its LEB what is written stands, and one unit behind it may be anything; of
+-- the other LEBs what a cut might have left before.
+pub record IsHeadLeft (old : VolumeState) (buffer : Buffered) (left : ℕ → List ℕ) : Type 0 where
+  pub here : (lnum : ℕ) → buffer.leb ≡ Some lnum → Torn buffer.place buffer.unit (old.holds lnum) (left lnum)
+  pub there : (lnum : ℕ) → (buffer.leb ≡ Some lnum → ⊥) → old.left_now lnum (left lnum)
+
+-- some head writes to this LEB
+abbrev pub IsHeads : Heads → ℕ → Type 0
+IsHeads heads lnum = (head : ℕ) × IsOn heads head lnum
 
 -- What a cut leaves while heads are synced: of the LEB of each head what is written stands, and one unit behind it may be
 -- anything; of the other LEBs what a cut might have left before.
 pub record AreLeft (old : VolumeState) (heads : Heads) (left : ℕ → List ℕ) : Type 0 where
   pub each : (head lnum : ℕ) → IsOn heads head lnum → Torn (buffer_of heads head).place (buffer_of heads head).unit (old.holds lnum) (left lnum)
   pub others : (lnum : ℕ) → IsFree heads lnum → old.left_now lnum (left lnum)
-
--- LEBs to which no head writes are as they were, now and after a cut
-pub record KeepsFree (old new : VolumeState) (heads : Heads) : Type 0 where
-  pub holds : (lnum : ℕ) → IsFree heads lnum → new.holds lnum ≡ old.holds lnum
-  pub written : (lnum : ℕ) → IsFree heads lnum → new.written lnum ≡ old.written lnum
-  pub left : (lnum : ℕ) (c : List ℕ) → IsFree heads lnum → new.left_now lnum c → old.left_now lnum c
-  pub left_mapped : (lnum : ℕ) (c : List ℕ) → IsFree heads lnum → new.left_mapped lnum c → old.left_mapped lnum c
 
 -- nothing of any head waits, and a cut leaves of each LEB what was put on its head
 pub record AreSynced (old new : VolumeState) (before after : Heads) : Type 0 where

@@ -1,19 +1,20 @@
 // The heads of the journal.
 
 ghost use Rattle.std.specs.Prelude.{◌≡◌, ◌⊎◌, ◌↔◌, ◌≢◌, ◌+◌, ◌<◌, ◌≤◌, ℕ, [], length, IfOk, OnOk, OnErr, IsTrue};
-ghost use Rattle.ubi_volume.specs.Volume.{Leaves, SameShape, Torn, WorksOn};
+ghost use Rattle.ubifs_base.specs.JournalHead.{head_number};
+ghost use Rattle.ubi_volume.specs.Volume.{SameShape, Torn, WorksOn};
 ghost use Rattle.ubi_volume.specs.Faults.{HasCause, StaysSure};
+ghost use Rattle.ubi_volume.specs.Frame.{Works};
 ghost use Rattle.write_buffer.specs.Buffer.{IsAppended, IsOpenFor, IsSynced, Stands, end_of, lnum_of, padding_of, whole_of};
-ghost use Rattle.journal_heads.specs.Heads.{AreLeft, AreOpen, ArePut, AreSynced, HasRoom, IsSyncedHead, KeepsFree, KeepsOthers, StandsHead, WorksOnHead, attached, buffer_of, fresh, place_of};
+ghost use Rattle.journal_heads.specs.Heads.{AddsTo, AreLeft, AreOpen, ArePut, AreSynced, HasRoom, IsHeadLeft, IsHeads, IsOn, IsSyncedHead, PutUnderWay, StandsHead, attached, buffer_of, fresh, head_padding, place_of};
 
 use crate::Place;
 use std::alloc::Global;
 use ubi_volume::{VolFault, Volume};
-use ubifs_base::{Geometry, Memory};
+use ubifs_base::{Geometry, JournalHead, Memory};
 use write_buffer::Buffer;
 
-/// The heads of the journal: 0 takes what the collector moves, 1 the nodes that aren't data, and 2 data. No call but `new`
-/// takes memory.
+/// The heads of the journal. No call but `new` takes memory.
 #[derive(Drop)]
 pub struct Heads {
     buffers: [Buffer; 3],
@@ -37,7 +38,84 @@ impl Heads {
     }
 
     /// Whether the head has a LEB, and so many bytes fit before the LEB's end.
-    pub fn fits(&self, head: u8, len: u32) -> bool
+    pub fn fits(&self, head: JournalHead, len: u32) -> bool
+        ensures { IsTrue result ↔ HasRoom self.now (head_number head) len }
+    {
+        self.has_room(index_of(head), len)
+    }
+
+    /// Turns a head to the start of a LEB. Nothing of the head may wait.
+    pub fn attach(&mut self, head: JournalHead, lnum: u32)
+        requires { (buffer_of self.old (head_number head)).tail ≡ [] }
+        ensures { self.new ≡ attached self.old (head_number head) lnum }
+    {
+        self.turn(index_of(head), lnum)
+    }
+
+    /// Where the next byte of a head goes.
+    pub fn at(&self, head: JournalHead) -> Option<Place>
+        ensures { result ≡ place_of self.now (head_number head) }
+    {
+        self.place(index_of(head))
+    }
+
+    /// The bytes of a head that aren't written yet. They end where its next byte goes.
+    pub fn tail(&self, head: JournalHead) -> &[u8]
+        ensures { result.now ≡ (buffer_of self.now (head_number head)).tail }
+    {
+        self.buffers[index_of(head) as usize].tail()
+    }
+
+    /// Puts nodes on a head, and answers where the first byte stands. After `Failed` only bytes of earlier calls wait.
+    pub fn put<V: Volume>(
+        &mut self,
+        volume: &mut V,
+        head: JournalHead,
+        nodes: &[u8],
+    ) -> Result<Place, VolFault>
+        requires open_there { AreOpen (V.state volume.old) self.old }
+        requires fits { HasRoom self.old (head_number head) (length nodes.now) }
+        ensures done { IfOk result (λ place. ArePut (V.state volume.old) (V.state volume.new) self.old self.new (head_number head) nodes.now × (place_of self.old (head_number head) ≡ Some place)) }
+        ensures adds { AddsTo (V.state volume.old) (V.state volume.new) self.old self.new (head_number head) nodes.now }
+        ensures failed { OnErr result (((buffer_of self.new (head_number head)).tail ≡ (buffer_of self.old (head_number head)).tail) ⊎ ((buffer_of self.new (head_number head)).tail ≡ [])) }
+        ensures works { WorksOn (V.state volume.old) (V.state volume.new) (lnum_of (buffer_of self.old (head_number head))) (PutUnderWay (V.state volume.old) (buffer_of self.old (head_number head)) (length nodes.now)) }
+        ensures cause { HasCause (V.state volume.old).faults (V.state volume.new).faults result }
+        ensures sure { StaysSure (V.state volume.old) (V.state volume.new) result }
+    {
+        self.put_on(volume, index_of(head), nodes)
+    }
+
+    /// Pads what waits of a head by a gap, and writes it. Where the head has no LEB it does nothing.
+    pub fn sync<V: Volume>(&mut self, volume: &mut V, head: JournalHead) -> Result<(), VolFault>
+        requires { AreOpen (V.state volume.old) self.old }
+        ensures done { OnOk result (IsSyncedHead (V.state volume.old) (V.state volume.new) self.old self.new (head_number head)) }
+        ensures adds { AddsTo (V.state volume.old) (V.state volume.new) self.old self.new (head_number head) (head_padding self.old (head_number head)) }
+        ensures failed { OnErr result ((buffer_of self.new (head_number head)).tail ≡ (buffer_of self.old (head_number head)).tail) }
+        ensures works { Works (V.state volume.old) (V.state volume.new) (IsOn self.old (head_number head)) (IsHeadLeft (V.state volume.old) (buffer_of self.old (head_number head))) }
+        ensures cause { HasCause (V.state volume.old).faults (V.state volume.new).faults result }
+        ensures sure { StaysSure (V.state volume.old) (V.state volume.new) result }
+    {
+        self.sync_if_attached(volume, index_of(head))
+    }
+
+    /// Syncs the heads, one after another.
+    pub fn sync_all<V: Volume>(&mut self, volume: &mut V) -> Result<(), VolFault>
+        requires { AreOpen (V.state volume.old) self.old }
+        ensures done { OnOk result (AreSynced (V.state volume.old) (V.state volume.new) self.old self.new) }
+        ensures stands { (head : ℕ) → StandsHead (V.state volume.old) (V.state volume.new) self.old self.new head }
+        ensures works { Works (V.state volume.old) (V.state volume.new) (IsHeads self.old) (AreLeft (V.state volume.old) self.old) }
+        ensures shape { SameShape (V.state volume.old) (V.state volume.new) }
+        ensures cause { HasCause (V.state volume.old).faults (V.state volume.new).faults result }
+        ensures sure { StaysSure (V.state volume.old) (V.state volume.new) result }
+    {
+        for head in 0..3 {
+            self.sync_if_attached(volume, head)?;
+        }
+        Ok(())
+    }
+
+    // Whether so many bytes fit on the head of this number.
+    fn has_room(&self, head: u8, len: u32) -> bool
         requires { head < 3 }
         ensures { IsTrue result ↔ HasRoom self.now head len }
     {
@@ -45,8 +123,8 @@ impl Heads {
         buffer.leb().is_some() && buffer.end() as u64 + len as u64 <= self.leb_size as u64
     }
 
-    /// Turns a head to the start of a LEB. Nothing of the head may wait.
-    pub fn attach(&mut self, head: u8, lnum: u32)
+    // Turns the head of this number to a LEB.
+    fn turn(&mut self, head: u8, lnum: u32)
         requires head { head < 3 }
         requires none { (buffer_of self.old head).tail ≡ [] }
         ensures { self.new ≡ attached self.old head lnum }
@@ -54,8 +132,8 @@ impl Heads {
         self.buffers[head as usize].attach(lnum);
     }
 
-    /// Where the next byte of a head goes.
-    pub fn at(&self, head: u8) -> Option<Place>
+    // Where the next byte of the head of this number goes.
+    fn place(&self, head: u8) -> Option<Place>
         requires { head < 3 }
         ensures { result ≡ place_of self.now head }
     {
@@ -69,16 +147,16 @@ impl Heads {
         }
     }
 
-    /// The bytes of a head that aren't written yet. They end where its next byte goes.
-    pub fn tail(&self, head: u8) -> &[u8]
+    // The LEB of the head of this number.
+    fn leb(&self, head: u8) -> Option<u32>
         requires { head < 3 }
-        ensures { result.now ≡ (buffer_of self.now head).tail }
+        ensures { result ≡ (buffer_of self.now head).leb }
     {
-        self.buffers[head as usize].tail()
+        self.buffers[head as usize].leb()
     }
 
-    /// Puts nodes on a head, and answers where the first byte stands. After `Failed` only bytes of earlier calls wait.
-    pub fn put<V: Volume>(
+    // Puts nodes on the head of this number.
+    fn put_on<V: Volume>(
         &mut self,
         volume: &mut V,
         head: u8,
@@ -89,15 +167,13 @@ impl Heads {
         requires fits { HasRoom self.old head (length nodes.now) }
         ensures done { OnOk result (ArePut (V.state volume.old) (V.state volume.new) self.old self.new head nodes.now) }
         ensures place { IfOk result (λ place. place_of self.old head ≡ Some place) }
-        ensures stands { Stands (V.state volume.old) (V.state volume.new) (buffer_of self.old head) (buffer_of self.new head) (lnum_of (buffer_of self.old head)) nodes.now }
+        ensures adds { AddsTo (V.state volume.old) (V.state volume.new) self.old self.new head nodes.now }
         ensures failed { OnErr result (((buffer_of self.new head).tail ≡ (buffer_of self.old head).tail) ⊎ ((buffer_of self.new head).tail ≡ [])) }
-        ensures others { KeepsOthers (V.state volume.old) (V.state volume.new) self.old self.new head }
-        ensures works { WorksOn (V.state volume.old) (V.state volume.new) (lnum_of (buffer_of self.old head)) (Torn (buffer_of self.old head).place (whole_of (buffer_of self.old head).unit (length (buffer_of self.old head).tail + length nodes.now)) ((V.state volume.old).holds (lnum_of (buffer_of self.old head)))) }
-        ensures shape { SameShape (V.state volume.old) (V.state volume.new) }
+        ensures works { WorksOn (V.state volume.old) (V.state volume.new) (lnum_of (buffer_of self.old head)) (PutUnderWay (V.state volume.old) (buffer_of self.old head) (length nodes.now)) }
         ensures cause { HasCause (V.state volume.old).faults (V.state volume.new).faults result }
         ensures sure { StaysSure (V.state volume.old) (V.state volume.new) result }
     {
-        match self.at(head) {
+        match self.place(head) {
             Some(place) => {
                 self.append_on(volume, head, nodes)?;
                 Ok(place)
@@ -106,17 +182,14 @@ impl Heads {
         }
     }
 
-    /// Pads what waits of a head by a gap, and writes it. Where the head has no LEB it does nothing.
-    pub fn sync<V: Volume>(&mut self, volume: &mut V, head: u8) -> Result<(), VolFault>
+    // Syncs the head of this number, if it has a LEB.
+    fn sync_if_attached<V: Volume>(&mut self, volume: &mut V, head: u8) -> Result<(), VolFault>
         requires head { head < 3 }
         requires open_there { AreOpen (V.state volume.old) self.old }
         ensures done { OnOk result (IsSyncedHead (V.state volume.old) (V.state volume.new) self.old self.new head) }
-        ensures stands { StandsHead (V.state volume.old) (V.state volume.new) self.old self.new head }
-        ensures leb { (buffer_of self.new head).leb ≡ (buffer_of self.old head).leb }
+        ensures adds { AddsTo (V.state volume.old) (V.state volume.new) self.old self.new head (head_padding self.old head) }
         ensures failed { OnErr result ((buffer_of self.new head).tail ≡ (buffer_of self.old head).tail) }
-        ensures others { KeepsOthers (V.state volume.old) (V.state volume.new) self.old self.new head }
-        ensures works { WorksOnHead (V.state volume.old) (V.state volume.new) (buffer_of self.old head) (buffer_of self.old head).leb }
-        ensures shape { SameShape (V.state volume.old) (V.state volume.new) }
+        ensures works { Works (V.state volume.old) (V.state volume.new) (IsOn self.old head) (IsHeadLeft (V.state volume.old) (buffer_of self.old head)) }
         ensures cause { HasCause (V.state volume.old).faults (V.state volume.new).faults result }
         ensures sure { StaysSure (V.state volume.old) (V.state volume.new) result }
     {
@@ -126,32 +199,7 @@ impl Heads {
         }
     }
 
-    /// Syncs the heads, one after another.
-    pub fn sync_all<V: Volume>(&mut self, volume: &mut V) -> Result<(), VolFault>
-        requires { AreOpen (V.state volume.old) self.old }
-        ensures done { OnOk result (AreSynced (V.state volume.old) (V.state volume.new) self.old self.new) }
-        ensures stands { (head : ℕ) → StandsHead (V.state volume.old) (V.state volume.new) self.old self.new head }
-        ensures left { Leaves (V.state volume.old) (V.state volume.new) (AreLeft (V.state volume.old) self.old) }
-        ensures others { KeepsFree (V.state volume.old) (V.state volume.new) self.old }
-        ensures shape { SameShape (V.state volume.old) (V.state volume.new) }
-        ensures cause { HasCause (V.state volume.old).faults (V.state volume.new).faults result }
-        ensures sure { StaysSure (V.state volume.old) (V.state volume.new) result }
-    {
-        for head in 0..3 {
-            self.sync(volume, head)?;
-        }
-        Ok(())
-    }
-
-    // The LEB of a head.
-    fn leb(&self, head: u8) -> Option<u32>
-        requires { head < 3 }
-        ensures { result ≡ (buffer_of self.now head).leb }
-    {
-        self.buffers[head as usize].leb()
-    }
-
-    // Appends nodes to the buffer of a head, which is open.
+    // Appends nodes to the buffer of the head of this number, which is open.
     fn append_on<V: Volume>(
         &mut self,
         volume: &mut V,
@@ -166,7 +214,7 @@ impl Heads {
         ensures failed { OnErr result (((buffer_of self.new head).tail ≡ (buffer_of self.old head).tail) ⊎ ((buffer_of self.new head).tail ≡ [])) }
         ensures buffers { (k : ℕ) → k ≢ head → buffer_of self.new k ≡ buffer_of self.old k }
         ensures size { self.new.leb_size ≡ self.old.leb_size }
-        ensures works { WorksOn (V.state volume.old) (V.state volume.new) (lnum_of (buffer_of self.old head)) (Torn (buffer_of self.old head).place (whole_of (buffer_of self.old head).unit (length (buffer_of self.old head).tail + length nodes.now)) ((V.state volume.old).holds (lnum_of (buffer_of self.old head)))) }
+        ensures works { WorksOn (V.state volume.old) (V.state volume.new) (lnum_of (buffer_of self.old head)) (PutUnderWay (V.state volume.old) (buffer_of self.old head) (length nodes.now)) }
         ensures shape { SameShape (V.state volume.old) (V.state volume.new) }
         ensures cause { HasCause (V.state volume.old).faults (V.state volume.new).faults result }
         ensures sure { StaysSure (V.state volume.old) (V.state volume.new) result }
@@ -174,7 +222,7 @@ impl Heads {
         self.buffers[head as usize].append(volume, nodes)
     }
 
-    // Syncs the buffer of a head, which is open.
+    // Syncs the buffer of the head of this number, which is open.
     fn sync_on<V: Volume>(&mut self, volume: &mut V, head: u8) -> Result<(), VolFault>
         requires head { head < 3 }
         requires open_there { IsOpenFor (V.state volume.old) (buffer_of self.old head) (lnum_of (buffer_of self.old head)) }
@@ -190,4 +238,12 @@ impl Heads {
     {
         self.buffers[head as usize].sync(volume)
     }
+}
+
+// The number of a head, which is its place among the buffers.
+fn index_of(head: JournalHead) -> u8
+    ensures number { result ≡ head_number head }
+    ensures less { result < 3 }
+{
+    head.number()
 }

@@ -1,5 +1,5 @@
-//! Where do the groups of the journal go? To one of three heads, each of which writes its LEB from the start on: head 0 takes
-//! what the collector moves, head 1 the nodes that aren't data, and head 2 data.
+//! Where do the groups of the journal go? To one of three heads, each of which writes its LEB from the start on: the
+//! collector's takes what it moves, the base takes the nodes that aren't data, and the third takes data.
 //!
 //! Each head is a buffer in front of a LEB of its own (`specs/Heads.antt`), so what was put on it is the text of that buffer.
 //! A put adds its nodes to the text of its head and leaves those of the others. After a sync a cut leaves the text of the

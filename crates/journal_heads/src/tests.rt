@@ -3,7 +3,7 @@
 use crate::{Heads, Place};
 use std::test::Fail;
 use ubi_volume::{MemVolume, VolShape, Volume};
-use ubifs_base::{Geometry, RawGeometry};
+use ubifs_base::{Geometry, JournalHead, RawGeometry};
 
 const GEOMETRY: RawGeometry = RawGeometry {
     leb_size: 16384,
@@ -28,23 +28,37 @@ fn each_head_writes_its_own_leb(rt: HostRuntime) -> Result<(), Fail> {
     let geo = Geometry::new(&GEOMETRY)?;
     let mut volume = MemVolume::new(rt.alloc(), shape)?;
     let mut heads = Heads::new(rt.alloc(), &geo)?;
-    heads.attach(1, 2);
-    heads.attach(2, 0);
+    heads.attach(JournalHead::Base, 2);
+    heads.attach(JournalHead::Data, 0);
     let begin = Place { lnum: 0, offs: 0 };
-    assert_eq!(rt; (heads.at(0), heads.at(2)), (None, Some(begin)));
+    assert_eq!(rt;
+        (
+            heads.at(JournalHead::Collector),
+            heads.at(JournalHead::Data)
+        ),
+        (None, Some(begin))
+    );
     // Which head has room for so many bytes.
-    let rows = [(0, 1, false), (1, 16384, true), (1, 16385, false)];
+    let rows = [
+        (JournalHead::Collector, 1, false),
+        (JournalHead::Base, 16384, true),
+        (JournalHead::Base, 16385, false),
+    ];
     for (head, len, wanted) in rows {
         assert_eq!(rt; heads.fits(head, len), wanted);
     }
-    let place = heads.put(&mut volume, 2, &[7; 632])?;
+    let place = heads.put(&mut volume, JournalHead::Data, &[7; 632])?;
     assert_eq!(rt;
-        (place, heads.tail(2).len(), heads.tail(1).len()),
+        (
+            place,
+            heads.tail(JournalHead::Data).len(),
+            heads.tail(JournalHead::Base).len()
+        ),
         (begin, 120, 0)
     );
     heads.sync_all(&mut volume)?;
     assert_eq!(rt;
-        heads.at(2),
+        heads.at(JournalHead::Data),
         Some(Place {
             lnum: 0,
             offs: 1024

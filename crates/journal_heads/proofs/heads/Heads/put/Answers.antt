@@ -1,51 +1,39 @@
-use Rattle.std.proofs.Common.{◌+◌, ℕ, List, length}
-use Rattle.ubi_volume.specs.Volume.{Torn}
-use Rattle.write_buffer.specs.Buffer.{lnum_of, whole_of}
-use Rattle.journal_heads.specs.Heads.{IsOn, buffer_of}
-use Rattle.journal_heads.proofs.OpenHeads.{keeps_others, on_number, open_after}
+use Rattle.std.proofs.Common.{◌≡◌, ◌⊎◌, ℕ, Some, [], length, sym, subst}
+use Rattle.std.specs.Prelude.{OnErr, IfOk}
+use Rattle.ubi_volume.specs.Volume.{WorksOn}
+use Rattle.write_buffer.specs.Buffer.{lnum_of}
+use Rattle.journal_heads.specs.Heads.{AddsTo, ArePut, HasRoom, PutUnderWay, buffer_of, place_of}
+use Rattle.journal_heads.specs.declared.place.Place.{Place}
+use Rattle.journal_heads.proofs.OpenHeads.{if_ok_both}
 use Rattle.journal_heads.proofs.heads.Heads.put.Goals as goal
 
-pub append_on-requires-clause-open_there : goal.append_on-requires-clause-open_there
-append_on-requires-clause-open_there g c =
-    let x = c.args.self.now in
-    c.requires.open_there.each c.args.head (lnum_of (buffer_of x c.args.head)) (on_number (buffer_of x c.args.head).leb c.requires.fits.attached)
+pub put_on-requires-clause-fits : goal.put_on-requires-clause-fits
+put_on-requires-clause-fits g c = let P : ℕ → Type 0 = λ n. HasRoom c.args.self.now n (length c.args.nodes.now) in subst P (sym c.index_of.ensures.number) c.requires.fits
 
-pub returns-in_err-append_on-in-Some-clause-others : goal.returns-in_err-append_on-in-Some-clause-others
-returns-in_err-append_on-in-Some-clause-others g c =
-    let a = g.V.Volume.state c.args.volume.now in
-    let b = g.V.Volume.state c.append_on.new.volume in
+pub returns-clause-done : goal.returns-clause-done
+returns-clause-done g c =
     let x = c.args.self.now in
-    let y = c.append_on.new.self in
-    let head = c.args.head in
-    let lnum = lnum_of (buffer_of x head) in
-    let on : IsOn x head lnum = on_number (buffer_of x head).leb c.requires.fits.attached in
-    let D : List ℕ → Type 0 = Torn (buffer_of x head).place (whole_of (buffer_of x head).unit (length (buffer_of x head).tail + length c.args.nodes.now)) (a.holds lnum) in
-    keeps_others a b x y head lnum D c.requires.open_there on c.append_on.ensures.works c.append_on.ensures.buffers c.append_on.ensures.size
+    let a = g.V.Volume.state c.args.volume.now in
+    let b = g.V.Volume.state c.put_on.new.volume in
+    let P : ℕ → Type 0 = λ n. IfOk c.put_on.result (λ (place : Place). ArePut a b x c.put_on.new.self n c.args.nodes.now × (place_of x n ≡ Some place)) in
+    subst P c.index_of.ensures.number
+    (if_ok_both c.put_on.result (ArePut a b x c.put_on.new.self c.index_of.result c.args.nodes.now) (λ (place : Place). place_of x c.index_of.result ≡ Some place) c.put_on.ensures.done c.put_on.ensures.place)
 
-pub returns-in_ok-append_on-in-Some-clause-others : goal.returns-in_ok-append_on-in-Some-clause-others
-returns-in_ok-append_on-in-Some-clause-others g c =
-    let a = g.V.Volume.state c.args.volume.now in
-    let b = g.V.Volume.state c.append_on.new.volume in
-    let x = c.args.self.now in
-    let y = c.append_on.new.self in
-    let head = c.args.head in
-    let lnum = lnum_of (buffer_of x head) in
-    let on : IsOn x head lnum = on_number (buffer_of x head).leb c.requires.fits.attached in
-    let D : List ℕ → Type 0 = Torn (buffer_of x head).place (whole_of (buffer_of x head).unit (length (buffer_of x head).tail + length c.args.nodes.now)) (a.holds lnum) in
-    keeps_others a b x y head lnum D c.requires.open_there on c.append_on.ensures.works c.append_on.ensures.buffers c.append_on.ensures.size
+pub returns-clause-adds : goal.returns-clause-adds
+returns-clause-adds g c =
+    let P : ℕ → Type 0 = λ n. AddsTo (g.V.Volume.state c.args.volume.now) (g.V.Volume.state c.put_on.new.volume) c.args.self.now c.put_on.new.self n c.args.nodes.now in
+    subst P c.index_of.ensures.number c.put_on.ensures.adds
 
-pub returns-in_ok-append_on-in-Some-clause-done : goal.returns-in_ok-append_on-in-Some-clause-done
-returns-in_ok-append_on-in-Some-clause-done g c =
-    let a = g.V.Volume.state c.args.volume.now in
-    let b = g.V.Volume.state c.append_on.new.volume in
+pub returns-clause-failed : goal.returns-clause-failed
+returns-clause-failed g c =
     let x = c.args.self.now in
-    let y = c.append_on.new.self in
-    let head = c.args.head in
-    let lnum = lnum_of (buffer_of x head) in
-    let on : IsOn x head lnum = on_number (buffer_of x head).leb c.requires.fits.attached in
-    let D : List ℕ → Type 0 = Torn (buffer_of x head).place (whole_of (buffer_of x head).unit (length (buffer_of x head).tail + length c.args.nodes.now)) (a.holds lnum) in
-    let done = c.in_ok-append_on-in-Some.ensures.done in
-    record {
-      appended = done;
-      open_after = open_after a b x y head lnum D c.requires.open_there on c.append_on.ensures.works c.append_on.ensures.shape c.append_on.ensures.buffers c.append_on.ensures.size done.open_after;
-    }
+    let y = c.put_on.new.self in
+    let P : ℕ → Type 0 = λ n. OnErr c.put_on.result (((buffer_of y n).tail ≡ (buffer_of x n).tail) ⊎ ((buffer_of y n).tail ≡ [])) in
+    subst P c.index_of.ensures.number c.put_on.ensures.failed
+
+pub returns-clause-works : goal.returns-clause-works
+returns-clause-works g c =
+    let a = g.V.Volume.state c.args.volume.now in
+    let x = c.args.self.now in
+    let P : ℕ → Type 0 = λ n. WorksOn a (g.V.Volume.state c.put_on.new.volume) (lnum_of (buffer_of x n)) (PutUnderWay a (buffer_of x n) (length c.args.nodes.now)) in
+    subst P c.index_of.ensures.number c.put_on.ensures.works

@@ -1,46 +1,30 @@
-use Rattle.std.proofs.Common.{◌≡◌, ℕ, Option, Some, List, ap, sym, subst, ◌∙◌}
-use Rattle.ubi_volume.specs.Volume.{Torn}
-use Rattle.write_buffer.specs.Buffer.{IsSynced, lnum_of, number_of}
-use Rattle.journal_heads.specs.Heads.{IsOn, IsSyncedHead, buffer_of}
-use Rattle.journal_heads.proofs.OpenHeads.{keeps_others, on_ok, open_after}
+use Rattle.std.proofs.Common.{◌≡◌, ℕ, subst}
+use Rattle.std.specs.Prelude.{OnErr, OnOk}
+use Rattle.ubi_volume.specs.Frame.{Works}
+use Rattle.journal_heads.specs.Heads.{AddsTo, IsHeadLeft, IsOn, IsSyncedHead, buffer_of, head_padding}
 use Rattle.journal_heads.proofs.heads.Heads.sync.Goals as goal
 
-pub sync_on-requires-clause-open_there : goal.sync_on-requires-clause-open_there
-sync_on-requires-clause-open_there g c =
-    let x = c.args.self.now in
-    let some : (buffer_of x c.args.head).leb ≡ Some c.in-Some.field-0 = sym c.leb.ensures ∙ c.in-Some.is in
-    c.requires.open_there.each c.args.head (lnum_of (buffer_of x c.args.head)) (some ∙ ap (λ (o : Option ℕ). Some (number_of o)) (sym some))
+pub returns-clause-done : goal.returns-clause-done
+returns-clause-done g c =
+    let P : ℕ → Type 0 = λ n. OnOk c.sync_if_attached.result (IsSyncedHead (g.V.Volume.state c.args.volume.now) (g.V.Volume.state c.sync_if_attached.new.volume) c.args.self.now c.sync_if_attached.new.self n) in
+    subst P c.index_of.ensures.number c.sync_if_attached.ensures.done
 
-pub returns-in-Some-clause-others : goal.returns-in-Some-clause-others
-returns-in-Some-clause-others g c =
-    let a = g.V.Volume.state c.args.volume.now in
-    let b = g.V.Volume.state c.sync_on.new.volume in
+pub returns-clause-adds : goal.returns-clause-adds
+returns-clause-adds g c =
     let x = c.args.self.now in
-    let y = c.sync_on.new.self in
-    let head = c.args.head in
-    let lnum = lnum_of (buffer_of x head) in
-    let some : (buffer_of x head).leb ≡ Some c.in-Some.field-0 = sym c.leb.ensures ∙ c.in-Some.is in
-    let on : IsOn x head lnum = some ∙ ap (λ (o : Option ℕ). Some (number_of o)) (sym some) in
-    let D : List ℕ → Type 0 = Torn (buffer_of x head).place (buffer_of x head).unit (a.holds lnum) in
-    keeps_others a b x y head lnum D c.requires.open_there on c.sync_on.ensures.works c.sync_on.ensures.buffers c.sync_on.ensures.size
+    let P : ℕ → Type 0 = λ n. AddsTo (g.V.Volume.state c.args.volume.now) (g.V.Volume.state c.sync_if_attached.new.volume) x c.sync_if_attached.new.self n (head_padding x n) in
+    subst P c.index_of.ensures.number c.sync_if_attached.ensures.adds
 
-pub returns-in-Some-clause-done : goal.returns-in-Some-clause-done
-returns-in-Some-clause-done g c =
-    let a = g.V.Volume.state c.args.volume.now in
-    let b = g.V.Volume.state c.sync_on.new.volume in
+pub returns-clause-failed : goal.returns-clause-failed
+returns-clause-failed g c =
     let x = c.args.self.now in
-    let y = c.sync_on.new.self in
-    let head = c.args.head in
-    let lnum = lnum_of (buffer_of x head) in
-    let some : (buffer_of x head).leb ≡ Some c.in-Some.field-0 = sym c.leb.ensures ∙ c.in-Some.is in
-    let on : IsOn x head lnum = some ∙ ap (λ (o : Option ℕ). Some (number_of o)) (sym some) in
-    let D : List ℕ → Type 0 = Torn (buffer_of x head).place (buffer_of x head).unit (a.holds lnum) in
-    on_ok c.sync_on.result (IsSynced a b (buffer_of x head) (buffer_of y head) lnum) (IsSyncedHead a b x y head)
-    (λ done. record {
-      none = done.none;
-      synced = λ l on_l.
-          let P : ℕ → Type 0 = λ n. IsSynced a b (buffer_of x head) (buffer_of y head) n in
-          let same : lnum ≡ l = ap number_of on_l in
-          subst P same done;
-      open_after = open_after a b x y head lnum D c.requires.open_there on c.sync_on.ensures.works c.sync_on.ensures.shape c.sync_on.ensures.buffers c.sync_on.ensures.size done.open_after;
-    }) c.sync_on.ensures.done
+    let y = c.sync_if_attached.new.self in
+    let P : ℕ → Type 0 = λ n. OnErr c.sync_if_attached.result ((buffer_of y n).tail ≡ (buffer_of x n).tail) in
+    subst P c.index_of.ensures.number c.sync_if_attached.ensures.failed
+
+pub returns-clause-works : goal.returns-clause-works
+returns-clause-works g c =
+    let a = g.V.Volume.state c.args.volume.now in
+    let x = c.args.self.now in
+    let P : ℕ → Type 0 = λ n. Works a (g.V.Volume.state c.sync_if_attached.new.volume) (IsOn x n) (IsHeadLeft a (buffer_of x n)) in
+    subst P c.index_of.ensures.number c.sync_if_attached.ensures.works
