@@ -1,12 +1,11 @@
 -- From place to place of a text.
 use Rattle.std.proofs.Common.{◌≡◌, ℕ, List, [], ◌∷◌, ◌++◌, refl, ap, sym, ◌∙◌, subst}
 use Rattle.leb_scan.specs.Text.{Begins, behind, nodes_of, IsNext, IsLast, tail_at}
-use Rattle.leb_scan.specs.TextLaws.{Stand-then, nodes_of-append}
+use Rattle.leb_scan.specs.TextLaws.{Stand-then, nodes_of-append, ends}
 use Rattle.leb_scan.specs.Gathered.{IsGathered}
 use Rattle.leb_scan.specs.declared.found.Found.{Found}
 use Rattle.leb_scan.specs.declared.item.Item.{Item}
 use Rattle.leb_scan.specs.declared.item.Item.TheVariants.{Node, Padding, Word}
-use Rattle.leb_scan.proofs.Texts.{ends}
 
 -- one more item
 gathered_item : (leb : List ℕ) (from place : ℕ) (nodes : List Found) (item : Item) → IsGathered leb from place nodes → Begins leb place item

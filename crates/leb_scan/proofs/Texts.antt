@@ -1,7 +1,7 @@
 -- A place has one text.
-use Rattle.std.proofs.Common.{◌≡◌, ℕ, Bool, true, false, cond, List, [], ◌∷◌, drop, refl, ap, sym, ◌∙◌, subst}
+use Rattle.std.proofs.Common.{◌≡◌, ℕ, true, false, List, [], ◌∷◌, refl, ap, sym, ◌∙◌, subst}
 use Rattle.ubifs_base.specs.NodeLaws.{IsBytes}
-use Rattle.leb_scan.specs.Text.{Begins, behind, Stand, is_blank, IsTail, IsText, tail_at}
+use Rattle.leb_scan.specs.Text.{Begins, behind, Stand, IsTail, IsText}
 use Rattle.leb_scan.specs.declared.item.Item.{Item}
 use Rattle.leb_scan.specs.declared.tail.Tail.{Tail}
 use Rattle.leb_scan.specs.declared.tail.Tail.TheVariants.{Clean, Torn}
@@ -18,14 +18,6 @@ one_tail leb end Clean Clean h1 h2 = refl
 one_tail leb end Torn Torn h1 h2 = refl
 one_tail leb end Clean Torn h1 h2 = let e : true ≡ false = sym h1 ∙ h2.0 in absurd cc
 one_tail leb end Torn Clean h1 h2 = let e : true ≡ false = sym h2 ∙ h1.0 in absurd cc
-
-tail_from : (leb : List ℕ) (end : ℕ) (b : Bool) → is_blank (drop end leb) ≡ b → ((item : Item) → Begins leb end item → ⊥) → IsTail leb end (cond b Clean Torn)
-tail_from leb end true e none = e
-tail_from leb end false e none = (e, none)
-
--- where no item begins, the text ends
-pub ends : (leb : List ℕ) (end : ℕ) → ((item : Item) → Begins leb end item → ⊥) → IsTail leb end (tail_at leb end)
-ends leb end none = tail_from leb end (is_blank (drop end leb)) refl none
 
 same : (leb : List ℕ) (from end1 end2 : ℕ) (items1 items2 : List Item) (tail1 tail2 : Tail) → IsBytes leb → Stand leb from items1 end1 → IsTail leb end1 tail1 → Stand leb from items2 end2 → IsTail leb end2 tail2
     → (items1 ≡ items2) × (end1 ≡ end2) × (tail1 ≡ tail2)

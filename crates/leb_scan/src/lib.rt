@@ -21,7 +21,7 @@ mod tail;
 pub use crate::found::Found;
 pub use crate::gather::{scan, text_end};
 pub use crate::item::Item;
-pub use crate::laws::{aligned_nodes, one_text};
+pub use crate::laws::{aligned_nodes, meant_item, one_text, untorn_is_meant, unwritten_is_meant};
 pub use crate::scanned::Scan;
 pub use crate::scanner::Scanner;
 pub use crate::tail::Tail;
