@@ -6,14 +6,16 @@ use Rattle.std.proofs.lemmas.Bool.Decides.{nat_tests}
 use Rattle.index_tree.specs.declared.leaf.Leaf.{Leaf}
 use Rattle.index_tree.specs.declared.node.Node.{Node}
 use Rattle.index_tree.specs.declared.node.Node.TheViews.{out-Node}
-use Rattle.index_tree.specs.Order.{leaf_rank}
+use Rattle.index_tree.specs.Order.{leaf_rank, ordered_from}
 use Rattle.index_tree.specs.Places.{leaf_place, node_place, IsSpare}
 use Rattle.std.specs.Prelude.{Option, None, Some, IfSome}
-use Rattle.index_tree.specs.Shape.{Shape, done, node, count, node_count, full, shape_weight, fits, parted, inserted}
-use Rattle.index_tree.specs.GrowthLaws.{Grown, splits, node_fits, inserted-grown, parted-node_count, parted-weight}
+use Rattle.index_tree.specs.Shape.{Shape, done, node, contents, count, node_count, full, shape_weight, fits, parted, inserted}
+use Rattle.index_tree.proofs.GrowthLaws.{Grown, node_fits, inserted-grown, parted-node_count, parted-weight}
+use Rattle.index_tree.specs.Places.{splits}
 use Rattle.index_tree.specs.Tree.{below, kept, row, kept_all, leaves_before}
-use Rattle.index_tree.specs.TreeLaws.{cells, below_is, below_made, node_keeps, kept_cons, kept_node, below-count}
-use Rattle.index_tree.specs.PlaceLaws.{placed_leaf, passed_leaves, placed_below, kept-append, kept-take, kept-drop}
+use Rattle.index_tree.proofs.TreeLaws.{cells, below_is, below_made, node_keeps, kept_cons, kept_node, below-count}
+use Rattle.index_tree.proofs.OrderLaws.{ordered-left, ordered-right}
+use Rattle.index_tree.proofs.PlaceLaws.{placed_leaf, passed_leaves, placed_below, kept-append, kept-take, kept-drop}
 
 pub leaves-nodes : (xs : List Leaf) (s : Shape) → node_count (leaves_before xs s) ≡ node_count s
 leaves-nodes [] s = refl
@@ -78,6 +80,11 @@ at_place f (m ∷ ms) (suc i) n h s k =
     let p = node_fits f (below m) (row ms) s in
     let q = at_place f ms i n (omega arith) p.others (kept_cons m ms k).tail in
     record { sound = q.sound; most = q.most; keeps = q.keeps; nodes = omega (arith, q.nodes); weight = omega (arith, q.weight) }
+
+pub ordered_at : (ns : List Node) (i : ℕ) (n : Node) → i < length ns → ordered_from 0 (contents (row ns)) ≡ true → ordered_from 0 (contents (below (get_or ns i n))) ≡ true
+ordered_at [] i n h o = absurd (omega arith)
+ordered_at (m ∷ ms) zero n h o = ordered-left 0 (contents (below m)) (contents (row ms)) o
+ordered_at (m ∷ ms) (suc i) n h o = ordered_at ms i n (omega arith) (ordered-right 0 (contents (below m)) (contents (row ms)) o)
 
 pub row-nodes : (ms ns : List Node) → node_count (row (ms ++ ns)) ≡ node_count (row ms) + node_count (row ns)
 row-nodes [] ns = omega arith

@@ -9,14 +9,14 @@ use Rattle.index_tree.specs.declared.leaf.Leaf.{Leaf}
 use Rattle.index_tree.specs.declared.node.Node.{Node}
 use Rattle.index_tree.specs.declared.node.Node.TheViews.{out-Node}
 use Rattle.index_tree.specs.Tree.{below, row}
-use Rattle.index_tree.specs.TreeLaws.{below-contents, below-filled}
-use Rattle.index_tree.specs.InsertLaws.{fits-filled}
+use Rattle.index_tree.proofs.TreeLaws.{below-contents, below-filled}
+use Rattle.index_tree.proofs.InsertLaws.{fits-filled}
 use Rattle.index_tree.specs.Keyed.{HaveKeys}
 use Rattle.index_tree.specs.LastBlock.{is_block_of, last_block, last_rank, up_to}
-use Rattle.index_tree.specs.LastBlockLaws.{block_alone, last_block-is, last_block-greatest, last_block-none, up_to-some, up_to-none, up_to-later, last-right}
+use Rattle.index_tree.proofs.LastBlockLaws.{block_alone, last_block-is, last_block-greatest, last_block-none, up_to-some, up_to-none, up_to-later, last-right}
 use Rattle.index_tree.specs.Order.{leaf_rank, ordered_from}
-use Rattle.index_tree.specs.OrderLaws.{ordered_head, ordered_cons, ordered-right}
-use Rattle.index_tree.specs.SearchLaws.{node_filled, begins-starts}
+use Rattle.index_tree.proofs.OrderLaws.{ordered_head, ordered_cons, ordered-right}
+use Rattle.index_tree.proofs.SearchLaws.{node_filled, begins-starts}
 use Rattle.index_tree.specs.Shape.{Shape, leaf, node, contents, filled, begins_within}
 
 -- where the last leaf up to a rank stands in a row that begins with a leaf

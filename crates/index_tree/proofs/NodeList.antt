@@ -3,14 +3,14 @@ use Rattle.std.proofs.lemmas.Bool.Decides.{nat_tests}
 use Rattle.std.proofs.Common.{◌≡◌, ℕ, ◌+◌, ◌++◌, ◌-◌, ◌<◌, List, [], ◌∷◌, length, false, refl, ap, ◌∙◌, arith, add-one, append_assoc, append-nil}
 use Rattle.std.specs.Prelude.{◌==◌}
 use Rattle.std.proofs.lemmas.List.{map-append}
-use Rattle.index_tree.specs.GrowthLaws.{node_fits}
+use Rattle.index_tree.proofs.GrowthLaws.{node_fits}
 use Rattle.index_tree.specs.declared.leaf.Leaf.{Leaf}
 use Rattle.index_tree.specs.declared.node.Node.{Node}
 use Rattle.index_tree.specs.declared.node.Node.TheViews.{out-Node}
 use Rattle.index_tree.specs.Listing.{height, row_leaves, level_nodes, levels_below}
 use Rattle.index_tree.specs.Shape.{Shape, done, node}
 use Rattle.index_tree.specs.Tree.{below, row, leaves_before}
-use Rattle.index_tree.specs.TreeLaws.{below_is, no_items}
+use Rattle.index_tree.proofs.TreeLaws.{below_is, no_items}
 
 pub ruleset listing = (nat_tests, node_fits, append_assoc, map-append)
 

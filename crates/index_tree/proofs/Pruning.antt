@@ -6,15 +6,15 @@ use Rattle.index_tree.specs.declared.node.Node.{Node}
 use Rattle.index_tree.specs.declared.node.Node.TheViews.{out-Node}
 use Rattle.index_tree.specs.RangeRemoval.{in_range, pruned, within_range, outside_range}
 use Rattle.index_tree.specs.Tree.{below, row, leaves_before}
-use Rattle.index_tree.specs.TreeLaws.{below-contents}
+use Rattle.index_tree.proofs.TreeLaws.{below-contents}
 use Rattle.index_tree.specs.Shape.{Shape, leaf, node, contents, node_count, shape_weight, full}
 use Rattle.index_tree.proofs.Removing.{Ready, node_right}
 use Rattle.std.proofs.lemmas.Bool.Decides.{nat_tests}
 use Rattle.std.proofs.lemmas.List.Elements.{filter-append}
 use Rattle.std.proofs.Common.{length-append}
-use Rattle.index_tree.specs.GrowthLaws.{node_fits}
-use Rattle.index_tree.specs.RemovalLaws.{full-falls}
-use Rattle.index_tree.specs.RangeLaws.{pruned-shrunk, pruned-whole, without_range-is, without_range-laws, without_range-ordered}
+use Rattle.index_tree.proofs.GrowthLaws.{node_fits}
+use Rattle.index_tree.proofs.RemovalLaws.{full-falls}
+use Rattle.index_tree.proofs.RangeLaws.{pruned-shrunk, pruned-whole, without_range-is, without_range-laws, without_range-ordered}
 
 pub ruleset pruning = (nat_tests, node_fits, full-falls, pruned-shrunk, filter-append, length-append)
 

@@ -8,8 +8,8 @@ use Rattle.index_tree.specs.declared.node.Node.{Node}
 use Rattle.index_tree.specs.Places.{joined_rows}
 use Rattle.std.proofs.lemmas.Bool.Decides.{nat_tests}
 use Rattle.index_tree.specs.Listing.{ListedNode, listed_node, listed}
-use Rattle.index_tree.specs.Rebuild.{IsIndex, leaf_row, joined, waiting, waiting_after, rebuilt}
-use Rattle.index_tree.specs.RebuildLaws.{waiting_after-append, rebuilt-index}
+use Rattle.index_tree.specs.Rebuild.{IsIndex, leaf_row, joined, waiting, waiting_after}
+use Rattle.index_tree.proofs.RebuildLaws.{rebuilt, waiting_after-append, rebuilt-index}
 use Rattle.index_tree.specs.Shape.{Shape, done, leaf, node, count}
 use Rattle.index_tree.specs.Tree.{below, row, leaves_before}
 

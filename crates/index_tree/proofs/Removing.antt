@@ -8,12 +8,12 @@ use Rattle.index_tree.specs.declared.leaf.Leaf.{Leaf}
 use Rattle.index_tree.specs.declared.node.Node.{Node}
 use Rattle.index_tree.specs.declared.node.Node.TheViews.{out-Node}
 use Rattle.index_tree.specs.Tree.{below, row, leaves_before}
-use Rattle.index_tree.specs.TreeLaws.{below-contents, below_is, no_items}
-use Rattle.index_tree.specs.GrowthLaws.{node_fits, below-full}
-use Rattle.index_tree.specs.OrderLaws.{ordered_head, ordered-weaken, ordered-left, ordered-right}
-use Rattle.index_tree.specs.InsertLaws.{fits-filled, lone-whole}
-use Rattle.index_tree.specs.CollapseLaws.{lone-count, removed-whole, without_leaf-is, without_leaf-laws, without_leaf-ordered, without-absent}
-use Rattle.index_tree.specs.RemovalLaws.{holds-append, removed-absent, absent_left, absent_right, absent_behind, removed-shrunk, full-falls, empty}
+use Rattle.index_tree.proofs.TreeLaws.{below-contents, below_is, no_items}
+use Rattle.index_tree.proofs.GrowthLaws.{node_fits, below-full}
+use Rattle.index_tree.proofs.OrderLaws.{ordered_head, ordered-weaken, ordered-left, ordered-right}
+use Rattle.index_tree.proofs.InsertLaws.{fits-filled, lone-whole}
+use Rattle.index_tree.proofs.CollapseLaws.{lone-count, removed-whole, without_leaf-is, without_leaf-laws, without_leaf-ordered, without-absent}
+use Rattle.index_tree.proofs.RemovalLaws.{holds-append, removed-absent, absent_left, absent_right, absent_behind, removed-shrunk, full-falls, empty}
 
 pub ruleset removing = (nat_tests, empty, below-full)
 

@@ -4,8 +4,8 @@ use Rattle.std.proofs.lemmas.Bool.Decides.{nat_tests}
 use Rattle.std.proofs.lemmas.Option.{slice_get_past}
 use Rattle.index_tree.specs.declared.leaf.Leaf.{Leaf}
 use Rattle.index_tree.specs.Shape.{Shape, done, parted, count, fits, inserted, is_whole}
-use Rattle.index_tree.specs.GrowthLaws.{Grown, inserted-grown, below-full, parted-count}
-use Rattle.index_tree.specs.InsertLaws.{WithLeaf, with_leaf-is, with_leaf-laws, with_leaf-contents, with_leaf-ordered, root_stays, whole-count, fits-filled}
+use Rattle.index_tree.proofs.GrowthLaws.{Grown, inserted-grown, below-full, parted-count}
+use Rattle.index_tree.proofs.InsertLaws.{WithLeaf, with_leaf-is, with_leaf-laws, with_leaf-contents, with_leaf-ordered, root_stays, whole-count, fits-filled}
 
 pub inserted_few : (f : ℕ) (x : Leaf) (s : Shape) → 3 ≤ f → is_whole s ≡ true → fits f s ≡ true → count (inserted f x s) < f
 inserted_few f x s three w h = omega (arith, (inserted-grown f x s three h).one_more, whole-count s w)

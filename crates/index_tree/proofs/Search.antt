@@ -6,12 +6,12 @@ use Rattle.std.proofs.lemmas.Bool.Decides.{nat_tests}
 use Rattle.std.proofs.lemmas.List.Elements.{filter-append}
 use Rattle.index_tree.specs.declared.leaf.Leaf.{Leaf}
 use Rattle.index_tree.specs.Order.{leaf_rank, ordered_from, of_rank}
-use Rattle.index_tree.specs.OrderLaws.{ordered_head, ordered-weaken, ordered-left, ordered-right, none_before, none_within, none_above}
-use Rattle.index_tree.specs.SearchLaws.{node_filled, begins-starts}
+use Rattle.index_tree.proofs.OrderLaws.{ordered_head, ordered-weaken, ordered-left, ordered-right, none_before, none_within, none_above}
+use Rattle.index_tree.proofs.SearchLaws.{node_filled, begins-starts}
 use Rattle.index_tree.specs.declared.node.Node.{Node}
 use Rattle.index_tree.specs.declared.node.Node.TheViews.{out-Node}
 use Rattle.index_tree.specs.Tree.{below, row}
-use Rattle.index_tree.specs.TreeLaws.{below-contents}
+use Rattle.index_tree.proofs.TreeLaws.{below-contents}
 use Rattle.index_tree.specs.Shape.{Shape, leaf, node, contents, filled, begins_within}
 
 -- what is known of the parts of a row that begins with a leaf

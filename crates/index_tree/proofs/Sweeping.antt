@@ -5,15 +5,15 @@ use Rattle.std.proofs.Math.ListN.{set}
 use Rattle.std.proofs.lemmas.Bool.{cases_Bool}
 use Rattle.index_tree.specs.declared.leaf.Leaf.{Leaf}
 use Rattle.index_tree.specs.declared.node.Node.{Node}
-use Rattle.index_tree.specs.GrowthLaws.{node_fits, below-full}
-use Rattle.index_tree.specs.RangeSkips.{tidied-filled}
+use Rattle.index_tree.proofs.GrowthLaws.{node_fits, below-full}
+use Rattle.index_tree.proofs.RangeSkips.{tidied-filled}
 use Rattle.index_tree.specs.Removal.{same_leaf, holds, without, tidied, removed}
-use Rattle.index_tree.specs.RemovalLaws.{empty}
+use Rattle.index_tree.proofs.RemovalLaws.{empty}
 use Rattle.index_tree.specs.Replacement.{swapped, replaced}
 use Rattle.index_tree.specs.Shape.{Shape, done, leaf, node, count, node_count, shape_weight, fits}
 use Rattle.index_tree.specs.Sweep.{swept, has_child, leaf_index}
 use Rattle.index_tree.specs.Tree.{below, row, kept_all, leaves_before}
-use Rattle.index_tree.specs.TreeLaws.{kept_cons}
+use Rattle.index_tree.proofs.TreeLaws.{kept_cons}
 
 pub swept-same : (f : ℕ) (s : Shape) → fits f s ≡ true → swept s ≡ s
 swept-same f done h = refl

@@ -1,5 +1,6 @@
 -- The order of leaves: by their keys.
-use Rattle.std.specs.Prelude.{ℕ, ◌+◌, ◌*◌, ◌^◌, Bool, true, false, ◌&&◌, ◌==◌, nat_le, if◌then◌else◌, List, [], ◌∷◌, filter}
+use Rattle.std.specs.Prelude.{ℕ, ◌+◌, ◌*◌, ◌^◌, Bool, true, false, ◌&&◌, ◌==◌, nat_le, nat_lt, if◌then◌else◌, List, [], ◌∷◌, filter, Option}
+use Rattle.std.specs.List.{find}
 use Rattle.ubifs_base.specs.declared.key.Key.{Key}
 use Rattle.ubifs_base.specs.Key.{key_words}
 use Rattle.index_tree.specs.declared.leaf.Leaf.{Leaf}
@@ -30,3 +31,7 @@ placed new (x ∷ xs) = if nat_le (leaf_rank x) (leaf_rank new) then x ∷ place
 -- the leaves of one key, in order
 abbrev pub of_rank : ℕ → List Leaf → List Leaf
 of_rank rank xs = filter (λ x. leaf_rank x == rank) xs
+
+-- the first leaf of a greater rank, none where there is none
+abbrev pub first_after : ℕ → List Leaf → Option Leaf
+first_after rank xs = find (λ x. nat_lt rank (leaf_rank x)) xs

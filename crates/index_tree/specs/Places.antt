@@ -4,7 +4,7 @@ use Rattle.index_tree.specs.declared.leaf.Leaf.{Leaf}
 use Rattle.index_tree.specs.declared.node.Node.{Node}
 use Rattle.index_tree.specs.declared.node.Node.TheViews.{out-Node}
 use Rattle.index_tree.specs.Order.{leaf_rank}
-use Rattle.index_tree.specs.Shape.{Shape, done, leaf, node, begins_within}
+use Rattle.index_tree.specs.Shape.{Shape, done, leaf, node, count, begins_within}
 
 -- how many leaves stand before the first one of a greater rank
 abbrev pub leaf_place : ℕ → List Leaf → ℕ
@@ -29,3 +29,7 @@ pub record IsSpare (leaves nodes : ℕ) (one : Node) : Type 0 where
   pub no_nodes : (out-Node one).nodes.items ≡ []
   pub leaf_room : leaves ≤ vec_capacity (out-Node one).leaves
   pub node_room : nodes ≤ vec_capacity (out-Node one).nodes
+
+-- 1 for a node that splits, and else 0
+abbrev pub splits : ℕ → Shape → ℕ
+splits f c = if nat_le (f + 1) (count c) then 1 else 0

@@ -1,12 +1,12 @@
 -- A shape made of its list of nodes: children wait in a row until their parent takes them.
-use Rattle.std.specs.Prelude.{◌≡◌, ℕ, ◌==◌, true, if◌then◌else◌, List, [], ◌∷◌, ◌++◌, take, drop}
+use Rattle.std.specs.Prelude.{◌≡◌, ℕ, ◌≤◌, ◌==◌, true, if◌then◌else◌, List, [], ◌∷◌, ◌++◌, take, drop}
 use Rattle.index_tree.specs.declared.leaf.Leaf.{Leaf}
 use Rattle.index_tree.specs.Keyed.{HaveKeys}
 use Rattle.index_tree.specs.Levels.{is_levelled}
 use Rattle.index_tree.specs.Listing.{ListedNode}
 use Rattle.index_tree.specs.Order.{ordered_from}
 use Rattle.index_tree.specs.Removal.{tidied}
-use Rattle.index_tree.specs.Shape.{Shape, done, leaf, node, contents, fits, is_whole}
+use Rattle.index_tree.specs.Shape.{Shape, done, leaf, node, contents, shape_weight, fits, is_whole}
 
 -- what a shape of an index is
 pub record IsIndex (fanout : ℕ) (shape : Shape) : Type 0 where
@@ -15,6 +15,12 @@ pub record IsIndex (fanout : ℕ) (shape : Shape) : Type 0 where
   pub ordered : ordered_from 0 (contents shape) ≡ true
   pub levels : is_levelled shape ≡ true
   pub keyed : HaveKeys (contents shape)
+
+-- an index of these leaves that weighs at most so much
+pub record IsIndexOf (fanout : ℕ) (leaves : List Leaf) (most : ℕ) (shape : Shape) : Type 0 where
+  pub index : IsIndex fanout shape
+  pub holds : contents shape ≡ leaves
+  pub weight : shape_weight fanout shape ≤ most
 
 -- a row of leaves
 abbrev pub leaf_row : List Leaf → Shape
@@ -36,7 +42,3 @@ waiting parts one =
 abbrev pub waiting_after : List Shape → List ListedNode → List Shape
 waiting_after parts [] = parts
 waiting_after parts (one ∷ ones) = waiting_after (waiting parts one) ones
-
--- the shape of a list of nodes: its root has the row of children that waits at the end
-abbrev pub rebuilt : List ListedNode → Shape
-rebuilt nodes = joined (take 1 (waiting_after [] nodes))

@@ -110,12 +110,6 @@ inserted fanout new (node children rest) =
 abbrev pub rooted : Shape → Shape
 rooted row = if lone row then row else node row done
 
--- whether the root, or what stands for it, has no room for a further child
-abbrev pub root_full : ℕ → Shape → Bool
-root_full fanout done = true
-root_full fanout (leaf x rest) = true
-root_full fanout (node children rest) = nat_le fanout (count children)
-
 -- the shape with one more leaf
 unfoldable pub with_leaf : ℕ → Leaf → Shape → Shape
 with_leaf fanout new shape = rooted (inserted fanout new shape)

@@ -5,6 +5,7 @@ ghost use Rattle.index_tree.specs.Order.{ordered_from, of_rank};
 ghost use Rattle.index_tree.specs.Shape.{contents, filled};
 ghost use Rattle.index_tree.specs.Tree.{shape, below, kept, kept_all, kept_root, row};
 
+use crate::bisect::{lower_leaves_passed, lower_nodes_passed};
 use crate::leaf::Leaf;
 use crate::node::{Node, begins_below, begins_within};
 use crate::rank::rank;
@@ -76,12 +77,18 @@ impl Node {
         ensures found { IfOk result (λ x. slice_get (of_rank at (contents (below self.now))) nth ≡ Some x) }
         ensures few { IfErr result (λ left. nth ≡ length (of_rank at (contents (below self.now))) + left) }
     {
-        match find_leaf(self.leaves.as_slice(), at, nth) {
+        let leaves = self.leaves.as_slice();
+        let (_, own) = leaves.split_at(lower_leaves_passed(leaves, at));
+        match find_leaf(own, at, nth) {
             Ok(x) => Ok(x),
-            Err(left) => match find_among(self.nodes.as_slice(), at, left) {
-                Ok(y) => Ok(y),
-                Err(few) => Err(few),
-            },
+            Err(left) => {
+                let nodes = self.nodes.as_slice();
+                let (_, rest) = nodes.split_at(lower_nodes_passed(nodes, at));
+                match find_among(rest, at, left) {
+                    Ok(y) => Ok(y),
+                    Err(few) => Err(few),
+                }
+            }
         }
     }
 }

@@ -1,7 +1,7 @@
 // The whole index.
 
 ghost use Rattle.std.specs.Prelude.{◌≡◌, ◌+◌, ◌<◌, ◌≤◌, ℕ, if◌then◌else◌, true, OnOk, OnErr, IfOk, IfSome, IfNone, IsTrue, Contains, map, ◌↔◌, All, [], slice_get, length, ◌-◌, ◌^◌, min};
-ghost use Rattle.index_tree.specs.Order.{ordered_from, of_rank, placed};
+ghost use Rattle.index_tree.specs.Order.{ordered_from, of_rank, first_after, placed};
 ghost use Rattle.index_tree.specs.Shape.{Shape, done, contents, node_count, shape_weight, fits, is_whole, with_leaf};
 ghost use Rattle.index_tree.specs.Order.{key_rank, leaf_rank};
 ghost use Rattle.index_tree.specs.Replacement.{swapped, replaced};
@@ -15,6 +15,7 @@ ghost use Rattle.index_tree.specs.Rebuild.{IsIndex};
 ghost use Rattle.index_tree.specs.Tree.{shape, kept_root};
 ghost use Rattle.ubifs_base.specs.Key.{IsKey};
 
+use crate::after::after_rooted;
 use crate::counts::Counts;
 use crate::find::find_rooted;
 use crate::index_node::IndexNode;
@@ -217,6 +218,16 @@ impl Index {
             Ok(leaf) => Some(leaf),
             Err(_) => None,
         }
+    }
+
+    /// The first leaf of a greater key, so that a caller goes from key to key; none where there is none.
+    ///
+    /// It goes down one path, and at most one more.
+    #[tactic(auto, using(crate::proofs::Rooting::inserting))]
+    pub fn after(&self, key: &Key) -> Option<Leaf>
+        ensures { result ≡ first_after (key_rank key.now) (contents (shape self.now.root)) }
+    {
+        after_rooted(&self.root, rank(key))
     }
 
     /// The greatest block leaf of this inode, the last one of equals; none where it has no block.

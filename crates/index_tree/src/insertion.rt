@@ -6,11 +6,12 @@ ghost use Rattle.index_tree.specs.Keyed.{HasKey, HaveKeys};
 ghost use Rattle.index_tree.specs.Levels.{is_levelled};
 ghost use Rattle.index_tree.specs.Order.{leaf_rank, ordered_from};
 ghost use Rattle.index_tree.specs.Shape.{leaf as before, done, node, contents, is_whole, rooted, with_leaf, count, node_count, full, shape_weight, fits, filled, front, back, left_half, parted, inserted};
-ghost use Rattle.index_tree.specs.GrowthLaws.{splits};
+ghost use Rattle.index_tree.specs.Places.{splits};
 ghost use Rattle.index_tree.specs.Places.{leaf_place, node_place, IsSpare};
 ghost use Rattle.index_tree.specs.Tree.{shape, below, kept, kept_all, kept_root, kept_inside, leaves_before, row};
 ghost use Rattle.index_tree.specs.declared.node.Node.TheViews.{out-Node};
 
+use crate::bisect::{leaves_passed, nodes_passed};
 use crate::counts::Counts;
 use crate::leaf::Leaf;
 use crate::node::Node;
@@ -21,15 +22,15 @@ use ubifs_base::Memory;
 
 /// How many of some leaves stand before the first one that has a greater rank.
 fn leaf_place(leaves: &[Leaf], at: u128) -> usize
+    requires ordered { ordered_from 0 leaves.now ≡ true }
     ensures place { result ≡ leaf_place at leaves.now }
     ensures bound { result ≤ length leaves.now }
 {
-    for (i, x) in leaves.iter().enumerate() {
-        if rank(&x.key) > at {
-            return i;
-        }
+    let mut i = leaves_passed(leaves, at);
+    while i < leaves.len() && rank(&leaves[i].key) <= at {
+        i += 1;
     }
-    leaves.len()
+    i
 }
 
 /// How many of some nodes stand before the one that a leaf of this rank goes into: the last whose first leaf isn't
@@ -38,10 +39,11 @@ fn node_place(nodes: &[Node], at: u128) -> usize
     requires some { 0 < length nodes.now }
     requires first_keys { kept_all nodes.now ≡ true }
     requires sound { filled (row nodes.now) ≡ true }
+    requires ordered { ordered_from 0 (contents (row nodes.now)) ≡ true }
     ensures place { result ≡ node_place at (row nodes.now) }
     ensures bound { result < length nodes.now }
 {
-    let mut i = 0;
+    let mut i = nodes_passed(nodes, at);
     while i + 1 < nodes.len() && rank(&nodes[i + 1].first) <= at {
         i += 1;
     }
@@ -62,7 +64,7 @@ fn move_tail<T>(from: &mut Vec<T>, at: usize, to: &mut Vec<T>)
 }
 
 /// Moves the children behind the left half into the empty node.
-#[tactic(auto, using(crate::specs::PlaceLaws::halving))]
+#[tactic(auto, using(crate::proofs::PlaceLaws::halving))]
 fn split(one: &mut Node, fanout: u32, spare: Node) -> Node
     requires least { 3 ≤ fanout }
     requires most { fanout ≤ 256 }
@@ -99,7 +101,7 @@ impl Node {
     }
 
     /// Splits a node that has one child too many; `spare` is there exactly where the node was full.
-    #[tactic(auto, using(crate::specs::PlaceLaws::halving), unfolding(crate::specs::Shape::parted))]
+    #[tactic(auto, using(crate::proofs::PlaceLaws::halving), unfolding(crate::specs::Shape::parted))]
     fn settle(&mut self, fanout: u32, spare: Option<Node>, counts: &mut Counts) -> Option<Node>
         requires least { 3 ≤ fanout }
         requires most { fanout ≤ 256 }
@@ -183,6 +185,7 @@ impl Node {
         requires sound { fits fanout (below self.old) ≡ true }
         requires few { count (below self.old) ≤ fanout }
         requires first_keys { kept self.old ≡ true }
+        requires ordered { ordered_from 0 (contents (below self.old)) ≡ true }
         requires nodes_fit { counts.old.nodes + node_count (below self.old) < 2 ^ 63 }
         requires weight_fits { counts.old.weight < 2 ^ 63 }
         ensures ok { IfOk result (λ s. row (self.new ∷ option_to_list s) ≡ parted fanout (inserted fanout leaf (below self.old)) done) }
@@ -226,6 +229,7 @@ fn insert_among(
     requires room { vec_len nodes.old < vec_capacity nodes.old }
     requires sound { fits fanout (row nodes.old.items) ≡ true }
     requires first_keys { kept_all nodes.old.items ≡ true }
+    requires ordered { ordered_from 0 (contents (row nodes.old.items)) ≡ true }
     requires nodes_fit { counts.old.nodes + node_count (row nodes.old.items) < 2 ^ 63 }
     requires weight_fits { counts.old.weight < 2 ^ 63 }
     ensures ok { OnOk result (row nodes.new.items ≡ inserted fanout leaf (row nodes.old.items)) }
@@ -304,6 +308,7 @@ fn insert_below(
     requires most { fanout ≤ 256 }
     requires sound { fits fanout (shape root.old) ≡ true }
     requires first_keys { kept_root root.old ≡ true }
+    requires ordered { ordered_from 0 (contents (shape root.old)) ≡ true }
     requires nodes_fit { counts.old.nodes + node_count (shape root.old) < 2 ^ 63 }
     requires weight_fits { counts.old.weight < 2 ^ 63 }
     ensures ok { OnOk result (shape root.new ≡ rooted (inserted fanout leaf (shape root.old))) }

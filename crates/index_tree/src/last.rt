@@ -7,6 +7,7 @@ ghost use Rattle.index_tree.specs.Order.{ordered_from};
 ghost use Rattle.index_tree.specs.Shape.{contents, filled};
 ghost use Rattle.index_tree.specs.Tree.{shape, below, kept, kept_all, kept_root, row};
 
+use crate::bisect::{leaves_passed, nodes_passed};
 use crate::leaf::Leaf;
 use crate::node::{Node, begins_within};
 use crate::rank::rank;
@@ -71,10 +72,12 @@ impl Node {
     {
         let nodes = self.nodes.as_slice();
         if begins_within(nodes, at) {
-            return last_among(nodes, at);
+            let (_, rest) = nodes.split_at(nodes_passed(nodes, at));
+            return last_among(rest, at);
         }
         let leaves = self.leaves.as_slice();
-        last_leaf(leaves, at)
+        let (_, own) = leaves.split_at(leaves_passed(leaves, at));
+        last_leaf(own, at)
     }
 }
 

@@ -21,7 +21,7 @@ pub struct Node {
 
 impl Node {
     /// A node without a child.
-    #[tactic(auto, using(crate::specs::TreeLaws::node_parts), unfolding(crate::specs::Order::key_rank))]
+    #[tactic(auto, using(crate::proofs::TreeLaws::node_parts), unfolding(crate::specs::Order::key_rank))]
     pub fn new(alloc: Global) -> Node
         ensures empty { below result ≡ done }
         ensures no_leaves { (out-Node result).leaves.items ≡ [] }
@@ -36,7 +36,7 @@ impl Node {
     }
 
     /// Whether the node has no child.
-    #[tactic(auto, using(crate::specs::TreeLaws::node_parts))]
+    #[tactic(auto, using(crate::proofs::TreeLaws::node_parts))]
     pub fn is_empty(&self) -> bool
         ensures { result ≡ (count (below self.now) == 0) }
     {
@@ -47,7 +47,7 @@ impl Node {
     }
 
     /// Whether the node has at least `n` children.
-    #[tactic(auto, using(crate::specs::TreeLaws::node_parts))]
+    #[tactic(auto, using(crate::proofs::TreeLaws::node_parts))]
     pub fn reaches(&self, n: u32) -> bool
         ensures { result ≡ nat_le n (count (below self.now)) }
     {

@@ -129,6 +129,21 @@ fn index_is_made_of_its_nodes(rt: HostRuntime) -> Result<(), Fail> {
     Ok(())
 }
 
+// Leaf after leaf, from below the first key to behind the last.
+#[test]
+fn leaves_follow_keys(rt: HostRuntime) -> Result<(), Fail> {
+    let mut index = Index::new(3)?;
+    for ino in [2u32, 4, 4, 6, 8, 10] {
+        index.insert(rt.alloc(), leaf(ino, 0))?;
+    }
+    assert_eq!(rt; index.after(&Key::Ino { ino: 1 }), Some(leaf(2, 0)));
+    assert_eq!(rt; index.after(&Key::Ino { ino: 2 }), Some(leaf(4, 0)));
+    assert_eq!(rt; index.after(&Key::Ino { ino: 4 }), Some(leaf(6, 0)));
+    assert_eq!(rt; index.after(&Key::Ino { ino: 7 }), Some(leaf(8, 0)));
+    assert_eq!(rt; index.after(&Key::Ino { ino: 10 }), None);
+    Ok(())
+}
+
 // The greatest block of an inode, between an inode and an entry.
 #[test]
 fn last_block_of_an_inode(rt: HostRuntime) -> Result<(), Fail> {

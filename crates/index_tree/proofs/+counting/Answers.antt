@@ -1,7 +1,7 @@
 use Rattle.std.proofs.Common.{ap, arith}
 use Rattle.index_tree.specs.Shape.{node_count, shape_weight}
 use Rattle.index_tree.specs.Tree.{row}
-use Rattle.index_tree.specs.TreeLaws.{cells, below-cells}
+use Rattle.index_tree.proofs.TreeLaws.{cells, below-cells}
 use Rattle.index_tree.proofs.Inserting.{below-nodes, below-weight}
 use Rattle.index_tree.proofs.+counting.Goals as goal
 

@@ -1,6 +1,6 @@
 use Rattle.std.proofs.Common.{◌+◌, ◌*◌}
 use Rattle.index_tree.specs.Tree.{below, row}
-use Rattle.index_tree.specs.TreeLaws.{cells}
+use Rattle.index_tree.proofs.TreeLaws.{cells}
 use Rattle.index_tree.proofs.+counting.Given as goal
 
 abbrev pub decreases-rebuild::tally_among : goal.decreases-rebuild::tally_among

@@ -1,10 +1,12 @@
-use Rattle.std.proofs.Common.{◌≡◌, ◌∙◌, ap, sym, subst, arith, List, true}
+use Rattle.std.proofs.Common.{◌≡◌, ◌∙◌, ap, sym, subst, arith, List, true, drop, None}
+use Rattle.std.specs.List.{last_or}
+use Rattle.index_tree.specs.LastBlock.{up_to}
 use Rattle.index_tree.specs.declared.node.Node.{Node}
 use Rattle.index_tree.specs.declared.node.Node.TheViews.{out-Node}
-use Rattle.index_tree.specs.OrderLaws.{ordered-left, ordered-right}
 use Rattle.index_tree.specs.Shape.{node, contents}
 use Rattle.index_tree.specs.Tree.{below, row, kept_all}
-use Rattle.index_tree.specs.TreeLaws.{cells, below-cells, below-contents, below-filled, kept_cons, kept_node}
+use Rattle.index_tree.proofs.TreeLaws.{cells, below-filled, kept_cons, kept_node}
+use Rattle.index_tree.proofs.Bisection.{leaves_behind, nodes_behind, parts_of, tail_of}
 use Rattle.index_tree.proofs.LastLeaf.{last_at_node, last_below}
 use Rattle.index_tree.proofs.Search.{at_node}
 use Rattle.index_tree.proofs.+ending.Goals as goal
@@ -77,37 +79,54 @@ node::Node::last_within-begins_within-requires-clause-sound t c =
     let lent = c.as_slice-nodes.ensures.value in
     rw lent (sym (below-filled n) ∙ c.requires.sound)
 
+pub node::Node::last_within-nodes_passed-requires-clause-first_keys : goal.node::Node::last_within-nodes_passed-requires-clause-first_keys
+node::Node::last_within-nodes_passed-requires-clause-first_keys t c =
+    rw c.as_slice-nodes.ensures.value (parts_of c.args.self.now c.requires.first_keys c.requires.sound c.requires.ordered).keeps
+
+pub node::Node::last_within-nodes_passed-requires-clause-sound : goal.node::Node::last_within-nodes_passed-requires-clause-sound
+node::Node::last_within-nodes_passed-requires-clause-sound t c =
+    rw c.as_slice-nodes.ensures.value (parts_of c.args.self.now c.requires.first_keys c.requires.sound c.requires.ordered).sound
+
 pub node::Node::last_within-last_among-requires : goal.node::Node::last_within-last_among-requires
 node::Node::last_within-last_among-requires t c =
     let n = c.args.self.now in
-    let L = (out-Node n).leaves.items in
-    let ns = (out-Node n).nodes.items in
-    let lent = c.as_slice-nodes.ensures.value in
-    let small = ap (λ v. cells (row v)) lent in
-    (omega (arith, below-cells n, small), (rw lent (kept_node n c.requires.first_keys).inside, (rw lent (sym (below-filled n) ∙ c.requires.sound), rw lent (ordered-right 0 L (contents (row ns)) (rw (below-contents n) at c.requires.ordered)))))
+    let i = c.nodes_passed.result in
+    let back = c.split_at.ensures.back ∙ ap (λ v. drop i v) c.as_slice-nodes.ensures.value in
+    let q = tail_of i n c.requires.first_keys c.requires.sound c.requires.ordered in
+    let small = ap (λ v. cells (row v)) back in
+    (omega (arith, q.small, small), (rw back q.keeps, (rw back q.sound, rw back q.ordered)))
 
 pub node::Node::last_within-returns-then-begins_within : goal.node::Node::last_within-returns-then-begins_within
 node::Node::last_within-returns-then-begins_within t c =
     let n = c.args.self.now in
-    let L = (out-Node n).leaves.items in
-    let ns = (out-Node n).nodes.items in
+    let at = c.args.at in
     let lent = c.as_slice-nodes.ensures.value in
-    let q = last_below c.args.at n c.requires.sound c.requires.ordered in
-    (rw lent at c.last_among.ensures) ∙ sym (q.behind (sym (rw lent at c.begins_within.ensures) ∙ c.if-begins_within.true))
+    let i = c.nodes_passed.result in
+    let back = c.split_at.ensures.back ∙ ap (λ v. drop i v) lent in
+    let p = parts_of n c.requires.first_keys c.requires.sound c.requires.ordered in
+    let r = nodes_behind at i (out-Node n).nodes.items p.sound p.ordered (rw lent at c.nodes_passed.ensures.begins) in
+    let q = last_below at n c.requires.sound c.requires.ordered in
+    c.last_among.ensures ∙ ap (λ v. last_or None (up_to at (contents (row v)))) back ∙ sym r.last ∙ sym (q.behind (sym (rw lent at c.begins_within.ensures) ∙ c.if-begins_within.true))
 
 pub node::Node::last_within-last_leaf-requires : goal.node::Node::last_within-last_leaf-requires
 node::Node::last_within-last_leaf-requires t c =
     let n = c.args.self.now in
-    let L = (out-Node n).leaves.items in
-    let ns = (out-Node n).nodes.items in
-    let lent = c.as_slice-nodes.ensures.value in
-    rw c.as_slice-leaves.ensures.value (ordered-left 0 L (contents (row ns)) (rw (below-contents n) at c.requires.ordered))
+    let lent = c.as_slice-leaves.ensures.value in
+    let i = c.leaves_passed.result in
+    let back = c.split_at-2.ensures.back ∙ ap (λ v. drop i v) lent in
+    let p = parts_of n c.requires.first_keys c.requires.sound c.requires.ordered in
+    let q = leaves_behind c.args.at i (out-Node n).leaves.items p.own (rw lent at c.leaves_passed.ensures.starts) in
+    rw back q.ordered
 
 pub node::Node::last_within-returns : goal.node::Node::last_within-returns
 node::Node::last_within-returns t c =
     let n = c.args.self.now in
-    let L = (out-Node n).leaves.items in
-    let ns = (out-Node n).nodes.items in
-    let lent = c.as_slice-nodes.ensures.value in
-    let q = last_below c.args.at n c.requires.sound c.requires.ordered in
-    (rw c.as_slice-leaves.ensures.value at c.last_leaf.ensures) ∙ sym (q.own (sym (rw lent at c.begins_within.ensures) ∙ c.if-begins_within.false))
+    let at = c.args.at in
+    let given = c.as_slice-nodes.ensures.value in
+    let lent = c.as_slice-leaves.ensures.value in
+    let i = c.leaves_passed.result in
+    let back = c.split_at-2.ensures.back ∙ ap (λ v. drop i v) lent in
+    let p = parts_of n c.requires.first_keys c.requires.sound c.requires.ordered in
+    let r = leaves_behind at i (out-Node n).leaves.items p.own (rw lent at c.leaves_passed.ensures.starts) in
+    let q = last_below at n c.requires.sound c.requires.ordered in
+    c.last_leaf.ensures ∙ ap (λ v. last_or None (up_to at v)) back ∙ sym r.last ∙ sym (q.own (sym (rw given at c.begins_within.ensures) ∙ c.if-begins_within.false))

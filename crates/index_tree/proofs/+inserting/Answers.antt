@@ -4,19 +4,25 @@ use Rattle.std.proofs.lemmas.Bool.Decides.{nat_tests}
 use Rattle.std.specs.Prelude.{is_some, vec_len, vec_capacity}
 use Rattle.index_tree.specs.declared.node.Node.{Node}
 use Rattle.index_tree.specs.declared.node.Node.TheViews.{out-Node, out-roll-Node}
-use Rattle.index_tree.specs.GrowthLaws.{splits, inserted-grown}
-use Rattle.index_tree.specs.InsertLaws.{fits-filled}
-use Rattle.index_tree.specs.Order.{leaf_rank}
+use Rattle.index_tree.specs.Places.{splits}
+use Rattle.index_tree.proofs.GrowthLaws.{inserted-grown}
+use Rattle.index_tree.proofs.InsertLaws.{fits-filled}
+use Rattle.index_tree.specs.Order.{leaf_rank, ordered_from}
 use Rattle.index_tree.specs.Places.{leaf_place, node_place}
-use Rattle.index_tree.specs.Shape.{done, node, count, node_count, full, fits, shape_weight, parted, inserted}
+use Rattle.index_tree.specs.Shape.{done, node, contents, count, node_count, full, fits, shape_weight, parted, inserted}
 use Rattle.index_tree.specs.Tree.{below, kept, row, kept_all, leaves_before}
-use Rattle.index_tree.specs.TreeLaws.{cells, below-cells, below_same, kept_same, below_made, kept_node, row-count}
-use Rattle.index_tree.proofs.Inserting.{at_place, place-cells, spare_room, set-parts, insert-behind, row_put, row_kept, row_changed, row_same, nodes_put, spare_wanted, nodes_settled, weight_settled, leaves-nodes, leaves-weight, below-nodes, below-weight, below-fits}
+use Rattle.index_tree.proofs.TreeLaws.{cells, below-cells, below-contents, below_same, kept_same, below_made, kept_node, row-count}
+use Rattle.index_tree.proofs.OrderLaws.{ordered-left, ordered-right}
+use Rattle.index_tree.proofs.Inserting.{at_place, ordered_at, place-cells, spare_room, set-parts, insert-behind, row_put, row_kept, row_changed, row_same, nodes_put, spare_wanted, nodes_settled, weight_settled, leaves-nodes, leaves-weight, below-nodes, below-weight, below-fits}
 use Rattle.index_tree.proofs.+inserting.Goals as goal
 
 pub insertion::insert_among-node_place-way-requires-clause-sound : goal.insertion::insert_among-node_place-way-requires-clause-sound
 insertion::insert_among-node_place-way-requires-clause-sound t c =
     rw c.as_slice.ensures.value (fits-filled c.args.fanout (row c.args.nodes.now.items) c.requires.sound)
+
+pub insertion::insert_among-node_place-way-requires-clause-ordered : goal.insertion::insert_among-node_place-way-requires-clause-ordered
+insertion::insert_among-node_place-way-requires-clause-ordered t c =
+    rw c.as_slice.ensures.value c.requires.ordered
 
 pub insertion::insert_among-insert-requires : goal.insertion::insert_among-insert-requires
 insertion::insert_among-insert-requires t c =
@@ -31,7 +37,7 @@ insertion::insert_among-insert-requires t c =
     let small = ap (λ v. cells (below v)) value in
     let many = ap (λ v. count (below v)) value in
     let size = ap (λ v. node_count (below v)) value in
-    (omega (arith, place-cells ns i one bound, small), (c.requires.least, (c.requires.most, (ap (λ v. fits f (below v)) value ∙ q.sound, (omega (arith, q.most, many), (ap kept value ∙ q.keeps, (omega (arith, q.nodes, size), c.requires.weight_fits)))))))
+    (omega (arith, place-cells ns i one bound, small), (c.requires.least, (c.requires.most, (ap (λ v. fits f (below v)) value ∙ q.sound, (omega (arith, q.most, many), (ap kept value ∙ q.keeps, (ap (λ v. ordered_from 0 (contents (below v))) value ∙ ordered_at ns i one bound c.requires.ordered, (omega (arith, q.nodes, size), c.requires.weight_fits))))))))
 
 pub insertion::insert_among-returns-in_err-insert-clause-keep : goal.insertion::insert_among-returns-in_err-insert-clause-keep
 insertion::insert_among-returns-in_err-insert-clause-keep t c =
@@ -261,7 +267,7 @@ node::Node::insert-insert_among-requires t c =
     let size = ap (λ v. node_count (row v)) items in
     let small = ap (λ v. cells (row v)) items in
     let some : 0 < vec_len c.try_reserve.new.self = grind (arith, nat_tests, c.in_ok-try_reserve.ensures.len, c.is_empty.ensures, c.if-is_empty.false) in
-    simp out-roll-Node (omega (arith, below-cells n, small), (c.requires.least, (c.requires.most, (some, (omega (arith, c.in_ok-try_reserve.ensures.ok), (ap (λ v. fits f (row v)) items ∙ sym (below-fits f n) ∙ c.requires.sound, (ap kept_all items ∙ (kept_node n c.requires.first_keys).inside, (omega (arith, size, below-nodes n), c.requires.weight_fits))))))))
+    simp out-roll-Node (omega (arith, below-cells n, small), (c.requires.least, (c.requires.most, (some, (omega (arith, c.in_ok-try_reserve.ensures.ok), (ap (λ v. fits f (row v)) items ∙ sym (below-fits f n) ∙ c.requires.sound, (ap kept_all items ∙ (kept_node n c.requires.first_keys).inside, (ap (λ v. ordered_from 0 (contents (row v))) items ∙ ordered-right 0 L (contents (row ns)) (rw (below-contents n) at c.requires.ordered), (omega (arith, size, below-nodes n), c.requires.weight_fits)))))))))
 
 pub node::Node::insert-returns-in_err-insert_among-clause-err : goal.node::Node::insert-returns-in_err-insert_among-clause-err
 node::Node::insert-returns-in_err-insert_among-clause-err t c =
@@ -462,3 +468,8 @@ node::Node::insert-returns-clause-weight t c =
     let arranged = (simp (out-roll-Node, below_made) at c.settle-right.ensures.arranged) ∙ ap (λ v. parted f v done) put in
     let was = c.in_ok-spare.ensures.there ∙ c.reaches-was_full.ensures in
     weight_settled f k m c.settle-right.new.counts.weight b (below n) (inserted f x (below n)) _ c.requires.least c.requires.few g was grown raised arranged
+
+pub node::Node::insert-leaf_place-place-requires : goal.node::Node::insert-leaf_place-place-requires
+node::Node::insert-leaf_place-place-requires t c =
+    let n = c.args.self.now in
+    record { ordered = rw c.as_slice.ensures.value (ordered-left 0 (out-Node n).leaves.items (contents (row (out-Node n).nodes.items)) (rw (below-contents n) at c.requires.ordered)) }

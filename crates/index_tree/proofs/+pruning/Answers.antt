@@ -2,16 +2,16 @@ use Rattle.std.proofs.Common.{◌≡◌, ◌+◌, ◌∙◌, ap, sym, subst, ari
 use Rattle.std.specs.Vec.{with_items}
 use Rattle.index_tree.specs.declared.node.Node.{Node}
 use Rattle.index_tree.specs.declared.node.Node.TheViews.{out-Node, out-roll-Node}
-use Rattle.index_tree.specs.GrowthLaws.{node_fits}
-use Rattle.index_tree.specs.InsertLaws.{fits-filled}
-use Rattle.index_tree.specs.OrderLaws.{ordered-right}
+use Rattle.index_tree.proofs.GrowthLaws.{node_fits}
+use Rattle.index_tree.proofs.InsertLaws.{fits-filled}
+use Rattle.index_tree.proofs.OrderLaws.{ordered-right}
 use Rattle.index_tree.specs.RangeRemoval.{pruned, within_range, outside_range}
-use Rattle.index_tree.specs.RangeSkips.{range_behind, range_below, tidied-filled}
+use Rattle.index_tree.proofs.RangeSkips.{range_behind, range_below, tidied-filled}
 use Rattle.index_tree.specs.Removal.{tidied}
 use Rattle.index_tree.specs.Shape.{Shape, node, contents, node_count, shape_weight, fits}
 use Rattle.index_tree.specs.Sweep.{swept}
 use Rattle.index_tree.specs.Tree.{below, row, kept_all, leaves_before}
-use Rattle.index_tree.specs.TreeLaws.{cells, below-cells, below-contents, below_is, below_made, lent_items, kept_cons, kept_node}
+use Rattle.index_tree.proofs.TreeLaws.{cells, below-cells, below-contents, below_is, below_made, lent_items, kept_cons, kept_node}
 use Rattle.index_tree.proofs.Inserting.{leaves-nodes, leaves-weight, below-nodes, below-weight, below-fits}
 use Rattle.index_tree.proofs.Pruning.{pruned_ready, pruned-leaves, range-below}
 use Rattle.index_tree.proofs.Removing.{Ready, node_left, node_right}

@@ -1,15 +1,15 @@
 use Rattle.std.proofs.Common.{◌≡◌, ◌+◌, ◌∙◌, ap, sym, subst, refl, arith, suc, ◌++◌, take, drop, length, true, false}
 use Rattle.index_tree.specs.declared.node.Node.TheViews.{out-Node, out-roll-Node}
-use Rattle.index_tree.specs.GrowthLaws.{node_fits}
-use Rattle.index_tree.specs.InsertLaws.{fits-filled}
+use Rattle.index_tree.proofs.GrowthLaws.{node_fits}
+use Rattle.index_tree.proofs.InsertLaws.{fits-filled}
 use Rattle.index_tree.specs.Order.{ordered_from}
-use Rattle.index_tree.specs.OrderLaws.{ordered-left, ordered-right}
+use Rattle.index_tree.proofs.OrderLaws.{ordered-left, ordered-right}
 use Rattle.index_tree.specs.Removal.{holds, removed, tidied}
-use Rattle.index_tree.specs.RemovalLaws.{holds-append, removed-absent, absent_right}
+use Rattle.index_tree.proofs.RemovalLaws.{holds-append, removed-absent, absent_right}
 use Rattle.index_tree.specs.Shape.{Shape, node, contents, node_count, shape_weight, fits}
 use Rattle.index_tree.specs.Sweep.{swept, leaf_index}
 use Rattle.index_tree.specs.Tree.{below, row, kept_all, leaves_before}
-use Rattle.index_tree.specs.TreeLaws.{cells, below-cells, below-contents, below_is, below_made, below_lent, kept_lent, lent_items, kept_node}
+use Rattle.index_tree.proofs.TreeLaws.{cells, below-cells, below-contents, below_is, below_made, below_lent, kept_lent, lent_items, kept_node}
 use Rattle.index_tree.proofs.Inserting.{leaves-nodes, leaves-weight, below-nodes, below-weight, below-fits}
 use Rattle.index_tree.proofs.Removing.{holds-below}
 use Rattle.index_tree.proofs.Sweeping.{swept-same, swept-head, swept-leaves, removed-here, removed-past}

@@ -1,13 +1,13 @@
 use Rattle.std.proofs.Common.{◌≡◌, ◌∙◌, ap, sym, refl, arith, length, true, false}
 use Rattle.std.proofs.Math.ListN.{set}
 use Rattle.index_tree.specs.declared.node.Node.TheViews.{out-Node, out-roll-Node}
-use Rattle.index_tree.specs.OrderLaws.{ordered-left, ordered-right}
+use Rattle.index_tree.proofs.OrderLaws.{ordered-left, ordered-right}
 use Rattle.index_tree.specs.Removal.{holds}
 use Rattle.index_tree.specs.Replacement.{replaced}
 use Rattle.index_tree.specs.Shape.{contents, filled}
 use Rattle.index_tree.specs.Sweep.{leaf_index}
 use Rattle.index_tree.specs.Tree.{row, kept_all, leaves_before}
-use Rattle.index_tree.specs.TreeLaws.{cells, below-cells, below-contents, below-filled, below_is, below_made, below_lent, lent_items, kept_node}
+use Rattle.index_tree.proofs.TreeLaws.{cells, below-cells, below-contents, below-filled, below_is, below_made, below_lent, lent_items, kept_node}
 use Rattle.index_tree.proofs.Removing.{holds-below}
 use Rattle.index_tree.proofs.Sweeping.{replaced-here, replaced-past}
 use Rattle.index_tree.proofs.+replacing.Goals as goal

@@ -1,6 +1,6 @@
 use Rattle.std.proofs.Common.{◌+◌, ◌*◌}
 use Rattle.index_tree.specs.Tree.{below, row}
-use Rattle.index_tree.specs.TreeLaws.{cells}
+use Rattle.index_tree.proofs.TreeLaws.{cells}
 use Rattle.index_tree.proofs.+replacing.Given as goal
 
 abbrev pub decreases-replacement::replace_among : goal.decreases-replacement::replace_among

@@ -1,7 +1,7 @@
 use Rattle.std.proofs.Common.{rules, ◌≡◌, true, ap, subst, ◌∙◌, arith, List}
 use Rattle.index_tree.specs.declared.leaf.Leaf.{Leaf}
 use Rattle.index_tree.specs.Order.{leaf_rank, ordered_from, of_rank}
-use Rattle.index_tree.specs.OrderLaws.{ordered_head, ordered-weaken}
+use Rattle.index_tree.proofs.OrderLaws.{ordered_head, ordered-weaken}
 use Rattle.index_tree.proofs.Search.{none_here}
 use Rattle.index_tree.proofs.find.+find_leaf.Goals as goal
 

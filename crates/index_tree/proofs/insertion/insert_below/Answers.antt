@@ -1,6 +1,7 @@
 use Rattle.std.proofs.Common.{rules, ◌≡◌, ◌+◌, ◌<◌, ◌≤◌, ◌^◌, ◌∙◌, ap, subst, refl, arith, true, [], ◌∷◌}
 use Rattle.std.proofs.lemmas.Bool.Decides.{nat_tests}
-use Rattle.index_tree.specs.GrowthLaws.{splits, node_fits, inserted-grown, parted-node_count, parted-weight}
+use Rattle.index_tree.specs.Places.{splits}
+use Rattle.index_tree.proofs.GrowthLaws.{node_fits, inserted-grown, parted-node_count, parted-weight}
 use Rattle.index_tree.specs.Shape.{Shape, done, node, count, node_count, full, shape_weight, fits, parted, inserted}
 use Rattle.index_tree.specs.Tree.{shape, below, row}
 use Rattle.index_tree.proofs.Rooting.{split_full}

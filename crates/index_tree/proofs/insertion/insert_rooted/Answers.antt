@@ -1,7 +1,7 @@
 use Rattle.std.proofs.Common.{sym, ◌∙◌}
-use Rattle.index_tree.specs.InsertLaws.{with_leaf-is, with_leaf-laws, with_leaf-ordered}
-use Rattle.index_tree.specs.KeyedLaws.{with_leaf-keyed}
-use Rattle.index_tree.specs.LevelLaws.{with_leaf-levelled}
+use Rattle.index_tree.proofs.InsertLaws.{with_leaf-is, with_leaf-laws, with_leaf-ordered}
+use Rattle.index_tree.proofs.KeyedLaws.{with_leaf-keyed}
+use Rattle.index_tree.proofs.LevelLaws.{with_leaf-levelled}
 use Rattle.index_tree.specs.Tree.{shape}
 use Rattle.index_tree.proofs.insertion.insert_rooted.Goals as goal
 

@@ -1,5 +1,5 @@
 use Rattle.std.proofs.Common.{◌≡◌, ◌∙◌, ap, refl, [], ◌∷◌, ◌++◌}
-use Rattle.index_tree.specs.TreeLaws.{below_made, node_keeps}
+use Rattle.index_tree.proofs.TreeLaws.{below_made, node_keeps}
 use Rattle.index_tree.proofs.insertion.leaf_node.Goals as goal
 
 pub returns-clause-children : goal.returns-clause-children

@@ -2,8 +2,14 @@ use Rattle.std.proofs.Common.{◌≡◌, true, false, nat_le, ap, sym, ◌∙◌
 use Rattle.std.proofs.lemmas.Bool.Decides.{nat_tests}
 use Rattle.index_tree.specs.Order.{key_rank}
 use Rattle.index_tree.specs.declared.node.Node.TheViews.{out-Node}
-use Rattle.index_tree.specs.PlaceLaws.{next_place, last_place}
+use Rattle.index_tree.proofs.Bisection.{place_behind}
+use Rattle.index_tree.proofs.PlaceLaws.{next_place, last_place}
 use Rattle.index_tree.proofs.insertion.node_place.Goals as goal
+
+pub loop-i-init : goal.loop-i-init
+loop-i-init c =
+    let q = place_behind c.args.at c.nodes_passed-i.result c.args.nodes.now c.requires.some c.requires.sound c.requires.ordered c.nodes_passed-i.ensures.begins in
+    record { place = q.place; bound = q.bound }
 
 pub loop-i-preserved : goal.loop-i-preserved
 loop-i-preserved c =

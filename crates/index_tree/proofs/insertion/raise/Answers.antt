@@ -1,6 +1,6 @@
 use Rattle.std.proofs.Common.{◌≡◌, ◌∙◌, ap, refl, [], ◌∷◌, ◌++◌}
 use Rattle.index_tree.specs.declared.node.Node.TheViews.{out-Node}
-use Rattle.index_tree.specs.TreeLaws.{below_made, kept_node, node_keeps}
+use Rattle.index_tree.proofs.TreeLaws.{below_made, kept_node, node_keeps}
 use Rattle.index_tree.proofs.insertion.raise.Goals as goal
 
 pub returns-clause-raised : goal.returns-clause-raised

@@ -1,7 +1,7 @@
 use Rattle.std.proofs.Common.{◌≡◌, ◌+◌, ◌-◌, ◌/◌, ◌∙◌, ap, take, drop, length, arith}
 use Rattle.index_tree.specs.declared.node.Node.TheViews.{out-Node, out-roll-Node}
 use Rattle.index_tree.specs.Shape.{left_half}
-use Rattle.index_tree.specs.PlaceLaws.{cut_left, cut_right, kept-take, kept-drop}
+use Rattle.index_tree.proofs.PlaceLaws.{cut_left, cut_right, kept-take, kept-drop}
 use Rattle.index_tree.proofs.insertion.split.Goals as goal
 
 pub keep_first-requires : goal.keep_first-requires

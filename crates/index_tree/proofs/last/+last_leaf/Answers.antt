@@ -3,7 +3,7 @@ use Rattle.std.specs.List.{last_or}
 use Rattle.index_tree.specs.declared.leaf.Leaf.{Leaf}
 use Rattle.index_tree.specs.LastBlock.{up_to}
 use Rattle.index_tree.specs.Order.{leaf_rank, ordered_from}
-use Rattle.index_tree.specs.OrderLaws.{ordered_head, ordered-weaken}
+use Rattle.index_tree.proofs.OrderLaws.{ordered_head, ordered-weaken}
 use Rattle.index_tree.proofs.LastLeaf.{last_above, last_cons, last_after_none, last_after_some}
 use Rattle.index_tree.proofs.last.+last_leaf.Goals as goal
 

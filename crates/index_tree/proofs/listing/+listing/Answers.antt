@@ -2,11 +2,11 @@ use Rattle.std.proofs.Common.{◌≡◌, ◌-◌, ◌<◌, ◌++◌, ◌∙◌, 
 use Rattle.std.specs.Prelude.{◌==◌}
 use Rattle.std.proofs.lemmas.Bool.Decides.{nat_tests}
 use Rattle.index_tree.specs.declared.node.Node.TheViews.{out-Node}
-use Rattle.index_tree.specs.GrowthLaws.{node_fits}
+use Rattle.index_tree.proofs.GrowthLaws.{node_fits}
 use Rattle.index_tree.specs.Listing.{listed_node, level_nodes}
 use Rattle.index_tree.specs.Shape.{Shape, done, node, fits}
 use Rattle.index_tree.specs.Tree.{below, row}
-use Rattle.index_tree.specs.TreeLaws.{cells, below-cells}
+use Rattle.index_tree.proofs.TreeLaws.{cells, below-cells}
 use Rattle.index_tree.proofs.Inserting.{below-fits}
 use Rattle.index_tree.proofs.NodeList.{level_past, lowest-level, only_nodes}
 use Rattle.index_tree.proofs.listing.+listing.Goals as goal

@@ -1,7 +1,7 @@
 use Rattle.std.proofs.Common.{◌≡◌, true, nat_le, sym, ap, subst, ◌∙◌, List}
 use Rattle.index_tree.specs.Shape.{filled, begins_within}
 use Rattle.index_tree.specs.Tree.{row, kept_all}
-use Rattle.index_tree.specs.TreeLaws.{kept_cons, row-begins}
+use Rattle.index_tree.proofs.TreeLaws.{kept_cons, row-begins}
 use Rattle.index_tree.specs.declared.node.Node.{Node}
 use Rattle.index_tree.proofs.node.begins_within.Goals as goal
 

@@ -1,7 +1,7 @@
 use Rattle.std.proofs.Common.{sym, ap, ◌∙◌}
 use Rattle.index_tree.specs.Shape.{first_rank}
 use Rattle.index_tree.specs.Tree.{row, leaves_before}
-use Rattle.index_tree.specs.TreeLaws.{no_items}
+use Rattle.index_tree.proofs.TreeLaws.{no_items}
 use Rattle.index_tree.proofs.node.first_key.Goals as goal
 
 pub returns-in-Some : goal.returns-in-Some

@@ -2,7 +2,7 @@ use Rattle.std.proofs.Common.{◌≡◌, true, sym, ap, subst, ◌∙◌, refl, 
 use Rattle.index_tree.specs.Order.{key_rank}
 use Rattle.index_tree.specs.Shape.{first_rank}
 use Rattle.index_tree.specs.Tree.{row, kept_all}
-use Rattle.index_tree.specs.TreeLaws.{kept_cons, kept_node}
+use Rattle.index_tree.proofs.TreeLaws.{kept_cons, kept_node}
 use Rattle.index_tree.specs.declared.node.Node.{Node}
 use Rattle.index_tree.proofs.node.first_of.Goals as goal
 

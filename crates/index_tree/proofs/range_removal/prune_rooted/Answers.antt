@@ -1,8 +1,8 @@
 use Rattle.std.proofs.Common.{ap, sym, ◌∙◌}
 use Rattle.index_tree.specs.Removal.{collapsed}
-use Rattle.index_tree.specs.RangeLaws.{without_range-is, without_range-laws, without_range-ordered}
-use Rattle.index_tree.specs.KeyedLaws.{without_range-keyed}
-use Rattle.index_tree.specs.LevelLaws.{without_range-levelled}
+use Rattle.index_tree.proofs.RangeLaws.{without_range-is, without_range-laws, without_range-ordered}
+use Rattle.index_tree.proofs.KeyedLaws.{without_range-keyed}
+use Rattle.index_tree.proofs.LevelLaws.{without_range-levelled}
 use Rattle.index_tree.specs.Tree.{shape}
 use Rattle.index_tree.proofs.range_removal.prune_rooted.Goals as goal
 

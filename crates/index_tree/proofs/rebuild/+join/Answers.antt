@@ -2,7 +2,7 @@ use Rattle.std.proofs.Common.{◌≡◌, ℕ, ◌<◌, true, take, drop, map, Li
 use Rattle.std.specs.Prelude.{All}
 use Rattle.std.proofs.lemmas.List.Elements.{All-drop, All-same, All-head}
 use Rattle.index_tree.specs.declared.node.Node.{Node}
-use Rattle.index_tree.specs.PlaceLaws.{kept-append}
+use Rattle.index_tree.proofs.PlaceLaws.{kept-append}
 use Rattle.index_tree.specs.Places.{joined_rows}
 use Rattle.index_tree.specs.Rebuild.{joined}
 use Rattle.index_tree.specs.Tree.{below, kept, row, kept_all}

@@ -1,6 +1,6 @@
 use Rattle.std.proofs.Common.{◌∙◌}
 use Rattle.index_tree.specs.declared.node.Node.TheViews.{out-Node}
-use Rattle.index_tree.specs.TreeLaws.{below_made}
+use Rattle.index_tree.proofs.TreeLaws.{below_made}
 use Rattle.index_tree.proofs.Rebuilding.{leaves_alone}
 use Rattle.index_tree.proofs.rebuild.of_leaves.Goals as goal
 

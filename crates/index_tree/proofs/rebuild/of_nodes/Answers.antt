@@ -1,6 +1,6 @@
 use Rattle.std.proofs.Common.{ap, ◌∙◌}
 use Rattle.index_tree.specs.Tree.{row, leaves_before}
-use Rattle.index_tree.specs.TreeLaws.{below_made}
+use Rattle.index_tree.proofs.TreeLaws.{below_made}
 use Rattle.index_tree.proofs.rebuild.of_nodes.Goals as goal
 
 pub returns-clause-row : goal.returns-clause-row

@@ -1,8 +1,8 @@
 use Rattle.std.proofs.Common.{ap, sym, ◌∙◌}
 use Rattle.index_tree.specs.Removal.{collapsed}
-use Rattle.index_tree.specs.CollapseLaws.{without_leaf-is, without_leaf-laws, without_leaf-ordered}
-use Rattle.index_tree.specs.KeyedLaws.{without_leaf-keyed}
-use Rattle.index_tree.specs.LevelLaws.{without_leaf-levelled}
+use Rattle.index_tree.proofs.CollapseLaws.{without_leaf-is, without_leaf-laws, without_leaf-ordered}
+use Rattle.index_tree.proofs.KeyedLaws.{without_leaf-keyed}
+use Rattle.index_tree.proofs.LevelLaws.{without_leaf-levelled}
 use Rattle.index_tree.specs.Tree.{shape}
 use Rattle.index_tree.proofs.removal.remove_rooted.Goals as goal
 

@@ -1,5 +1,5 @@
 use Rattle.std.proofs.Common.{None, Some, sym, ◌∙◌}
-use Rattle.index_tree.specs.LastBlockLaws.{last_block-greatest, last_block-none}
+use Rattle.index_tree.proofs.LastBlockLaws.{last_block-greatest, last_block-none}
 use Rattle.index_tree.specs.Shape.{contents}
 use Rattle.index_tree.specs.Tree.{shape}
 use Rattle.index_tree.proofs.LastLeaf.{found_block, no_block}

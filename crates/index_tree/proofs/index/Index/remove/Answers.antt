@@ -1,4 +1,4 @@
-use Rattle.index_tree.specs.SameLeaf.{holds-exactly}
+use Rattle.index_tree.proofs.SameLeaf.{holds-exactly}
 use Rattle.index_tree.specs.Shape.{contents}
 use Rattle.index_tree.specs.Tree.{shape}
 use Rattle.index_tree.proofs.index.Index.remove.Goals as goal

@@ -1,9 +1,9 @@
 use Rattle.std.proofs.Common.{ap, sym, ◌∙◌}
-use Rattle.index_tree.specs.Keyed.{swapped-keyed}
-use Rattle.index_tree.specs.SameLeaf.{holds-exactly}
+use Rattle.index_tree.proofs.KeyedLaws.{swapped-keyed}
+use Rattle.index_tree.proofs.SameLeaf.{holds-exactly}
 use Rattle.index_tree.specs.Shape.{contents, node_count, shape_weight}
-use Rattle.index_tree.specs.Replacement.{replaced-contents, replaced-same, replaced-whole, swapped-ordered}
-use Rattle.index_tree.specs.LevelLaws.{replaced-levelled}
+use Rattle.index_tree.proofs.ReplacementLaws.{replaced-contents, replaced-same, replaced-whole, swapped-ordered}
+use Rattle.index_tree.proofs.LevelLaws.{replaced-levelled}
 use Rattle.index_tree.specs.Tree.{shape}
 use Rattle.index_tree.proofs.index.Index.replace.Goals as goal
 

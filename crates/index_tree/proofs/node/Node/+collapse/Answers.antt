@@ -2,11 +2,11 @@ use Rattle.std.proofs.Common.{◌≡◌, ◌≢◌, ◌<◌, ◌∙◌, ap, sym,
 use Rattle.std.proofs.lemmas.Bool.Decides.{nat_tests}
 use Rattle.index_tree.specs.declared.node.Node.{Node}
 use Rattle.index_tree.specs.declared.node.Node.TheViews.{out-Node}
-use Rattle.index_tree.specs.GrowthLaws.{below-full}
+use Rattle.index_tree.proofs.GrowthLaws.{below-full}
 use Rattle.index_tree.specs.Removal.{collapsed}
 use Rattle.index_tree.specs.Shape.{done, node, count, node_count, shape_weight}
 use Rattle.index_tree.specs.Tree.{below, kept_all}
-use Rattle.index_tree.specs.TreeLaws.{cells, kept_cons, kept_node}
+use Rattle.index_tree.proofs.TreeLaws.{cells, kept_cons, kept_node}
 use Rattle.index_tree.proofs.Removing.{stays, one_child, lone_child}
 use Rattle.index_tree.proofs.node.Node.+collapse.Goals as goal
 

@@ -3,7 +3,7 @@ use Rattle.std.proofs.lemmas.Bool.Decides.{nat_tests}
 use Rattle.index_tree.specs.declared.node.Node.TheViews.{out-Node}
 use Rattle.index_tree.specs.Listing.{height}
 use Rattle.index_tree.specs.Tree.{row}
-use Rattle.index_tree.specs.TreeLaws.{no_items}
+use Rattle.index_tree.proofs.TreeLaws.{no_items}
 use Rattle.index_tree.proofs.NodeList.{lowest-height, only_nodes}
 use Rattle.index_tree.proofs.node.Node.+height.Goals as goal
 

@@ -3,7 +3,7 @@ use Rattle.index_tree.specs.declared.node.Node.TheViews.{out-Node}
 use Rattle.index_tree.specs.Listing.{row_leaves}
 use Rattle.index_tree.specs.Shape.{count}
 use Rattle.index_tree.specs.Tree.{below}
-use Rattle.index_tree.specs.TreeLaws.{below-count}
+use Rattle.index_tree.proofs.TreeLaws.{below-count}
 use Rattle.index_tree.proofs.NodeList.{below-leaves}
 use Rattle.index_tree.proofs.node.Node.as_node.Goals as goal
 

@@ -1,10 +1,11 @@
 use Rattle.std.proofs.Common.{rules, ◌+◌, ◌∙◌, ap, sym, refl, arith, if◌then◌else◌, ◌∷◌, ◌++◌, take, drop}
 use Rattle.std.specs.Prelude.{is_some}
 use Rattle.index_tree.specs.declared.node.Node.TheViews.{out-Node, out-roll-Node}
-use Rattle.index_tree.specs.GrowthLaws.{splits, inserted-grown}
+use Rattle.index_tree.specs.Places.{splits}
+use Rattle.index_tree.proofs.GrowthLaws.{inserted-grown}
 use Rattle.index_tree.specs.Shape.{done, count, node_count, full, shape_weight, parted, inserted}
 use Rattle.index_tree.specs.Tree.{below, row, leaves_before}
-use Rattle.index_tree.specs.TreeLaws.{below_same, kept_same, below_made, kept_node}
+use Rattle.index_tree.proofs.TreeLaws.{below_same, kept_same, below_made, kept_node}
 use Rattle.index_tree.proofs.Inserting.{leaf_put, spare_wanted, nodes_settled, weight_settled, leaves-nodes, leaves-weight, below-nodes, below-weight}
 use Rattle.index_tree.proofs.node.Node.insert_leaf.Goals as goal
 

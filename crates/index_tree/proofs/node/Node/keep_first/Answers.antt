@@ -1,6 +1,6 @@
 use Rattle.std.proofs.Common.{refl}
 use Rattle.index_tree.specs.declared.node.Node.TheViews.{out-Node, out-roll-Node}
-use Rattle.index_tree.specs.TreeLaws.{node_keeps, below_same}
+use Rattle.index_tree.proofs.TreeLaws.{node_keeps, below_same}
 use Rattle.index_tree.proofs.node.Node.keep_first.Goals as goal
 
 pub returns-clause-children : goal.returns-clause-children

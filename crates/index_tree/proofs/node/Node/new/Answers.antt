@@ -1,7 +1,7 @@
 use Rattle.std.proofs.Common.{refl}
 use Rattle.ubifs_base.specs.declared.key.Key.TheVariants.{Ino}
 use Rattle.index_tree.specs.Order.{key_rank}
-use Rattle.index_tree.specs.TreeLaws.{node_keeps}
+use Rattle.index_tree.proofs.TreeLaws.{node_keeps}
 use Rattle.index_tree.proofs.node.Node.new.Goals as goal
 
 pub returns-clause-keeps : goal.returns-clause-keeps

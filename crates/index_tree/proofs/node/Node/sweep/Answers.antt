@@ -5,7 +5,7 @@ use Rattle.index_tree.specs.declared.node.Node.TheViews.{out-Node, out-roll-Node
 use Rattle.index_tree.specs.Shape.{node_count, shape_weight}
 use Rattle.index_tree.specs.Sweep.{swept, has_child}
 use Rattle.index_tree.specs.Tree.{below, row, kept_all, leaves_before}
-use Rattle.index_tree.specs.TreeLaws.{below_is, below_made}
+use Rattle.index_tree.proofs.TreeLaws.{below_is, below_made}
 use Rattle.index_tree.proofs.Inserting.{below-nodes, below-weight, leaves-nodes, leaves-weight}
 use Rattle.index_tree.proofs.Sweeping.{swept-row, swept-leaves, filter-kept, filter-nodes, filter-weight, filter-fewer}
 use Rattle.index_tree.proofs.node.Node.sweep.Goals as goal

@@ -4,15 +4,15 @@ use Rattle.std.proofs.Common.{refl, ap, sym, subst, ◌∙◌, arith, inl, inr, 
 use Rattle.std.proofs.lemmas.Bool.{cases_Bool}
 use Rattle.std.proofs.lemmas.Bool.Decides.{nat_tests}
 use Rattle.std.proofs.Math.Seq.{take-append_seam, drop-append_seam}
-use Rattle.index_tree.specs.InsertLaws.{fits-filled}
+use Rattle.index_tree.proofs.InsertLaws.{fits-filled}
 use Rattle.index_tree.specs.Levels.{levelled, is_levelled}
-use Rattle.index_tree.specs.LevelLaws.{level_node, level_leaf}
+use Rattle.index_tree.proofs.LevelLaws.{level_node, level_leaf}
 use Rattle.index_tree.specs.Listing.{ListedNode, height, row_leaves, level_nodes, levels_below, listed}
-use Rattle.index_tree.specs.RangeSkips.{tidied-filled}
-use Rattle.index_tree.specs.Rebuild.{IsIndex, leaf_row, joined, waiting, waiting_after, rebuilt}
+use Rattle.index_tree.proofs.RangeSkips.{tidied-filled}
+use Rattle.index_tree.specs.Rebuild.{IsIndex, leaf_row, joined, waiting, waiting_after}
 use Rattle.index_tree.specs.Removal.{tidied}
-use Rattle.index_tree.specs.RemovalLaws.{empty}
-use Rattle.index_tree.specs.SearchLaws.{node_filled}
+use Rattle.index_tree.proofs.RemovalLaws.{empty}
+use Rattle.index_tree.proofs.SearchLaws.{node_filled}
 use Rattle.index_tree.specs.Shape.{Shape, done, leaf, node, count, filled, is_whole}
 
 pub waiting_after-append : (parts : List Shape) (xs ys : List ListedNode) → waiting_after parts (xs ++ ys) ≡ waiting_after (waiting_after parts xs) ys
@@ -135,6 +135,10 @@ levels_wait (suc n) s b f l =
     ∙ taken
 
 -- a whole shape is made again of its list
+-- the shape of a list of nodes: its root has the row of children that waits at the end
+abbrev pub rebuilt : List ListedNode → Shape
+rebuilt nodes = joined (take 1 (waiting_after [] nodes))
+
 pub rebuilt-listed : (s : Shape) → is_whole s ≡ true → filled s ≡ true → is_levelled s ≡ true → rebuilt (listed s) ≡ s
 rebuilt-listed done w f l = refl
 rebuilt-listed (leaf x rest) w f l = absurd cc

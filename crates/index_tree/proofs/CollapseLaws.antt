@@ -5,10 +5,10 @@ use Rattle.std.proofs.lemmas.Bool.{cases_Bool}
 use Rattle.index_tree.specs.declared.leaf.Leaf.{Leaf}
 use Rattle.index_tree.specs.Order.{ordered_from}
 use Rattle.index_tree.specs.Shape.{Shape, done, leaf, node, contents, count, shape_weight, fits, lone, is_whole}
-use Rattle.index_tree.specs.GrowthLaws.{node_fits}
-use Rattle.index_tree.specs.InsertLaws.{lone-whole}
+use Rattle.index_tree.proofs.GrowthLaws.{node_fits}
+use Rattle.index_tree.proofs.InsertLaws.{lone-whole}
 use Rattle.index_tree.specs.Removal.{same_leaf, holds, without, removed, collapsed, without_leaf}
-use Rattle.index_tree.specs.RemovalLaws.{empty, removed-shrunk, removed-contents, without-ordered}
+use Rattle.index_tree.proofs.RemovalLaws.{empty, removed-shrunk, removed-contents, without-ordered}
 
 pub lone-count : (s : Shape) → lone s ≡ true → count s ≡ 1
 lone-count done w = absurd cc

@@ -6,9 +6,9 @@ use Rattle.std.proofs.lemmas.Bool.Decides.{nat_tests}
 use Rattle.std.proofs.lemmas.List.Elements.{filter-append}
 use Rattle.index_tree.specs.declared.leaf.Leaf.{Leaf}
 use Rattle.index_tree.specs.Order.{leaf_rank, ordered_from, starts_within}
-use Rattle.index_tree.specs.OrderLaws.{ordered_head, ordered_cons, ordered-right, low_before}
+use Rattle.index_tree.proofs.OrderLaws.{ordered_head, ordered_cons, ordered-right, low_before}
 use Rattle.index_tree.specs.Shape.{Shape, done, leaf, node, contents, count, filled, begins_within}
-use Rattle.index_tree.specs.SearchLaws.{node_filled, begins-starts}
+use Rattle.index_tree.proofs.SearchLaws.{node_filled, begins-starts}
 use Rattle.index_tree.specs.Removal.{tidied}
 use Rattle.index_tree.specs.RangeRemoval.{in_range, pruned, within_range}
 

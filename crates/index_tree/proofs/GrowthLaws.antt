@@ -1,10 +1,11 @@
 -- What an insertion does to the numbers of a shape.
-use Rattle.std.specs.Prelude.{◌≡◌, ℕ, ◌+◌, ◌-◌, ◌<◌, ◌≤◌, ◌==◌, min, nat_le, nat_lt, true, if◌then◌else◌}
+use Rattle.std.specs.Prelude.{◌≡◌, ℕ, ◌+◌, ◌-◌, ◌<◌, ◌≤◌, ◌==◌, min, nat_le, nat_lt, true}
 use Rattle.std.proofs.Common.{refl, arith, inl, inr}
 use Rattle.std.proofs.lemmas.Bool.{cases_Bool}
 use Rattle.std.proofs.lemmas.Bool.Decides.{nat_tests}
 use Rattle.index_tree.specs.declared.leaf.Leaf.{Leaf}
 use Rattle.index_tree.specs.Order.{leaf_rank}
+use Rattle.index_tree.specs.Places.{splits}
 use Rattle.index_tree.specs.Shape.{Shape, done, leaf, node, count, node_count, full, shape_weight, fits, front, back, left_half, parted, inserted, begins_within}
 
 pub front-count : (n : ℕ) (s : Shape) → count (front n s) ≡ min n (count s)
@@ -26,10 +27,6 @@ pub halves-weight : (f n : ℕ) (s : Shape) → shape_weight f (front n s) + sha
 halves-weight f n done = refl
 halves-weight f n (leaf x rest) = let h = halves-weight f (n - 1) rest in grind (arith, nat_tests)
 halves-weight f n (node c rest) = let h = halves-weight f (n - 1) rest in grind (arith, nat_tests)
-
--- 1 for a node that splits, and else 0
-abbrev pub splits : ℕ → Shape → ℕ
-splits f c = if nat_le (f + 1) (count c) then 1 else 0
 
 pub parted-count : (f : ℕ) (c rest : Shape) → count (parted f c rest) ≡ count rest + 1 + splits f c
 unfolding parted

@@ -5,10 +5,10 @@ use Rattle.std.proofs.lemmas.Bool.{cases_Bool}
 use Rattle.std.proofs.lemmas.Bool.Decides.{nat_tests}
 use Rattle.index_tree.specs.declared.leaf.Leaf.{Leaf}
 use Rattle.index_tree.specs.Order.{leaf_rank, ordered_from, of_rank}
-use Rattle.index_tree.specs.OrderLaws.{ordered_head, ordered_cons, ordered-weaken, ordered-right, none_above, none_before, none_within}
+use Rattle.index_tree.proofs.OrderLaws.{ordered_head, ordered_cons, ordered-weaken, ordered-right, none_above, none_before, none_within}
 use Rattle.index_tree.specs.Shape.{Shape, done, leaf, node, contents, count, node_count, full, shape_weight, fits, filled, begins_within}
-use Rattle.index_tree.specs.GrowthLaws.{node_fits, fits_node}
-use Rattle.index_tree.specs.SearchLaws.{begins-starts}
+use Rattle.index_tree.proofs.GrowthLaws.{node_fits, fits_node}
+use Rattle.index_tree.proofs.SearchLaws.{begins-starts}
 use Rattle.index_tree.specs.Removal.{same_leaf, holds, without, tidied, removed}
 
 pub same-rank : (x y : Leaf) → same_leaf x y ≡ true → (leaf_rank x == leaf_rank y) ≡ true

@@ -6,14 +6,15 @@ use Rattle.std.proofs.lemmas.Bool.Decides.{nat_tests}
 use Rattle.index_tree.specs.declared.leaf.Leaf.{Leaf}
 use Rattle.index_tree.specs.Order.{leaf_rank}
 use Rattle.index_tree.specs.Shape.{Shape, done, leaf, node, contents, count, fits, filled, lone, is_whole, begins_within, front, back, left_half, parted, inserted, rooted, with_leaf}
-use Rattle.index_tree.specs.SearchLaws.{node_filled}
-use Rattle.index_tree.specs.GrowthLaws.{inserted-grown}
-use Rattle.index_tree.specs.InsertLaws.{fits-filled, with_leaf-laws}
+use Rattle.index_tree.proofs.SearchLaws.{node_filled}
+use Rattle.index_tree.proofs.GrowthLaws.{inserted-grown}
+use Rattle.index_tree.proofs.InsertLaws.{fits-filled, with_leaf-laws}
 use Rattle.index_tree.specs.Removal.{same_leaf, holds, tidied, removed, collapsed, without_leaf}
-use Rattle.index_tree.specs.CollapseLaws.{without_leaf-laws}
+use Rattle.index_tree.proofs.CollapseLaws.{without_leaf-laws}
 use Rattle.index_tree.specs.RangeRemoval.{in_range, pruned, without_range}
-use Rattle.index_tree.specs.RangeLaws.{without_range-laws}
-use Rattle.index_tree.specs.Replacement.{replaced, replaced-same}
+use Rattle.index_tree.proofs.RangeLaws.{without_range-laws}
+use Rattle.index_tree.specs.Replacement.{replaced}
+use Rattle.index_tree.proofs.ReplacementLaws.{replaced-same}
 use Rattle.index_tree.specs.Listing.{height}
 use Rattle.index_tree.specs.Levels.{levelled, is_levelled}
 

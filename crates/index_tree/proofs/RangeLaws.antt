@@ -5,13 +5,13 @@ use Rattle.std.proofs.lemmas.Bool.{cases_Bool}
 use Rattle.std.proofs.lemmas.List.Elements.{filter-append}
 use Rattle.index_tree.specs.declared.leaf.Leaf.{Leaf}
 use Rattle.index_tree.specs.Order.{leaf_rank, ordered_from}
-use Rattle.index_tree.specs.OrderLaws.{ordered_head, ordered_cons, ordered-weaken}
+use Rattle.index_tree.proofs.OrderLaws.{ordered_head, ordered_cons, ordered-weaken}
 use Rattle.index_tree.specs.Shape.{Shape, done, leaf, node, contents, count, shape_weight, fits, is_whole}
-use Rattle.index_tree.specs.GrowthLaws.{node_fits}
+use Rattle.index_tree.proofs.GrowthLaws.{node_fits}
 use Rattle.index_tree.specs.Removal.{collapsed}
 use Rattle.index_tree.specs.RangeRemoval.{in_range, pruned, outside_range, without_range}
-use Rattle.index_tree.specs.RemovalLaws.{empty, Shrunk, same-shrunk, tidied-shrunk, tidied-contents}
-use Rattle.index_tree.specs.CollapseLaws.{collapsed-contents, collapsed-whole, collapsed-fits, collapsed-lighter}
+use Rattle.index_tree.proofs.RemovalLaws.{empty, Shrunk, same-shrunk, tidied-shrunk, tidied-contents}
+use Rattle.index_tree.proofs.CollapseLaws.{collapsed-contents, collapsed-whole, collapsed-fits, collapsed-lighter}
 
 pub pruned-shrunk : (f from to : ℕ) (s : Shape) → fits f s ≡ true → Shrunk f s (pruned from to s)
 pruned-shrunk f from to done h = same-shrunk f done h

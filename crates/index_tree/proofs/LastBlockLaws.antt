@@ -10,7 +10,7 @@ use Rattle.ubifs_base.specs.declared.key.Key.TheVariants.{Ino, Block, Dent, Xent
 use Rattle.ubifs_base.specs.Key.{IsKey}
 use Rattle.index_tree.specs.declared.leaf.Leaf.{Leaf}
 use Rattle.index_tree.specs.Order.{key_rank, leaf_rank, ordered_from, starts_within}
-use Rattle.index_tree.specs.OrderLaws.{ordered_head, ordered_cons, ordered-weaken}
+use Rattle.index_tree.proofs.OrderLaws.{ordered_head, ordered_cons, ordered-weaken}
 use Rattle.index_tree.specs.Keyed.{HasKey, HaveKeys}
 use Rattle.index_tree.specs.LastBlock.{is_block_of, blocks_of, last_block, up_to, last_rank}
 

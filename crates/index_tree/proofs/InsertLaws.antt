@@ -1,14 +1,14 @@
 -- What an insertion does to the contents, the weight and the nodes.
-use Rattle.std.specs.Prelude.{◌≡◌, ℕ, ◌+◌, ◌-◌, ◌<◌, ◌≤◌, ◌==◌, nat_le, nat_lt, true, false, List, [], ◌∷◌, ◌++◌}
+use Rattle.std.specs.Prelude.{Bool, ◌≡◌, ℕ, ◌+◌, ◌-◌, ◌<◌, ◌≤◌, ◌==◌, nat_le, nat_lt, true, false, List, [], ◌∷◌, ◌++◌}
 use Rattle.std.proofs.Common.{refl, ap, sym, ◌∙◌, arith, inl, inr, append_assoc, append-nil}
 use Rattle.std.proofs.lemmas.Bool.{cases_Bool}
 use Rattle.std.proofs.lemmas.Bool.Decides.{nat_tests}
 use Rattle.index_tree.specs.declared.leaf.Leaf.{Leaf}
 use Rattle.index_tree.specs.Order.{leaf_rank, ordered_from, starts_within, placed}
-use Rattle.index_tree.specs.OrderLaws.{ordered_head, ordered_cons, ordered-left, ordered-right, low_before}
-use Rattle.index_tree.specs.Shape.{Shape, done, leaf, node, contents, count, shape_weight, fits, filled, lone, is_whole, begins_within, front, back, left_half, parted, inserted, rooted, root_full, with_leaf}
-use Rattle.index_tree.specs.GrowthLaws.{inserted-grown, node_fits, fits_node, below-full, parted-count}
-use Rattle.index_tree.specs.SearchLaws.{node_filled, begins-starts}
+use Rattle.index_tree.proofs.OrderLaws.{ordered_head, ordered_cons, ordered-left, ordered-right, low_before}
+use Rattle.index_tree.specs.Shape.{Shape, done, leaf, node, contents, count, shape_weight, fits, filled, lone, is_whole, begins_within, front, back, left_half, parted, inserted, rooted, with_leaf}
+use Rattle.index_tree.proofs.GrowthLaws.{inserted-grown, node_fits, fits_node, below-full, parted-count}
+use Rattle.index_tree.proofs.SearchLaws.{node_filled, begins-starts}
 
 pub fits-filled : (f : ℕ) (s : Shape) → fits f s ≡ true → filled s ≡ true
 fits-filled f done h = refl
@@ -85,6 +85,12 @@ two_siblings : (n : ℕ) → (n + 1 == 0) ≡ true → ⊥
 two_siblings n h = grind (arith, nat_tests)
 
 -- one node alone stays alone where the root has room
+-- whether the root, or what stands for it, has no room for a further child
+abbrev pub root_full : ℕ → Shape → Bool
+root_full fanout done = true
+root_full fanout (leaf x rest) = true
+root_full fanout (node children rest) = nat_le fanout (count children)
+
 pub root_stays : (f : ℕ) (x : Leaf) (s : Shape) → 3 ≤ f → is_whole s ≡ true → fits f s ≡ true → root_full f s ≡ false → lone (inserted f x s) ≡ true
 unfolding parted
 root_stays f x done three w h r = absurd cc

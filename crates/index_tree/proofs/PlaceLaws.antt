@@ -10,9 +10,9 @@ use Rattle.index_tree.specs.declared.node.Node.TheViews.{out-Node, roll-Node}
 use Rattle.index_tree.specs.Order.{key_rank, leaf_rank}
 use Rattle.index_tree.specs.Places.{leaf_place, node_place, joined_rows}
 use Rattle.index_tree.specs.Shape.{Shape, done, leaf, node, count, filled, begins_within, front, back, parted, inserted}
-use Rattle.index_tree.specs.SearchLaws.{node_filled}
+use Rattle.index_tree.proofs.SearchLaws.{node_filled}
 use Rattle.index_tree.specs.Tree.{leaves_before, below, row, kept_all}
-use Rattle.index_tree.specs.TreeLaws.{below_is, below_made, kept_made, kept_cons, row-begins, leaves-count, row-count, below-count}
+use Rattle.index_tree.proofs.TreeLaws.{below_is, below_made, kept_made, kept_cons, row-begins, leaves-count, row-count, below-count}
 
 front-none : (s : Shape) → front 0 s ≡ done
 front-none done = refl

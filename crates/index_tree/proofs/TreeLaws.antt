@@ -10,7 +10,7 @@ use Rattle.index_tree.specs.declared.node.Node.TheViews.{out-Node, roll-Node}
 use Rattle.index_tree.specs.declared.node.Node.TheFolds.{fold-roll-Node, fold_out-Node}
 use Rattle.index_tree.specs.Order.{key_rank}
 use Rattle.index_tree.specs.Shape.{Shape, done, leaf, node, contents, count, filled, first_rank, begins_within}
-use Rattle.index_tree.specs.SearchLaws.{node_filled}
+use Rattle.index_tree.proofs.SearchLaws.{node_filled}
 use Rattle.index_tree.specs.Tree.{Seen, seen_row, seen_keep, seen_step, seen, leaves_before, is_first, below, kept, row, kept_all}
 use Rattle.std.proofs.Common.{map, get_or, take, drop, zero, suc}
 use Rattle.std.specs.Vec.{with_items}

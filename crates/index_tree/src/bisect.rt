@@ -1,0 +1,77 @@
+// Bisection of a long row of children: a walk begins at the last few among which what it looks for can stand.
+
+ghost use Rattle.std.specs.Prelude.{◌≡◌, ◌-◌, ◌<◌, ◌≤◌, true, length, drop};
+ghost use Rattle.index_tree.specs.Order.{starts_within};
+ghost use Rattle.index_tree.specs.Shape.{filled, begins_within};
+ghost use Rattle.index_tree.specs.Tree.{kept_all, row};
+
+use crate::leaf::Leaf;
+use crate::node::Node;
+use crate::rank::rank;
+
+// So many children are walked from their start: a bisection of them isn't faster.
+const FEW: usize = 8;
+
+/// How many leaves a walk to this rank passes over: the one behind them has that rank or a lower one.
+pub fn leaves_passed(leaves: &[Leaf], at: u128) -> usize
+    ensures bound { result ≤ length leaves.now }
+    ensures starts { 0 < result → starts_within at (drop result leaves.now) ≡ true }
+{
+    let mut low = 0;
+    let mut high = leaves.len();
+    while high - low > FEW {
+        let middle = low + (high - low) / 2;
+        if rank(&leaves[middle].key) <= at {
+            low = middle;
+        } else {
+            high = middle;
+        }
+    }
+    low
+}
+
+/// How many nodes a walk to this rank passes over: the one behind them begins with that rank or a lower one.
+pub fn nodes_passed(nodes: &[Node], at: u128) -> usize
+    requires first_keys { kept_all nodes.now ≡ true }
+    requires sound { filled (row nodes.now) ≡ true }
+    ensures bound { result ≤ length nodes.now }
+    ensures begins { 0 < result → begins_within at (row (drop result nodes.now)) ≡ true }
+{
+    let mut low = 0;
+    let mut high = nodes.len();
+    while high - low > FEW {
+        let middle = low + (high - low) / 2;
+        if rank(&nodes[middle].first) <= at {
+            low = middle;
+        } else {
+            high = middle;
+        }
+    }
+    low
+}
+
+/// How many leaves of a lower rank a walk to this one passes over.
+pub fn lower_leaves_passed(leaves: &[Leaf], at: u128) -> usize
+    ensures bound { result ≤ length leaves.now }
+    ensures positive { 0 < result → 0 < at }
+    ensures starts { 0 < result → starts_within (at - 1) (drop result leaves.now) ≡ true }
+{
+    if at == 0 {
+        return 0;
+    }
+    leaves_passed(leaves, at - 1)
+}
+
+/// How many nodes that begin with a lower rank a walk to this one passes over.
+pub fn lower_nodes_passed(nodes: &[Node], at: u128) -> usize
+    requires first_keys { kept_all nodes.now ≡ true }
+    requires sound { filled (row nodes.now) ≡ true }
+    ensures bound { result ≤ length nodes.now }
+    ensures positive { 0 < result → 0 < at }
+    ensures begins { 0 < result → begins_within (at - 1) (row (drop result nodes.now)) ≡ true }
+{
+    if at == 0 {
+        return 0;
+    }
+    nodes_passed(nodes, at - 1)
+}
