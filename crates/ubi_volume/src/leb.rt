@@ -76,7 +76,7 @@ fn put_at(buffer: &mut [u8], offs: usize, bytes: &[u8])
     copy_at(buffer, offs, bytes);
 }
 
-fn copy_at(buffer: &mut [u8], offs: usize, bytes: &[u8])
+pub(crate) fn copy_at(buffer: &mut [u8], offs: usize, bytes: &[u8])
     requires { offs + length bytes.now ≤ length buffer.old }
     ensures { buffer.new ≡ put offs bytes.now buffer.old }
 {
