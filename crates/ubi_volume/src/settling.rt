@@ -16,10 +16,9 @@ fn settle_leb(leb: &mut Leb, size: u32, unit: u32, digits: u64)
     ensures settled { IsSettled unit digits (Some leb.old) (Some leb.new) }
     ensures leb { IsLeb size leb.new }
 {
-    if leb.undo {
-        if digits % 4 != 0 {
-            swap(&mut leb.content, &mut leb.before);
-        }
+    let undone = leb.undo && digits % 4 != 0;
+    if undone {
+        swap(&mut leb.content, &mut leb.before);
     }
     leb.undo = false;
     leb.written = written_len(unit, &leb.content);

@@ -20,7 +20,9 @@ fn volume_in_memory_keeps_what_is_written(rt: HostRuntime) -> Result<(), Fail> {
     volume.map(1)?;
     volume.write(1, 0, b"qrst")?;
     let mut read = [0u8; 2];
+    volume.arm(&Arm::Fail { call: 2 });
     volume.read(0, 5, &mut read)?;
+    assert!(rt; volume.unmap(0).is_err());
     assert_eq!(rt; read, [b'b', b'c']);
     let image = save_image(rt.alloc(), &volume)?;
     assert_eq!(rt;
@@ -32,9 +34,10 @@ fn volume_in_memory_keeps_what_is_written(rt: HostRuntime) -> Result<(), Fail> {
             volume.leb_size(),
             volume.min_io(),
             volume.leb_cnt(),
-            volume.faults()
+            volume.faults(),
+            volume.steps()
         ),
-        (8, 4, 3, 0)
+        (8, 4, 3, 1, 6)
     );
     Ok(())
 }
