@@ -6,6 +6,7 @@ use Rattle.std.proofs.lemmas.Option.{slice_get-get_or, slice_get_within, get_or_
 use Rattle.std.proofs.lemmas.Bool.{cases_lt}
 use Rattle.ubi_volume.specs.Lebs.{IsLoadedLeb, AreLoaded, IsLeb, IsLeft, bytes_in, written_in}
 use Rattle.ubi_volume.specs.Loading.{IsLoaded, IsWrittenPart, leb_of}
+use Rattle.ubi_volume.specs.Arming.{IsUnarmed}
 use Rattle.ubi_volume.specs.MemVolume.{state_of}
 use Rattle.ubi_volume.specs.MemVolumeLaws.{leb_at}
 use Rattle.ubi_volume.specs.declared.mem_volume.MemVolume.{MemVolume}
@@ -73,8 +74,8 @@ only_content (Some leb) c final (inr (undo, was)) = let never = final leb refl i
 only_content None c final left = left
 
 -- what loaded LEBs are as a volume
-pub loaded-state : (v : MemVolume) (image : List ℕ) → AreLoaded v.shape.leb_size v.shape.min_io image v.lebs.items → IsLoaded v.shape image (state_of v)
-loaded-state v image loaded =
+pub loaded-state : (v : MemVolume) (image : List ℕ) → IsUnarmed v.arming → v.arming.faults ≡ 0 → AreLoaded v.shape.leb_size v.shape.min_io image v.lebs.items → IsLoaded v.shape image (state_of v)
+loaded-state v image unarmed none loaded =
     let size = v.shape.leb_size in
     let unit = v.shape.min_io in
     let lebs = v.lebs.items in
@@ -93,8 +94,8 @@ loaded-state v image loaded =
             let P : Option Leb → Type 0 = λ o. IsWrittenPart unit (bytes_in o) (written_in o) in
             subst P (sym leb.1) (loaded.each k leb.0 leb.1).written;
         left = λ k c left. only_content (slice_get lebs k) c (λ leb there. (loaded.each k leb there).undo) left;
-        sure = tt;
-        unbroken = tt;
+        sure = unarmed;
+        unbroken = unarmed.whole;
       };
-      faults = refl;
+      faults = none;
     }

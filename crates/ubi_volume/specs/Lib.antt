@@ -7,6 +7,8 @@ pub mod TornLaws
 pub mod Faults
 pub mod FaultLaws
 pub mod Lebs
+pub mod Arming
+pub mod Patterns
 pub mod Shape
 pub mod Loading
 pub mod FoundLaws

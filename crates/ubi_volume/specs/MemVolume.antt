@@ -1,27 +1,47 @@
 -- A volume in memory as a volume. It keeps no record of its calls, so its outcomes at any moment are those of now.
-use Rattle.std.specs.Prelude.{◌≡◌, ℕ, ◌<◌, [], slice_get}
+use Rattle.std.specs.Prelude.{◌≡◌, ℕ, ◌<◌, ◌/◌, ◌%◌, false, List, [], slice_get}
 use Rattle.ubi_volume.specs.Volume.{VolumeState, Only, filled}
 use Rattle.ubi_volume.specs.Lebs.{bytes_in, written_in, IsLeft}
+use Rattle.ubi_volume.specs.Arming.{IsUnarmed}
+use Rattle.ubi_volume.specs.Patterns.{left_in, digits_at}
+use Rattle.ubi_volume.specs.declared.arming.Arming.{Arming}
+use Rattle.ubi_volume.specs.declared.leb.Leb.{Leb}
 use Rattle.ubi_volume.specs.declared.mem_volume.MemVolume.{MemVolume}
 use Rattle.ubi_volume.specs.declared.mem_volume.VolShape.{VolShape}
 
+-- the same of its parts
+abbrev pub state_with : VolShape → List Leb → Arming → VolumeState
+state_with shape lebs arming = record {
+  leb_size = shape.leb_size;
+  min_io = shape.min_io;
+  leb_cnt = shape.leb_cnt;
+  holds = λ n. bytes_in (slice_get lebs n);
+  written = λ n. written_in (slice_get lebs n);
+  left_now = λ n c. IsLeft (slice_get lebs n) c;
+  left_mapped = λ n c. c ≡ bytes_in (slice_get lebs n);
+  moment = 0;
+  left_since = λ t contents. (n : ℕ) → IsLeft (slice_get lebs n) (contents n);
+  faults = arming.faults;
+  sure = IsUnarmed arming;
+  spent = ⊥;
+  unbroken = arming.is_cut ≡ false;
+}
+
 -- all that there is to say of it
 abbrev pub state_of : MemVolume → VolumeState
-state_of v = record {
-  leb_size = v.shape.leb_size;
-  min_io = v.shape.min_io;
-  leb_cnt = v.shape.leb_cnt;
-  holds = λ n. bytes_in (slice_get v.lebs.items n);
-  written = λ n. written_in (slice_get v.lebs.items n);
-  left_now = λ n c. IsLeft (slice_get v.lebs.items n) c;
-  left_mapped = λ n c. c ≡ bytes_in (slice_get v.lebs.items n);
-  moment = 0;
-  left_since = λ t contents. (n : ℕ) → IsLeft (slice_get v.lebs.items n) (contents n);
-  faults = 0;
-  sure = Unit {0};
-  spent = ⊥;
-  unbroken = Unit {0};
-}
+state_of v = state_with v.shape v.lebs.items v.arming
+
+-- what is armed, and what has struck
+abbrev pub arming_of : MemVolume → Arming
+arming_of v = v.arming
+
+-- What a cut leaves of a LEB: of the digits behind the lowest each is for an unmapping that may be undone, in order of LEB.
+abbrev pub contents_left : MemVolume → ℕ → List ℕ
+contents_left v lnum = left_in (digits_at (v.arming.pattern / 4) v.lebs.items lnum % 4) (slice_get v.lebs.items lnum)
+
+-- the volume as if no call were armed to fail
+abbrev pub without_fail : VolumeState → VolumeState
+without_fail state = record state { sure = Unit {0} }
 
 -- a volume of which each LEB is unwritten, whatever cut may come
 pub record IsBlank (shape : VolShape) (state : VolumeState) : Type 0 where

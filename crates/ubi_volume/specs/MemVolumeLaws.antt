@@ -69,4 +69,4 @@ blank_of v n inside = drop-bytes_in v.shape.leb_size v.lebs.items n (omega (arit
 
 -- where no call fails, none that failed is under way
 pub unbroken_of : (v : MemVolume) → (state_of v).sure → (state_of v).unbroken
-unbroken_of v sure = tt
+unbroken_of v sure = sure.whole

@@ -76,7 +76,7 @@ fn put_at(buffer: &mut [u8], offs: usize, bytes: &[u8])
     copy_at(buffer, offs, bytes);
 }
 
-fn copy_at(buffer: &mut [u8], offs: usize, bytes: &[u8])
+pub(crate) fn copy_at(buffer: &mut [u8], offs: usize, bytes: &[u8])
     requires { offs + length bytes.now ≤ length buffer.old }
     ensures { buffer.new ≡ put offs bytes.now buffer.old }
 {
@@ -120,8 +120,7 @@ pub(crate) fn map_leb(lebs: &mut [Leb], size: u32, lnum: usize)
     ensures mapped { IsReplaced size lebs.old lebs.new lnum (bytes_in (slice_get lebs.old lnum)) (written_in (slice_get lebs.old lnum)) }
     ensures left { (c : List ℕ) → IsLeft (slice_get lebs.new lnum) c → c ≡ bytes_in (slice_get lebs.new lnum) }
 {
-    let leb = &mut lebs[lnum];
-    leb.undo = false;
+    lebs[lnum].undo = false;
 }
 
 // Puts bytes into a LEB.

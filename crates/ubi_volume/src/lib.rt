@@ -8,12 +8,15 @@
 //! memory.
 #![tactic(auto)]
 
+mod arming;
 pub mod caller;
 mod fault;
 mod image;
 mod leb;
 mod loading;
 mod mem_volume;
+mod settling;
+mod tear;
 #[cfg(test)]
 mod tests;
 mod volume;

@@ -27,7 +27,7 @@ fn all_erased(bytes: &[u8]) -> bool
 }
 
 // How many bytes count as written.
-fn written_len(unit: u32, bytes: &[u8]) -> u32
+pub(crate) fn written_len(unit: u32, bytes: &[u8]) -> u32
     requires unit { 0 < unit }
     requires whole { length bytes.now % unit ≡ 0 }
     requires size { length bytes.now < 2 ^ 32 }

@@ -4,11 +4,14 @@ ghost use Rattle.std.specs.Prelude.{◌≡◌, All, length};
 ghost use Rattle.ubi_volume.specs.Lebs.{IsLeb};
 ghost use Rattle.ubi_volume.specs.Shape.{IsShape};
 
+use crate::arming::{Arming, Fate};
 use crate::leb::{Leb, all_bytes, blank_lebs, change_leb, map_leb, unmap_leb, write_leb};
 use crate::loading::loaded_lebs;
+use crate::settling::settle_lebs;
+use crate::tear::{Tear, tear_leb};
 use crate::{VolFault, Volume};
 use std::alloc::Global;
-use ubifs_base::{Arm, Memory};
+use ubifs_base::{Arm, Cut, Memory};
 
 /// The bytes of a LEB, the bytes that are written at once, and the number of LEBs.
 #[derive(Clone, Copy, Debug, PartialEq, Eq)]
@@ -18,22 +21,24 @@ pub struct VolShape {
     pub leb_cnt: u32,
 }
 
-/// A volume in memory, which has all its room from the start. Nothing makes it fail, and it is never spent.
+/// A volume in memory, which has all its room from the start. It fails from the step in which an armed cut falls until it is
+/// revived, and at the call that was armed to fail, and nowhere else. It is never spent.
 #[derive(Drop)]
 pub struct MemVolume {
     shape: VolShape,
     lebs: Vec<Leb>,
+    arming: Arming,
     ghost shape_ok: { IsShape shape },
     ghost all: { length lebs.items ≡ shape.leb_cnt },
     ghost sizes: { All (IsLeb shape.leb_size) lebs.items },
 }
 
 impl MemVolume {
-    ghost use Rattle.std.specs.Prelude.{◌≡◌, IfOk};
+    ghost use Rattle.std.specs.Prelude.{◌≡◌, false, IfOk};
     ghost use Rattle.ubi_volume.specs.Shape.{IsShape};
-    ghost use Rattle.ubi_volume.specs.MemVolume.{state_of, IsBlank};
-    ghost use Rattle.ubi_volume.specs.Loading.{IsLoaded};
-    ghost use Rattle.ubi_volume.specs.Volume.{image_of};
+    ghost use Rattle.ubi_volume.specs.MemVolume.{state_of, arming_of, contents_left, without_fail, IsBlank};
+    ghost use Rattle.ubi_volume.specs.Loading.{IsFound, IsLoaded};
+    ghost use Rattle.ubi_volume.specs.Volume.{Each, Keeps, SameShape, image_of};
 
     /// A volume of which no LEB is written.
     pub fn new(alloc: Global, shape: VolShape) -> Result<MemVolume, Memory>
@@ -41,7 +46,11 @@ impl MemVolume {
         ensures { IfOk result (λ volume. IsBlank shape (state_of volume)) }
     {
         let lebs = blank_lebs(alloc, shape.leb_size, shape.leb_cnt)?;
-        Ok(MemVolume { shape, lebs })
+        Ok(MemVolume {
+            shape,
+            lebs,
+            arming: Arming::new(),
+        })
     }
 
     // A volume that holds the bytes, and unwritten ones behind them.
@@ -50,7 +59,67 @@ impl MemVolume {
         ensures { IfOk result (λ volume. IsLoaded shape bytes.now (state_of volume)) }
     {
         let lebs = loaded_lebs(alloc, shape, bytes)?;
-        Ok(MemVolume { shape, lebs })
+        Ok(MemVolume {
+            shape,
+            lebs,
+            arming: Arming::new(),
+        })
+    }
+
+    /// Arms a power cut, in the place of one that is armed: it falls within the given step, counted from now. Each unit
+    /// written, change, unmapping and mapping is one step. From then on every call answers `Failed` until `revive`.
+    pub fn arm_cut(&mut self, cut: Cut)
+        ensures keeps { Keeps (state_of self.old) (state_of self.new) }
+        ensures shape { SameShape (state_of self.old) (state_of self.new) }
+        ensures armed { arming_of self.new ≡ record (arming_of self.old) { cut_step = cut.step; pattern = cut.pattern; steps = 0 } }
+    {
+        self.arming.cut_step = cut.step;
+        self.arming.pattern = cut.pattern;
+        self.arming.steps = 0;
+    }
+
+    /// Arms a call, in the place of one that is armed: the one of this number, counted over all calls from now, answers
+    /// `Failed` once and changes nothing. No call has the number 0.
+    pub fn arm_fail(&mut self, call: u64)
+        ensures keeps { Keeps (state_of self.old) (state_of self.new) }
+        ensures shape { SameShape (state_of self.old) (state_of self.new) }
+        ensures armed { arming_of self.new ≡ record (arming_of self.old) { fail = call } }
+    {
+        self.arming.fail = call;
+    }
+
+    /// Finds the volume after the cut that has struck, or makes the armed one here, between two steps. Each unmapping that may
+    /// be undone takes a digit of the pattern behind its lowest, in order of LEB: 0 says that it stays. Then no cut is armed;
+    /// a call that is armed to fail still is.
+    pub fn revive(&mut self)
+        ensures outcome { Each (state_of self.old).left_now (contents_left self.old) }
+        ensures found { IsFound (contents_left self.old) (without_fail (state_of self.new)) }
+        ensures shape { SameShape (state_of self.old) (state_of self.new) }
+        ensures armed { arming_of self.new ≡ record (arming_of self.old) { cut_step = 0; pattern = 0; is_cut = false } }
+    {
+        settle_lebs(
+            &mut self.lebs,
+            self.shape.leb_size,
+            self.shape.min_io,
+            self.arming.pattern / 4,
+        );
+        self.arming.cut_step = 0;
+        self.arming.pattern = 0;
+        self.arming.is_cut = false;
+    }
+
+    /// The steps since a cut was armed, that in which it fell included.
+    pub fn steps(&self) -> u64
+        ensures { result ≡ (arming_of self.now).steps }
+    {
+        self.arming.steps
+    }
+
+    /// Whether a cut has struck since the volume was last revived.
+    pub fn is_cut(&self) -> bool
+        ensures { result ≡ (arming_of self.now).is_cut }
+    {
+        self.arming.is_cut
     }
 
     // The bytes of all LEBs.
@@ -101,41 +170,97 @@ impl Volume for MemVolume {
     }
 
     fn read(&mut self, lnum: u32, offs: u32, out: &mut [u8]) -> Result<(), VolFault> {
-        let leb = &self.lebs[lnum as usize];
-        out.copy_from_slice(&leb.content[offs as usize..offs as usize + out.len()]);
-        Ok(())
+        match self.arming.next(0) {
+            Fate::Runs => {
+                let leb = &self.lebs[lnum as usize];
+                out.copy_from_slice(&leb.content[offs as usize..offs as usize + out.len()]);
+                Ok(())
+            }
+            Fate::Refused { count } => Err(VolFault::Failed { count }),
+            Fate::Struck { count, .. } => Err(VolFault::Failed { count }),
+        }
     }
 
     fn write(&mut self, lnum: u32, offs: u32, bytes: &[u8]) -> Result<(), VolFault> {
-        write_leb(
-            &mut self.lebs,
-            self.shape.leb_size,
-            lnum as usize,
-            offs,
-            bytes,
-        );
-        Ok(())
+        let size = self.shape.leb_size;
+        let unit = self.shape.min_io as usize;
+        match self.arming.next((bytes.len() / unit) as u64) {
+            Fate::Runs => {
+                write_leb(&mut self.lebs, size, lnum as usize, offs, bytes);
+                Ok(())
+            }
+            Fate::Refused { count } => Err(VolFault::Failed { count }),
+            Fate::Struck { done, digit, count } => {
+                let done = done as usize * unit;
+                let tear = Tear { done, unit, digit };
+                tear_leb(&mut self.lebs, size, lnum as usize, offs, bytes, tear);
+                Err(VolFault::Failed { count })
+            }
+        }
     }
 
     fn change(&mut self, lnum: u32, bytes: &[u8]) -> Result<(), VolFault> {
-        change_leb(&mut self.lebs, self.shape.leb_size, lnum as usize, bytes);
-        Ok(())
+        let size = self.shape.leb_size;
+        match self.arming.next(1) {
+            Fate::Runs => {
+                change_leb(&mut self.lebs, size, lnum as usize, bytes);
+                Ok(())
+            }
+            Fate::Refused { count } => Err(VolFault::Failed { count }),
+            Fate::Struck { digit, count, .. } => {
+                if digit == 1 {
+                    change_leb(&mut self.lebs, size, lnum as usize, bytes);
+                    return Err(VolFault::Failed { count });
+                }
+                Err(VolFault::Failed { count })
+            }
+        }
     }
 
     fn unmap(&mut self, lnum: u32) -> Result<(), VolFault> {
-        unmap_leb(&mut self.lebs, self.shape.leb_size, lnum as usize);
-        Ok(())
+        let size = self.shape.leb_size;
+        match self.arming.next(1) {
+            Fate::Runs => {
+                unmap_leb(&mut self.lebs, size, lnum as usize);
+                Ok(())
+            }
+            Fate::Refused { count } => Err(VolFault::Failed { count }),
+            Fate::Struck { digit, count, .. } => {
+                if digit == 1 {
+                    unmap_leb(&mut self.lebs, size, lnum as usize);
+                    return Err(VolFault::Failed { count });
+                }
+                Err(VolFault::Failed { count })
+            }
+        }
     }
 
     fn map(&mut self, lnum: u32) -> Result<(), VolFault> {
-        map_leb(&mut self.lebs, self.shape.leb_size, lnum as usize);
-        Ok(())
+        let size = self.shape.leb_size;
+        match self.arming.next(1) {
+            Fate::Runs => {
+                map_leb(&mut self.lebs, size, lnum as usize);
+                Ok(())
+            }
+            Fate::Refused { count } => Err(VolFault::Failed { count }),
+            Fate::Struck { digit, count, .. } => {
+                if digit == 1 {
+                    map_leb(&mut self.lebs, size, lnum as usize);
+                    return Err(VolFault::Failed { count });
+                }
+                Err(VolFault::Failed { count })
+            }
+        }
     }
 
-    /// Does nothing yet: cuts and failing calls come later.
-    fn arm(&mut self, _what: &Arm) {}
+    fn arm(&mut self, what: &Arm) {
+        match *what {
+            Arm::Cut { cut } => self.arm_cut(cut),
+            Arm::Fail { call } => self.arm_fail(call),
+        }
+    }
 
     fn faults(&self) -> u64 {
-        0
+        self.arming.faults
     }
 }

@@ -13,4 +13,4 @@ returns c =
     let lebs = c.in_ok-lebs.lebs in
     let loaded = c.in_ok-lebs.ensures.loaded in
     let sizes = loaded-sizes c.args.shape.leb_size c.args.shape.min_io c.args.bytes.now lebs.items loaded in
-    loaded-state (record { shape = c.args.shape; lebs = lebs; shape_ok = c.requires; all = c.in_ok-lebs.ensures.len; sizes = sizes }) c.args.bytes.now loaded
+    loaded-state (record { shape = c.args.shape; lebs = lebs; arming = c.new.result; shape_ok = c.requires; all = c.in_ok-lebs.ensures.len; sizes = sizes }) c.args.bytes.now c.new.ensures.unarmed c.new.ensures.faults loaded
