@@ -4,9 +4,12 @@ use Rattle.std.specs.Prelude.{◌≢◌}
 use Rattle.std.proofs.lemmas.Bool.{cases_eq}
 use Rattle.ubifs_base.specs.declared.raw_geometry.RawGeometry.{RawGeometry}
 use Rattle.ubi_volume.specs.Volume.{VolumeState, Each, filled, WorksOn, IsUnmapped, SameShape, Leaves, ChangeUnderWay}
+use Rattle.ubi_volume.specs.VolumeLaws.{Leaves-more}
+use Rattle.ubi_volume.specs.Frame.{Works}
+use Rattle.ubi_volume.specs.FrameLaws.{Works-none, Works-then, Works-may, Works-one, left-may}
 use Rattle.bud_log.specs.Log.{IsLogLeb, next_leb}
 use Rattle.bud_log.specs.LogAt.{LogAt, IsBetween, IsEnded, steps_to}
-use Rattle.bud_log.specs.LogCalls.{WorksOnSome, UnmapUnderWay, EndUnderWay}
+use Rattle.bud_log.specs.LogCalls.{UnmapUnderWay, EndUnderWay}
 use Rattle.bud_log.specs.Writing.{IsAmong, IsOlder, IsReady, NamesBuds}
 use Rattle.bud_log.specs.declared.head_at.HeadAt.{HeadAt}
 use Rattle.bud_log.proofs.Appended.{IsQuiet, quiet_names}
@@ -14,13 +17,13 @@ use Rattle.bud_log.proofs.Chains.{chain_alike, next_in, past_other}
 use Rattle.bud_log.proofs.Opened.{past_is, blank_older}
 use Rattle.bud_log.proofs.RingRuns.{left_of}
 use Rattle.bud_log.proofs.Steps.{steps_next, steps_none, steps_small, same_steps, before_left}
-use Rattle.bud_log.proofs.Works.{Leaves-weaker, some_none, some_of, some_then}
 
 -- the LEBs up to this one are unmapped
 pub record IsUnmappedTo (old now : VolumeState) (geo : RawGeometry) (from to lnum : ℕ) : Type 0 where
   pub here : IsLogLeb geo lnum
   pub way : steps_to geo from lnum ≤ steps_to geo from to
-  pub works : WorksOnSome old now (IsBetween geo from to) (UnmapUnderWay old geo from to)
+  pub works : Works old now (IsBetween geo from to) (Each (UnmapUnderWay old geo from to))
+  pub each : (k : ℕ) (x : List ℕ) → now.left_now k x → UnmapUnderWay old geo from to k x
   pub unwritten : (k : ℕ) → IsLogLeb geo k → steps_to geo from k < steps_to geo from lnum → now.holds k ≡ filled old.leb_size []
   pub leb_size : now.leb_size ≡ old.leb_size
 
@@ -30,7 +33,8 @@ unmapped_none a geo from to f =
     record {
       here = f;
       way = omega (arith, none);
-      works = some_none a (IsBetween geo from to) (UnmapUnderWay a geo from to) (λ k c h. inl h);
+      works = Works-none a (IsBetween geo from to) (Each (UnmapUnderWay a geo from to)) (λ x now k. inl (now k));
+      each = λ k x now. inl now;
       unwritten = λ k is less. absurd (omega (arith, none, less));
       leb_size = refl;
     }
@@ -42,13 +46,17 @@ is_between geo from to lnum f t l way ne = elim (cases_eq (steps_to geo from lnu
   | inr other ↦ record { in_log = l; before = omega (arith, way, other) }
 ]
 
--- a call that unmaps the next of them, whatever it answers
-pub unmapped_works : (a b c : VolumeState) (geo : RawGeometry) (from to lnum : ℕ) → IsUnmappedTo a b geo from to lnum → IsBetween geo from to lnum → WorksOn b c lnum (ChangeUnderWay b lnum []) → WorksOnSome a c (IsBetween geo from to) (UnmapUnderWay a geo from to)
+-- a call that unmaps the next of them leaves of that one
+more_unmapped : (a b : VolumeState) (geo : RawGeometry) (from to lnum : ℕ) → IsUnmappedTo a b geo from to lnum → IsBetween geo from to lnum → (x : List ℕ) → ChangeUnderWay b lnum [] x → UnmapUnderWay a geo from to lnum x
+more_unmapped a b geo from to lnum h is x (inl now) = h.each lnum x now
+more_unmapped a b geo from to lnum h is x (inr e) = inr (is, e ∙ ap (λ (size : ℕ). filled size []) h.leb_size)
+
+-- whatever it answers
+pub unmapped_works : (a b c : VolumeState) (geo : RawGeometry) (from to lnum : ℕ) → IsUnmappedTo a b geo from to lnum → IsBetween geo from to lnum → WorksOn b c lnum (ChangeUnderWay b lnum []) → Works a c (IsBetween geo from to) (Each (UnmapUnderWay a geo from to))
 unmapped_works a b c geo from to lnum h is w =
     let T = IsBetween geo from to in
     let D = UnmapUnderWay a geo from to in
-    let more : (x : List ℕ) → ChangeUnderWay b lnum [] x → D lnum x = λ x u. elim u [ inl now ↦ h.works.left lnum x now | inr e ↦ inr (is, (e ∙ ap (λ (size : ℕ). filled size []) h.leb_size)) ] in
-    some_then a b c T T T D D D (λ k t. t) (λ k t. t) (λ k x d. d) (λ k x d. d) h.works (some_of b c lnum (ChangeUnderWay b lnum []) T D is h.works.left more w)
+    Works-then a b c T T T (Each D) (Each D) (Each D) (λ k t. t) (λ k t. t) (λ x d. d) (λ x d. d) h.works (Works-may b c lnum (ChangeUnderWay b lnum []) T D is h.each (more_unmapped a b geo from to lnum h is) w)
 
 pub unmapped_next : (a b c : VolumeState) (geo : RawGeometry) (from to lnum next : ℕ) → IsLogLeb geo from → IsLogLeb geo to → IsUnmappedTo a b geo from to lnum → lnum ≢ to → WorksOn b c lnum (ChangeUnderWay b lnum []) → IsUnmapped b c lnum → SameShape b c
     → next ≡ next_leb geo lnum → IsUnmappedTo a c geo from to next
@@ -62,6 +70,7 @@ unmapped_next a b c geo from to lnum next f t h ne w done shape e =
       here = next_in geo lnum h.here;
       way = omega (arith, step, before);
       works = unmapped_works a b c geo from to lnum h is w;
+      each = left-may b c lnum (ChangeUnderWay b lnum []) (UnmapUnderWay a geo from to) h.each (more_unmapped a b geo from to lnum h is) w;
       unwritten = λ k in_log less. elim (cases_eq k lnum) [
         | inl same ↦
             let P : ℕ → Type 0 = λ n. c.holds n ≡ filled a.leb_size [] in
@@ -94,7 +103,7 @@ ended_aside a at number k buds h f s l way is (inr there) =
     absurd (omega (arith, again, other))
 
 ended_quiet : (a : VolumeState) (at : LogAt) (number : ℕ) (buds : List HeadAt) (h : IsReady a at.geo at.section at.lnum at.offs number buds) (x : ℕ → List ℕ) → IsLogLeb at.geo at.first → IsLogLeb at.geo at.section → IsLogLeb at.geo at.lnum
-    → steps_to at.geo at.first at.section ≤ steps_to at.geo at.first at.lnum → Each (EndUnderWay a at) x → IsQuiet a at.geo at.section h.start (h.first ∷ h.more) x
+    → steps_to at.geo at.first at.section ≤ steps_to at.geo at.first at.lnum → EndUnderWay a at x → IsQuiet a at.geo at.section h.start (h.first ∷ h.more) x
 ended_quiet a at number buds h x f s l way each = record {
   read = λ k there. elim (each k) [ inl now ↦ h.settled k there (x k) now | inr (is, e) ↦ absurd (ended_aside a at number k buds h f s l way is there) ];
   not_read = λ k is none. elim (each k) [ inl now ↦ h.spare k (x k) is none now | inr (ended, e) ↦ let P : List ℕ → Type 0 = λ leb. IsOlder h.start k leb in subst P (sym e) (blank_older h.start k a.leb_size) ];
@@ -102,15 +111,17 @@ ended_quiet a at number buds h x f s l way each = record {
 
 -- at every moment the log reads as before
 pub ended_moment : (a b : VolumeState) (at : LogAt) (number : ℕ) (buds : List HeadAt) → IsReady a at.geo at.section at.lnum at.offs number buds → IsLogLeb at.geo at.first → IsLogLeb at.geo at.section → IsLogLeb at.geo at.lnum
-    → steps_to at.geo at.first at.section ≤ steps_to at.geo at.first at.lnum → Leaves a b (Each (EndUnderWay a at)) → Leaves a b (λ left. NamesBuds left at.geo at.section buds)
+    → steps_to at.geo at.first at.section ≤ steps_to at.geo at.first at.lnum → Leaves a b (EndUnderWay a at) → Leaves a b (λ left. NamesBuds left at.geo at.section buds)
 ended_moment a b at number buds h f s l way time =
-    Leaves-weaker a b (Each (EndUnderWay a at)) (λ left. NamesBuds left at.geo at.section buds)
+    Leaves-more a b (EndUnderWay a at) (λ left. NamesBuds left at.geo at.section buds)
     (λ x each. quiet_names a at.geo at.section at.lnum at.offs number buds h x s (ended_quiet a at number buds h x f s l way each)) time
 
 -- and the volume stays ready
 pub ended_ready : (a b : VolumeState) (at : LogAt) (number : ℕ) (buds : List HeadAt) → IsReady a at.geo at.section at.lnum at.offs number buds → IsLogLeb at.geo at.first → IsLogLeb at.geo at.section → IsLogLeb at.geo at.lnum
-    → steps_to at.geo at.first at.section ≤ steps_to at.geo at.first at.lnum → WorksOnSome a b (IsEnded at) (EndUnderWay a at) → IsReady b at.geo at.section at.lnum at.offs number buds
-ended_ready a b at number buds h f s l way w =
+    → steps_to at.geo at.first at.section ≤ steps_to at.geo at.first at.lnum → ((k : ℕ) → b.left_now k (b.holds k)) → Works a b (IsEnded at) (EndUnderWay a at) → IsReady b at.geo at.section at.lnum at.offs number buds
+ended_ready a b at number buds h f s l way held w =
+    let D = UnmapUnderWay a at.geo at.first at.section in
+    let each : (k : ℕ) (x : List ℕ) → b.left_now k x → D k x = λ k x left. (let one = Works-one a b (IsEnded at) (EndUnderWay a at) held w k x left in let P : List ℕ → Type 0 = λ y. D k y in subst P one.1 (one.2 k)) in
     let all = h.first ∷ h.more in
     let aside : (k : ℕ) → IsAmong k all → IsEnded at k → ⊥ = λ k there is. ended_aside a at number k buds h f s l way is there in
     record {
@@ -118,11 +129,11 @@ ended_ready a b at number buds h f s l way w =
       first = h.first;
       more = h.more;
       past = h.past;
-      chain = chain_alike a.holds b.holds at.geo at.section h.start h.past h.first h.more (λ k there. sym (w.others k (aside k there))) h.chain;
+      chain = chain_alike a.holds b.holds at.geo at.section h.start h.past h.first h.more (λ k there. sym (w.others k (aside k there)).holds) h.chain;
       low = h.low;
       below = h.below;
       buds_are = h.buds_are;
       last = h.last;
-      settled = λ k there c left. elim (w.left k c left) [ inl now ↦ h.settled k there c now ∙ sym (w.others k (aside k there)) | inr (is, e) ↦ absurd (aside k there is) ];
-      spare = λ k leb is none left. elim (w.left k leb left) [ inl now ↦ h.spare k leb is none now | inr (ended, e) ↦ let P : List ℕ → Type 0 = λ bytes. IsOlder h.start k bytes in subst P (sym e) (blank_older h.start k a.leb_size) ];
+      settled = λ k there c left. elim (each k c left) [ inl now ↦ h.settled k there c now ∙ sym (w.others k (aside k there)).holds | inr (is, e) ↦ absurd (aside k there is) ];
+      spare = λ k leb is none left. elim (each k leb left) [ inl now ↦ h.spare k leb is none now | inr (ended, e) ↦ let P : List ℕ → Type 0 = λ bytes. IsOlder h.start k bytes in subst P (sym e) (blank_older h.start k a.leb_size) ];
     }

@@ -4,19 +4,21 @@ use Rattle.std.specs.Prelude.{◌≢◌}
 use Rattle.ubifs_base.specs.Areas.{main_first}
 use Rattle.ubifs_base.specs.declared.raw_geometry.RawGeometry.{RawGeometry}
 use Rattle.ubi_volume.specs.Volume.{VolumeState, UnderWay, WorksOn, Leaves, ChangeUnderWay}
+use Rattle.ubi_volume.specs.VolumeLaws.{Leaves-more}
+use Rattle.ubi_volume.specs.Frame.{Works}
 use Rattle.media_sys.specs.SystemNode.{SystemNode, reference}
 use Rattle.media_sys.specs.declared.ref_node.RefNode.{RefNode}
 use Rattle.bud_log.specs.Log.{IsLogLeb, next_leb}
 use Rattle.bud_log.specs.LogAt.{LogAt, IsAt, IsStart, has_room, used_lebs, lnum_at, offs_at, next_lnum, next_offs}
-use Rattle.bud_log.specs.LogCalls.{WorksOnSome, IsEmptied, AddDuring, OpenUnderWay}
-use Rattle.bud_log.specs.Writing.{references_in, AreSpelled, IsReady, NamesSome, IsOldOrMeant}
+use Rattle.bud_log.specs.LogCalls.{IsEmptied, AddDuring, OpenUnderWay}
+use Rattle.bud_log.specs.Writing.{references_in, AreSpelled, IsReady, NamesSome, NamesOpened, IsOldOrMeant}
 use Rattle.bud_log.specs.declared.head_at.HeadAt.{HeadAt}
 use Rattle.bud_log.proofs.Appended.{quiet_left, quiet_names}
 use Rattle.bud_log.proofs.Chains.{next_in}
 use Rattle.bud_log.proofs.Opened.{HasMapped, opened_moment, started_moment}
 use Rattle.bud_log.proofs.References.{OneNode}
 use Rattle.bud_log.proofs.Steps.{next_free}
-use Rattle.bud_log.proofs.Works.{Leaves-weaker, opened_works, started_works}
+use Rattle.bud_log.proofs.Works.{emptied_works, opened_works}
 
 -- a main LEB is none of the log's
 pub main_out : (geo : RawGeometry) (lnum : ℕ) → main_first geo ≤ lnum → IsLogLeb geo lnum → ⊥
@@ -37,33 +39,36 @@ pub free_of : (a : VolumeState) (at : LogAt) (from : ℕ) → IsAt a at → IsSt
 free_of a at from h start room = next_free at from h.first h.here h.on_the_way room start
 
 -- the bud's LEB was emptied, or that failed
-pub bud_moment : (a b : VolumeState) (at : LogAt) (from number bud : ℕ) (buds : List HeadAt) (references : List RefNode) (M : (ℕ → List ℕ) → Type 0) (D : List ℕ → Type 0) → IsAt a at → IsStart at from → main_first at.geo ≤ bud
-    → IsReady a at.geo from at.lnum at.offs number buds → WorksOn a b bud D → Leaves a b (λ left. M left → NamesSome left at.geo from buds references)
-bud_moment a b at from number bud buds references M D h start main ready w =
+pub bud_moment : (a b : VolumeState) (at : LogAt) (from number : ℕ) (buds : List HeadAt) (node : RefNode) (M : (ℕ → List ℕ) → Type 0) (D : List ℕ → Type 0) → IsAt a at → IsStart at from → main_first at.geo ≤ node.lnum
+    → IsReady a at.geo from at.lnum at.offs number buds → WorksOn a b node.lnum D → Leaves a b (λ left. M left → NamesOpened left at.geo from buds node)
+bud_moment a b at from number buds node M D h start main ready w =
     let f = start_in a at from h start in
-    Leaves-weaker a b (UnderWay a bud D) (λ left. M left → NamesSome left at.geo from buds references)
-    (λ x u meant. (
-      0,
-      quiet_names a at.geo from at.lnum at.offs number buds ready x f
-          (quiet_left a at.geo from at.lnum at.offs number buds ready x f (λ k is. u.0 k (λ e. let P : ℕ → Type 0 = λ n. IsLogLeb at.geo n in main_out at.geo bud main (subst P e is)))),
-    ))
+    let P : ℕ → Type 0 = λ n. IsLogLeb at.geo n in
+    Leaves-more a b (UnderWay a node.lnum D) (λ left. M left → NamesOpened left at.geo from buds node)
+    (λ x u meant. inl (quiet_names a at.geo from at.lnum at.offs number buds ready x f (quiet_left a at.geo from at.lnum at.offs number buds ready x f (λ k is. u.0 k (λ e. main_out at.geo node.lnum main (subst P e is))))))
     w.time
 
--- what both calls do
-pub both_works : (here : Bool) (a b c : VolumeState) (at : LogAt) (bud n : ℕ) → IsAt a at → here ≡ has_room at → main_first at.geo ≤ bud → b.leb_size ≡ a.leb_size → WorksOn a b bud (ChangeUnderWay a bud []) → WorksOn b c (lnum_at here at) (AddDuring here b at n)
-    → WorksOnSome a c (λ k. (k ≡ bud) ⊎ (k ≡ next_lnum at)) (OpenUnderWay (has_room at) a at bud n)
-both_works here a b c at bud n h e main same ab bc =
-    let H : Bool → Type 0 = λ r. WorksOnSome a c (λ k. (k ≡ bud) ⊎ (k ≡ lnum_at r at)) (OpenUnderWay r a at bud n) in
-    subst H e (opened_works here a b c at bud n (there_other here at bud h.here main) same ab bc)
+-- the bud's LEB was emptied, or that failed: what that does
+pub first_works : (here : Bool) (a b : VolumeState) (at : LogAt) (bud n : ℕ) → IsAt a at → here ≡ has_room at → main_first at.geo ≤ bud → WorksOn a b bud (ChangeUnderWay a bud []) → Works a b (λ k. (k ≡ bud) ⊎ (k ≡ next_lnum at)) (OpenUnderWay (has_room at) a at bud n)
+first_works here a b at bud n h e main ab =
+    let H : Bool → Type 0 = λ r. Works a b (λ k. (k ≡ bud) ⊎ (k ≡ lnum_at r at)) (OpenUnderWay r a at bud n) in
+    subst H e (emptied_works here a b at bud n (there_other here at bud h.here main) ab)
 
-pub both_moment : OneNode → (here : Bool) (a b c : VolumeState) (at : LogAt) (bud from number n : ℕ) (buds : List HeadAt) (node : RefNode) → IsAt a at → here ≡ has_room at → ((here ≡ false) → used_lebs at < at.geo.log_lebs) → main_first at.geo ≤ bud → IsStart at from
-    → HasMapped a → AreSpelled number (reference node ∷ []) → b.leb_size ≡ a.leb_size → WorksOn a b bud (ChangeUnderWay a bud []) → WorksOn b c (lnum_at here at) (AddDuring here b at n) → IsReady a at.geo from at.lnum at.offs number buds
-    → Leaves a c (λ left. IsOldOrMeant a (next_lnum at) (next_offs at) number (reference node ∷ []) (left (next_lnum at)) → NamesSome left at.geo from buds (node ∷ []))
-both_moment one here a b c at bud from number n buds node h e kept main start sub spelled same ab bc ready =
+-- what both calls do
+pub both_works : (here : Bool) (a b c : VolumeState) (at : LogAt) (bud n : ℕ) → IsAt a at → here ≡ has_room at → main_first at.geo ≤ bud → b.leb_size ≡ a.leb_size → IsEmptied a b bud → WorksOn a b bud (ChangeUnderWay a bud []) → WorksOn b c (lnum_at here at) (AddDuring here b at n)
+    → Works a c (λ k. (k ≡ bud) ⊎ (k ≡ next_lnum at)) (OpenUnderWay (has_room at) a at bud n)
+both_works here a b c at bud n h e main same done ab bc =
+    let H : Bool → Type 0 = λ r. Works a c (λ k. (k ≡ bud) ⊎ (k ≡ lnum_at r at)) (OpenUnderWay r a at bud n) in
+    subst H e (opened_works here a b c at bud n (there_other here at bud h.here main) same done ab bc)
+
+pub both_moment : OneNode → (here : Bool) (a b c : VolumeState) (at : LogAt) (from number n : ℕ) (buds : List HeadAt) (node : RefNode) → IsAt a at → here ≡ has_room at → ((here ≡ false) → used_lebs at < at.geo.log_lebs) → main_first at.geo ≤ node.lnum → IsStart at from
+    → HasMapped a → AreSpelled number (reference node ∷ []) → b.leb_size ≡ a.leb_size → IsEmptied a b node.lnum → WorksOn a b node.lnum (ChangeUnderWay a node.lnum []) → WorksOn b c (lnum_at here at) (AddDuring here b at n) → IsReady a at.geo from at.lnum at.offs number buds
+    → Leaves a c (λ left. IsOldOrMeant a (next_lnum at) (next_offs at) number (reference node ∷ []) (left (next_lnum at)) → NamesOpened left at.geo from buds node)
+both_moment one here a b c at from number n buds node h e kept main start sub spelled same done ab bc ready =
     let f = start_in a at from h start in
-    let works = opened_works here a b c at bud n (there_other here at bud h.here main) same ab bc in
-    let H : Bool → Type 0 = λ r. Leaves a c (λ left. IsOldOrMeant a (lnum_at r at) (offs_at r at) number (reference node ∷ []) (left (lnum_at r at)) → NamesSome left at.geo from buds (node ∷ [])) in
-    subst H e (opened_moment one here a c at bud from number n buds (reference node ∷ []) ready f (λ r. free_of a at from h start (kept r)) sub spelled (main_out at.geo bud main) (there_in here at h.here) works.time)
+    let works = opened_works here a b c at node.lnum n (there_other here at node.lnum h.here main) same done ab bc in
+    let H : Bool → Type 0 = λ r. Leaves a c (λ left. IsOldOrMeant a (lnum_at r at) (offs_at r at) number (reference node ∷ []) (left (lnum_at r at)) → NamesOpened left at.geo from buds node) in
+    subst H e (opened_moment one here a c at from number n buds node ready f (λ r. free_of a at from h start (kept r)) sub spelled (main_out at.geo node.lnum main) works.time)
 
 -- the bud's LEB stays empty
 pub emptied_still : (here : Bool) (a b c : VolumeState) (at : LogAt) (bud : ℕ) (D : List ℕ → Type 0) → IsAt a at → main_first at.geo ≤ bud → IsEmptied a b bud → WorksOn b c (lnum_at here at) D → IsEmptied a c bud
@@ -76,4 +81,4 @@ pub section_moment : OneNode → (a b : VolumeState) (at : LogAt) (from number n
     → WorksOn a b (next_leb at.geo at.lnum) (AddDuring false a at n) → IsReady a at.geo from at.lnum at.offs number buds
     → Leaves a b (λ left. IsOldOrMeant a (next_leb at.geo at.lnum) 0 number nodes (left (next_leb at.geo at.lnum)) → NamesSome left at.geo from buds (references_in nodes))
 section_moment one a b at from number n buds nodes h kept start sub spelled works ready =
-    started_moment one a b at from number n buds nodes ready (start_in a at from h start) (free_of a at from h start kept) sub spelled (started_works a b at n works).time
+    started_moment one a b at from number n buds nodes ready (start_in a at from h start) (free_of a at from h start kept) sub spelled works.time

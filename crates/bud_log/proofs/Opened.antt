@@ -5,8 +5,10 @@ use Rattle.std.proofs.lemmas.Bool.{and_parts, cases_eq}
 use Rattle.std.proofs.lemmas.List.{drop-drop, take_at, drop_at, length-take-le, length-replicate}
 use Rattle.ubifs_base.specs.Gap.{gap_of}
 use Rattle.ubifs_base.specs.declared.raw_geometry.RawGeometry.{RawGeometry}
-use Rattle.ubi_volume.specs.Volume.{VolumeState, Each, filled, put, WorksOn, Leaves, WriteUnderWay}
-use Rattle.media_sys.specs.SystemNode.{SystemNode}
+use Rattle.ubi_volume.specs.Volume.{VolumeState, filled, put, WorksOn, Leaves, WriteUnderWay}
+use Rattle.ubi_volume.specs.VolumeLaws.{Leaves-more}
+use Rattle.media_sys.specs.SystemNode.{SystemNode, reference}
+use Rattle.media_sys.specs.declared.ref_node.RefNode.{RefNode}
 use Rattle.leb_scan.specs.Text.{is_blank, IsText}
 use Rattle.leb_scan.specs.declared.tail.Tail.TheVariants.{Clean}
 use Rattle.bud_log.specs.Buds.{named}
@@ -14,7 +16,7 @@ use Rattle.bud_log.specs.Log.{IsLogLeb, next_leb, Run}
 use Rattle.bud_log.specs.LogAt.{LogAt, lnum_at, offs_at}
 use Rattle.bud_log.specs.LogCalls.{IsBegun, IsAdded, AddDuring, OpenUnderWay, StartUnderWay}
 use Rattle.bud_log.specs.LogText.{LogText, IsTextOf}
-use Rattle.bud_log.specs.Writing.{references_in, AreSpelled, AreNodes, laid, IsAmong, IsOlder, IsChain, last_end, IsReady, NamesSome, IsMeant, IsOldOrMeant}
+use Rattle.bud_log.specs.Writing.{references_in, AreSpelled, AreNodes, laid, IsAmong, IsOlder, IsChain, last_end, IsReady, NamesBuds, NamesSome, NamesOpened, IsMeant, IsOldOrMeant}
 use Rattle.bud_log.specs.declared.head_at.HeadAt.{HeadAt}
 use Rattle.bud_log.specs.declared.log_end.LogEnd.{LogEnd}
 use Rattle.bud_log.proofs.Appended.{quiet_left, quiet_names, ready_works, here_names}
@@ -23,7 +25,6 @@ use Rattle.bud_log.proofs.Gaps.{gap_length}
 use Rattle.bud_log.proofs.Laid.{AreLaid, laid_there}
 use Rattle.bud_log.proofs.ReadyAgain.{ready_here, ready_next, next_names}
 use Rattle.bud_log.proofs.References.{OneNode}
-use Rattle.bud_log.proofs.Works.{Leaves-weaker}
 
 pub blank_drop : (n : ℕ) (bytes : List ℕ) → is_blank bytes ≡ true → is_blank (drop n bytes) ≡ true
 blank_drop zero bytes h = h
@@ -170,28 +171,48 @@ added_names one false a at from number n buds nodes x h f free sub spelled other
     let M : ℕ → Type 0 = λ m. IsMeant number 0 nodes (x m) in
     next_names one a at.geo from at.lnum at.offs number buds nodes h x f (subst N (sym e) (free refl)) spelled (subst O (sym e) others) (subst M (sym e) meant)
 
+-- of one reference nothing, or all, is named
+one_named : (n : ℕ) (buds : List HeadAt) (node : RefNode) → (fold named buds (take n (node ∷ [])) ≡ buds) ⊎ (fold named buds (take n (node ∷ [])) ≡ named buds node)
+one_named zero buds node = inl refl
+one_named (suc zero) buds node = inr refl
+one_named (suc (suc n)) buds node = inr refl
+
+opened_names : (x : ℕ → List ℕ) (geo : RawGeometry) (from : ℕ) (buds : List HeadAt) (node : RefNode) → NamesSome x geo from buds (node ∷ []) → is_blank (x node.lnum) ≡ true → NamesOpened x geo from buds node
+opened_names x geo from buds node (n, names) blank =
+    let P : List HeadAt → Type 0 = λ bs. NamesBuds x geo from bs in
+    elim (one_named n buds node) [ inl none ↦ inl (subst P none names) | inr all ↦ inr (subst P all names, blank) ]
+
 -- a bud was opened, or the call failed on the way
-pub opened_moment : OneNode → (here : Bool) (a b : VolumeState) (at : LogAt) (bud from number n : ℕ) (buds : List HeadAt) (nodes : List SystemNode) → IsReady a at.geo from at.lnum at.offs number buds → IsLogLeb at.geo from
-    → (here ≡ false → next_leb at.geo at.lnum ≢ from) → HasMapped a → AreSpelled number nodes → (IsLogLeb at.geo bud → ⊥) → IsLogLeb at.geo (lnum_at here at) → Leaves a b (Each (OpenUnderWay here a at bud n))
-    → Leaves a b (λ left. IsOldOrMeant a (lnum_at here at) (offs_at here at) number nodes (left (lnum_at here at)) → NamesSome left at.geo from buds (references_in nodes))
-opened_moment one here a b at bud from number n buds nodes h f free sub spelled out is time =
+pub opened_moment : OneNode → (here : Bool) (a b : VolumeState) (at : LogAt) (from number n : ℕ) (buds : List HeadAt) (node : RefNode) → IsReady a at.geo from at.lnum at.offs number buds → IsLogLeb at.geo from
+    → (here ≡ false → next_leb at.geo at.lnum ≢ from) → HasMapped a → AreSpelled number (reference node ∷ []) → (IsLogLeb at.geo node.lnum → ⊥) → Leaves a b (OpenUnderWay here a at node.lnum n)
+    → Leaves a b (λ left. IsOldOrMeant a (lnum_at here at) (offs_at here at) number (reference node ∷ []) (left (lnum_at here at)) → NamesOpened left at.geo from buds node)
+opened_moment one here a b at from number n buds node h f free sub spelled out time =
     let there = lnum_at here at in
-    Leaves-weaker a b (Each (OpenUnderWay here a at bud n)) (λ left. IsOldOrMeant a there (offs_at here at) number nodes (left there) → NamesSome left at.geo from buds (references_in nodes))
-    (λ x each meant. added_names one here a at from number n buds nodes x h f free sub spelled
-    (λ k in_log ne. elim (each k) [ inl now ↦ now | inr rest ↦ elim rest [ inl at_bud ↦ let P : ℕ → Type 0 = λ m. IsLogLeb at.geo m in absurd (out (subst P at_bud.0 in_log)) | inr add ↦ absurd (ne add.0) ] ])
-    (elim (each there) [ inl now ↦ inl now | inr rest ↦ elim rest [ inl at_bud ↦ let P : ℕ → Type 0 = λ m. IsLogLeb at.geo m in absurd (out (subst P at_bud.0 is)) | inr add ↦ inr add.1 ] ])
-    meant)
+    let nodes : List SystemNode = reference node ∷ [] in
+    let P : ℕ → Type 0 = λ m. IsLogLeb at.geo m in
+    let M : (ℕ → List ℕ) → Type 0 = λ left. IsOldOrMeant a there (offs_at here at) number nodes (left there) in
+    let aside : (k : ℕ) → IsLogLeb at.geo k → k ≢ node.lnum = λ k in_log e. out (subst P e in_log) in
+    Leaves-more a b (OpenUnderWay here a at node.lnum n) (λ left. M left → NamesOpened left at.geo from buds node)
+    (λ x d meant. elim d.1 [
+      | inl before ↦
+          let all : (k : ℕ) → IsLogLeb at.geo k → a.left_now k (x k) = λ k in_log. elim (cases_eq k there) [
+            | inl e ↦ let Q : ℕ → Type 0 = λ m. a.left_now m (x m) in subst Q (sym e) before.1
+            | inr ne ↦ d.0 k (aside k in_log) ne
+          ] in
+          inl (quiet_names a at.geo from at.lnum at.offs number buds h x f (quiet_left a at.geo from at.lnum at.offs number buds h x f all))
+      | inr added ↦
+          let B : List ℕ → Type 0 = λ leb. is_blank leb ≡ true in
+          let names = added_names one here a at from number n buds nodes x h f free sub spelled (λ k in_log ne. d.0 k (aside k in_log) ne) (inr added.1) meant in
+          opened_names x at.geo from buds node names (subst B (sym added.0) (blank_replicate (a.leb_size - 0)))
+    ])
     time
 
 -- a section was started, or the call failed on the way
 pub started_moment : OneNode → (a b : VolumeState) (at : LogAt) (from number n : ℕ) (buds : List HeadAt) (nodes : List SystemNode) → IsReady a at.geo from at.lnum at.offs number buds → IsLogLeb at.geo from → next_leb at.geo at.lnum ≢ from → HasMapped a → AreSpelled number nodes
-    → Leaves a b (Each (StartUnderWay a at n))
+    → Leaves a b (StartUnderWay a at n)
     → Leaves a b (λ left. IsOldOrMeant a (next_leb at.geo at.lnum) 0 number nodes (left (next_leb at.geo at.lnum)) → NamesSome left at.geo from buds (references_in nodes))
 started_moment one a b at from number n buds nodes h f free sub spelled time =
     let there = next_leb at.geo at.lnum in
-    Leaves-weaker a b (Each (StartUnderWay a at n)) (λ left. IsOldOrMeant a there 0 number nodes (left there) → NamesSome left at.geo from buds (references_in nodes))
-    (λ x each meant. added_names one false a at from number n buds nodes x h f (λ e. free) sub spelled
-    (λ k in_log ne. elim (each k) [ inl now ↦ now | inr add ↦ absurd (ne add.0) ])
-    (elim (each there) [ inl now ↦ inl now | inr add ↦ inr add.1 ])
-    meant)
+    Leaves-more a b (StartUnderWay a at n) (λ left. IsOldOrMeant a there 0 number nodes (left there) → NamesSome left at.geo from buds (references_in nodes))
+    (λ x u meant. added_names one false a at from number n buds nodes x h f (λ e. free) sub spelled (λ k in_log ne. u.0 k ne) (inr u.1) meant)
     time

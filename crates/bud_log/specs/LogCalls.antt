@@ -1,19 +1,9 @@
 -- What calls of several steps do to a volume, LEB by LEB.
-use Rattle.std.specs.Prelude.{◌≡◌, ◌⊎◌, ℕ, Bool, true, false, List, [], length}
+use Rattle.std.specs.Prelude.{◌≡◌, ◌≢◌, ◌⊎◌, ℕ, Bool, true, false, List, [], length}
 use Rattle.ubifs_base.specs.declared.raw_geometry.RawGeometry.{RawGeometry}
-use Rattle.ubi_volume.specs.Volume.{VolumeState, Each, Only, filled, put, Torn, Leaves, IsWritten, ChangeUnderWay, WriteUnderWay}
+use Rattle.ubi_volume.specs.Volume.{VolumeState, Each, Only, filled, put, Torn, UnderWay, IsWritten, ChangeUnderWay, WriteUnderWay}
 use Rattle.bud_log.specs.Log.{next_leb}
 use Rattle.bud_log.specs.LogAt.{LogAt, lnum_at, IsBetween}
-
--- Calls that touch some LEBs, whatever they answer: all others are as they were, and During is what a cut on the way or afterwards
--- may leave of each LEB.
-pub record WorksOnSome (old new : VolumeState) (Touched : ℕ → Type 0) (During : ℕ → List ℕ → Type 0) : Type 0 where
-  pub others : (k : ℕ) → (Touched k → ⊥) → new.holds k ≡ old.holds k
-  pub others_written : (k : ℕ) → (Touched k → ⊥) → new.written k ≡ old.written k
-  pub others_mapped : (k : ℕ) (c : List ℕ) → (Touched k → ⊥) → new.left_mapped k c → old.left_mapped k c
-  pub left : (k : ℕ) (c : List ℕ) → new.left_now k c → During k c
-  pub time : Leaves old new (Each During)
-  pub spent : old.spent → new.spent
 
 -- the LEB was unmapped and mapped: it is unwritten, and no cut undoes it
 pub record IsEmptied (old new : VolumeState) (lnum : ℕ) : Type 0 where
@@ -41,21 +31,22 @@ abbrev pub AddDuring : Bool → VolumeState → LogAt → ℕ → List ℕ → T
 AddDuring true old at n c = WriteUnderWay old at.lnum at.offs n c
 AddDuring false old at n c = BeginUnderWay old (next_leb at.geo at.lnum) n c
 
-abbrev pub AddUnderWay : Bool → VolumeState → LogAt → ℕ → ℕ → List ℕ → Type 0
-AddUnderWay here old at n k c = (k ≡ lnum_at here at) × AddDuring here old at n c
-
--- what a cut leaves of a LEB while a bud's LEB is emptied and n bytes are added to the log
-abbrev pub OpenUnderWay : Bool → VolumeState → LogAt → ℕ → ℕ → ℕ → List ℕ → Type 0
-OpenUnderWay here old at bud n k c = old.left_now k c ⊎ (((k ≡ bud) × (c ≡ filled old.leb_size [])) ⊎ AddUnderWay here old at n k c)
+-- While a bud's LEB is emptied and n bytes are added to the log: first the bud's LEB is emptied, and the log is as it was; the log
+-- is added to once the bud's LEB is blank, and no cut undoes that.
+abbrev pub OpenUnderWay : Bool → VolumeState → LogAt → ℕ → ℕ → (ℕ → List ℕ) → Type 0
+OpenUnderWay here old at bud n c =
+    ((k : ℕ) → k ≢ bud → k ≢ lnum_at here at → old.left_now k (c k))
+    × ((ChangeUnderWay old bud [] (c bud) × old.left_now (lnum_at here at) (c (lnum_at here at)))
+    ⊎ ((c bud ≡ filled old.leb_size []) × AddDuring here old at n (c (lnum_at here at))))
 
 -- while a section is started
-abbrev pub StartUnderWay : VolumeState → LogAt → ℕ → ℕ → List ℕ → Type 0
-StartUnderWay old at n k c = old.left_now k c ⊎ AddUnderWay false old at n k c
+abbrev pub StartUnderWay : VolumeState → LogAt → ℕ → (ℕ → List ℕ) → Type 0
+StartUnderWay old at n = UnderWay old (next_leb at.geo at.lnum) (AddDuring false old at n)
 
--- while the LEBs from one on and before another are unmapped
+-- what a cut leaves of a LEB while those from one on and before another are unmapped
 abbrev pub UnmapUnderWay : VolumeState → RawGeometry → ℕ → ℕ → ℕ → List ℕ → Type 0
 UnmapUnderWay old geo from to k c = old.left_now k c ⊎ (IsBetween geo from to k × (c ≡ filled old.leb_size []))
 
--- while the sections before the present one are unmapped
-abbrev pub EndUnderWay : VolumeState → LogAt → ℕ → List ℕ → Type 0
-EndUnderWay old at k c = UnmapUnderWay old at.geo at.first at.section k c
+-- while the sections before the present one are unmapped, each of their LEBs by itself
+abbrev pub EndUnderWay : VolumeState → LogAt → (ℕ → List ℕ) → Type 0
+EndUnderWay old at = Each (UnmapUnderWay old at.geo at.first at.section)

@@ -1,5 +1,5 @@
 -- A log that is written on: what it takes to be ready for its next nodes, and what a cut leaves while they are written.
-use Rattle.std.specs.Prelude.{◌≡◌, ◌≢◌, ◌⊎◌, ⊤, ℕ, ◌+◌, ◌%◌, ◌^◌, ◌<◌, ◌≤◌, IsFalse, Some, List, [], ◌∷◌, ◌++◌, take, drop, length, fold}
+use Rattle.std.specs.Prelude.{◌≡◌, ◌≢◌, ◌⊎◌, ⊤, ℕ, ◌+◌, ◌%◌, ◌^◌, ◌<◌, ◌≤◌, IsTrue, IsFalse, Some, List, [], ◌∷◌, ◌++◌, take, drop, length, fold}
 use Rattle.ubifs_base.specs.Gap.{gap_of}
 use Rattle.ubifs_base.specs.NodeLaws.{IsBytes}
 use Rattle.ubifs_base.specs.NodeType.{type_number}
@@ -8,7 +8,7 @@ use Rattle.ubifs_base.specs.declared.raw_geometry.RawGeometry.{RawGeometry}
 use Rattle.ubi_volume.specs.Volume.{VolumeState, Only}
 use Rattle.media_sys.specs.SystemNode.{SystemNode, padding, superblock, master, reference, index, commit_start, orphans, type_of, written, IsSystemNode}
 use Rattle.media_sys.specs.declared.ref_node.RefNode.{RefNode}
-use Rattle.leb_scan.specs.Text.{IsText, nodes_of}
+use Rattle.leb_scan.specs.Text.{is_blank, IsText, nodes_of}
 use Rattle.leb_scan.specs.declared.found.Found.{Found}
 use Rattle.leb_scan.specs.declared.item.Item.{Item}
 use Rattle.leb_scan.specs.declared.tail.Tail.{Tail}
@@ -107,6 +107,10 @@ NamesBuds contents geo from buds = (log : Log) × IsLog contents geo from log ×
 -- it names these buds, and of these references the first ones
 abbrev pub NamesSome : (ℕ → List ℕ) → RawGeometry → ℕ → List HeadAt → List RefNode → Type 0
 NamesSome contents geo from buds references = (n : ℕ) × NamesBuds contents geo from (fold named buds (take n references))
+
+-- It names these buds, or this one too, whose LEB is blank then: a bud is never read from while it holds what it held before.
+abbrev pub NamesOpened : (ℕ → List ℕ) → RawGeometry → ℕ → List HeadAt → RefNode → Type 0
+NamesOpened contents geo from buds node = NamesBuds contents geo from buds ⊎ (NamesBuds contents geo from (named buds node) × IsTrue (is_blank (contents node.lnum)))
 
 -- this node was found whole, at this place
 pub record IsWhole (left : List ℕ) (place number : ℕ) (node : SystemNode) (found : Found) : Type 0 where

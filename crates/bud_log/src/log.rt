@@ -3,14 +3,15 @@
 ghost use Rattle.std.specs.Prelude.{◌≡◌, ◌≢◌, ◌⊎◌, ◌<◌, ◌≤◌, ◌+◌, ◌*◌, ◌%◌, ◌^◌, ℕ, IsTrue, IsFalse, false, List, [], ◌∷◌, length, fold, OnOk, OnErr};
 ghost use Rattle.ubifs_base.specs.Areas.{lpt_first, main_first};
 ghost use Rattle.ubifs_base.specs.RawOf.{raw_of};
-ghost use Rattle.ubi_volume.specs.Volume.{AreUnits, filled, Keeps, Leaves, WorksOn, SameShape, ChangeUnderWay};
+ghost use Rattle.ubi_volume.specs.Volume.{Each, AreUnits, filled, Keeps, Leaves, WorksOn, SameShape, ChangeUnderWay};
+ghost use Rattle.ubi_volume.specs.Frame.{Works};
 ghost use Rattle.ubi_volume.specs.Faults.{HasCause, StaysSure};
 ghost use Rattle.media_sys.specs.SystemNode.{reference};
 ghost use Rattle.bud_log.specs.Buds.{named, buds_of};
 ghost use Rattle.bud_log.specs.Log.{IsLogLeb, next_leb as leb_behind};
 ghost use Rattle.bud_log.specs.LogAt.{LogAt, IsAt, IsStart, IsBetween, IsEnded, IsFull, IsFullExactly, IfFull, IsRaised, HasLogCause, StaysSureLog, room_of, used_lebs, most_lebs, has_room as has_room_at, next_lnum, next_offs, lnum_at, offs_at, ending, starting, without_old, references_to, section_nodes};
-ghost use Rattle.bud_log.specs.LogCalls.{WorksOnSome, IsEmptied, IsBegun, BeginUnderWay, IsAdded, AddDuring, OpenUnderWay, StartUnderWay, UnmapUnderWay, EndUnderWay};
-ghost use Rattle.bud_log.specs.Writing.{AreSpelled, IsReady, NamesBuds, NamesSome, IsOldOrMeant};
+ghost use Rattle.bud_log.specs.LogCalls.{IsEmptied, IsBegun, BeginUnderWay, IsAdded, AddDuring, OpenUnderWay, StartUnderWay, UnmapUnderWay, EndUnderWay};
+ghost use Rattle.bud_log.specs.Writing.{AreSpelled, IsReady, NamesBuds, NamesSome, NamesOpened, IsOldOrMeant};
 ghost use Rattle.bud_log.specs.declared.head_at.HeadAt.{HeadAt as AHead};
 
 use crate::head_at::HeadAt;
@@ -71,7 +72,7 @@ impl Log {
     /// volume. Takes no memory.
     ///
     /// Whether the log is read from its oldest section on or from the present one, at every moment a power cut leaves a log
-    /// with the old buds, or with the new one too, where no torn node has a matching checksum.
+    /// with the old buds, or with the new one too and its LEB blank, where no torn node has a matching checksum.
     pub fn open_bud<V: Volume>(
         &mut self,
         volume: &mut V,
@@ -92,8 +93,8 @@ impl Log {
             → IsReady (V.state volume.old) self.old.geo from self.old.lnum self.old.offs sqnum.old buds
             → Leaves (V.state volume.old) (V.state volume.new) (λ left.
             IsOldOrMeant (V.state volume.old) (next_lnum self.old) (next_offs self.old) sqnum.old (reference (record { lnum = lnum; offs = 0; head = head }) ∷ []) (left (next_lnum self.old))
-            → NamesSome left self.old.geo from buds (record { lnum = lnum; offs = 0; head = head } ∷ [])) }
-        ensures works { WorksOnSome (V.state volume.old) (V.state volume.new) (λ k. (k ≡ lnum) ⊎ (k ≡ next_lnum self.old))
+            → NamesOpened left self.old.geo from buds (record { lnum = lnum; offs = 0; head = head })) }
+        ensures works { Works (V.state volume.old) (V.state volume.new) (λ k. (k ≡ lnum) ⊎ (k ≡ next_lnum self.old))
             (OpenUnderWay (has_room_at self.old) (V.state volume.old) self.old lnum (room_of self.old.geo.min_io 64)) }
         ensures emptied { OnOk result (IsEmptied (V.state volume.old) (V.state volume.new) lnum) }
         ensures moved { OnOk result (self.new ≡ ending self.old (next_lnum self.old) (next_offs self.old + room_of self.old.geo.min_io 64)) }
@@ -151,7 +152,7 @@ impl Log {
             → Leaves (V.state volume.old) (V.state volume.new) (λ left.
             IsOldOrMeant (V.state volume.old) (leb_behind self.old.geo self.old.lnum) 0 sqnum.old (section_nodes cmt_no heads.now) (left (leb_behind self.old.geo self.old.lnum))
             → NamesSome left self.old.geo from buds (references_to heads.now)) }
-        ensures works { WorksOnSome (V.state volume.old) (V.state volume.new) (λ k. k ≡ leb_behind self.old.geo self.old.lnum)
+        ensures works { Works (V.state volume.old) (V.state volume.new) (λ k. k ≡ leb_behind self.old.geo self.old.lnum)
             (StartUnderWay (V.state volume.old) self.old (room_of self.old.geo.min_io (32 + 64 * length heads.now))) }
         ensures moved { OnOk result (self.new ≡ starting self.old (leb_behind self.old.geo self.old.lnum) (room_of self.old.geo.min_io (32 + 64 * length heads.now))) }
         ensures stays { OnErr result (self.new ≡ self.old) }
@@ -180,7 +181,7 @@ impl Log {
             → IsReady (V.state volume.new) self.old.geo self.old.section self.old.lnum self.old.offs number buds }
         ensures any_moment { (number : ℕ) (buds : List AHead) → IsReady (V.state volume.old) self.old.geo self.old.section self.old.lnum self.old.offs number buds
             → Leaves (V.state volume.old) (V.state volume.new) (λ left. NamesBuds left self.old.geo self.old.section buds) }
-        ensures works { WorksOnSome (V.state volume.old) (V.state volume.new) (IsEnded self.old) (EndUnderWay (V.state volume.old) self.old) }
+        ensures works { Works (V.state volume.old) (V.state volume.new) (IsEnded self.old) (EndUnderWay (V.state volume.old) self.old) }
         ensures moved { OnOk result (self.new ≡ without_old self.old) }
         ensures stays { OnErr result (self.new ≡ self.old) }
         ensures at { OnOk result (IsAt (V.state volume.new) self.new) }
@@ -373,7 +374,7 @@ fn unmap_between<V: Volume>(
     requires from { IsLogLeb (raw_of geometry.now) from }
     requires to { IsLogLeb (raw_of geometry.now) to }
     ensures unwritten { OnOk result ((k : ℕ) → IsBetween (raw_of geometry.now) from to k → (V.state volume.new).holds k ≡ filled (V.state volume.old).leb_size []) }
-    ensures works { WorksOnSome (V.state volume.old) (V.state volume.new) (IsBetween (raw_of geometry.now) from to) (UnmapUnderWay (V.state volume.old) (raw_of geometry.now) from to) }
+    ensures works { Works (V.state volume.old) (V.state volume.new) (IsBetween (raw_of geometry.now) from to) (Each (UnmapUnderWay (V.state volume.old) (raw_of geometry.now) from to)) }
     ensures shape { SameShape (V.state volume.old) (V.state volume.new) }
     ensures cause { HasCause (V.state volume.old).faults (V.state volume.new).faults result }
     ensures sure { StaysSure (V.state volume.old) (V.state volume.new) result }

@@ -6,7 +6,7 @@ use Rattle.bud_log.specs.Buds.{named}
 use Rattle.bud_log.specs.LogAt.{LogAt, room_of, next_lnum, next_offs}
 use Rattle.bud_log.specs.LogCalls.{AddDuring}
 use Rattle.bud_log.specs.Writing.{IsReady, IsOldOrMeant}
-use Rattle.bud_log.proofs.OneBud.{main_out, start_in, free_of, bud_moment, both_works, both_moment, emptied_still}
+use Rattle.bud_log.proofs.OneBud.{main_out, start_in, free_of, bud_moment, first_works, both_works, both_moment, emptied_still}
 use Rattle.bud_log.proofs.Opened.{bud_ready}
 use Rattle.bud_log.proofs.log.Log.open_bud.Goals as goal
 
@@ -15,8 +15,13 @@ returns-in_err-clear_bud-clause-any_moment g c = λ from buds start h.
     let a = g.V.Volume.state c.args.volume.now in
     let at = c.args.self.now in
     let node : RefNode = record { lnum = c.args.lnum; offs = 0; head = c.args.head } in
-    bud_moment a (g.V.Volume.state c.clear_bud.new.volume) at from c.args.sqnum.now c.args.lnum buds (node ∷ []) (λ left. IsOldOrMeant a (next_lnum at) (next_offs at) c.args.sqnum.now (reference node ∷ []) (left (next_lnum at))) (ChangeUnderWay a c.args.lnum [])
+    bud_moment a (g.V.Volume.state c.clear_bud.new.volume) at from c.args.sqnum.now buds node (λ left. IsOldOrMeant a (next_lnum at) (next_offs at) c.args.sqnum.now (reference node ∷ []) (left (next_lnum at))) (ChangeUnderWay a c.args.lnum [])
     c.requires.at start c.requires.main h c.clear_bud.ensures.works
+
+pub returns-in_err-clear_bud-clause-works : goal.returns-in_err-clear_bud-clause-works
+returns-in_err-clear_bud-clause-works g c =
+    let at = c.args.self.now in
+    first_works c.has_room-here.result (g.V.Volume.state c.args.volume.now) (g.V.Volume.state c.clear_bud.new.volume) at c.args.lnum (room_of at.geo.min_io 64) c.requires.at c.has_room-here.ensures c.requires.main c.clear_bud.ensures.works
 
 pub returns-in_err-write_reference-clause-any_moment : goal.returns-in_err-write_reference-clause-any_moment
 returns-in_err-write_reference-clause-any_moment g c = λ from buds start h.
@@ -25,8 +30,8 @@ returns-in_err-write_reference-clause-any_moment g c = λ from buds start h.
     let e = g.V.Volume.state c.write_reference.new.volume in
     let at = c.args.self.now in
     let node : RefNode = record { lnum = c.args.lnum; offs = 0; head = c.args.head } in
-    both_moment c.one_node.ensures c.has_room-here.result a b e at c.args.lnum from c.args.sqnum.now (room_of at.geo.min_io 64) buds node c.requires.at c.has_room-here.ensures (c.is_full.ensures.kept c.if-is_full.false) c.requires.main start
-    (g.met.V.Volume.mapped_now c.args.volume.now) c.write_reference.ensures.spelled c.clear_bud.ensures.shape.leb_size c.clear_bud.ensures.works c.write_reference.ensures.works h
+    both_moment c.one_node.ensures c.has_room-here.result a b e at from c.args.sqnum.now (room_of at.geo.min_io 64) buds node c.requires.at c.has_room-here.ensures (c.is_full.ensures.kept c.if-is_full.false) c.requires.main start
+    (g.met.V.Volume.mapped_now c.args.volume.now) c.write_reference.ensures.spelled c.clear_bud.ensures.shape.leb_size c.in_ok-clear_bud.ensures.done c.clear_bud.ensures.works c.write_reference.ensures.works h
 
 pub returns-in_err-write_reference-clause-works : goal.returns-in_err-write_reference-clause-works
 returns-in_err-write_reference-clause-works g c =
@@ -34,7 +39,7 @@ returns-in_err-write_reference-clause-works g c =
     let b = g.V.Volume.state c.clear_bud.new.volume in
     let e = g.V.Volume.state c.write_reference.new.volume in
     let at = c.args.self.now in
-    both_works c.has_room-here.result a b e at c.args.lnum (room_of at.geo.min_io 64) c.requires.at c.has_room-here.ensures c.requires.main c.clear_bud.ensures.shape.leb_size c.clear_bud.ensures.works c.write_reference.ensures.works
+    both_works c.has_room-here.result a b e at c.args.lnum (room_of at.geo.min_io 64) c.requires.at c.has_room-here.ensures c.requires.main c.clear_bud.ensures.shape.leb_size c.in_ok-clear_bud.ensures.done c.clear_bud.ensures.works c.write_reference.ensures.works
 
 pub returns-clause-done : goal.returns-clause-done
 returns-clause-done g c = λ from buds start h.
@@ -56,8 +61,8 @@ returns-clause-any_moment g c = λ from buds start h.
     let e = g.V.Volume.state c.write_reference.new.volume in
     let at = c.args.self.now in
     let node : RefNode = record { lnum = c.args.lnum; offs = 0; head = c.args.head } in
-    both_moment c.one_node.ensures c.has_room-here.result a b e at c.args.lnum from c.args.sqnum.now (room_of at.geo.min_io 64) buds node c.requires.at c.has_room-here.ensures (c.is_full.ensures.kept c.if-is_full.false) c.requires.main start
-    (g.met.V.Volume.mapped_now c.args.volume.now) c.write_reference.ensures.spelled c.clear_bud.ensures.shape.leb_size c.clear_bud.ensures.works c.write_reference.ensures.works h
+    both_moment c.one_node.ensures c.has_room-here.result a b e at from c.args.sqnum.now (room_of at.geo.min_io 64) buds node c.requires.at c.has_room-here.ensures (c.is_full.ensures.kept c.if-is_full.false) c.requires.main start
+    (g.met.V.Volume.mapped_now c.args.volume.now) c.write_reference.ensures.spelled c.clear_bud.ensures.shape.leb_size c.in_ok-clear_bud.ensures.done c.clear_bud.ensures.works c.write_reference.ensures.works h
 
 pub returns-clause-works : goal.returns-clause-works
 returns-clause-works g c =
@@ -65,7 +70,7 @@ returns-clause-works g c =
     let b = g.V.Volume.state c.clear_bud.new.volume in
     let e = g.V.Volume.state c.write_reference.new.volume in
     let at = c.args.self.now in
-    both_works c.has_room-here.result a b e at c.args.lnum (room_of at.geo.min_io 64) c.requires.at c.has_room-here.ensures c.requires.main c.clear_bud.ensures.shape.leb_size c.clear_bud.ensures.works c.write_reference.ensures.works
+    both_works c.has_room-here.result a b e at c.args.lnum (room_of at.geo.min_io 64) c.requires.at c.has_room-here.ensures c.requires.main c.clear_bud.ensures.shape.leb_size c.in_ok-clear_bud.ensures.done c.clear_bud.ensures.works c.write_reference.ensures.works
 
 pub returns-clause-emptied : goal.returns-clause-emptied
 returns-clause-emptied g c =

@@ -1,14 +1,15 @@
-use Rattle.std.proofs.Common.{ℕ, ◌+◌, ◌*◌, List, length, sym, ◌∙◌, subst, arith}
+use Rattle.std.proofs.Common.{false, ℕ, ◌+◌, ◌*◌, List, length, sym, ◌∙◌, subst, arith}
 use Rattle.std.specs.Prelude.{fold}
 use Rattle.media_sys.specs.declared.ref_node.RefNode.{RefNode}
 use Rattle.ubi_volume.specs.Volume.{Leaves}
 use Rattle.bud_log.specs.Buds.{named, buds_of}
 use Rattle.bud_log.specs.Log.{next_leb}
+use Rattle.ubi_volume.specs.FrameLaws.{Works-on}
 use Rattle.bud_log.specs.LogAt.{LogAt, room_of, references_to, section_nodes}
+use Rattle.bud_log.specs.LogCalls.{AddDuring}
 use Rattle.bud_log.specs.Writing.{IsReady, NamesSome, IsOldOrMeant}
 use Rattle.bud_log.proofs.OneBud.{start_in, free_of, section_moment}
 use Rattle.bud_log.proofs.Spelled.{references_same}
-use Rattle.bud_log.proofs.Works.{started_works}
 use Rattle.bud_log.proofs.log.Log.start_section.Goals as goal
 
 pub returns-in_err-write_section-clause-any_moment : goal.returns-in_err-write_section-clause-any_moment
@@ -51,5 +52,12 @@ returns-clause-any_moment g c = λ from buds start h.
 
 pub returns-clause-works : goal.returns-clause-works
 returns-clause-works g c =
+    let a = g.V.Volume.state c.args.volume.now in
     let at = c.args.self.now in
-    started_works (g.V.Volume.state c.args.volume.now) (g.V.Volume.state c.write_section.new.volume) at (room_of at.geo.min_io (32 + 64 * length c.args.heads.now)) c.write_section.ensures.works
+    Works-on a (g.V.Volume.state c.write_section.new.volume) (next_leb at.geo at.lnum) (AddDuring false a at (room_of at.geo.min_io (32 + 64 * length c.args.heads.now))) c.write_section.ensures.works
+
+pub returns-in_err-write_section-clause-works : goal.returns-in_err-write_section-clause-works
+returns-in_err-write_section-clause-works g c =
+    let a = g.V.Volume.state c.args.volume.now in
+    let at = c.args.self.now in
+    Works-on a (g.V.Volume.state c.write_section.new.volume) (next_leb at.geo at.lnum) (AddDuring false a at (room_of at.geo.min_io (32 + 64 * length c.args.heads.now))) c.write_section.ensures.works
