@@ -1,11 +1,12 @@
 -- Both copies of a master: what holds after them, and what a cut leaves at any moment of them.
-use Rattle.std.proofs.Common.{◌≡◌, ◌≢◌, ℕ, ◌+◌, ◌<◌, List, refl, sym, ◌∙◌, subst, arith}
+use Rattle.std.proofs.Common.{◌≡◌, ◌≢◌, ℕ, ◌+◌, ◌<◌, List, inl, inr, refl, sym, ◌∙◌, subst, arith}
 use Rattle.ubifs_base.specs.NodeLaws.{IsBytes}
 use Rattle.ubi_volume.specs.Volume.{VolumeState, UnderWay, WorksOn}
-use Rattle.ubi_volume.specs.VolumeLaws.{Leaves-then}
+use Rattle.ubi_volume.specs.Frame.{Works}
+use Rattle.ubi_volume.specs.FrameLaws.{Works-more, Works-on, Works-then}
 use Rattle.media_sys.specs.declared.master.Master.{Master}
-use Rattle.small_areas.specs.Copies.{copy_of, master_node, IsNodeOf, IsRoom, IsCopied, AreCopied, CopyUnderWay, IsMeant, IsOldOrNew, KeepsOldOrNew}
-use Rattle.small_areas.proofs.CopyRuns.{copied_then, copied_from, first_moment, second_moment, leaves_weaker, new_second, open_after, settled}
+use Rattle.small_areas.specs.Copies.{copy_of, master_node, IsNodeOf, IsRoom, IsCopied, AreCopied, CopyUnderWay, IsMasterLeb, MasterUnderWay}
+use Rattle.small_areas.proofs.CopyRuns.{copied_then, copied_from, first_moment, second_moment, new_second, open_after, settled}
 use Rattle.small_areas.proofs.LaidCopy.{standing_at, HasCopy}
 use Rattle.small_areas.proofs.LastMaster.{OneNode}
 use Rattle.small_areas.proofs.Places.{OneText}
@@ -32,28 +33,31 @@ copied_spelled : (a b : VolumeState) (lnum room sqnum : ℕ) (m : Master) (node 
 copied_spelled a b lnum room sqnum m node e h = let P : List ℕ → Type 0 = λ n. IsCopied a b lnum room (copy_of room n) in subst P e h
 
 -- the first copy alone, whatever it answered
-pub moment_one : OneText → OneNode → (a b : VolumeState) (node : List ℕ) (room number : ℕ) (m : Master) → IsRoom room → HasMapped a → IsCall a b 1 room (number + 1) m node → KeepsOldOrNew a b room number m
-moment_one one one_node a b node room number m is_room sub call = λ old start.
+pub works_one : OneText → OneNode → (a b : VolumeState) (node : List ℕ) (room number : ℕ) (m : Master) → IsRoom room → HasMapped a → IsCall a b 1 room (number + 1) m node → Works a b IsMasterLeb (MasterUnderWay a room number m)
+works_one one one_node a b node room number m is_room sub call =
     let n1 : List ℕ = master_node (number + 1) m in
     let n2 : List ℕ = master_node (number + 2) m in
     let h = spelled a b 1 room (number + 1) m node call in
-    leaves_weaker a b (UnderWay a 1 (CopyUnderWay a 1 room (copy_of room n1)))
-    (λ left. IsMeant (a.holds 1) room n1 (left 1) → IsMeant (a.holds 2) room n2 (left 2) → IsOldOrNew old m (left 1) (left 2))
-    (first_moment one one_node a n1 n2 room number m old is_room h.is_node sub start) h.works.time
+    let D : List ℕ → Type 0 = CopyUnderWay a 1 room (copy_of room n1) in
+    Works-more a b (λ k. k ≡ 1) IsMasterLeb (UnderWay a 1 D) (MasterUnderWay a room number m) (λ k is. inl is) (λ x w. record {
+      elsewhere = λ k apart. w.0 k (λ is. apart (inl is));
+      old_or_new = λ old start. first_moment one one_node a n1 n2 room number m old is_room h.is_node sub start x w;
+    }) (Works-on a b 1 D h.works)
 
 -- both copies, whatever the second answered
-pub moment_two : OneText → OneNode → (a b e : VolumeState) (node other : List ℕ) (room number : ℕ) (m : Master) → IsRoom room → HasMapped a → HasMapped b → IsCall a b 1 room (number + 1) m node → IsCopied a b 1 room (copy_of room node)
-    → IsCall b e 2 room (number + 2) m other → KeepsOldOrNew a e room number m
-moment_two one one_node a b e node other room number m is_room sub_a sub_b first done second = λ old start.
+pub works_two : OneText → OneNode → (a b e : VolumeState) (node other : List ℕ) (room number : ℕ) (m : Master) → IsRoom room → HasMapped a → HasMapped b → IsCall a b 1 room (number + 1) m node → IsCopied a b 1 room (copy_of room node)
+    → IsCall b e 2 room (number + 2) m other → Works a e IsMasterLeb (MasterUnderWay a room number m)
+works_two one one_node a b e node other room number m is_room sub_a sub_b first done second =
     let n1 : List ℕ = master_node (number + 1) m in
     let n2 : List ℕ = master_node (number + 2) m in
     let h = spelled a b 1 room (number + 1) m node first in
     let k = spelled b e 2 room (number + 2) m other second in
-    Leaves-then a b e (UnderWay a 1 (CopyUnderWay a 1 room (copy_of room n1))) (UnderWay b 2 (CopyUnderWay b 2 room (copy_of room n2)))
-    (λ left. IsMeant (a.holds 1) room n1 (left 1) → IsMeant (a.holds 2) room n2 (left 2) → IsOldOrNew old m (left 1) (left 2))
-    (first_moment one one_node a n1 n2 room number m old is_room h.is_node sub_a start)
-    (second_moment one one_node a b n1 n2 room number m old (CopyUnderWay a 1 room (copy_of room n1)) is_room h.is_node k.is_node sub_a sub_b start h.works (copied_spelled a b 1 room (number + 1) m node first.spelling done))
-    h.works.time k.works.time
+    let D : List ℕ → Type 0 = CopyUnderWay a 1 room (copy_of room n1) in
+    let E : List ℕ → Type 0 = CopyUnderWay b 2 room (copy_of room n2) in
+    Works-then a b e IsMasterLeb (λ l. l ≡ 2) IsMasterLeb (MasterUnderWay a room number m) (UnderWay b 2 E) (MasterUnderWay a room number m) (λ l is. is) (λ l is. inr is) (λ x w. w) (λ x w. record {
+      elsewhere = λ l apart. h.works.others_left l (x l) (λ is. apart (inl is)) (w.0 l (λ is. apart (inr is)));
+      old_or_new = λ old start. second_moment one one_node a b n1 n2 room number m old D is_room h.is_node k.is_node sub_a sub_b start h.works (copied_spelled a b 1 room (number + 1) m node first.spelling done) x w;
+    }) (works_one one one_node a b node room number m is_room sub_a first) (Works-on b e 2 E k.works)
 
 numbers_rise : (number : ℕ) → number + 1 < number + 2
 numbers_rise number = omega arith

@@ -7,7 +7,7 @@ use Rattle.ubi_volume.specs.Volume.{VolumeState, Only, filled, put, Torn, Leaves
 use Rattle.ubi_volume.specs.VolumeLaws.{Leaves-then, Leaves-keeps}
 use Rattle.media_sys.specs.declared.master.Master.{Master}
 use Rattle.leb_scan.specs.declared.tail.Tail.TheVariants.{Clean}
-use Rattle.small_areas.specs.Copies.{copy_of, IsNodeOf, IsRoom, IsStart, IsPlace, HasNoPlace, IsOpen, IsCopied, CopyUnderWay, IsMeant, IsOldOrNew, KeepsOthers}
+use Rattle.small_areas.specs.Copies.{copy_of, IsNodeOf, IsRoom, IsStart, IsPlace, HasNoPlace, IsOpen, IsCopied, CopyUnderWay, IsMeant, IsOldOrNew}
 use Rattle.small_areas.specs.Later.{IsReadOf, later_of}
 use Rattle.small_areas.specs.Masters.{IsLastMaster, HasNoMaster, IsLatest}
 use Rattle.small_areas.specs.Puts.{IsPut, PutUnderWay}
@@ -210,36 +210,11 @@ second_moment one one_node a c node other room number new old D is_room is_node 
     second_stage (a.holds 1) (a.holds 2) (x 1) (x 2) old new number there.0 h (subst P (sym same) there.1.read)
     (left_of one one_node c other (x 2) 2 room (number + 2) new h.second is_room is_other only (sub_c 2) (subst Q still h.second_read) w.1 (subst R still more))
 
--- what each moment leaves, where it implies more
-pub leaves_weaker : (a b : VolumeState) (P Q : (ℕ → List ℕ) → Type 0) → ((x : ℕ → List ℕ) → P x → Q x) → Leaves a b P → Leaves a b Q
-leaves_weaker a b P Q more h = record {
-  later = h.later;
-  nothing_else = λ t x early left. elim (h.nothing_else t x early left) [ inl before ↦ inl before | inr p ↦ inr (more x p) ];
-}
-
 -- where the next copy goes, the LEB is open
 pub open_after : OneText → (state : VolumeState) (lnum room place sqnum : ℕ) (new : Master) → IsBytes (state.holds lnum) → HasCopy (state.holds lnum) lnum place (place + room) sqnum new → state.written lnum ≡ place + room → IsOpen state lnum room
 open_after one state lnum room place sqnum new fits h written = λ next is.
     let same = (place_ends one (state.holds lnum) room next (place + room) Clean fits (h.items, h.is_text) is).0 in
     omega (arith, same, written)
-
--- the other LEBs, after work on LEB 1 alone
-pub others_one : (a c : VolumeState) (D : List ℕ → Type 0) → WorksOn a c 1 D → KeepsOthers a c
-others_one a c D works = record {
-  holds = λ k n1 n2. works.others k n1;
-  written = λ k n1 n2. works.others_written k n1;
-  left = λ k x n1 n2 h. works.others_left k x n1 h;
-  left_mapped = λ k x n1 n2 h. works.others_mapped k x n1 h;
-}
-
--- and after work on LEB 2 as well
-pub others_two : (a c e : VolumeState) (D E : List ℕ → Type 0) → WorksOn a c 1 D → WorksOn c e 2 E → KeepsOthers a e
-others_two a c e D E first second = record {
-  holds = λ k n1 n2. second.others k n2 ∙ first.others k n1;
-  written = λ k n1 n2. second.others_written k n2 ∙ first.others_written k n1;
-  left = λ k x n1 n2 h. first.others_left k x n1 (second.others_left k x n2 h);
-  left_mapped = λ k x n1 n2 h. first.others_mapped k x n1 (second.others_mapped k x n2 h);
-}
 
 -- a LEB is open as before while another is worked on
 pub open_still : (a c : VolumeState) (lnum other room : ℕ) (D : List ℕ → Type 0) → lnum ≢ other → WorksOn a c other D → IsOpen a lnum room → IsOpen c lnum room

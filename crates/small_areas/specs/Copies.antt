@@ -3,7 +3,8 @@ use Rattle.std.specs.Prelude.{◌≡◌, ◌≢◌, ◌⊎◌, ℕ, ◌+◌, ◌
 use Rattle.ubifs_base.specs.Gap.{gap_of}
 use Rattle.ubifs_base.specs.NodeLaws.{IsBytes}
 use Rattle.ubifs_base.specs.declared.raw_geometry.RawGeometry.{RawGeometry}
-use Rattle.ubi_volume.specs.Volume.{VolumeState, Only, Leaves, IsWritten, IsChanged, ChangeUnderWay, WriteUnderWay}
+use Rattle.ubi_volume.specs.Volume.{VolumeState, Only, IsWritten, IsChanged, ChangeUnderWay, WriteUnderWay}
+use Rattle.ubi_volume.specs.Frame.{Elsewhere}
 use Rattle.media_sys.specs.SystemNode.{IsMaster, master, written}
 use Rattle.media_sys.specs.declared.master.Master.{Master}
 use Rattle.leb_scan.specs.Text.{IsText, nodes_of}
@@ -117,17 +118,13 @@ pub record IsStart (state : VolumeState) (number : ℕ) (old : PlacedMaster) : T
   pub first : Only (state.holds 1) (state.left_now 1)
   pub second : Only (state.holds 2) (state.left_now 2)
 
--- from such a start, a cut at any moment leaves the old latest master or the new one; of the outcomes, under the premise on checksums
-abbrev pub KeepsOldOrNew : VolumeState → VolumeState → ℕ → ℕ → Master → Type 0
-KeepsOldOrNew state new room number fresh =
-    (old : PlacedMaster) → IsStart state number old → Leaves state new (λ left.
-    IsMeant (state.holds 1) room (master_node (number + 1) fresh) (left 1)
-    → IsMeant (state.holds 2) room (master_node (number + 2) fresh) (left 2)
-    → IsOldOrNew old fresh (left 1) (left 2))
+-- the LEBs that have a copy of the master
+abbrev pub IsMasterLeb : ℕ → Type 0
+IsMasterLeb lnum = (lnum ≡ 1) ⊎ (lnum ≡ 2)
 
--- LEBs other than 1 and 2 are as they were, now and after a cut
-pub record KeepsOthers (old new : VolumeState) : Type 0 where
-  pub holds : (k : ℕ) → k ≢ 1 → k ≢ 2 → new.holds k ≡ old.holds k
-  pub written : (k : ℕ) → k ≢ 1 → k ≢ 2 → new.written k ≡ old.written k
-  pub left : (k : ℕ) (bytes : List ℕ) → k ≢ 1 → k ≢ 2 → new.left_now k bytes → old.left_now k bytes
-  pub left_mapped : (k : ℕ) (bytes : List ℕ) → k ≢ 1 → k ≢ 2 → new.left_mapped k bytes → old.left_mapped k bytes
+-- What a cut leaves while a master is written with the numbers behind this one: of all other LEBs what it might have left
+-- before, and from such a start the old latest master or the new one; of the outcomes, under the premise on checksums.
+pub record MasterUnderWay (state : VolumeState) (room number : ℕ) (fresh : Master) (left : ℕ → List ℕ) : Type 0 where
+  pub elsewhere : Elsewhere state IsMasterLeb left
+  pub old_or_new : (old : PlacedMaster) → IsStart state number old → IsMeant (state.holds 1) room (master_node (number + 1) fresh) (left 1)
+      → IsMeant (state.holds 2) room (master_node (number + 2) fresh) (left 2) → IsOldOrNew old fresh (left 1) (left 2)

@@ -5,7 +5,8 @@ ghost use Rattle.ubifs_base.specs.NodeLaws.{IsBytes};
 ghost use Rattle.ubifs_base.specs.RawOf.{raw_of};
 ghost use Rattle.ubi_volume.specs.Volume.{WorksOn, SameShape, AreUnits};
 ghost use Rattle.ubi_volume.specs.Faults.{HasCause, StaysSure};
-ghost use Rattle.small_areas.specs.Copies.{IsGeometryOf, room_of, IsRoom, IsNodeOf, master_node, copy_of, IsPlace, HasNoPlace, IsOpen, IsCopied, AreCopied, CopyUnderWay, KeepsOldOrNew, KeepsOthers};
+ghost use Rattle.ubi_volume.specs.Frame.{Works};
+ghost use Rattle.small_areas.specs.Copies.{IsGeometryOf, room_of, IsRoom, IsNodeOf, master_node, copy_of, IsPlace, HasNoPlace, IsOpen, IsCopied, AreCopied, CopyUnderWay, IsMasterLeb, MasterUnderWay};
 ghost use Rattle.small_areas.specs.Puts.{IsPut, PutUnderWay};
 
 use leb_scan::{Tail, one_text, text_end};
@@ -21,7 +22,8 @@ const MASTER_LEN: usize = 512;
 /// afterwards is of no use.
 ///
 /// At every moment a power cut leaves the old latest master or the new one, where nothing else was left by a cut before,
-/// the sequence number isn't below the old master's, and no torn node has a matching checksum.
+/// the sequence number isn't below the old master's, and no torn node has a matching checksum. All other LEBs are as they
+/// were, at every moment.
 pub fn write_master<V: Volume>(
     volume: &mut V,
     geometry: &Geometry,
@@ -35,10 +37,8 @@ pub fn write_master<V: Volume>(
     requires first { IsOpen (V.state volume.old) 1 (room_of geometry.now.min_io) }
     requires second { IsOpen (V.state volume.old) 2 (room_of geometry.now.min_io) }
     ensures done { OnOk result (AreCopied (V.state volume.old) (V.state volume.new) (room_of geometry.now.min_io) sqnum.old master.now) }
-    ensures any_moment { KeepsOldOrNew (V.state volume.old) (V.state volume.new) (room_of geometry.now.min_io) sqnum.old master.now }
-    ensures raised { sqnum.new ≡ sqnum.old + 2 }
-    ensures len { length leb.new ≡ length leb.old }
-    ensures others { KeepsOthers (V.state volume.old) (V.state volume.new) }
+    ensures works { Works (V.state volume.old) (V.state volume.new) IsMasterLeb (MasterUnderWay (V.state volume.old) (room_of geometry.now.min_io) sqnum.old master.now) }
+    ensures raised { (sqnum.new ≡ sqnum.old + 2) × (length leb.new ≡ length leb.old) }
     ensures shape { SameShape (V.state volume.old) (V.state volume.new) }
     ensures cause { HasCause (V.state volume.old).faults (V.state volume.new).faults result }
     ensures sure { StaysSure (V.state volume.old) (V.state volume.new) result }
@@ -68,7 +68,7 @@ fn write_copies<V: Volume>(
     number: u64,
     leb: &mut [u8],
 ) -> Result<(), VolFault>
-    requires lebs { 2 < (V.state volume.old).leb_cnt }
+    requires lebs { 3 < (V.state volume.old).leb_cnt }
     requires number { number < 2 ^ 63 + 2 ^ 56 }
     requires whole { length leb.old ≡ (V.state volume.old).leb_size }
     requires room { IsRoom room }
@@ -78,9 +78,8 @@ fn write_copies<V: Volume>(
     requires first { IsOpen (V.state volume.old) 1 room }
     requires second { IsOpen (V.state volume.old) 2 room }
     ensures done { OnOk result (AreCopied (V.state volume.old) (V.state volume.new) room number master.now) }
-    ensures any_moment { KeepsOldOrNew (V.state volume.old) (V.state volume.new) room number master.now }
+    ensures works { Works (V.state volume.old) (V.state volume.new) IsMasterLeb (MasterUnderWay (V.state volume.old) room number master.now) }
     ensures len { length leb.new ≡ length leb.old }
-    ensures others { KeepsOthers (V.state volume.old) (V.state volume.new) }
     ensures shape { SameShape (V.state volume.old) (V.state volume.new) }
     ensures cause { HasCause (V.state volume.old).faults (V.state volume.new).faults result }
     ensures sure { StaysSure (V.state volume.old) (V.state volume.new) result }

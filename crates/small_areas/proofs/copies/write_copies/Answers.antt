@@ -1,33 +1,25 @@
 use Rattle.std.proofs.Common.{◌≢◌, ◌+◌, arith}
 use Rattle.ubifs_base.specs.NodeLaws.{IsBytes}
 use Rattle.small_areas.specs.Copies.{copy_of, IsCopied, AreCopied, CopyUnderWay}
-use Rattle.small_areas.proofs.BothCopies.{IsCall, moment_one, moment_two, both_copied}
-use Rattle.small_areas.proofs.CopyRuns.{on_two, open_still, others_one, others_two}
+use Rattle.small_areas.proofs.BothCopies.{IsCall, works_one, works_two, both_copied}
+use Rattle.small_areas.proofs.CopyRuns.{on_two, open_still}
 use Rattle.small_areas.proofs.copies.write_copies.Goals as goal
 
-pub returns-in_err-write_copy-clause-any_moment : goal.returns-in_err-write_copy-clause-any_moment
-returns-in_err-write_copy-clause-any_moment g c =
+pub returns-in_err-write_copy-clause-works : goal.returns-in_err-write_copy-clause-works
+returns-in_err-write_copy-clause-works g c =
     let a = g.V.Volume.state c.args.volume.now in
     let b = g.V.Volume.state c.write_copy.new.volume in
     let first : IsCall a b 1 c.args.room (c.args.number + 1) c.args.master.now c.spell.new.node = record { spelling = c.spell.ensures.spelling; is_node = c.spell.ensures.is_node; works = c.write_copy.ensures.works } in
-    moment_one c.one_text.ensures c.one_node.ensures a b c.spell.new.node c.args.room c.args.number c.args.master.now c.requires.room (g.met.V.Volume.mapped_now c.args.volume.now) first
+    works_one c.one_text.ensures c.one_node.ensures a b c.spell.new.node c.args.room c.args.number c.args.master.now c.requires.room (g.met.V.Volume.mapped_now c.args.volume.now) first
 
-pub returns-in_err-write_copy-clause-others : goal.returns-in_err-write_copy-clause-others
-returns-in_err-write_copy-clause-others g c = others_one (g.V.Volume.state c.args.volume.now) (g.V.Volume.state c.write_copy.new.volume) (CopyUnderWay (g.V.Volume.state c.args.volume.now) 1 c.args.room (copy_of c.args.room c.spell.new.node)) c.write_copy.ensures.works
-
-pub returns-clause-any_moment : goal.returns-clause-any_moment
-returns-clause-any_moment g c =
+pub returns-clause-works : goal.returns-clause-works
+returns-clause-works g c =
     let a = g.V.Volume.state c.args.volume.now in
     let b = g.V.Volume.state c.write_copy.new.volume in
     let e = g.V.Volume.state c.write_copy-2.new.volume in
     let first : IsCall a b 1 c.args.room (c.args.number + 1) c.args.master.now c.spell.new.node = record { spelling = c.spell.ensures.spelling; is_node = c.spell.ensures.is_node; works = c.write_copy.ensures.works } in
     let second : IsCall b e 2 c.args.room (c.args.number + 2) c.args.master.now c.spell-2.new.node = record { spelling = c.spell-2.ensures.spelling; is_node = c.spell-2.ensures.is_node; works = c.write_copy-2.ensures.works } in
-    moment_two c.one_text.ensures c.one_node.ensures a b e c.spell.new.node c.spell-2.new.node c.args.room c.args.number c.args.master.now c.requires.room (g.met.V.Volume.mapped_now c.args.volume.now) (g.met.V.Volume.mapped_now c.write_copy.new.volume) first c.in_ok-write_copy.ensures.done second
-
-pub returns-clause-others : goal.returns-clause-others
-returns-clause-others g c = others_two (g.V.Volume.state c.args.volume.now) (g.V.Volume.state c.write_copy.new.volume) (g.V.Volume.state c.write_copy-2.new.volume)
-    (CopyUnderWay (g.V.Volume.state c.args.volume.now) 1 c.args.room (copy_of c.args.room c.spell.new.node)) (CopyUnderWay (g.V.Volume.state c.write_copy.new.volume) 2 c.args.room (copy_of c.args.room c.spell-2.new.node))
-    c.write_copy.ensures.works c.write_copy-2.ensures.works
+    works_two c.one_text.ensures c.one_node.ensures a b e c.spell.new.node c.spell-2.new.node c.args.room c.args.number c.args.master.now c.requires.room (g.met.V.Volume.mapped_now c.args.volume.now) (g.met.V.Volume.mapped_now c.write_copy.new.volume) first c.in_ok-write_copy.ensures.done second
 
 pub returns-clause-done : goal.returns-clause-done
 returns-clause-done g c =

@@ -1,6 +1,7 @@
 use Rattle.std.proofs.Common.{◌≡◌, ◌%◌, ℕ, sym, subst}
 use Rattle.std.specs.Prelude.{OnOk}
-use Rattle.small_areas.specs.Copies.{IsOpen, AreCopied, KeepsOldOrNew}
+use Rattle.ubi_volume.specs.Frame.{Works}
+use Rattle.small_areas.specs.Copies.{IsOpen, AreCopied, IsMasterLeb, MasterUnderWay}
 use Rattle.small_areas.proofs.copies.write_master.Goals as goal
 
 pub write_copies-requires-clause-units : goal.write_copies-requires-clause-units
@@ -23,7 +24,8 @@ returns-clause-done g c =
     let P : ℕ → Type 0 = λ room. OnOk c.write_copies.result (AreCopied (g.V.Volume.state c.args.volume.now) (g.V.Volume.state c.write_copies.new.volume) room c.args.sqnum.now c.args.master.now) in
     subst P c.copy_room-room.ensures.room c.write_copies.ensures.done
 
-pub returns-clause-any_moment : goal.returns-clause-any_moment
-returns-clause-any_moment g c =
-    let P : ℕ → Type 0 = λ room. KeepsOldOrNew (g.V.Volume.state c.args.volume.now) (g.V.Volume.state c.write_copies.new.volume) room c.args.sqnum.now c.args.master.now in
-    subst P c.copy_room-room.ensures.room c.write_copies.ensures.any_moment
+pub returns-clause-works : goal.returns-clause-works
+returns-clause-works g c =
+    let a = g.V.Volume.state c.args.volume.now in
+    let P : ℕ → Type 0 = λ room. Works a (g.V.Volume.state c.write_copies.new.volume) IsMasterLeb (MasterUnderWay a room c.args.sqnum.now c.args.master.now) in
+    subst P c.copy_room-room.ensures.room c.write_copies.ensures.works
