@@ -12,8 +12,6 @@ mod master;
 mod pool;
 mod seat;
 mod steps;
-#[cfg(test)]
-mod tests;
 mod view;
 
 pub use crate::fault::DrawFault;

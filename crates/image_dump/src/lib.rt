@@ -17,6 +17,3 @@ pub use crate::fault::ImageFault;
 pub use crate::law::never_both;
 pub use crate::listing::dump;
 pub use crate::opening::{Opened, open_image};
-
-#[cfg(test)]
-mod tests;

@@ -1,4 +1,3 @@
 pub mod Leaves
 pub mod Image
 pub mod Laying
-pub mod Sample

@@ -11,6 +11,3 @@ mod open_leb;
 mod tree_leaves;
 
 pub use crate::layout::lay_tree;
-
-#[cfg(test)]
-mod tests;

@@ -34,6 +34,3 @@ pub use crate::index::Index;
 pub use crate::index_node::IndexNode;
 pub use crate::laws::{changed_indexes, distinct_leaves};
 pub use crate::leaf::Leaf;
-
-#[cfg(test)]
-mod tests;

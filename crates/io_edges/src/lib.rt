@@ -11,8 +11,6 @@ mod mem_sink;
 mod out_sink;
 mod schedule;
 mod sink;
-#[cfg(test)]
-mod tests;
 
 pub use crate::file_keeper::FileKeeper;
 pub use crate::keeper::{KeepFault, Keeper};

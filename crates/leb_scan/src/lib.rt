@@ -25,6 +25,3 @@ pub use crate::laws::{aligned_nodes, meant_item, one_text, untorn_is_meant, unwr
 pub use crate::scanned::Scan;
 pub use crate::scanner::Scanner;
 pub use crate::tail::Tail;
-
-#[cfg(test)]
-mod tests;

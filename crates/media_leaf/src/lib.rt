@@ -21,6 +21,3 @@ pub use crate::ino_node::InoNode;
 pub use crate::laws::{one_node, whole_node};
 pub use crate::leaf::is_leaf;
 pub use crate::trun_node::TrunNode;
-
-#[cfg(test)]
-mod tests;

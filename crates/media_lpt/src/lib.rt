@@ -25,6 +25,3 @@ pub use crate::lsave::Lsave;
 pub use crate::ltab::{LptRow, Ltab};
 pub use crate::nnode::{LptPlace, Nnode};
 pub use crate::pnode::Pnode;
-
-#[cfg(test)]
-mod tests;

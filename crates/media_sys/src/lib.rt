@@ -36,6 +36,3 @@ pub use crate::ref_node::RefNode;
 pub use crate::super_field::SuperField;
 pub use crate::super_node::Super;
 pub use crate::system::is_system;
-
-#[cfg(test)]
-mod tests;

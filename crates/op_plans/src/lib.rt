@@ -39,6 +39,3 @@ pub use crate::sizes::size_of;
 pub use crate::words::{
     ends_too_far, is_bad_len, is_bad_mode, is_bad_slot, is_bad_target, is_too_big,
 };
-
-#[cfg(test)]
-mod tests;

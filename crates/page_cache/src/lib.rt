@@ -14,6 +14,3 @@ mod ticket;
 pub use crate::cache::Cache;
 pub use crate::dirty_page::DirtyPage;
 pub use crate::ticket::Ticket;
-
-#[cfg(test)]
-mod tests;

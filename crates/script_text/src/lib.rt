@@ -33,6 +33,3 @@ pub use crate::manifest::{Manifest, read_manifest};
 pub use crate::part::Part;
 pub use crate::reply::write_reply;
 pub use crate::script::{Script, read_script};
-
-#[cfg(test)]
-mod tests;

@@ -1,11 +1,12 @@
 -- The height of the properties tree is the least that serves, and each number fits its digits.
-use Rattle.std.specs.Prelude.{◌≡◌, ℕ, zero, suc, ◌+◌, ◌-◌, ◌*◌, ◌^◌, ◌<◌, ◌≤◌, nat_le}
+use Rattle.std.specs.Prelude.{◌≡◌, ℕ, zero, suc, ◌+◌, ◌-◌, ◌*◌, ◌^◌, ◌<◌, ◌≤◌, nat_le, true}
 use Rattle.std.proofs.Common.{refl, arith, sym, subst, inl, inr}
 use Rattle.std.proofs.lemmas.Bool.{le-leb, lt-leb, leb-true, leb-false, cases_Bool}
 use Rattle.std.proofs.lemmas.Nat.{leading_length}
 use Rattle.std.proofs.Math.Nat.{eq-or-lt_of_le}
 use Rattle.std.specs.Int.Count.{count_leading_zeros}
-use Rattle.ubifs_base.specs.Properties.{fls, height_from, tree_height}
+use Rattle.ubifs_base.specs.declared.raw_geometry.RawGeometry.{RawGeometry}
+use Rattle.ubifs_base.specs.Properties.{fls, height_from, tree_height, pnode_len, nnode_len, ltab_len, pnode_count, nnode_count}
 
 -- where the height serves, it is the one
 pub height_from-found : (tries height pnodes : ℕ) → 0 < tries → pnodes ≤ 4 ^ height → height_from tries height pnodes ≡ height
@@ -67,3 +68,16 @@ tree_height-least pnodes h = record {
   serves = height_from-serves 16 1 pnodes (omega arith);
   least = λ k low fits. height_from-least 16 1 pnodes k low fits;
 }
+
+-- a volume of the big model, with 1,024 pnodes
+abbrev big_volume : RawGeometry
+big_volume = record { leb_size = 16384; min_io = 512; log_lebs = 4; lpt_lebs = 4; orph_lebs = 1; leb_cnt = 4108; max_leb_cnt = 4108; fanout = 8; lsave_cnt = 256; big = true }
+
+-- its nodes have numbers, of 11 bits
+pub big_nodes : (pnode_len big_volume ≡ 17) × (nnode_len big_volume ≡ 13) × (ltab_len big_volume ≡ 18)
+unfolding fls count_leading_zeros
+big_nodes = (refl, refl, refl)
+
+pub big_tree : (pnode_count big_volume ≡ 1024) × (nnode_count big_volume ≡ 341)
+unfolding tree_height height_from
+big_tree = (refl, refl)

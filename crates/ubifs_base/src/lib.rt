@@ -46,6 +46,3 @@ pub use crate::name::Name;
 pub use crate::name_hash::r5;
 pub use crate::node_type::NodeType;
 pub use crate::raw_geometry::{GeomFault, GeomField, RawGeometry};
-
-#[cfg(test)]
-mod tests;

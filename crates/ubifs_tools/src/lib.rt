@@ -12,6 +12,3 @@ mod top;
 mod words;
 
 pub use crate::top::ubifs;
-
-#[cfg(test)]
-mod tests;

@@ -2,14 +2,12 @@ pub mod Admitted
 pub mod Buffering
 pub mod Closing
 pub mod Flushing
-pub mod Given
 pub mod Gone
 pub mod Groups
 pub mod Named
 pub mod Nameless
 pub mod Orphans
 pub mod Plans
-pub mod SampleFits
 pub mod Serving
 pub mod States
 pub mod Takes

@@ -17,10 +17,3 @@ mod writes;
 pub use crate::changes::change;
 pub use crate::event::{Event, Outcome};
 pub use crate::fs::Fs;
-
-#[cfg(test)]
-mod fs_tests;
-#[cfg(test)]
-mod page_tests;
-#[cfg(test)]
-mod tests;

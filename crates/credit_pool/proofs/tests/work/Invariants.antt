@@ -1,5 +1,0 @@
-use Rattle.std.proofs.Common.{◌≡◌, ◌≤◌}
-use Rattle.credit_pool.proofs.tests.work.Given as goal
-
-abbrev pub invariant-loop-round : goal.invariant-loop-round
-invariant-loop-round l = (l.seat.pool ≡ l.pool) × (l.seat.caller ≡ l.initial.seat.caller) × (l.seat.held ≡ l.held) × (l.held ≤ 4)

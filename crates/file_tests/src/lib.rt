@@ -1,0 +1,17 @@
+//! Tests of files: the model, its sums, plans, pages, credits, and operations over a backing in memory.
+//!
+//! They stand above the crates whose public calls they make, since a crate that has tests is proved twice: by itself, and with its tests.
+#![tactic(auto)]
+
+#[cfg(test)]
+mod credit_pool_tests;
+#[cfg(test)]
+mod op_plans_tests;
+#[cfg(test)]
+mod page_cache_tests;
+#[cfg(test)]
+mod vfs_ops_fs_tests;
+#[cfg(test)]
+mod vfs_ops_page_tests;
+#[cfg(test)]
+mod vfs_ops_tests;

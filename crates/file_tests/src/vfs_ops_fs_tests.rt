@@ -1,0 +1,173 @@
+// The looks of a file system, and a caller of the backing's own.
+
+ghost use Rattle.std.specs.Prelude.{◌≡◌, ◌≤◌, ◌+◌, length, IfOk};
+ghost use Rattle.fs_model.specs.Making.{new_file};
+ghost use Rattle.plain_backing.specs.PlainBacking.{state_of};
+ghost use Rattle.file_tests.specs.Sample.{sample_group, sample_page};
+ghost use Rattle.vfs_ops.specs.Steps.{IsReady};
+
+use vfs_ops::Fs;
+use crate::vfs_ops_tests::{answered, fresh_backing, fresh_files, path, root};
+use fs_model::caller::{CallFault, make_and_read};
+use fs_model::{
+    Change, Class, Entry, Group, Inode, Kind, Mode, Need, PageNode, Refusal, StoreFault,
+};
+use plain_backing::PlainBacking;
+use std::alloc::Global;
+use std::test::Fail;
+use ubifs_base::{Bytes, Memory, Name};
+
+// The number of the inode to which a path leads.
+fn walked_to(alloc: Global, fs: &mut Fs<PlainBacking>, bytes: &[u8]) -> Result<u32, Refusal>
+    requires { IsReady (state_of fs.old.backing) fs.old.kept }
+    ensures { IsReady (state_of fs.new.backing) fs.new.kept }
+{
+    let path = path(alloc, bytes)?;
+    let entry = fs.walk(&path)?;
+    Ok(entry.ino)
+}
+
+// A group without a change, which asks for nothing.
+fn nothing_put(alloc: Global, fs: &mut Fs<PlainBacking>) -> Result<(), Refusal>
+    requires { IsReady (state_of fs.old.backing) fs.old.kept }
+    ensures { IsReady (state_of fs.new.backing) fs.new.kept }
+{
+    let need = Need {
+        credits: 0,
+        bytes: 0,
+        nodes: 0,
+        class: Class::Ordinary,
+    };
+    fs.apply_group(&Group::new(alloc), &need)
+}
+
+// How many entries the root has, and the number behind the name `f`, 0 where there is none.
+fn looked_up(alloc: Global, fs: &mut Fs<PlainBacking>) -> Result<(usize, u32), StoreFault>
+    requires { IsReady (state_of fs.old.backing) fs.old.kept }
+    ensures { IsReady (state_of fs.new.backing) fs.new.kept }
+{
+    let entries = fs.entries(1)?;
+    let name = Name::from_slice(alloc, b"f")?;
+    match fs.lookup(1, &name)? {
+        Some(entry) => Ok((entries.len(), entry.ino)),
+        None => Ok((entries.len(), 0)),
+    }
+}
+
+// The time of an inode's last change, 0 where there is none.
+fn changed_at(fs: &mut Fs<PlainBacking>, ino: u32) -> Result<u64, StoreFault>
+    requires { IsReady (state_of fs.old.backing) fs.old.kept }
+    ensures { IsReady (state_of fs.new.backing) fs.new.kept }
+{
+    match fs.inode(ino)? {
+        Some(inode) => Ok(inode.mtime),
+        None => Ok(0),
+    }
+}
+
+// A file that is made is found by its path, by its name and by its number; and a group of no change is put.
+#[test]
+fn what_is_made_is_looked_up(rt: HostRuntime) -> Result<(), Fail> {
+    let alloc = rt.alloc();
+    let mut fs = fresh_files(alloc)?;
+    assert_eq!(rt; looked_up(alloc, &mut fs), Ok((0, 0)));
+    assert_eq!(rt; answered(alloc, &mut fs, b'c'), Ok(65));
+    assert_eq!(rt; walked_to(alloc, &mut fs, b"/f"), Ok(65));
+    assert_eq!(rt; walked_to(alloc, &mut fs, b"/g"), Err(Refusal::Enoent));
+    assert_eq!(rt; looked_up(alloc, &mut fs), Ok((1, 65)));
+    assert_eq!(rt; changed_at(&mut fs, 65), Ok(7));
+    assert_eq!(rt; nothing_put(alloc, &mut fs), Ok(()));
+    assert_eq!(rt;
+        (fs.highest(), fs.mode(), fs.refused().len()),
+        (65, Mode::ReadWrite, 0)
+    );
+    Ok(())
+}
+
+// The group that makes the file `f` on a fresh volume.
+fn file_group(alloc: Global) -> Result<Group, Memory>
+    ensures { IfOk result (λ group. group ≡ sample_group) }
+{
+    let mut group = Group::new(alloc);
+    group.push(Change::SetEntry {
+        entry: Entry {
+            dir: 1,
+            name: Name::from_slice(alloc, b"f")?,
+            ino: 65,
+            kind: Kind::File,
+        },
+    })?;
+    group.push(Change::SetInode {
+        ino: 65,
+        inode: file(alloc, 0),
+    })?;
+    group.push(Change::SetInode {
+        ino: 1,
+        inode: root(alloc),
+    })?;
+    Ok(group)
+}
+
+// A file's inode of this size.
+fn file(alloc: Global, size: u64) -> Inode
+    ensures { result ≡ record (new_file 420 0) { size = size } }
+{
+    Inode {
+        kind: Kind::File,
+        mode: 420,
+        uid: 0,
+        gid: 0,
+        flags: 0,
+        nlink: 1,
+        size,
+        atime: 0,
+        ctime: 0,
+        mtime: 0,
+        extra: Bytes::from_vec(Vec::new(alloc)),
+    }
+}
+
+// The file's first page.
+fn file_page(alloc: Global) -> Result<PageNode, Memory>
+    ensures { IfOk result (λ page. page ≡ sample_page) }
+{
+    Ok(PageNode {
+        ino: 65,
+        block: 0,
+        bytes: Bytes::from_slice(alloc, b"abc")?,
+        inode: file(alloc, 3),
+    })
+}
+
+// Makes the file with its page on a fresh volume, asking for so many bytes, and reads the page.
+fn made_and_read(alloc: Global, bytes: u64, out: &mut [u8]) -> Result<Result<u32, CallFault>, Fail>
+    requires enough { 384 ≤ bytes }
+    requires few { bytes ≤ 4294967295 }
+    requires out { length out.old ≡ 4096 }
+{
+    let mut backing = fresh_backing(alloc)?;
+    let group = file_group(alloc)?;
+    let page = file_page(alloc)?;
+    let need = Need {
+        credits: 1,
+        bytes,
+        nodes: 3,
+        class: Class::Ordinary,
+    };
+    Ok(make_and_read(&mut backing, &need, &group, &page, out))
+}
+
+// A caller of a backing reads the page that it put, or is told that there is no room for what it asks.
+#[test]
+fn what_is_put_is_read(rt: HostRuntime) -> Result<(), Fail> {
+    let alloc = rt.alloc();
+    let mut out = [255; 4096];
+    assert_eq!(rt; made_and_read(alloc, 384, &mut out)?, Ok(3));
+    assert_eq!(rt; &out[..4], b"abc\0".as_slice());
+    let refused = made_and_read(alloc, 1_000_000, &mut out)?;
+    let Err(CallFault::NoSpace { space }) = refused else {
+        return Err("room")?;
+    };
+    assert_eq!(rt; (space.need, space.room), (160 + 4304 + 1_000_000, 514_080));
+    Ok(())
+}

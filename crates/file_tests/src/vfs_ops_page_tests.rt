@@ -1,0 +1,57 @@
+// A page that is kept clean, over a backing in memory.
+
+ghost use Rattle.std.specs.Prelude.{IfOk, ◌<◌, ◌^◌};
+ghost use Rattle.fs_model.specs.Proper.{IsProper};
+ghost use Rattle.cached_files.specs.Present.{IsKept};
+ghost use Rattle.plain_backing.specs.PlainBacking.{state_of};
+
+use crate::vfs_ops_tests::{answers, fresh_files};
+use cached_files::{Kept, bytes};
+use fs_model::StoreFault;
+use plain_backing::PlainBacking;
+use std::alloc::Global;
+use std::test::Fail;
+
+// A backing with a file of 4,100 bytes of 7, which is 65.
+fn written_backing(alloc: Global) -> Result<PlainBacking, Fail>
+    ensures { IfOk result (λ backing. IsProper (state_of backing).tree) }
+{
+    let mut fs = fresh_files(alloc)?;
+    answers(alloc, &mut fs, b"cowa")?;
+    Ok(fs.into_parts())
+}
+
+// The byte at a place of the file.
+fn byte_at(
+    alloc: Global,
+    backing: &mut PlainBacking,
+    kept: &mut Kept,
+    place: u64,
+) -> Result<u8, StoreFault>
+    requires kept { IsKept (state_of backing.old).tree kept.old }
+    requires place { place < 2 ^ 41 }
+    ensures kept { IsKept (state_of backing.new).tree kept.new }
+{
+    let bytes = bytes(alloc, backing, kept, 65, place, 1)?;
+    match bytes.as_slice().first() {
+        Some(byte) => Ok(*byte),
+        None => Ok(255),
+    }
+}
+
+// A page that was read is read again without the backing, of which the next call fails; another page isn't.
+#[test]
+fn a_page_is_read_once(rt: HostRuntime) -> Result<(), Fail> {
+    let alloc = rt.alloc();
+    let mut backing = written_backing(alloc)?;
+    let mut kept = Kept::new(alloc, 4)?;
+    assert_eq!(rt; byte_at(alloc, &mut backing, &mut kept, 9), Ok(7));
+    backing.fail_call(1);
+    assert_eq!(rt; byte_at(alloc, &mut backing, &mut kept, 10), Ok(7));
+    assert_eq!(rt;
+        byte_at(alloc, &mut backing, &mut kept, 4097),
+        Err(StoreFault::Volume { count: 1 })
+    );
+    assert_eq!(rt; byte_at(alloc, &mut backing, &mut kept, 4097), Ok(7));
+    Ok(())
+}

@@ -1,0 +1,15 @@
+//! Tests of texts, images, and the command over files in memory.
+//!
+//! They stand above the crates whose public calls they make, since a crate that has tests is proved twice: by itself, and with its tests.
+#![tactic(auto)]
+
+#[cfg(test)]
+mod image_dump_tests;
+#[cfg(test)]
+mod image_maker_tests;
+#[cfg(test)]
+mod io_edges_tests;
+#[cfg(test)]
+mod script_text_tests;
+#[cfg(test)]
+mod ubifs_tools_tests;

@@ -1,0 +1,104 @@
+// The command over files and a sink in memory.
+
+use ubifs_tools::ubifs;
+use io_edges::{Keeper, MemKeeper, MemSink};
+use std::alloc::Global;
+use std::collections::BTreeMap;
+use std::test::Fail;
+use ubifs_base::{Bytes, Memory};
+
+const MANIFEST: &[u8] = b"volume 16384 512 64 8\nend\n";
+
+const SCRIPT: &[u8] =
+    b"mount\n1 create /f 644\n1 open /f 0\n1 write 0 0 4096 97\n1 flush\n1 read 0 0 4096\n1 close 0\nunmount\nend\n";
+
+const TRACE: &[u8] =
+    b"mount rw\n1 1 ok 65\n1 2 ok 65\n1 3 ok 4096\n1 4 ok\n1 5 ok 4096 4096x61\n1 6 ok\nunmount clean\n";
+
+// The image's first main LEB, and the bytes of a LEB.
+const FIRST_NODE: usize = 10 * 16384;
+
+// The words of a run, a name by itself.
+fn words(alloc: Global, names: &[&str]) -> Result<Vec<String>, Memory> {
+    let mut words = Vec::new(alloc);
+    for name in names {
+        words.push(String::from_str(alloc, name)?)?;
+    }
+    Ok(words)
+}
+
+// A keeper that has the texts of a run as `a` and `b`, and fails at one call.
+fn keeper(alloc: Global, fails_at: u64) -> Result<MemKeeper, Memory> {
+    let mut files = BTreeMap::new(alloc);
+    files.insert(
+        String::from_str(alloc, "a")?,
+        Bytes::from_slice(alloc, MANIFEST)?,
+    )?;
+    files.insert(
+        String::from_str(alloc, "b")?,
+        Bytes::from_slice(alloc, SCRIPT)?,
+    )?;
+    let mut fails = Vec::new(alloc);
+    fails.push(fails_at)?;
+    Ok(MemKeeper::new(alloc, files, fails))
+}
+
+#[test]
+fn a_run_leaves_its_image(rt: HostRuntime) -> Result<(), Fail> {
+    let mut keeper = keeper(rt.alloc(), 0)?;
+    let mut out = MemSink::new(rt.alloc(), Vec::new(rt.alloc()));
+    let words = words(rt.alloc(), &["run", "a", "b", "c"])?;
+    assert_eq!(rt; ubifs(rt.alloc(), &words, &mut keeper, &mut out), 0);
+    assert_eq!(rt; out.text(), TRACE);
+    let image = keeper.read("c")?;
+    assert_eq!(rt; image.len(), 74 * 16384);
+    assert_eq!(rt;
+        image.iter().position(|byte| *byte != 0xFF),
+        Some(FIRST_NODE)
+    );
+    Ok(())
+}
+
+#[test]
+fn each_status_has_its_line(rt: HostRuntime) -> Result<(), Fail> {
+    // Words, the calls of keeper and sink that fail, the status, and what is printed.
+    let rows = [
+        (
+            ["run", "a", "b", "c"].as_slice(),
+            1,
+            0,
+            4,
+            b"file a\n".as_slice(),
+        ),
+        (&["run", "a", "b", "c"], 2, 0, 4, b"file b\n"),
+        (&["run", "a", "b", "c"], 3, 0, 4, b"file c\n"),
+        (&["run", "d", "b", "c"], 0, 0, 4, b"file d\n"),
+        (&["run", "a", "d", "c"], 0, 0, 4, b"file d\n"),
+        (&["run", "d", "e", "c"], 0, 0, 4, b"file d\n"),
+        (&["run", "b", "b", "c"], 0, 0, 2, b"manifest line 1\n"),
+        (&["run", "a", "a", "c"], 0, 0, 2, b"script line 1\n"),
+        (&["run", "b", "d", "c"], 0, 0, 4, b"file d\n"),
+        (&["run", "a", "b", "c"], 0, 1, 5, b""),
+        (&["run", "d", "b", "c"], 0, 1, 4, b""),
+        (&["run", "a", "b", "-c"], 0, 0, 1, b"usage\n"),
+        (&["run", "a", "b", ""], 0, 0, 1, b"usage\n"),
+        (&["dump", "a", "b", "c"], 0, 0, 1, b"usage\n"),
+        (&["run", "a", "b", "-c"], 0, 1, 1, b""),
+        (&["dump", "-a"], 0, 0, 1, b"usage\n"),
+        (&["dump", "d"], 0, 0, 4, b"file d\n"),
+        (&["dump", "a"], 1, 0, 4, b"file a\n"),
+        (&["dump", "a"], 0, 0, 3, b"image short 26\n"),
+        (&["dump", "a"], 0, 1, 3, b""),
+    ];
+    for (names, keeper_fails, sink_fails, status, text) in rows {
+        let mut keeper = keeper(rt.alloc(), keeper_fails)?;
+        let mut fails = Vec::new(rt.alloc());
+        fails.push(sink_fails)?;
+        let mut out = MemSink::new(rt.alloc(), fails);
+        let words = words(rt.alloc(), names)?;
+        assert_eq!(rt; ubifs(rt.alloc(), &words, &mut keeper, &mut out), status);
+        assert_eq!(rt; out.text(), text);
+        assert_eq!(rt; keeper.read("c").is_ok(), status == 5);
+    }
+    Ok(())
+}
