@@ -1,11 +1,11 @@
 // Paths and groups by hand.
 
+use fs_model::{Change, Class, Entry, Group, Kind};
 use op_plans::{
     Parent, components, dir_links, front_of, group_need, has_long_name, has_no_entry, inode_bytes,
     is_name_path, is_path, is_root, is_under, last_of, linking, losing, making, moving, new_dir,
     new_file, new_symlink, pop_last, removing, setting_mode, size_of, truncating, truncation_need,
 };
-use fs_model::{Change, Class, Entry, Group, Kind};
 use std::alloc::{AllocError, Global};
 use std::test::Fail;
 use ubifs_base::Name;

@@ -6,7 +6,6 @@ ghost use Rattle.plain_backing.specs.PlainBacking.{state_of};
 ghost use Rattle.file_tests.specs.Sample.{sample_group, sample_page};
 ghost use Rattle.vfs_ops.specs.Steps.{IsReady};
 
-use vfs_ops::Fs;
 use crate::vfs_ops_tests::{answered, fresh_backing, fresh_files, path, root};
 use fs_model::caller::{CallFault, make_and_read};
 use fs_model::{
@@ -16,6 +15,7 @@ use plain_backing::PlainBacking;
 use std::alloc::Global;
 use std::test::Fail;
 use ubifs_base::{Bytes, Memory, Name};
+use vfs_ops::Fs;
 
 // The number of the inode to which a path leads.
 fn walked_to(alloc: Global, fs: &mut Fs<PlainBacking>, bytes: &[u8]) -> Result<u32, Refusal>

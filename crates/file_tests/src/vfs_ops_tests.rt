@@ -9,13 +9,13 @@ ghost use Rattle.plain_backing.specs.PlainBacking.{state_of};
 ghost use Rattle.vfs_plans.specs.Operations.{is_truncate};
 ghost use Rattle.vfs_ops.specs.Steps.{IsReady};
 
-use vfs_ops::{Event, Fs, Outcome};
 use fs_laws::a_fresh_volume_is_sound;
 use fs_model::{Backing, Change, Group, Inode, Kind, Op, Reply, Space};
 use plain_backing::{PlainBacking, Tree};
 use std::alloc::Global;
 use std::test::Fail;
 use ubifs_base::{Bytes, Geometry, Memory, Name, RawGeometry};
+use vfs_ops::{Event, Fs, Outcome};
 
 // The root's inode on a fresh volume.
 pub(crate) fn root(alloc: Global) -> Inode

@@ -8,8 +8,8 @@ ghost use Rattle.fs_model.specs.Cover.{tree_bytes};
 ghost use Rattle.fs_model.specs.Proper.{IsProper};
 ghost use Rattle.program_tests.specs.SampleTree.{inode_of, entry_of, sample, sample_inodes, sample_entries, sample_blocks};
 
-use image_maker::lay_tree;
 use fs_model::{Change, Entry, Group, Inode, Kind};
+use image_maker::lay_tree;
 use media_leaf::{DataNode, DentNode, InoNode};
 use plain_backing::Tree;
 use std::alloc::Global;

@@ -1,11 +1,11 @@
 // Texts and their answers.
 
+use fs_model::{Cause, Kind, NoSpace, Op, Refusal, Reply, Scarce, Table};
 use script_text::{
     Manifest, Part, TextFault, manifest_has_no_bad_line, one_bad_line, one_bad_manifest_line,
     one_manifest, one_script, parts_are_in_range, read_manifest, read_script,
     script_has_no_bad_line, write_reply,
 };
-use fs_model::{Cause, Kind, NoSpace, Op, Refusal, Reply, Scarce, Table};
 use std::alloc::Global;
 use std::process::Abort;
 use std::test::Fail;

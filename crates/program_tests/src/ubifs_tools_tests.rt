@@ -1,11 +1,11 @@
 // The command over files and a sink in memory.
 
-use ubifs_tools::ubifs;
 use io_edges::{Keeper, MemKeeper, MemSink};
 use std::alloc::Global;
 use std::collections::BTreeMap;
 use std::test::Fail;
 use ubifs_base::{Bytes, Memory};
+use ubifs_tools::ubifs;
 
 const MANIFEST: &[u8] = b"volume 16384 512 64 8\nend\n";
 
