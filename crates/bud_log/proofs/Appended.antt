@@ -14,7 +14,8 @@ use Rattle.bud_log.specs.LogText.{LogText}
 use Rattle.bud_log.specs.Writing.{references_in, AreSpelled, IsAmong, IsOlder, IsChain, last_end, IsReady, NamesBuds, NamesSome, IsMeant}
 use Rattle.bud_log.specs.declared.head_at.HeadAt.{HeadAt}
 use Rattle.bud_log.specs.declared.log_end.LogEnd.{LogEnd}
-use Rattle.bud_log.proofs.Chains.{next_in, past_in, past_other, last_among, chain_alike, chain_log, among_log, last_first, last_more, Grows, chain_grown, references_grown, among_grown, buds_behind}
+use Rattle.bud_log.specs.LogLaws.{among_log, chain_alike, next_in}
+use Rattle.bud_log.proofs.Chains.{past_in, past_other, last_among, chain_log, last_first, last_more, Grows, chain_grown, references_grown, among_grown, buds_behind}
 use Rattle.bud_log.proofs.Grown.{grown, grown_text}
 use Rattle.bud_log.proofs.Parts.{part_references}
 use Rattle.bud_log.proofs.References.{OneNode, some_references}

@@ -12,24 +12,10 @@ use Rattle.bud_log.specs.Log.{IsLogLeb, next_leb, Run, AreFurther, references_of
 use Rattle.bud_log.specs.LogText.{LogText, IsTextOf, begins_with, start_of, is_later}
 use Rattle.bud_log.specs.Writing.{IsAmong, IsOlder, IsChain, last_end, NamesBuds}
 use Rattle.bud_log.specs.declared.log_end.LogEnd.{LogEnd}
+use Rattle.bud_log.specs.LogLaws.{next_in}
 use Rattle.bud_log.proofs.Grown.{grown_text}
+use Rattle.bud_log.proofs.References.{text_begins, some_commit}
 use Rattle.bud_log.proofs.RingRuns.{left_of, fewer_left, run_then, references_then}
-
--- the next LEB is one of the log
-pub next_in : (geo : RawGeometry) (lnum : ℕ) → IsLogLeb geo lnum → IsLogLeb geo (next_leb geo lnum)
-next_in geo lnum l =
-    let low = l.low in
-    let high = l.high in
-    elim (cases_lt (lnum + 1) (lpt_first geo)) [
-      | inl here ↦
-          let e : next_leb geo lnum ≡ lnum + 1 = rw (lt-ltb (lnum + 1) (lpt_first geo) here) refl in
-          let P : ℕ → Type 0 = λ n. IsLogLeb geo n in
-          subst P (sym e) (record { low = omega (arith, low); high = here })
-      | inr round ↦
-          let e : next_leb geo lnum ≡ 3 = rw (le-ltb (lnum + 1) (lpt_first geo) round) refl in
-          let P : ℕ → Type 0 = λ n. IsLogLeb geo n in
-          subst P (sym e) (record { low = omega arith; high = omega (arith, low, high) })
-    ]
 
 pub past_in : (c : ℕ → List ℕ) (geo : RawGeometry) (from number lnum past : ℕ) (texts : List LogText) → Run c geo from number lnum texts past → IsLogLeb geo lnum → IsLogLeb geo past
 past_in c geo from number lnum past [] h l = let P : ℕ → Type 0 = λ n. IsLogLeb geo n in subst P h l
@@ -61,40 +47,6 @@ past_other c geo from number lnum past k (text ∷ texts) f h l (inl same) =
     subst P (sym (same ∙ h.1.here)) (omega (arith, less, rest))
 past_other c geo from number lnum past k (text ∷ texts) f h l (inr there) = past_other c geo from number (next_leb geo lnum) past k texts f h.3 (next_in geo lnum l) there
 
-run_log : (c : ℕ → List ℕ) (geo : RawGeometry) (from number l past k : ℕ) (texts : List LogText) → Run c geo from number l texts past → IsLogLeb geo l → IsAmong k texts → IsLogLeb geo k
-run_log c geo from number l past k [] h is there = absurd there
-run_log c geo from number l past k (text ∷ texts) h is (inl same) = let P : ℕ → Type 0 = λ n. IsLogLeb geo n in subst P (sym (same ∙ h.1.here)) is
-run_log c geo from number l past k (text ∷ texts) h is (inr there) = run_log c geo from number (next_leb geo l) past k texts h.3 (next_in geo l is) there
-
--- each LEB that is read is one of the log
-pub among_log : (c : ℕ → List ℕ) (geo : RawGeometry) (from start past k : ℕ) (first : LogText) (more : List LogText) → IsLogLeb geo from → IsChain c geo from start first more past → IsAmong k (first ∷ more) → IsLogLeb geo k
-among_log c geo from start past k first more f h (inl same) = let P : ℕ → Type 0 = λ n. IsLogLeb geo n in subst P (sym (same ∙ h.is_first.here)) f
-among_log c geo from start past k first more f h (inr there) = run_log c geo from start (next_leb geo from) past k more h.run (next_in geo from f) there
-
--- one LEB is read or not
-pub among_or : (k : ℕ) (texts : List LogText) → IsAmong k texts ⊎ (IsAmong k texts → ⊥)
-among_or k [] = inr (λ h. h)
-among_or k (text ∷ texts) = elim (cases_eq k text.ends.lnum) [
-  | inl same ↦ inl (inl same)
-  | inr other ↦ elim (among_or k texts) [ inl there ↦ inl (inr there) | inr none ↦ inr (λ h. elim h [ inl same ↦ other same | inr there ↦ none there ]) ]
-]
-
-run_alike : (c d : ℕ → List ℕ) (geo : RawGeometry) (from number lnum past : ℕ) (texts : List LogText) → ((k : ℕ) → IsAmong k texts → c k ≡ d k) → Run c geo from number lnum texts past → Run d geo from number lnum texts past
-run_alike c d geo from number lnum past [] same h = h
-run_alike c d geo from number lnum past (text ∷ texts) same h =
-    let P : List ℕ → Type 0 = λ leb. IsTextOf leb lnum text in
-    (h.0, subst P (same lnum (inl (sym h.1.here))) h.1, h.2, run_alike c d geo from number (next_leb geo lnum) past texts (λ k there. same k (inr there)) h.3)
-
--- contents that are alike where texts are read
-pub chain_alike : (c d : ℕ → List ℕ) (geo : RawGeometry) (from start past : ℕ) (first : LogText) (more : List LogText) → ((k : ℕ) → IsAmong k (first ∷ more) → c k ≡ d k) → IsChain c geo from start first more past → IsChain d geo from start first more past
-chain_alike c d geo from start past first more same h =
-    let P : List ℕ → Type 0 = λ leb. IsTextOf leb from first in
-    record {
-      is_first = subst P (same from (inl (sym h.is_first.here))) h.is_first;
-      starts = h.starts;
-      run = run_alike c d geo from start (next_leb geo from) past more (λ k there. same k (inr there)) h.run;
-    }
-
 -- one LEB more
 pub chain_more : (c : ℕ → List ℕ) (geo : RawGeometry) (from start past : ℕ) (first : LogText) (more : List LogText) (text : LogText) → IsChain c geo from start first more past → past ≢ from → IsTextOf (c past) past text
     → IsTrue (is_later start (begins_with text.nodes)) → IsChain c geo from start first (more ++ text ∷ []) (next_leb geo past)
@@ -114,9 +66,10 @@ last_more f (text ∷ (other ∷ texts)) = text ∷ last_more f (other ∷ texts
 pub chain_log : (c : ℕ → List ℕ) (geo : RawGeometry) (from start past : ℕ) (first : LogText) (more : List LogText) → IsChain c geo from start first more past → (past ≡ from) ⊎ IsOlder start past (c past)
     → NamesBuds c geo from (buds_of (references_of (first ∷ more)))
 chain_log c geo from start past first more h stops =
-    let P : Option ℕ → Type 0 = λ o. AreFurther c geo from o more in (
-      record { buds = buds_of (references_of (first ∷ more)); ends = end_of first.ends more },
-      record { first = first; more = more; is_first = h.is_first; are_further = subst P (sym h.starts) (past, h.run, stops); buds = refl; ends = refl },
+    let P : Option ℕ → Type 0 = λ o. AreFurther c geo from o more in
+    let commit = some_commit (c from) (begins_with first.nodes) (text_begins (c from) from first h.is_first) in (
+      record { commit = commit.0; buds = buds_of (references_of (first ∷ more)); ends = end_of first.ends more },
+      record { first = first; more = more; is_first = h.is_first; commit = commit.1; are_further = subst P (sym h.starts) (past, h.run, stops); buds = refl; ends = refl },
       refl,
     )
 

@@ -12,8 +12,9 @@ use Rattle.bud_log.specs.LogAt.{LogAt, IsBetween, IsEnded, steps_to}
 use Rattle.bud_log.specs.LogCalls.{UnmapUnderWay, EndUnderWay}
 use Rattle.bud_log.specs.Writing.{IsAmong, IsOlder, IsReady, NamesBuds}
 use Rattle.bud_log.specs.declared.head_at.HeadAt.{HeadAt}
+use Rattle.bud_log.specs.LogLaws.{chain_alike, next_in}
 use Rattle.bud_log.proofs.Appended.{IsQuiet, quiet_names}
-use Rattle.bud_log.proofs.Chains.{chain_alike, next_in, past_other}
+use Rattle.bud_log.proofs.Chains.{past_other}
 use Rattle.bud_log.proofs.Opened.{past_is, blank_older}
 use Rattle.bud_log.proofs.RingRuns.{left_of}
 use Rattle.bud_log.proofs.Steps.{steps_next, steps_none, steps_small, same_steps, before_left}

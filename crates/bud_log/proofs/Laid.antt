@@ -21,12 +21,18 @@ abbrev pub FirstIs : ℕ → ℕ → List SystemNode → List Found → Type 0
 FirstIs place number [] found = ⊤
 FirstIs place number (node ∷ nodes) found = (first : Found) × (first_of found ≡ Some first) × (first.offs ≡ place) × (first.sqnum ≡ number + 1) × (first.kind ≡ type_of node)
 
+-- and it stands there
+abbrev pub FirstStands : List ℕ → List SystemNode → List Found → Type 0
+FirstStands leb [] found = ⊤
+FirstStands leb (node ∷ nodes) found = (first : Found) × (first_of found ≡ Some first) × IsSystemNode (take first.len (drop first.offs leb)) first.sqnum first.group node
+
 -- from a place on, a text has these nodes
 pub record AreLaid (leb : List ℕ) (place end number : ℕ) (nodes : List SystemNode) : Type 0 where
   pub items : List Item
   pub is_text : IsText leb place items end Clean
   pub refer : Refer leb (nodes_of items) (references_in nodes)
   pub first : FirstIs place number nodes (nodes_of items)
+  pub stands : FirstStands leb nodes (nodes_of items)
 
 refer_more : (leb : List ℕ) (found : Found) (node : SystemNode) (nodes : List Found) (references : List RefNode) → found.kind ≡ type_of node → IsSystemNode (take found.len (drop found.offs leb)) found.sqnum found.group node → Refer leb nodes references
     → Refer leb (found ∷ nodes) (reference_in node ++ references)
@@ -49,7 +55,7 @@ laid_there leb place number [] g back spelled h room even fits even_gap blank =
     let R : List ℕ → Type 0 = λ b. is_blank b ≡ true in
     let end : place + g ≡ place + 0 + g = omega arith in
     let P : ℕ → Type 0 = λ e. AreLaid leb place e number [] in
-    subst P end (record { items = gap.items; is_text = record { stand = gap.stand; ends = subst R (sym behind) blank }; refer = gap.refer; first = tt })
+    subst P end (record { items = gap.items; is_text = record { stand = gap.stand; ends = subst R (sym behind) blank }; refer = gap.refer; first = tt; stands = tt })
 laid_there leb place number (node ∷ nodes) g back spelled h room even fits even_gap blank =
     let w : List ℕ = written (number + 1) 0 node in
     let n : ℕ = length w in
@@ -77,4 +83,5 @@ laid_there leb place number (node ∷ nodes) g back spelled h room even fits eve
       is_text = record { stand = (there, subst Q behind more.is_text.stand); ends = more.is_text.ends };
       refer = refer_more leb found node (nodes_of more.items) (references_in nodes) refl is more.refer;
       first = (found, refl, refl, refl, refl);
+      stands = (found, refl, is);
     })

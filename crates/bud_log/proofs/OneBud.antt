@@ -13,8 +13,8 @@ use Rattle.bud_log.specs.LogAt.{LogAt, IsAt, IsStart, has_room, used_lebs, lnum_
 use Rattle.bud_log.specs.LogCalls.{IsEmptied, AddDuring, OpenUnderWay}
 use Rattle.bud_log.specs.Writing.{references_in, AreSpelled, IsReady, NamesSome, NamesOpened, IsOldOrMeant}
 use Rattle.bud_log.specs.declared.head_at.HeadAt.{HeadAt}
+use Rattle.bud_log.specs.LogLaws.{next_in}
 use Rattle.bud_log.proofs.Appended.{quiet_left, quiet_names}
-use Rattle.bud_log.proofs.Chains.{next_in}
 use Rattle.bud_log.proofs.Opened.{HasMapped, opened_moment, started_moment}
 use Rattle.bud_log.proofs.References.{OneNode}
 use Rattle.bud_log.proofs.Steps.{next_free}

@@ -19,8 +19,8 @@ use Rattle.bud_log.specs.LogText.{LogText, IsTextOf}
 use Rattle.bud_log.specs.Writing.{references_in, AreSpelled, AreNodes, laid, IsAmong, IsOlder, IsChain, last_end, IsReady, NamesBuds, NamesSome, NamesOpened, IsMeant, IsOldOrMeant}
 use Rattle.bud_log.specs.declared.head_at.HeadAt.{HeadAt}
 use Rattle.bud_log.specs.declared.log_end.LogEnd.{LogEnd}
+use Rattle.bud_log.specs.LogLaws.{blank-older, among_log}
 use Rattle.bud_log.proofs.Appended.{quiet_left, quiet_names, ready_works, here_names}
-use Rattle.bud_log.proofs.Chains.{among_log}
 use Rattle.bud_log.proofs.Gaps.{gap_length}
 use Rattle.bud_log.proofs.Laid.{AreLaid, laid_there}
 use Rattle.bud_log.proofs.ReadyAgain.{ready_here, ready_next, next_names}
@@ -37,11 +37,7 @@ blank_replicate (suc n) = blank_replicate n
 
 -- an unwritten LEB begins with no node
 pub blank_older : (start lnum size : ℕ) → IsOlder start lnum (filled size [])
-blank_older start lnum size = (
-  record { nodes = []; references = []; ends = record { lnum = lnum; offs = 0; tail = Clean } },
-  record { items = []; is_text = record { stand = refl; ends = blank_replicate (size - 0) }; here = refl; nodes = refl; refer = refl },
-  refl,
-)
+blank_older start lnum size = blank-older start lnum (filled size []) (blank_replicate (size - 0))
 
 -- the LEB behind a chain is the next one
 run_past : (c : ℕ → List ℕ) (geo : RawGeometry) (from number l past lnum offs : ℕ) (first : LogEnd) (texts : List LogText) → Run c geo from number l texts past → l ≡ next_leb geo first.lnum → last_end first texts ≡ record { lnum = lnum; offs = offs; tail = Clean }

@@ -1,5 +1,5 @@
 -- After nodes were written the volume is ready for the next ones.
-use Rattle.std.proofs.Common.{◌≡◌, inl, inr, ℕ, ◌+◌, ◌<◌, ◌≤◌, true, false, List, [], ◌∷◌, ◌++◌, Some, length, take, refl, ap, sym, ◌∙◌, subst, arith, append-nil}
+use Rattle.std.proofs.Common.{◌≡◌, inl, inr, ℕ, ◌+◌, ◌<◌, ◌≤◌, true, false, List, [], ◌∷◌, ◌++◌, Option, Some, length, take, refl, ap, sym, ◌∙◌, subst, arith, append-nil}
 use Rattle.std.specs.Prelude.{◌≢◌, fold}
 use Rattle.std.proofs.lemmas.Bool.{cases_eq, cases_Bool, lt-ltb, le-ltb}
 use Rattle.ubifs_base.specs.declared.raw_geometry.RawGeometry.{RawGeometry}
@@ -12,15 +12,16 @@ use Rattle.leb_scan.specs.declared.tail.Tail.TheVariants.{Clean}
 use Rattle.bud_log.specs.Buds.{named, buds_of}
 use Rattle.bud_log.specs.Log.{IsLogLeb, next_leb, references_of}
 use Rattle.bud_log.specs.LogCalls.{IsBegun}
-use Rattle.bud_log.specs.LogText.{LogText, IsTextOf, begins_with, start_of, is_later}
-use Rattle.bud_log.specs.Writing.{references_in, IsAmong, IsOlder, AreSpelled, last_end, IsReady, NamesBuds, NamesSome, IsMeant}
+use Rattle.bud_log.specs.LogText.{LogText, IsTextOf, IsStartAt, at_start, begins_with, start_of, BeginsCommit, StartsCommit, is_later}
+use Rattle.bud_log.specs.Writing.{references_in, IsAmong, IsOlder, AreOthersOlder, AreSpelled, last_end, IsReady, NamesBuds, NamesSome, IsMeant}
 use Rattle.bud_log.specs.declared.head_at.HeadAt.{HeadAt}
 use Rattle.bud_log.specs.declared.log_end.LogEnd.{LogEnd}
+use Rattle.bud_log.specs.LogLaws.{among_log, below_more, chain_alike, older_more}
 use Rattle.bud_log.proofs.Appended.{past_free, names_chain, IsQuiet, quiet_names, end_among}
-use Rattle.bud_log.proofs.Chains.{among_log, chain_alike, chain_more, last_first, last_more, Grows, chain_grown, references_grown, last_end_grown, among_grown, buds_behind, references_added, last_end_added, among_added}
+use Rattle.bud_log.proofs.Chains.{chain_more, last_first, last_more, Grows, chain_grown, references_grown, last_end_grown, among_grown, buds_behind, references_added, last_end_added, among_added}
 use Rattle.bud_log.proofs.Grown.{grown, grown_text}
-use Rattle.bud_log.proofs.Laid.{AreLaid, FirstIs}
-use Rattle.bud_log.proofs.Below.{older_more, below_more, below_last, below_grown, none_above}
+use Rattle.bud_log.proofs.Laid.{AreLaid, FirstIs, FirstStands}
+use Rattle.bud_log.proofs.Below.{below_last, below_grown}
 use Rattle.bud_log.proofs.Parts.{part_references}
 use Rattle.bud_log.proofs.References.{OneNode, some_references}
 
@@ -107,6 +108,27 @@ starts_there number nodes start (f ∷ found) (g, e, offs, sqnum, kind) =
     let k : f.kind ≡ 10 = ap (λ (x : Found). x.kind) same ∙ kind in
     rw (o, k, s) refl
 
+-- and the commit is told by it
+begins_commit : (leb : List ℕ) (number : ℕ) (nodes : List SystemNode) (start : CommitStart) (found : List Found) → FirstIs 0 number (commit_start start ∷ nodes) found → FirstStands leb (commit_start start ∷ nodes) found
+    → BeginsCommit leb (begins_with found) (Some start.cmt_no)
+begins_commit leb number nodes start [] first stands = absurd cc
+begins_commit leb number nodes start (f ∷ found) (g, e, offs, sqnum, kind) (j, d, is) =
+    let same : f ≡ g = cc in
+    let again : f ≡ j = cc in
+    let o : f.offs ≡ 0 = ap (λ (x : Found). x.offs) same ∙ offs in
+    let k : f.kind ≡ 10 = ap (λ (x : Found). x.kind) same ∙ kind in
+    let P : Found → Type 0 = λ x. IsStartAt leb x start in
+    let at : at_start (Some f) ≡ Some f = rw o refl in
+    let Q : Option Found → Type 0 = λ x. BeginsCommit leb x (Some start.cmt_no) in
+    subst Q (sym at) (inr (k, start, subst P (sym again) is, refl))
+
+pub starts_commit : (leb : List ℕ) (lnum end number : ℕ) (nodes : List SystemNode) (start : CommitStart) → AreLaid leb 0 end number (commit_start start ∷ nodes) → StartsCommit leb lnum start.cmt_no
+starts_commit leb lnum end number nodes start laid = (
+  record { nodes = nodes_of laid.items; references = references_in (commit_start start ∷ nodes); ends = record { lnum = lnum; offs = end; tail = Clean } },
+  laid_text leb lnum end number (commit_start start ∷ nodes) laid,
+  begins_commit leb number nodes start (nodes_of laid.items) laid.first laid.stands,
+)
+
 -- nodes at the start of the next LEB, which was unmapped
 pub ready_next : (a b : VolumeState) (geo : RawGeometry) (from lnum offs number next end : ℕ) (buds : List HeadAt) (node : SystemNode) (nodes : List SystemNode) (bytes : List ℕ) (D : List ℕ → Type 0) (h : IsReady a geo from lnum offs number buds) → IsLogLeb geo from
     → h.past ≢ from → number < next → IsBegun a b h.past bytes → WorksOn a b h.past D → AreLaid (b.holds h.past) 0 end number (node ∷ nodes) → IsReady b geo from h.past end next (fold named buds (references_in (node ∷ nodes)))
@@ -143,9 +165,8 @@ ready_next a b geo from lnum offs number next end buds node nodes bytes D h f ne
     }
 
 -- a commit start and nodes behind it at the start of a LEB: the log that is read from there on
-pub ready_section : (a b : VolumeState) (geo : RawGeometry) (from lnum offs number next end there : ℕ) (buds : List HeadAt) (start : CommitStart) (nodes : List SystemNode) (bytes : List ℕ) (D : List ℕ → Type 0) → IsReady a geo from lnum offs number buds → IsLogLeb geo there
-    → number < next → IsBegun a b there bytes → WorksOn a b there D → AreLaid (b.holds there) 0 end number (commit_start start ∷ nodes) → IsReady b geo there there end next (buds_of (references_in (commit_start start ∷ nodes)))
-ready_section a b geo from lnum offs number next end there buds start nodes bytes D h is later w works laid =
+pub ready_section : (a b : VolumeState) (geo : RawGeometry) (number next end there : ℕ) (start : CommitStart) (nodes : List SystemNode) (bytes : List ℕ) (D : List ℕ → Type 0) → AreOthersOlder a geo there number → number < next → IsBegun a b there bytes → WorksOn a b there D → AreLaid (b.holds there) 0 end number (commit_start start ∷ nodes) → IsReady b geo there there end next (buds_of (references_in (commit_start start ∷ nodes)))
+ready_section a b geo number next end there start nodes bytes D older later w works laid =
     let references = references_in (commit_start start ∷ nodes) in
     let text : LogText = record { nodes = nodes_of laid.items; references = references; ends = record { lnum = there; offs = end; tail = Clean } } in
     record {
@@ -165,7 +186,7 @@ ready_section a b geo from lnum offs number next end there buds start nodes byte
           subst H (sym e) (w.left c (subst L e left) ∙ sym w.holds);
       spare = λ k leb in_log none left.
           let other : k ≢ there = λ e. none (inl e) in
-          older_more number (number + 1) k leb (omega arith) (none_above a geo from lnum offs number buds h k leb in_log (works.others_left k leb other left));
+          older_more number (number + 1) k leb (omega arith) (older k leb in_log other (works.others_left k leb other left));
     }
 
 -- what was torn at the start of the next LEB

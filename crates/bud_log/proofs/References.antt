@@ -1,11 +1,12 @@
 -- The references among the nodes of a text.
-use Rattle.std.proofs.Common.{◌≡◌, inl, inr, ℕ, ◌+◌, ◌≤◌, Bool, true, false, List, [], ◌∷◌, ◌++◌, length, Option, Some, None, IfSome, IfNone, refl, ap, sym, ◌∙◌, subst, arith, append-nil}
-use Rattle.std.specs.Prelude.{◌≢◌, if◌then◌else◌, fold, IsSome}
-use Rattle.std.proofs.lemmas.Bool.{cases_eq}
+use Rattle.std.proofs.Common.{◌≡◌, inl, inr, ℕ, ◌+◌, ◌≤◌, Bool, true, false, List, [], ◌∷◌, ◌++◌, length, take, drop, Option, Some, None, IfSome, IfNone, refl, ap, sym, ◌∙◌, subst, arith, append-nil}
+use Rattle.std.specs.Prelude.{◌≢◌, ◌==◌, if◌then◌else◌, fold, IsSome}
+use Rattle.std.proofs.lemmas.Bool.{cases_eq, cases_Bool}
 use Rattle.std.proofs.lemmas.List.Sums.{fold-append}
 use Rattle.ubifs_base.specs.NodeLaws.{IsBytes}
 use Rattle.media_leaf.specs.LeafNode.{LeafNode, inode, block, entry, truncation, leaf_form}
-use Rattle.media_sys.specs.SystemNode.{SystemNode, padding, superblock, master, reference, index, commit_start, orphans, IsRef, IsSystemNode}
+use Rattle.media_sys.specs.SystemNode.{SystemNode, padding, superblock, master, reference, index, commit_start, orphans, IsRef, IsCommitStart, IsSystemNode}
+use Rattle.media_sys.specs.declared.commit_start.CommitStart.{CommitStart}
 use Rattle.media_sys.specs.declared.ref_node.RefNode.{RefNode}
 use Rattle.leb_scan.specs.Text.{AnyNode, leaf, system, StandsAt, Stand, behind, nodes_of, IsNext, IsLast, tail_at}
 use Rattle.leb_scan.specs.Gathered.{IsGathered, gathered_end}
@@ -13,9 +14,11 @@ use Rattle.leb_scan.specs.declared.found.Found.{Found}
 use Rattle.leb_scan.specs.declared.item.Item.{Item}
 use Rattle.leb_scan.specs.declared.item.Item.TheVariants.{Node, Padding, Word}
 use Rattle.bud_log.specs.Buds.{named}
-use Rattle.bud_log.specs.LogText.{IsReferenceAt, Refer}
-use Rattle.bud_log.specs.Seen.{AreNamed}
+use Rattle.bud_log.specs.LogText.{LogText, IsReferenceAt, Refer, IsTextOf, IsStartAt, begins_with, BeginsCommit}
+use Rattle.bud_log.specs.Seen.{HasBeginning, IsSeen, AreNamed}
 use Rattle.bud_log.specs.declared.head_at.HeadAt.{HeadAt}
+use Rattle.bud_log.specs.declared.seen.Seen.{Seen}
+use Rattle.bud_log.proofs.Bytes.{bytes_drop, bytes_take}
 
 -- a node that stands at the place that it tells
 abbrev pub Stands : List ℕ → Found → Type 0
@@ -62,6 +65,40 @@ reference_there leb found kind (system (index node), h) = let k = h.kind in absu
 reference_there leb found kind (system (commit_start node), h) = let k = h.kind in absurd (omega (arith, k, kind))
 reference_there leb found kind (system (orphans node), h) = let k = h.kind in absurd (omega (arith, k, kind))
 
+-- and one of the type 10 a commit start
+commit_there : (leb : List ℕ) (found : Found) → Stands leb found → found.kind ≡ 10 → (node : CommitStart) × IsStartAt leb found node
+commit_there leb found (leaf node, h) kind = let k = h.kind in let l = leaf_kind node in absurd (omega (arith, k, kind, l))
+commit_there leb found (system (commit_start node), h) kind = (node, h.is)
+commit_there leb found (system (padding node), h) kind = let k = h.kind in absurd (omega (arith, k, kind))
+commit_there leb found (system (superblock node), h) kind = let k = h.kind in absurd (omega (arith, k, kind))
+commit_there leb found (system (master node), h) kind = let k = h.kind in absurd (omega (arith, k, kind))
+commit_there leb found (system (index node), h) kind = let k = h.kind in absurd (omega (arith, k, kind))
+commit_there leb found (system (reference node), h) kind = let k = h.kind in absurd (omega (arith, k, kind))
+commit_there leb found (system (orphans node), h) kind = let k = h.kind in absurd (omega (arith, k, kind))
+
+begins_there : (leb : List ℕ) (nodes : List Found) → ((found : Found) (more : List Found) → nodes ≡ found ∷ more → Stands leb found) → HasBeginning leb (begins_with nodes)
+begins_there leb [] stands = tt
+begins_there leb (found ∷ more) stands =
+    let P : Bool → Type 0 = λ b. HasBeginning leb (if b then Some found else None) in
+    let there = stands found more refl in
+    elim (cases_Bool (found.offs == 0)) [ inl first ↦ subst P (sym first) (there.1.room, commit_there leb found there) | inr behind ↦ subst P (sym behind) tt ]
+
+-- the node with which a text begins
+pub text_begins : (leb : List ℕ) (lnum : ℕ) (text : LogText) → IsTextOf leb lnum text → HasBeginning leb (begins_with text.nodes)
+text_begins leb lnum text h =
+    let P : List Found → Type 0 = λ nodes. HasBeginning leb (begins_with nodes) in
+    subst P (sym h.nodes) (begins_there leb (nodes_of h.items) (λ found more e. stands_first leb h.items 0 text.ends.offs found more h.is_text.stand e))
+
+pub seen_begins : (leb : List ℕ) (seen : Seen) → IsSeen leb seen → HasBeginning leb seen.begins
+seen_begins leb seen h =
+    let P : Option Found → Type 0 = λ begins. HasBeginning leb begins in
+    subst P (sym h.begins) (begins_there leb (nodes_of h.items) (λ found more e. stands_first leb h.items 0 seen.offs found more h.is_text.stand e))
+
+-- and the commit that it starts
+pub some_commit : (leb : List ℕ) (begins : Option Found) → HasBeginning leb begins → (commit : Option ℕ) × BeginsCommit leb begins commit
+some_commit leb None h = (None, refl)
+some_commit leb (Some found) h = elim (cases_eq found.kind 10) [ inl kind ↦ let node = h.1 kind in (Some node.0.cmt_no, inr (kind, node.0, node.1, refl)) | inr other ↦ (None, inl (other, refl)) ]
+
 pub room_of : (leb : List ℕ) (found : Found) → Stands leb found → found.offs + found.len ≤ length leb
 room_of leb found h = h.1.room
 
@@ -77,6 +114,23 @@ pub only_reference : OneNode → (bytes : List ℕ) → IsBytes bytes → (o : O
     → IfSome o (λ (m : RefNode). (sqnum group : ℕ) (node : RefNode) → IsRef bytes sqnum group node → m ≡ node)
 only_reference one bytes fits None read = tt
 only_reference one bytes fits (Some m) read = λ sqnum group node is. reference_same m node (one bytes read.0 read.1 sqnum group (reference m) (reference node) fits read.2 is).2
+
+commit_same : (m n : CommitStart) → commit_start m ≡ commit_start n → m ≡ n
+commit_same m n h = cc
+
+-- bytes are at most one commit start, and a LEB begins with the start of one commit at most
+pub only_commit : OneNode → (bytes : List ℕ) → IsBytes bytes → (sqnum group s g : ℕ) (m n : CommitStart) → IsCommitStart bytes sqnum group m → IsCommitStart bytes s g n → m ≡ n
+only_commit one bytes fits sqnum group s g m n is also = commit_same m n (one bytes sqnum group s g (commit_start m) (commit_start n) fits is also).2
+
+pub one_commit : OneNode → (leb : List ℕ) → IsBytes leb → (begins : Option Found) (a b : Option ℕ) → BeginsCommit leb begins a → BeginsCommit leb begins b → a ≡ b
+one_commit one leb fits None a b h k = h ∙ sym k
+one_commit one leb fits (Some found) a b (inl (other, h)) (inl (again, k)) = h ∙ sym k
+one_commit one leb fits (Some found) a b (inl (other, h)) (inr (kind, n, also, k)) = absurd (other kind)
+one_commit one leb fits (Some found) a b (inr (kind, m, is, h)) (inl (other, k)) = absurd (other kind)
+one_commit one leb fits (Some found) a b (inr (kind, m, is, h)) (inr (again, n, also, k)) =
+    let bytes = take found.len (drop found.offs leb) in
+    let same = only_commit one bytes (bytes_take found.len (drop found.offs leb) (bytes_drop found.offs leb fits)) found.sqnum found.group found.sqnum found.group m n is also in
+    h ∙ ap (λ (x : CommitStart). Some x.cmt_no) same ∙ sym k
 
 -- references behind references
 pub refer_then : (leb : List ℕ) (a b : List Found) (r s : List RefNode) → Refer leb a r → Refer leb b s → Refer leb (a ++ b) (r ++ s)
@@ -131,6 +185,16 @@ some_references leb (Node found ∷ items) place end h =
     more_references leb found (nodes_of items) (placed leb place found found h.0.node refl h.0.stands) (some_references leb items (behind leb place (Node found)) end h.1)
 some_references leb (Padding found pad_len ∷ items) place end h =
     more_references leb found (nodes_of items) (placed leb place found found _ refl h.0.stands) (some_references leb items (behind leb place (Padding found pad_len)) end h.1)
+
+-- where bytes are a commit start, it is found, and no other
+pub start_is_there : (bytes : List ℕ) (sqnum group : ℕ) (node : CommitStart) (o : Option CommitStart) → IsCommitStart bytes sqnum group node → IfNone o ((s g : ℕ) (other : CommitStart) → IsCommitStart bytes s g other → ⊥) → IsSome o
+start_is_there bytes sqnum group node None is none = absurd (none sqnum group node is)
+start_is_there bytes sqnum group node (Some other) is none = refl
+
+pub only_start : OneNode → (bytes : List ℕ) → IsBytes bytes → (o : Option CommitStart) → IfSome o (λ (m : CommitStart). (sqnum : ℕ) × (group : ℕ) × IsCommitStart bytes sqnum group m)
+    → IfSome o (λ (m : CommitStart). (sqnum group : ℕ) (node : CommitStart) → IsCommitStart bytes sqnum group node → m ≡ node)
+only_start one bytes fits None read = tt
+only_start one bytes fits (Some m) read = λ sqnum group node is. only_commit one bytes fits read.0 read.1 sqnum group m node read.2 is
 
 -- where bytes are a reference, it is found
 pub is_there : (bytes : List ℕ) (sqnum group : ℕ) (node : RefNode) (o : Option RefNode) → IsRef bytes sqnum group node → IfNone o ((s g : ℕ) (other : RefNode) → IsRef bytes s g other → ⊥) → IsSome o

@@ -8,11 +8,12 @@ use Rattle.ubifs_base.specs.NodeLaws.{IsBytes}
 use Rattle.ubifs_base.specs.declared.raw_geometry.RawGeometry.{RawGeometry}
 use Rattle.media_sys.specs.declared.ref_node.RefNode.{RefNode}
 use Rattle.leb_scan.specs.Text.{IsText, nodes_of}
+use Rattle.leb_scan.specs.declared.found.Found.{Found}
 use Rattle.leb_scan.specs.declared.item.Item.{Item}
 use Rattle.leb_scan.specs.declared.tail.Tail.{Tail}
 use Rattle.bud_log.specs.Buds.{named}
 use Rattle.bud_log.specs.Log.{IsLogLeb, next_leb, Run, Stops, AreFurther, references_of, end_of, IsLog}
-use Rattle.bud_log.specs.LogText.{LogText, Refer, IsTextOf, begins_with, start_of, is_later, is_start_alone}
+use Rattle.bud_log.specs.LogText.{LogText, Refer, IsTextOf, begins_with, start_of, BeginsCommit, is_later, is_start_alone}
 use Rattle.bud_log.specs.Seen.{IsSeen, AreNamed, IsTaken, IsPassed, IsReadOn}
 use Rattle.bud_log.specs.declared.head_at.HeadAt.{HeadAt}
 use Rattle.bud_log.specs.declared.log_end.LogEnd.{LogEnd}
@@ -168,27 +169,31 @@ taken_of one leb lnum old new seen fits s n =
     }
 
 -- the whole log
-pub log_alone : (contents : ℕ → List ℕ) (geo : RawGeometry) (from : ℕ) (seen : Seen) (new : List HeadAt) (end : LogEnd) → IsTaken (contents from) from [] new seen → start_of seen.begins ≡ None
-    → end.lnum ≡ from → end.offs ≡ seen.offs → end.tail ≡ seen.tail → IsLog contents geo from (record { buds = new; ends = end })
-log_alone contents geo from seen new end h none e1 e2 e3 =
+pub log_alone : (contents : ℕ → List ℕ) (geo : RawGeometry) (from : ℕ) (commit : Option ℕ) (seen : Seen) (new : List HeadAt) (end : LogEnd) → BeginsCommit (contents from) seen.begins commit → IsTaken (contents from) from [] new seen → start_of seen.begins ≡ None
+    → end.lnum ≡ from → end.offs ≡ seen.offs → end.tail ≡ seen.tail → IsLog contents geo from (record { commit = commit; buds = new; ends = end })
+log_alone contents geo from commit seen new end begins h none e1 e2 e3 =
     let P : Option ℕ → Type 0 = λ o. AreFurther contents geo from o [] in
+    let Q : Option Found → Type 0 = λ o. BeginsCommit (contents from) o commit in
     record {
       first = h.text;
       more = [];
       is_first = h.is_text;
+      commit = subst Q h.begins begins;
       are_further = subst P (sym (ap start_of (sym h.begins) ∙ none)) refl;
       buds = h.named_are ∙ ap (fold named []) (sym (append-nil h.text.references));
       ends = taken_ends (contents from) from [] new seen end h e1 e2 e3;
     }
 
-pub log_further : (contents : ℕ → List ℕ) (geo : RawGeometry) (from number : ℕ) (seen : Seen) (now new : List HeadAt) (first end : LogEnd) → IsTaken (contents from) from [] now seen → start_of seen.begins ≡ Some number
-    → first.lnum ≡ from → first.offs ≡ seen.offs → first.tail ≡ seen.tail → IsReadOn contents geo from number first now new end → IsLog contents geo from (record { buds = new; ends = end })
-log_further contents geo from number seen now new first end h some e1 e2 e3 k =
+pub log_further : (contents : ℕ → List ℕ) (geo : RawGeometry) (from number : ℕ) (commit : Option ℕ) (seen : Seen) (now new : List HeadAt) (first end : LogEnd) → BeginsCommit (contents from) seen.begins commit → IsTaken (contents from) from [] now seen → start_of seen.begins ≡ Some number
+    → first.lnum ≡ from → first.offs ≡ seen.offs → first.tail ≡ seen.tail → IsReadOn contents geo from number first now new end → IsLog contents geo from (record { commit = commit; buds = new; ends = end })
+log_further contents geo from number commit seen now new first end begins h some e1 e2 e3 k =
     let P : Option ℕ → Type 0 = λ o. AreFurther contents geo from o k.more in
+    let Q : Option Found → Type 0 = λ o. BeginsCommit (contents from) o commit in
     record {
       first = h.text;
       more = k.more;
       is_first = h.is_text;
+      commit = subst Q h.begins begins;
       are_further = subst P (sym (ap start_of (sym h.begins) ∙ some)) (k.past, k.run, k.stops);
       buds = k.named_are ∙ ap (λ (x : List HeadAt). fold named x (references_of k.more)) h.named_are ∙ sym (fold-append named [] h.text.references (references_of k.more));
       ends = k.ends_are ∙ ap (λ (e : LogEnd). end_of e k.more) (taken_ends (contents from) from [] now seen first h e1 e2 e3);

@@ -1,11 +1,11 @@
 -- Steps round the ring.
-use Rattle.std.proofs.Common.{◌≡◌, ◌⊎◌, inl, inr, ℕ, ◌+◌, ◌-◌, ◌<◌, ◌≤◌, refl, ◌∙◌, subst, arith}
+use Rattle.std.proofs.Common.{◌≡◌, ◌⊎◌, inl, inr, ℕ, ◌+◌, ◌-◌, ◌<◌, ◌≤◌, ◌==◌, Bool, true, false, refl, sym, ◌∙◌, subst, arith}
 use Rattle.std.specs.Prelude.{◌≢◌}
-use Rattle.std.proofs.lemmas.Bool.{cases_lt, lt-ltb, le-ltb}
+use Rattle.std.proofs.lemmas.Bool.{cases_eq, cases_Bool, eq-eqb, ne_eqb, cases_lt, lt-ltb, le-ltb}
 use Rattle.ubifs_base.specs.Areas.{lpt_first}
 use Rattle.ubifs_base.specs.declared.raw_geometry.RawGeometry.{RawGeometry}
 use Rattle.bud_log.specs.Log.{IsLogLeb, next_leb}
-use Rattle.bud_log.specs.LogAt.{LogAt, IsStart, steps_to}
+use Rattle.bud_log.specs.LogAt.{LogAt, IsStart, steps_to, used_lebs, most_lebs, IsWithin, has_room, IsFull, lnum_at, ending, starting, without_old}
 use Rattle.bud_log.proofs.RingRuns.{left_of, left_below, left_above, next_here, next_round}
 
 -- by which way
@@ -290,4 +290,67 @@ before_left geo first section lnum k f s l h before way =
           ]
         ]
       ]
+    ]
+
+-- on the way to a LEB
+pub steps_split : (geo : RawGeometry) (first section lnum : ℕ) → IsLogLeb geo first → IsLogLeb geo section → IsLogLeb geo lnum → steps_to geo first section ≤ steps_to geo first lnum
+    → steps_to geo first section + steps_to geo section lnum ≡ steps_to geo first lnum
+steps_split geo first section lnum f s l way =
+    let f1 = f.low in
+    let f2 = f.high in
+    let s1 = s.low in
+    let s2 = s.high in
+    let l1 = l.low in
+    let l2 = l.high in
+    elim (steps_are geo first section) [
+      | inl (a, x) ↦ elim (steps_are geo first lnum) [
+        | inl (b, y) ↦ elim (steps_are geo section lnum) [ inl (c, z) ↦ absurd (omega (arith, f1, f2, s1, s2, l1, l2, a, x, b, y, c, z, way)) | inr (c, z) ↦ omega (arith, f1, f2, s1, s2, l1, l2, a, x, b, y, c, z, way) ]
+        | inr (b, y) ↦ absurd (omega (arith, f1, f2, s1, s2, l1, l2, a, x, b, y, way))
+      ]
+      | inr (a, x) ↦ elim (steps_are geo first lnum) [
+        | inl (b, y) ↦ elim (steps_are geo section lnum) [ inl (c, z) ↦ omega (arith, f1, f2, s1, s2, l1, l2, a, x, b, y, c, z, way) | inr (c, z) ↦ absurd (omega (arith, f1, f2, s1, s2, l1, l2, a, x, b, y, c, z, way)) ]
+        | inr (b, y) ↦ elim (steps_are geo section lnum) [ inl (c, z) ↦ absurd (omega (arith, f1, f2, s1, s2, l1, l2, a, x, b, y, c, z, way)) | inr (c, z) ↦ omega (arith, f1, f2, s1, s2, l1, l2, a, x, b, y, c, z, way) ]
+      ]
+    ]
+
+-- No more LEBs are in use than may be.
+
+-- after a bud was opened
+pub within_opened : (here : Bool) (at : LogAt) (offs : ℕ) → here ≡ has_room at → IsLogLeb at.geo at.first → IsLogLeb at.geo at.lnum → (IsFull at → ⊥) → IsWithin at → IsWithin (ending at (lnum_at here at) offs)
+within_opened here at offs same f l free h =
+    let P : Bool → Type 0 = λ r. IsWithin (ending at (lnum_at r at) offs) in
+    subst P (sym same) (elim (cases_Bool (has_room at)) [
+      | inl roomy ↦ subst P (sym roomy) h
+      | inr there ↦ elim (cases_lt (used_lebs at) (most_lebs at)) [
+        | inl more ↦ let step = steps_next at.geo at.first at.lnum f l (omega (arith, more)) in subst P (sym there) (omega (arith, more, step))
+        | inr full ↦ absurd (free (there, full))
+      ]
+    ])
+
+-- after a section was started
+pub within_started : (at : LogAt) (offs : ℕ) → IsLogLeb at.geo at.first → IsLogLeb at.geo at.lnum → next_leb at.geo at.lnum ≢ at.first → used_lebs at + 1 < at.geo.log_lebs → IsWithin (starting at (next_leb at.geo at.lnum) offs)
+within_started at offs f l ne room =
+    let next = next_leb at.geo at.lnum in
+    let step = steps_next at.geo at.first at.lnum f l (omega (arith, room)) in
+    let other : (at.first == next) ≡ false = ne_eqb at.first next (λ e. ne (sym e)) in
+    rw other (omega (arith, step, room))
+
+-- after the sections before were unmapped
+pub within_ended : (at : LogAt) → IsLogLeb at.geo at.first → IsLogLeb at.geo at.section → IsLogLeb at.geo at.lnum → steps_to at.geo at.first at.section ≤ steps_to at.geo at.first at.lnum → IsWithin at → IsWithin (without_old at)
+within_ended at f s l way h =
+    let split = steps_split at.geo at.first at.section at.lnum f s l way in
+    let one : (at.section == at.section) ≡ true = eq-eqb at.section at.section refl in
+    elim (cases_eq at.first at.section) [
+      | inl same ↦
+          let old : (at.first == at.section) ≡ true = eq-eqb at.first at.section same in
+          let most : most_lebs at ≡ at.geo.log_lebs - 2 = rw old refl in
+          rw one (omega (arith, split, h, most))
+      | inr ne ↦
+          let old : (at.first == at.section) ≡ false = ne_eqb at.first at.section ne in
+          let most : most_lebs at ≡ at.geo.log_lebs - 1 = rw old refl in
+          let some : 0 < steps_to at.geo at.first at.section = elim (cases_eq (steps_to at.geo at.first at.section) 0) [
+            | inl none ↦ absurd (ne (same_steps at.geo at.first at.first at.section f f s (steps_none at.geo at.first ∙ sym none)))
+            | inr more ↦ omega (arith, more)
+          ] in
+          rw one (omega (arith, split, h, most, some))
     ]

@@ -1,6 +1,7 @@
 pub mod Buds
 pub mod LogAt
 pub mod LogCalls
+pub mod LogLaws
 pub mod LogText
 pub mod Log
 pub mod Seen

@@ -4,7 +4,7 @@ use Rattle.ubifs_base.specs.Areas.{lpt_first}
 use Rattle.ubifs_base.specs.declared.raw_geometry.RawGeometry.{RawGeometry}
 use Rattle.media_sys.specs.declared.ref_node.RefNode.{RefNode}
 use Rattle.bud_log.specs.Buds.{buds_of}
-use Rattle.bud_log.specs.LogText.{LogText, IsTextOf, begins_with, start_of, is_later, is_start_alone}
+use Rattle.bud_log.specs.LogText.{LogText, IsTextOf, begins_with, start_of, BeginsCommit, is_later, is_start_alone}
 use Rattle.bud_log.specs.declared.head_at.HeadAt.{HeadAt}
 use Rattle.bud_log.specs.declared.log_end.LogEnd.{LogEnd}
 use Rattle.bud_log.specs.declared.log_read.LogRead.{LogRead}
@@ -44,8 +44,9 @@ end_of first [] = first
 end_of first (text ∷ []) = if is_start_alone text.nodes then first else text.ends
 end_of first (text ∷ (other ∷ more)) = end_of text.ends (other ∷ more)
 
--- the buds that a log names, and where it ends
+-- the number of the commit with whose start a log begins, if it begins with one, the buds that it names, and where it ends
 pub record Log : Type 0 where
+  pub commit : Option ℕ
   pub buds : List HeadAt
   pub ends : LogEnd
 
@@ -55,9 +56,10 @@ pub record IsLog (contents : ℕ → List ℕ) (geo : RawGeometry) (from : ℕ) 
   pub more : List LogText
   pub is_first : IsTextOf (contents from) from first
   pub are_further : AreFurther contents geo from (start_of (begins_with first.nodes)) more
+  pub commit : BeginsCommit (contents from) (begins_with first.nodes) log.commit
   pub buds : log.buds ≡ buds_of (references_of (first ∷ more))
   pub ends : log.ends ≡ end_of first.ends more
 
 -- a log as it was read
 abbrev pub log_of : LogRead → Log
-log_of read = record { buds = read.buds.items; ends = record { lnum = read.lnum; offs = read.offs; tail = read.tail } }
+log_of read = record { commit = read.commit; buds = read.buds.items; ends = record { lnum = read.lnum; offs = read.offs; tail = read.tail } }

@@ -60,6 +60,10 @@ used_lebs at = steps_to at.geo at.first at.lnum + 1
 abbrev pub most_lebs : LogAt → ℕ
 most_lebs at = at.geo.log_lebs - (if at.first == at.section then 2 else 1)
 
+-- no more are in use than may be
+abbrev pub IsWithin : LogAt → Type 0
+IsWithin at = used_lebs at ≤ most_lebs at
+
 -- whether a reference has room in the present LEB
 abbrev pub has_room : LogAt → Bool
 has_room at = nat_le (at.offs + room_of at.geo.min_io 64) at.geo.leb_size

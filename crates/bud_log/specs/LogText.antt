@@ -2,7 +2,8 @@
 use Rattle.std.specs.Prelude.{◌≡◌, ◌≢◌, ◌⊎◌, ℕ, ◌==◌, nat_lt, not, Bool, false, if◌then◌else◌, Option, Some, None, List, [], ◌∷◌, filter, take, drop}
 use Rattle.ubifs_base.specs.NodeType.{type_number}
 use Rattle.ubifs_base.specs.declared.node_type.NodeType.TheVariants as types
-use Rattle.media_sys.specs.SystemNode.{IsRef}
+use Rattle.media_sys.specs.SystemNode.{IsRef, IsCommitStart}
+use Rattle.media_sys.specs.declared.commit_start.CommitStart.{CommitStart}
 use Rattle.media_sys.specs.declared.ref_node.RefNode.{RefNode}
 use Rattle.leb_scan.specs.Text.{IsText, nodes_of}
 use Rattle.leb_scan.specs.declared.found.Found.{Found}
@@ -34,6 +35,10 @@ pub record IsTextOf (leb : List ℕ) (lnum : ℕ) (text : LogText) : Type 0 wher
   pub nodes : text.nodes ≡ nodes_of items
   pub refer : Refer leb text.nodes text.references
 
+-- the bytes of this node of a LEB are this commit start
+abbrev pub IsStartAt : List ℕ → Found → CommitStart → Type 0
+IsStartAt leb found node = IsCommitStart (take found.len (drop found.offs leb)) found.sqnum found.group node
+
 -- the first of these nodes
 abbrev pub first_of : List Found → Option Found
 first_of [] = None
@@ -52,6 +57,17 @@ begins_with nodes = at_start (first_of nodes)
 abbrev pub start_of : Option Found → Option ℕ
 start_of None = None
 start_of (Some found) = if found.kind == type_number types.CommitStart then Some found.sqnum else None
+
+-- the number of the commit with whose start a LEB begins, which begins with this node; none if it begins with no commit start
+abbrev pub BeginsCommit : List ℕ → Option Found → Option ℕ → Type 0
+BeginsCommit leb None commit = commit ≡ None
+BeginsCommit leb (Some found) commit =
+    ((found.kind ≢ type_number types.CommitStart) × (commit ≡ None))
+    ⊎ ((found.kind ≡ type_number types.CommitStart) × (node : CommitStart) × IsStartAt leb found node × (commit ≡ Some node.cmt_no))
+
+-- the LEB begins with the start of the commit of this number
+abbrev pub StartsCommit : List ℕ → ℕ → ℕ → Type 0
+StartsCommit leb lnum cmt_no = (text : LogText) × IsTextOf leb lnum text × BeginsCommit leb (begins_with text.nodes) (Some cmt_no)
 
 -- whether a LEB begins with a node whose number is greater than this one
 abbrev pub is_later : ℕ → Option Found → Bool

@@ -1,5 +1,8 @@
 -- What is seen of a log LEB while the log is read.
-use Rattle.std.specs.Prelude.{◌≡◌, ℕ, IsFalse, Option, Some, None, List, fold}
+use Rattle.std.specs.Prelude.{◌≡◌, ⊤, ◌+◌, ◌≤◌, length, ℕ, IsFalse, Option, Some, None, List, fold}
+use Rattle.ubifs_base.specs.NodeType.{type_number}
+use Rattle.ubifs_base.specs.declared.node_type.NodeType.TheVariants as types
+use Rattle.media_sys.specs.declared.commit_start.CommitStart.{CommitStart}
 use Rattle.media_sys.specs.declared.ref_node.RefNode.{RefNode}
 use Rattle.leb_scan.specs.Text.{IsText, nodes_of}
 use Rattle.leb_scan.specs.declared.found.Found.{Found}
@@ -8,7 +11,7 @@ use Rattle.leb_scan.specs.declared.tail.Tail.{Tail}
 use Rattle.ubifs_base.specs.declared.raw_geometry.RawGeometry.{RawGeometry}
 use Rattle.bud_log.specs.Buds.{named}
 use Rattle.bud_log.specs.Log.{next_leb, Run, Stops, references_of, end_of}
-use Rattle.bud_log.specs.LogText.{LogText, Refer, IsTextOf, begins_with, is_later, is_start_alone}
+use Rattle.bud_log.specs.LogText.{LogText, IsStartAt, Refer, IsTextOf, begins_with, is_later, is_start_alone}
 use Rattle.bud_log.specs.declared.head_at.HeadAt.{HeadAt}
 use Rattle.bud_log.specs.declared.log_end.LogEnd.{LogEnd}
 use Rattle.bud_log.specs.declared.seen.Seen.{Seen}
@@ -17,6 +20,11 @@ use Rattle.bud_log.specs.declared.seen.Seen.{Seen}
 abbrev pub earlier_of : Option Found → Found → Option Found
 earlier_of None found = Some found
 earlier_of (Some first) found = Some first
+
+-- the node with which a LEB begins is inside of it, and is a commit start if its type says so
+abbrev pub HasBeginning : List ℕ → Option Found → Type 0
+HasBeginning leb None = ⊤
+HasBeginning leb (Some found) = (found.offs + found.len ≤ length leb) × (found.kind ≡ type_number types.CommitStart → (node : CommitStart) × IsStartAt leb found node)
 
 -- with what a text begins, whether it is a commit start alone, and how it ends
 pub record IsSeen (leb : List ℕ) (seen : Seen) : Type 0 where

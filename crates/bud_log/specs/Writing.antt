@@ -69,6 +69,10 @@ IsAmong lnum (text ∷ texts) = (lnum ≡ text.ends.lnum) ⊎ IsAmong lnum texts
 abbrev pub IsOlder : ℕ → ℕ → List ℕ → Type 0
 IsOlder number lnum leb = (text : LogText) × IsTextOf leb lnum text × IsFalse (is_later number (begins_with text.nodes))
 
+-- whatever a cut leaves of the log's LEBs but this one, none begins with a number above this
+abbrev pub AreOthersOlder : VolumeState → RawGeometry → ℕ → ℕ → Type 0
+AreOthersOlder state geo lnum number = (k : ℕ) (leb : List ℕ) → IsLogLeb geo k → k ≢ lnum → state.left_now k leb → IsOlder number k leb
+
 -- each of these texts begins with a number that isn't above this one
 abbrev pub AreBelow : ℕ → List LogText → Type 0
 AreBelow number [] = ⊤

@@ -15,6 +15,7 @@
 #![tactic(auto)]
 
 mod buds;
+mod commits;
 mod head_at;
 mod laws;
 mod laying;

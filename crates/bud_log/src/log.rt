@@ -9,9 +9,10 @@ ghost use Rattle.ubi_volume.specs.Faults.{HasCause, StaysSure};
 ghost use Rattle.media_sys.specs.SystemNode.{reference};
 ghost use Rattle.bud_log.specs.Buds.{named, buds_of};
 ghost use Rattle.bud_log.specs.Log.{IsLogLeb, next_leb as leb_behind};
-ghost use Rattle.bud_log.specs.LogAt.{LogAt, IsAt, IsStart, IsBetween, IsEnded, IsFull, IsFullExactly, IfFull, IsRaised, HasLogCause, StaysSureLog, room_of, used_lebs, most_lebs, has_room as has_room_at, next_lnum, next_offs, lnum_at, offs_at, ending, starting, without_old, references_to, section_nodes};
+ghost use Rattle.bud_log.specs.LogAt.{LogAt, IsAt, IsStart, IsBetween, IsEnded, IsFull, IsFullExactly, IfFull, IsRaised, HasLogCause, StaysSureLog, room_of, used_lebs, most_lebs, IsWithin, has_room as has_room_at, next_lnum, next_offs, lnum_at, offs_at, ending, starting, without_old, references_to, section_nodes};
+ghost use Rattle.bud_log.specs.LogText.{StartsCommit};
 ghost use Rattle.bud_log.specs.LogCalls.{IsEmptied, IsBegun, BeginUnderWay, IsAdded, AddDuring, OpenUnderWay, StartUnderWay, UnmapUnderWay, EndUnderWay};
-ghost use Rattle.bud_log.specs.Writing.{AreSpelled, IsReady, NamesBuds, NamesSome, NamesOpened, IsOldOrMeant};
+ghost use Rattle.bud_log.specs.Writing.{AreSpelled, AreOthersOlder, IsReady, NamesBuds, NamesSome, NamesOpened, IsOldOrMeant};
 ghost use Rattle.bud_log.specs.declared.head_at.HeadAt.{HeadAt as AHead};
 
 use crate::head_at::HeadAt;
@@ -100,6 +101,7 @@ impl Log {
         ensures moved { OnOk result (self.new ≡ ending self.old (next_lnum self.old) (next_offs self.old + room_of self.old.geo.min_io 64)) }
         ensures stays { OnErr result (self.new ≡ self.old) }
         ensures at { OnOk result (IsAt (V.state volume.new) self.new) }
+        ensures within { OnOk result (IsWithin self.old → IsWithin self.new) }
         ensures raised { IsRaised sqnum.old sqnum.new result }
         ensures shape { SameShape (V.state volume.old) (V.state volume.new) }
         ensures cause { HasLogCause (V.state volume.old).faults (V.state volume.new).faults result }
@@ -129,7 +131,8 @@ impl Log {
     /// the number of nodes, whatever the answer. Takes no memory.
     ///
     /// At every moment a power cut leaves a log with the old buds and the first of these heads', where no torn node has a
-    /// matching checksum. Afterwards it may be read from the new section on, where it names the buds of these heads alone.
+    /// matching checksum. Afterwards it may be read from the new section on, where it names the buds of these heads alone;
+    /// for that no other LEB of the log need be read, so long as none begins with a number above `sqnum`.
     pub fn start_section<V: Volume>(
         &mut self,
         volume: &mut V,
@@ -144,9 +147,10 @@ impl Log {
         ensures done { OnOk result ((from : ℕ) (buds : List AHead) → IsStart self.old from
             → IsReady (V.state volume.old) self.old.geo from self.old.lnum self.old.offs sqnum.old buds
             → IsReady (V.state volume.new) self.new.geo from self.new.lnum self.new.offs sqnum.new (fold named buds (references_to heads.now))) }
-        ensures section { OnOk result ((from : ℕ) (buds : List AHead) → IsStart self.old from
-            → IsReady (V.state volume.old) self.old.geo from self.old.lnum self.old.offs sqnum.old buds
+        ensures section { OnOk result (AreOthersOlder (V.state volume.old) self.old.geo (leb_behind self.old.geo self.old.lnum) sqnum.old
             → IsReady (V.state volume.new) self.new.geo self.new.section self.new.lnum self.new.offs sqnum.new (buds_of (references_to heads.now))) }
+        ensures commit { OnOk result (StartsCommit ((V.state volume.new).holds self.new.section) self.new.section cmt_no) }
+        ensures within { OnOk result (used_lebs self.old + 1 < self.old.geo.log_lebs → IsWithin self.new) }
         ensures any_moment { (from : ℕ) (buds : List AHead) → IsStart self.old from
             → IsReady (V.state volume.old) self.old.geo from self.old.lnum self.old.offs sqnum.old buds
             → Leaves (V.state volume.old) (V.state volume.new) (λ left.
@@ -183,6 +187,7 @@ impl Log {
             → Leaves (V.state volume.old) (V.state volume.new) (λ left. NamesBuds left self.old.geo self.old.section buds) }
         ensures works { Works (V.state volume.old) (V.state volume.new) (IsEnded self.old) (EndUnderWay (V.state volume.old) self.old) }
         ensures moved { OnOk result (self.new ≡ without_old self.old) }
+        ensures within { OnOk result (IsWithin self.old → IsWithin self.new) }
         ensures stays { OnErr result (self.new ≡ self.old) }
         ensures at { OnOk result (IsAt (V.state volume.new) self.new) }
         ensures shape { SameShape (V.state volume.old) (V.state volume.new) }
@@ -241,8 +246,9 @@ impl Log {
         ensures done { OnOk result ((from next : ℕ) (buds : List AHead) → IsLogLeb self.old.geo from → (leb_behind self.old.geo self.old.lnum ≢ from) → (number < next)
             → IsReady (V.state volume.old) self.old.geo from self.old.lnum self.old.offs number buds
             → IsReady (V.state volume.new) self.old.geo from (leb_behind self.old.geo self.old.lnum) (room_of self.old.geo.min_io (32 + 64 * length heads.now)) next (fold named buds (references_to heads.now))) }
-        ensures section { OnOk result ((from next : ℕ) (buds : List AHead) → (number < next)
-            → IsReady (V.state volume.old) self.old.geo from self.old.lnum self.old.offs number buds
+        ensures commit { OnOk result (StartsCommit ((V.state volume.new).holds (leb_behind self.old.geo self.old.lnum)) (leb_behind self.old.geo self.old.lnum) cmt_no) }
+        ensures section { OnOk result ((next : ℕ) → (number < next)
+            → AreOthersOlder (V.state volume.old) self.old.geo (leb_behind self.old.geo self.old.lnum) number
             → let there = leb_behind self.old.geo self.old.lnum in
             IsReady (V.state volume.new) self.old.geo there there (room_of self.old.geo.min_io (32 + 64 * length heads.now)) next (buds_of (references_to heads.now))) }
         ensures works { WorksOn (V.state volume.old) (V.state volume.new) (leb_behind self.old.geo self.old.lnum) (AddDuring false (V.state volume.old) self.old (room_of self.old.geo.min_io (32 + 64 * length heads.now))) }

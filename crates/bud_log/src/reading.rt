@@ -7,9 +7,10 @@ ghost use Rattle.ubi_volume.specs.Volume.{Keeps, SameShape};
 ghost use Rattle.ubi_volume.specs.Faults.{HasAreaCause, StaysSureArea};
 ghost use Rattle.bud_log.specs.Log.{IsLogLeb, IsLog, log_of};
 ghost use Rattle.bud_log.specs.LogText.{is_later as is_later_than};
-ghost use Rattle.bud_log.specs.Seen.{IsSeen, IsTaken, IsPassed, IsReadOn};
+ghost use Rattle.bud_log.specs.Seen.{HasBeginning, IsSeen, IsTaken, IsPassed, IsReadOn};
 
 use crate::buds::name_buds;
+use crate::commits::commit_of;
 use crate::head_at::HeadAt;
 use crate::log_end::LogEnd;
 use crate::log_read::LogRead;
@@ -36,23 +37,44 @@ pub fn read_log<V: Volume>(
     ensures sure { StaysSureArea (V.state volume.old) (V.state volume.new) result }
 {
     let mut leb = vec![in alloc; 0; volume.leb_size() as usize]?;
-    let mut buds = Vec::new(alloc);
-    let seen = read_text(alloc, volume, from, &mut leb, &mut buds)?;
-    let first = end_at(from, seen);
-    let Some(number) = start_of(seen.begins) else {
-        return Ok(log_to(buds, first));
-    };
-    let end = read_on(
-        alloc, volume, geometry, from, number, first, &mut leb, &mut buds,
-    )?;
-    Ok(log_to(buds, end))
+    read_from(alloc, volume, geometry, from, &mut leb)
 }
 
-// A log with these buds that ends here.
-fn log_to(buds: Vec<HeadAt>, end: LogEnd) -> LogRead
-    ensures { log_of result ≡ record { buds = buds.items; ends = end } }
+// Reads the log into the room that a LEB takes.
+fn read_from<V: Volume>(
+    alloc: Global,
+    volume: &mut V,
+    geometry: &Geometry,
+    from: u32,
+    leb: &mut [u8],
+) -> Result<LogRead, AreaFault>
+    requires ring { IsLogLeb (raw_of geometry.now) from }
+    requires lebs { lpt_first (raw_of geometry.now) ≤ (V.state volume.old).leb_cnt }
+    requires whole { length leb.old ≡ (V.state volume.old).leb_size }
+    requires size { length leb.old < 2 ^ 32 }
+    ensures log { IfOk result (λ read. IsLog (V.state volume.old).holds (raw_of geometry.now) from (log_of read)) }
+    ensures keeps { Keeps (V.state volume.old) (V.state volume.new) }
+    ensures shape { SameShape (V.state volume.old) (V.state volume.new) }
+    ensures cause { HasAreaCause (V.state volume.old).faults (V.state volume.new).faults result }
+    ensures sure { StaysSureArea (V.state volume.old) (V.state volume.new) result }
+{
+    let mut buds = Vec::new(alloc);
+    let seen = read_text(alloc, volume, from, leb, &mut buds)?;
+    let commit = commit_of(alloc, leb, seen.begins);
+    let first = end_at(from, seen);
+    let Some(number) = start_of(seen.begins) else {
+        return Ok(log_to(commit, buds, first));
+    };
+    let end = read_on(alloc, volume, geometry, from, number, first, leb, &mut buds)?;
+    Ok(log_to(commit, buds, end))
+}
+
+// A log of this commit with these buds that ends here.
+fn log_to(commit: Option<u64>, buds: Vec<HeadAt>, end: LogEnd) -> LogRead
+    ensures { log_of result ≡ record { commit = commit; buds = buds.items; ends = end } }
 {
     LogRead {
+        commit,
         buds,
         lnum: end.lnum,
         offs: end.offs,
@@ -128,6 +150,8 @@ fn read_text<V: Volume>(
     requires whole { length leb.old ≡ (V.state volume.old).leb_size }
     requires size { length leb.old < 2 ^ 32 }
     ensures taken { IfOk result (IsTaken ((V.state volume.old).holds lnum) lnum buds.old.items buds.new.items) }
+    ensures read { OnOk result (leb.new ≡ (V.state volume.old).holds lnum) }
+    ensures begins { IfOk result (λ seen. HasBeginning leb.new seen.begins) }
     ensures len { length leb.new ≡ length leb.old }
     ensures keeps { Keeps (V.state volume.old) (V.state volume.new) }
     ensures shape { SameShape (V.state volume.old) (V.state volume.new) }

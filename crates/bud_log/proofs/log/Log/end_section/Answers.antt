@@ -1,8 +1,9 @@
-use Rattle.std.proofs.Common.{subst}
+use Rattle.std.proofs.Common.{refl, ap, sym, ◌∙◌, subst}
 use Rattle.ubi_volume.specs.Frame.{Works}
-use Rattle.bud_log.specs.LogAt.{LogAt, IsEnded}
+use Rattle.bud_log.specs.LogAt.{LogAt, IsEnded, IsWithin, without_old}
 use Rattle.bud_log.specs.LogCalls.{EndUnderWay}
 use Rattle.bud_log.proofs.Ended.{ended_moment, ended_ready}
+use Rattle.bud_log.proofs.Steps.{within_ended}
 use Rattle.bud_log.proofs.log.Log.end_section.Goals as goal
 
 pub returns-in_err-unmap_between-clause-works : goal.returns-in_err-unmap_between-clause-works
@@ -44,3 +45,8 @@ returns-clause-any_moment g c = λ number buds h.
     let W : LogAt → Type 0 = λ at. Works a b (IsEnded at) (EndUnderWay a at) in
     let works = subst W c.self.view_is c.unmap_between.ensures.works in
     ended_moment a b c.args.self.now number buds h c.requires.at.first c.requires.at.section c.requires.at.here c.requires.at.on_the_way works.time
+
+pub returns-clause-within : goal.returns-clause-within
+returns-clause-within g c = λ h.
+    let W : LogAt → Type 0 = λ z. IsWithin z in
+    subst W (ap without_old (sym c.self.view_is) ∙ refl) (within_ended c.args.self.now c.requires.at.first c.requires.at.section c.requires.at.here c.requires.at.on_the_way h)

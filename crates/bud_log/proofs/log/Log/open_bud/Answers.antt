@@ -3,11 +3,12 @@ use Rattle.ubi_volume.specs.Volume.{ChangeUnderWay}
 use Rattle.media_sys.specs.SystemNode.{reference}
 use Rattle.media_sys.specs.declared.ref_node.RefNode.{RefNode}
 use Rattle.bud_log.specs.Buds.{named}
-use Rattle.bud_log.specs.LogAt.{LogAt, room_of, next_lnum, next_offs}
+use Rattle.bud_log.specs.LogAt.{LogAt, IsWithin, room_of, offs_at, next_lnum, next_offs}
 use Rattle.bud_log.specs.LogCalls.{AddDuring}
 use Rattle.bud_log.specs.Writing.{IsReady, IsOldOrMeant}
 use Rattle.bud_log.proofs.OneBud.{main_out, start_in, free_of, bud_moment, first_works, both_works, both_moment, emptied_still}
 use Rattle.bud_log.proofs.Opened.{bud_ready}
+use Rattle.bud_log.proofs.Steps.{within_opened}
 use Rattle.bud_log.proofs.log.Log.open_bud.Goals as goal
 
 pub returns-in_err-clear_bud-clause-any_moment : goal.returns-in_err-clear_bud-clause-any_moment
@@ -80,3 +81,9 @@ returns-clause-emptied g c =
     let at = c.args.self.now in
     let here = c.has_room-here.result in
     emptied_still here a b e at c.args.lnum (AddDuring here b at (room_of at.geo.min_io 64)) c.requires.at c.requires.main c.in_ok-clear_bud.ensures.done c.write_reference.ensures.works
+
+pub returns-clause-within : goal.returns-clause-within
+returns-clause-within g c = λ h.
+    let at = c.args.self.now in
+    let W : LogAt → Type 0 = λ z. IsWithin z in
+    subst W (sym c.in_ok-write_reference.ensures.moved) (within_opened c.has_room-here.result at (offs_at c.has_room-here.result at + room_of at.geo.min_io 64) c.has_room-here.ensures c.requires.at.first c.requires.at.here (c.is_full.ensures.no c.if-is_full.false) h)

@@ -1,15 +1,17 @@
-use Rattle.std.proofs.Common.{false, ℕ, ◌+◌, ◌*◌, List, length, sym, ◌∙◌, subst, arith}
+use Rattle.std.proofs.Common.{inl, false, refl, ℕ, ◌+◌, ◌*◌, List, length, sym, ◌∙◌, subst, arith}
 use Rattle.std.specs.Prelude.{fold}
 use Rattle.media_sys.specs.declared.ref_node.RefNode.{RefNode}
 use Rattle.ubi_volume.specs.Volume.{Leaves}
 use Rattle.bud_log.specs.Buds.{named, buds_of}
 use Rattle.bud_log.specs.Log.{next_leb}
 use Rattle.ubi_volume.specs.FrameLaws.{Works-on}
-use Rattle.bud_log.specs.LogAt.{LogAt, room_of, references_to, section_nodes}
+use Rattle.bud_log.specs.LogAt.{LogAt, IsWithin, starting, room_of, references_to, section_nodes}
+use Rattle.bud_log.specs.LogText.{StartsCommit}
 use Rattle.bud_log.specs.LogCalls.{AddDuring}
 use Rattle.bud_log.specs.Writing.{IsReady, NamesSome, IsOldOrMeant}
 use Rattle.bud_log.proofs.OneBud.{start_in, free_of, section_moment}
 use Rattle.bud_log.proofs.Spelled.{references_same}
+use Rattle.bud_log.proofs.Steps.{within_started}
 use Rattle.bud_log.proofs.log.Log.start_section.Goals as goal
 
 pub returns-in_err-write_section-clause-any_moment : goal.returns-in_err-write_section-clause-any_moment
@@ -33,11 +35,25 @@ returns-clause-done g c = λ from buds start h.
     subst P (sym (c.self.view_is ∙ c.in_ok-write_section.ensures.moved)) (c.in_ok-write_section.ensures.done from next buds (start_in a at from c.requires.at start) (free_of a at from c.requires.at start c.requires.kept) (omega arith) h)
 
 pub returns-clause-section : goal.returns-clause-section
-returns-clause-section g c = λ from buds start h.
+returns-clause-section g c = λ older.
     let b = g.V.Volume.state c.write_section.new.volume in
     let next : ℕ = c.args.sqnum.now + (1 + length c.args.heads.now) in
     let P : LogAt → Type 0 = λ z. IsReady b z.geo z.lnum z.lnum z.offs next (buds_of (references_to c.args.heads.now)) in
-    subst P (sym (c.self.view_is ∙ c.in_ok-write_section.ensures.moved)) (c.in_ok-write_section.ensures.section from next buds (omega arith) h)
+    subst P (sym (c.self.view_is ∙ c.in_ok-write_section.ensures.moved)) (c.in_ok-write_section.ensures.section next (omega arith) older)
+
+pub returns-clause-commit : goal.returns-clause-commit
+returns-clause-commit g c =
+    let b = g.V.Volume.state c.write_section.new.volume in
+    let P : LogAt → Type 0 = λ z. StartsCommit (b.holds z.lnum) z.lnum c.args.cmt_no in
+    subst P (sym (c.self.view_is ∙ c.in_ok-write_section.ensures.moved)) c.in_ok-write_section.ensures.commit
+
+pub returns-clause-within : goal.returns-clause-within
+returns-clause-within g c = λ room.
+    let a = g.V.Volume.state c.args.volume.now in
+    let at = c.args.self.now in
+    let W : LogAt → Type 0 = λ z. IsWithin (starting z z.lnum z.offs) in
+    subst W (sym (c.self.view_is ∙ c.in_ok-write_section.ensures.moved))
+    (within_started at (room_of at.geo.min_io (32 + 64 * length c.args.heads.now)) c.requires.at.first c.requires.at.here (free_of a at at.first c.requires.at (inl refl) c.requires.kept) room)
 
 pub returns-clause-any_moment : goal.returns-clause-any_moment
 returns-clause-any_moment g c = λ from buds start h.

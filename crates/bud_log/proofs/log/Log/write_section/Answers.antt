@@ -8,13 +8,13 @@ use Rattle.media_sys.specs.declared.ref_node.RefNode.{RefNode}
 use Rattle.bud_log.specs.Buds.{named, buds_of}
 use Rattle.bud_log.specs.Log.{IsLogLeb, next_leb}
 use Rattle.bud_log.specs.LogAt.{LogAt, room_of, references_to, head_nodes, section_nodes}
+use Rattle.bud_log.specs.LogText.{StartsCommit}
 use Rattle.bud_log.specs.LogCalls.{IsAdded, AddDuring}
-use Rattle.bud_log.specs.Writing.{IsReady}
+use Rattle.bud_log.specs.Writing.{AreOthersOlder, IsReady}
 use Rattle.bud_log.specs.declared.head_at.HeadAt.{HeadAt}
 use Rattle.bud_log.proofs.Calls.{on_ok}
-use Rattle.bud_log.proofs.Chains.{next_in}
 use Rattle.bud_log.proofs.Opened.{added_ready, begun_laid}
-use Rattle.bud_log.proofs.ReadyAgain.{ready_section}
+use Rattle.bud_log.proofs.ReadyAgain.{ready_section, starts_commit}
 use Rattle.bud_log.proofs.Spelled.{references_same, mod_through, fits_leb}
 use Rattle.bud_log.proofs.log.Log.write_section.Goals as goal
 
@@ -77,12 +77,32 @@ returns-clause-section g c =
     let leb_size = c.requires.at.leb_size in
     let all : 0 + length bytes ≡ room = omega (arith, size) in
     let start : CommitStart = record { cmt_no = c.args.cmt_no } in
-    let B : Type 0 = (from next : ℕ) (buds : List HeadAt) → (number < next) → IsReady a at.geo from at.lnum at.offs number buds
-    → IsReady b at.geo there there (room_of at.geo.min_io len) next (buds_of (references_to heads)) in
+    let B : Type 0 = (next : ℕ) → (number < next) → AreOthersOlder a at.geo there number → IsReady b at.geo there there (room_of at.geo.min_io len) next (buds_of (references_to heads)) in
     on_ok c.add.result (IsAdded false a b at bytes) B
-    (λ w from next buds later h.
+    (λ w next later older.
     let Q : ℕ → Type 0 = λ n. IsReady b at.geo there there n next (buds_of (references_to heads)) in
     let S : List RefNode → Type 0 = λ r. IsReady b at.geo there there (0 + length bytes) next (buds_of r) in
-    subst Q (all ∙ is) (subst S (references_same heads) (ready_section a b at.geo from at.lnum at.offs number next (0 + length bytes) there buds start (head_nodes heads) bytes (AddDuring false a at (length bytes)) h (next_in at.geo at.lnum c.requires.at.here) later w c.add.ensures.works
+    subst Q (all ∙ is) (subst S (references_same heads) (ready_section a b at.geo number next (0 + length bytes) there start (head_nodes heads) bytes (AddDuring false a at (length bytes)) older later w c.add.ensures.works
     (begun_laid a b there number bytes (section_nodes c.args.cmt_no heads) w c.lay_section.ensures (omega (arith, short, size, leb_size))))))
+    c.add.ensures.done
+
+pub returns-clause-commit : goal.returns-clause-commit
+returns-clause-commit g c =
+    let a = g.V.Volume.state c.args.volume.now in
+    let b = g.V.Volume.state c.add.new.volume in
+    let at = c.args.self.now in
+    let geo = c.self.inside.geometry in
+    let bytes = c.lay_section.new.bytes in
+    let heads = c.args.heads.now in
+    let room = c.room_for-room.result in
+    let len : ℕ = 32 + 64 * length heads in
+    let three = c.requires.three in
+    let there = next_leb at.geo at.lnum in
+    let size : length bytes ≡ room = c.lay_section.auto.bytes ∙ c.split_at_mut-bytes.ensures.front_len in
+    let L : LogAt → Type 0 = λ z. room ≤ z.geo.leb_size in
+    let short = subst L c.self.view_is (fits_leb (raw_of geo) room len geo.in_range (omega (arith, three)) c.room_for-room.ensures.high) in
+    let leb_size = c.requires.at.leb_size in
+    let start : CommitStart = record { cmt_no = c.args.cmt_no } in
+    on_ok c.add.result (IsAdded false a b at bytes) (StartsCommit (b.holds there) there c.args.cmt_no)
+    (λ w. starts_commit (b.holds there) there (0 + length bytes) c.args.number (head_nodes heads) start (begun_laid a b there c.args.number bytes (section_nodes c.args.cmt_no heads) w c.lay_section.ensures (omega (arith, short, size, leb_size))))
     c.add.ensures.done
