@@ -3,7 +3,7 @@ use Rattle.std.proofs.Common.{◌≡◌, ◌≢◌, ◌⊎◌, ℕ, ◌+◌, ◌
 use Rattle.std.specs.Prelude.{OnOk}
 use Rattle.std.proofs.lemmas.Bool.{lt-ltb, le-ltb}
 use Rattle.ubifs_base.specs.NodeLaws.{IsBytes}
-use Rattle.ubi_volume.specs.Volume.{VolumeState, Only, filled, put, Torn, Leaves, UnderWay, WorksOn, Keeps}
+use Rattle.ubi_volume.specs.Volume.{VolumeState, Only, filled, put, Torn, UnderWay, WorksOn, Keeps}
 use Rattle.ubi_volume.specs.VolumeLaws.{Leaves-then, Leaves-keeps}
 use Rattle.media_sys.specs.declared.master.Master.{Master}
 use Rattle.leb_scan.specs.declared.tail.Tail.TheVariants.{Clean}

@@ -1,7 +1,9 @@
--- A gap is words of padding, or a padding node: it has no master.
+-- A gap is words of padding, or a padding node: it has no other node.
 use Rattle.std.proofs.Common.{◌≡◌, ℕ, zero, suc, ◌+◌, ◌-◌, ◌*◌, ◌/◌, ◌%◌, ◌^◌, ◌<◌, ◌≤◌, nat_lt, true, false, List, [], ◌∷◌, ◌++◌, length, take, drop, replicate, refl, ap, sym, ◌∙◌, subst, inl, inr, arith, append_assoc, length-append, length-drop}
 use Rattle.std.proofs.lemmas.Bool.{cases_Bool, ltb-false}
 use Rattle.std.proofs.lemmas.List.{drop-drop, take_at, length-replicate, replicate-append-replicate}
+use Rattle.std.proofs.lemmas.List.Elements.{All-cons, All-nil}
+use Rattle.std.specs.Prelude.{All}
 use Rattle.byteorder.specs.Endian.{little_bytes}
 use Rattle.ubifs_base.specs.Gap.{gap_of, padding_node}
 use Rattle.ubifs_base.specs.Node.{node_bytes}
@@ -11,8 +13,6 @@ use Rattle.leb_scan.specs.Text.{IsPaddingAt, Stand, nodes_of}
 use Rattle.leb_scan.specs.declared.found.Found.{Found}
 use Rattle.leb_scan.specs.declared.item.Item.{Item}
 use Rattle.leb_scan.specs.declared.item.Item.TheVariants.{Padding, Word}
-use Rattle.small_areas.specs.Masters.{HasNone}
-use Rattle.small_areas.proofs.LastNode.{none_of_none, none_of_one}
 
 -- so many words of padding
 abbrev eights : ℕ → List ℕ
@@ -29,11 +29,15 @@ eights_are (suc n) =
     let e : 8 * suc n ≡ 8 + 8 * n = omega arith in
     ap (λ (k : ℕ). replicate k 0xCE) e ∙ sym (replicate-append-replicate 8 (8 * n) 0xCE) ∙ ap (λ (r : List ℕ). replicate 8 0xCE ++ r) (eights_are n)
 
--- from a place on stand items without a master
+-- a padding node
+abbrev pub IsPaddingNode : Found → Type 0
+IsPaddingNode found = found.kind ≡ 5
+
+-- from a place on stand items of which the nodes are padding
 pub record HasOthers (leb : List ℕ) (place end : ℕ) : Type 0 where
   pub items : List Item
   pub stand : Stand leb place items end
-  pub none : HasNone (nodes_of items)
+  pub padding : All IsPaddingNode (nodes_of items)
 
 words_stand : (n : ℕ) (leb : List ℕ) (place : ℕ) (back : List ℕ) → drop place leb ≡ eights n ++ back → Stand leb place (words n) (place + 8 * n)
 words_stand zero leb place back h = omega arith
@@ -49,8 +53,8 @@ words_none (suc n) = words_none n
 
 words_others : (n : ℕ) (leb : List ℕ) (place : ℕ) (back : List ℕ) → drop place leb ≡ eights n ++ back → HasOthers leb place (place + 8 * n)
 words_others n leb place back h =
-    let P : List Found → Type 0 = λ nodes. HasNone nodes in
-    record { items = words n; stand = words_stand n leb place back h; none = subst P (sym (words_none n)) none_of_none }
+    let P : List Found → Type 0 = λ nodes. All IsPaddingNode nodes in
+    record { items = words n; stand = words_stand n leb place back h; padding = subst P (sym (words_none n)) (All-nil IsPaddingNode) }
 
 -- a gap that is a padding node is one
 pad_is : (pad_len : ℕ) → pad_len < 2 ^ 32 → IsSystemNode (padding_node pad_len) 0 0 (padding (record { pad_len = pad_len }))
@@ -92,7 +96,7 @@ pad_others g leb place back long fits even h =
     let P : List ℕ → Type 0 = λ bytes. IsSystemNode bytes 0 0 (padding (record { pad_len = k })) in
     let even_gap : (28 + k) % 8 ≡ 0 = omega (arith, long, even) in
     let there : IsPaddingAt leb place found k = record { stands = record { here = refl; room = room; kind = refl; is = subst P (sym front) (pad_is k (omega (arith, fits))) }; inside = inside; even = even_gap } in
-    record { items = Padding found k ∷ []; stand = (there, omega (arith, long)); none = none_of_one found (omega arith) }
+    record { items = Padding found k ∷ []; stand = (there, omega (arith, long)); padding = All-cons IsPaddingNode found [] refl (All-nil IsPaddingNode) }
 
 gap_words : (g : ℕ) → nat_lt g 28 ≡ true → gap_of g ≡ replicate g 0xCE
 unfolding gap_of
@@ -115,7 +119,7 @@ gap_length g = elim (cases_Bool (nat_lt g 28)) [
       omega (arith, long, a, b, d, e)
 ]
 
--- a gap has no master
+-- a gap has no other node
 pub gap_others : (g : ℕ) (leb : List ℕ) (place : ℕ) (back : List ℕ) → g < 2 ^ 32 → g % 8 ≡ 0 → drop place leb ≡ gap_of g ++ back → HasOthers leb place (place + g)
 gap_others g leb place back fits even h = elim (cases_Bool (nat_lt g 28)) [
   | inl t ↦

@@ -19,7 +19,7 @@ use Rattle.small_areas.specs.Masters.{HasNone, IsLastOf, IsLastFound, IsLastMast
 use Rattle.small_areas.specs.declared.placed_master.PlacedMaster.{PlacedMaster}
 use Rattle.small_areas.proofs.LastMaster.{OneNode, found_there, master_same}
 use Rattle.small_areas.proofs.LastNode.{last_behind}
-use Rattle.small_areas.proofs.Gaps.{gap_others, gap_length}
+use Rattle.small_areas.proofs.Gaps.{IsPaddingNode, gap_others, gap_length}
 
 -- it stands here
 abbrev pub standing_at : ℕ → ℕ → ℕ → Master → PlacedMaster
@@ -105,7 +105,7 @@ laid_there leb front node back place g sqnum new h at even fits even_gap blank i
       kind = refl;
       offs = refl;
       bytes = parts.node_there;
-      none = others.none;
+      none = All-weaker IsPaddingNode (λ (f : Found). f.kind ≢ 7) (λ f kind. omega (arith, kind)) (nodes_of others.items) others.padding;
     }
 
 -- so nothing was mended there

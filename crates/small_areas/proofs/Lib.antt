@@ -12,3 +12,5 @@ pub mod TornCopy
 pub mod CopyRuns
 pub mod ByteLists
 pub mod BothCopies
+pub mod OrphanLists
+pub mod Kept

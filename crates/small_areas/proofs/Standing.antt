@@ -38,7 +38,7 @@ below_four : (attribute : Bool) → let kind : ℕ = if attribute then 3 else 2 
 below_four true = omega arith
 below_four false = omega arith
 
-leaf_kind : (node : LeafNode) → leaf_form.type_of node ≤ 4
+pub leaf_kind : (node : LeafNode) → leaf_form.type_of node ≤ 4
 leaf_kind (inode node) = omega arith
 leaf_kind (block node) = omega arith
 leaf_kind (entry node) = below_four node.attribute

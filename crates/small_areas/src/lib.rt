@@ -12,12 +12,14 @@ mod copies;
 mod laws;
 mod masters;
 mod misplaced;
+mod orphans;
 mod placed_master;
 
 pub use crate::copies::write_master;
 pub use crate::laws::meant_outcomes;
 pub use crate::masters::latest;
 pub use crate::misplaced::{Misplaced, misplaced_address};
+pub use crate::orphans::{read_orphans, write_orphans};
 pub use crate::placed_master::PlacedMaster;
 
 #[cfg(test)]

@@ -1,6 +1,6 @@
 // Masters in a volume in memory, and their addresses.
 
-use crate::{Misplaced, latest, misplaced_address, write_master};
+use crate::{Misplaced, latest, misplaced_address, read_orphans, write_master, write_orphans};
 use media_sys::Master;
 use std::test::Fail;
 use ubi_volume::{MemVolume, VolShape, Volume};
@@ -103,6 +103,44 @@ fn written_master_is_the_latest(rt: HostRuntime) -> Result<(), Fail> {
     assert_eq!(rt; (found.lnum, found.offs, found.sqnum), (2, 512, 11));
     assert_eq!(rt; found.master.cmt_no, 1);
     assert_eq!(rt; sqnum, 11);
+    Ok(())
+}
+
+#[test]
+fn written_orphans_are_read(rt: HostRuntime) -> Result<(), Fail> {
+    let Ok(geometry) = Geometry::new(&RawGeometry::plain(16384, 512, 64, 8)) else {
+        return Err(Fail::from("no geometry"));
+    };
+    let shape = VolShape {
+        leb_size: 16384,
+        min_io: 512,
+        leb_cnt: 74,
+    };
+    let mut volume = MemVolume::new(rt.alloc(), shape)?;
+    let mut sqnum = 7;
+    let Ok(()) = write_orphans(
+        rt.alloc(),
+        &mut volume,
+        &geometry,
+        3,
+        &[64, 66, 4000000000],
+        &mut sqnum,
+    ) else {
+        return Err(Fail::from("no list"));
+    };
+    let Ok(inos) = read_orphans(rt.alloc(), &mut volume, &geometry) else {
+        return Err(Fail::from("no answer"));
+    };
+    assert_eq!(rt; inos.as_slice(), [64, 66, 4000000000].as_slice());
+    assert_eq!(rt; sqnum, 8);
+    // an empty list has no node, and its unit is padding
+    let Ok(()) = write_orphans(rt.alloc(), &mut volume, &geometry, 4, &[], &mut sqnum) else {
+        return Err(Fail::from("no empty list"));
+    };
+    let Ok(inos) = read_orphans(rt.alloc(), &mut volume, &geometry) else {
+        return Err(Fail::from("no second answer"));
+    };
+    assert_eq!(rt; (inos.len(), sqnum), (0, 8));
     Ok(())
 }
 
