@@ -3,3 +3,4 @@ pub mod Later
 pub mod Copies
 pub mod Puts
 pub mod Addresses
+pub mod MeantCopies
