@@ -1,13 +1,12 @@
 -- A copy that stands in a LEB is its last master, and the text ends behind it.
-use Rattle.std.proofs.Common.{◌≡◌, ℕ, zero, suc, ◌+◌, ◌-◌, ◌*◌, ◌/◌, ◌%◌, ◌^◌, ◌<◌, ◌≤◌, ◌==◌, min, true, List, [], ◌∷◌, ◌++◌, length, take, drop, replicate, Some, refl, ap, sym, ◌∙◌, subst, arith, append_assoc, length-append, length-drop}
-use Rattle.std.proofs.lemmas.Bool.{and_parts}
-use Rattle.std.proofs.lemmas.List.{drop-drop, take_at, drop_at}
+use Rattle.std.proofs.Common.{◌≡◌, ℕ, ◌+◌, ◌%◌, ◌^◌, ◌<◌, true, List, [], ◌∷◌, ◌++◌, length, take, drop, Some, refl, ap, sym, ◌∙◌, subst, arith}
 use Rattle.std.proofs.lemmas.List.Elements.{All-cons, All-weaker}
 use Rattle.std.specs.Prelude.{◌≢◌}
 use Rattle.ubifs_base.specs.Gap.{gap_of}
 use Rattle.media_sys.specs.SystemNode.{master, IsMaster}
 use Rattle.media_sys.specs.declared.master.Master.{Master}
-use Rattle.leb_scan.specs.Text.{system, IsNodeAt, is_blank, Stand, IsText, nodes_of}
+use Rattle.leb_scan.specs.Gaps.{IsPadding, gap_items, gap_padding_alone}
+use Rattle.leb_scan.specs.Text.{is_blank, Stand, IsText, nodes_of}
 use Rattle.leb_scan.specs.TextLaws.{Stand-then, nodes_of-append}
 use Rattle.leb_scan.specs.declared.found.Found.{Found}
 use Rattle.leb_scan.specs.declared.item.Item.{Item}
@@ -15,11 +14,11 @@ use Rattle.leb_scan.specs.declared.item.Item.TheVariants.{Node}
 use Rattle.leb_scan.specs.declared.tail.Tail.TheVariants.{Clean}
 use Rattle.small_areas.specs.Copies.{IsNodeOf, IsUnmended}
 use Rattle.small_areas.specs.Later.{IsReadOf}
+use Rattle.small_areas.specs.MeantCopies.{master_at, copy_stands}
 use Rattle.small_areas.specs.Masters.{HasNone, IsLastOf, IsLastFound, IsLastMaster}
 use Rattle.small_areas.specs.declared.placed_master.PlacedMaster.{PlacedMaster}
 use Rattle.small_areas.proofs.LastMaster.{OneNode, found_there, master_same}
 use Rattle.small_areas.proofs.LastNode.{last_behind}
-use Rattle.small_areas.proofs.Gaps.{IsPaddingNode, gap_others, gap_length}
 
 -- it stands here
 abbrev pub standing_at : ℕ → ℕ → ℕ → Master → PlacedMaster
@@ -38,41 +37,11 @@ read_new one leb node lnum place sqnum new found is_node h offs bytes =
     record { found = found; last = h; offs = sym offs; sqnum = sym same.0; is = subst Q (master_same there.0 new same.2) there.1 } in
     record { some = (last, refl); none = tt }
 
--- what is behind unwritten bytes is unwritten
-pub blank_drop : (n : ℕ) (bytes : List ℕ) → is_blank bytes ≡ true → is_blank (drop n bytes) ≡ true
-blank_drop zero bytes h = h
-blank_drop (suc n) [] h = refl
-blank_drop (suc n) (x ∷ bytes) h = blank_drop n bytes (and_parts (x == 0xFF) (is_blank bytes) h).1
-
-pub blank_replicate : (n : ℕ) → is_blank (replicate n 255) ≡ true
-blank_replicate zero = refl
-blank_replicate (suc n) = blank_replicate n
-
 -- the text of a LEB ends behind this master
 pub record HasCopy (leb : List ℕ) (lnum place end sqnum : ℕ) (new : Master) : Type 0 where
   pub items : List Item
   pub is_text : IsText leb 0 items end Clean
   pub read : IsReadOf lnum leb (Some (standing_at lnum place sqnum new))
-
--- what stands behind a front, a node, a gap and the rest
-record IsSplit (leb node gap back : List ℕ) (place g : ℕ) : Type 0 where
-  node_there : take 512 (drop place leb) ≡ node
-  gap_there : drop (place + 512) leb ≡ gap ++ back
-  back_there : drop (place + 512 + g) leb ≡ back
-  room : place + 512 ≤ length leb
-
-split : (leb front node gap back : List ℕ) (place g : ℕ) → leb ≡ front ++ (node ++ gap) ++ back → length front ≡ place → length node ≡ 512 → length gap ≡ g → IsSplit leb node gap back place g
-split leb front node gap back place g h at long wide =
-    let here : drop place leb ≡ node ++ (gap ++ back) = ap (drop place) (h ∙ append_assoc front (node ++ gap) back) ∙ drop_at front ((node ++ gap) ++ back) place at ∙ append_assoc node gap back in
-    let next : drop (place + 512) leb ≡ gap ++ back = sym (drop-drop 512 place leb) ∙ ap (drop 512) here ∙ drop_at node (gap ++ back) 512 long in
-    let a : length (drop place leb) ≡ length node + length (gap ++ back) = ap length here ∙ length-append node (gap ++ back) in
-    let size : length (drop place leb) ≡ length leb - place = length-drop place leb in
-    record {
-      node_there = ap (take 512) here ∙ take_at node (gap ++ back) 512 long;
-      gap_there = next;
-      back_there = sym (drop-drop g (place + 512) leb) ∙ ap (drop g) next ∙ drop_at gap back g wide;
-      room = omega (arith, a, size, long);
-    }
 
 -- from a place on a node stands, and behind it nothing but a gap
 pub record IsLaid (leb node : List ℕ) (place end : ℕ) : Type 0 where
@@ -88,24 +57,18 @@ pub record IsLaid (leb node : List ℕ) (place end : ℕ) : Type 0 where
 pub laid_there : (leb front node back : List ℕ) (place g sqnum : ℕ) (new : Master) → leb ≡ front ++ (node ++ gap_of g) ++ back → length front ≡ place → place % 8 ≡ 0 → g < 2 ^ 32 → g % 8 ≡ 0 → is_blank back ≡ true → IsNodeOf node sqnum new
     → IsLaid leb node place (place + 512 + g)
 laid_there leb front node back place g sqnum new h at even fits even_gap blank is_node =
-    let parts = split leb front node (gap_of g) back place g h at is_node.long (gap_length g) in
-    let others = gap_others g leb (place + 512) back fits even_gap parts.gap_there in
-    let found : Found = record { offs = place; len = 512; kind = 7; group = 0; sqnum = sqnum } in
-    let P : List ℕ → Type 0 = λ bytes. IsMaster bytes sqnum 0 new in
-    let there : IsNodeAt leb place found = record { node = system (master new); stands = record { here = refl; room = parts.room; kind = refl; is = subst P (sym parts.node_there) is_node.is }; other = omega arith } in
-    let room = parts.room in
-    let next : place + 512 ≡ min ((place + 512 + 7) / 8 * 8) (length leb) = omega (arith, even, room) in
-    let Q : ℕ → Type 0 = λ p. Stand leb p others.items (place + 512 + g) in
+    let there = copy_stands leb front node back place g sqnum new h at even fits even_gap is_node in
+    let N : Found → Type 0 = λ found. found.kind ≢ 7 in
     let R : List ℕ → Type 0 = λ bytes. is_blank bytes ≡ true in
     record {
-      found = found;
-      others = others.items;
-      stand = (there, subst Q next others.stand);
-      blank = subst R (sym parts.back_there) blank;
+      found = master_at place sqnum new;
+      others = gap_items (place + 512) g;
+      stand = there.stand;
+      blank = subst R (sym there.back_there) blank;
       kind = refl;
       offs = refl;
-      bytes = parts.node_there;
-      none = All-weaker IsPaddingNode (λ (f : Found). f.kind ≢ 7) (λ f kind. omega (arith, kind)) (nodes_of others.items) others.padding;
+      bytes = there.node_there;
+      none = All-weaker IsPadding N (λ found padding kind. absurd (omega (arith, padding, kind))) (nodes_of (gap_items (place + 512) g)) (gap_padding_alone (place + 512) g);
     }
 
 -- so nothing was mended there

@@ -16,9 +16,6 @@ none_of_none = All-nil IsOther
 pub none_of_both : (front back : List Found) → HasNone front → HasNone back → HasNone (front ++ back)
 none_of_both front back h k = All-append IsOther front back h k
 
-pub none_of_one : (found : Found) → found.kind ≢ 7 → HasNone (found ∷ [])
-none_of_one found other = All-cons IsOther found [] other none_of_none
-
 -- behind other nodes
 pub last_behind : (front nodes : List Found) (found : Found) → IsLastOf nodes found → IsLastOf (front ++ nodes) found
 last_behind front nodes found h = record {

@@ -2,11 +2,9 @@ pub mod LastMaster
 pub mod TwoMasters
 pub mod Standing
 pub mod FirstFound
-pub mod Fronts
 pub mod LastNode
 pub mod Rooms
 pub mod Places
-pub mod Gaps
 pub mod LaidCopy
 pub mod TornCopy
 pub mod CopyRuns

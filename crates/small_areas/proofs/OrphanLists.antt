@@ -11,12 +11,12 @@ use Rattle.ubifs_base.specs.declared.raw_geometry.RawGeometry.{RawGeometry}
 use Rattle.media_sys.specs.Orphans.{Orphans}
 use Rattle.media_sys.specs.SystemNode.{padding, superblock, master, reference, index, commit_start, orphans, IsSystemNode}
 use Rattle.leb_scan.specs.Text.{leaf, system, IsNodeAt, IsNext, IsLast, Stand, is_blank, nodes_of, tail_at}
+use Rattle.leb_scan.specs.Gaps.{gap_items, gap_length, gap_padding_alone, gap_stands}
 use Rattle.leb_scan.specs.Gathered.{IsGathered, gathered_end, gathered_next}
 use Rattle.leb_scan.specs.declared.found.Found.{Found}
 use Rattle.leb_scan.specs.declared.item.Item.TheVariants.{Node}
 use Rattle.leb_scan.specs.declared.tail.Tail.TheVariants.{Clean}
 use Rattle.small_areas.specs.Orphans.{AreListed, AreOrphans, HasOrphans, IsListLeb, IsListWritten, ListUnderWay, OrphanList, list_bytes, list_size}
-use Rattle.small_areas.proofs.Gaps.{gap_length, gap_others}
 use Rattle.small_areas.proofs.LaidCopy.{blank_replicate}
 use Rattle.small_areas.proofs.Standing.{Stands, leaf_kind, stands_in}
 
@@ -90,16 +90,16 @@ to_end leb place end old new h last =
 pub gap_listed : (leb : List ℕ) (size g : ℕ) → leb ≡ filled size (gap_of g) → g < 2 ^ 32 → g % 8 ≡ 0 → HasOrphans leb []
 gap_listed leb size g is fits even =
     let back : List ℕ = replicate (size - length (gap_of g)) 255 in
-    let others = gap_others g leb 0 back fits even is in
+    let stand : Stand leb 0 (gap_items 0 g) (0 + g) = gap_stands g leb 0 back fits even is in
     let end : 0 + g ≡ g = omega arith in
     let rest : drop (0 + g) leb ≡ back = ap (λ (n : ℕ). drop n leb) end ∙ ap (drop g) is ∙ drop_at (gap_of g) back g (gap_length g) in
     let R : List ℕ → Type 0 = λ bytes. is_blank bytes ≡ true in
     record {
-      items = others.items;
+      items = gap_items 0 g;
       end = 0 + g;
       tail = Clean;
-      is_text = record { stand = others.stand; ends = subst R (sym rest) (blank_replicate (size - length (gap_of g))) };
-      listed = listed_padding leb (nodes_of others.items) others.padding;
+      is_text = record { stand = stand; ends = subst R (sym rest) (blank_replicate (size - length (gap_of g))) };
+      listed = listed_padding leb (nodes_of (gap_items 0 g)) (gap_padding_alone 0 g);
     }
 
 -- a LEB that has an orphan node and a gap
@@ -112,19 +112,19 @@ node_listed leb node size g sqnum o is is_node even fits even_gap =
     let rest : drop n leb ≡ gap_of g ++ back = ap (drop n) whole ∙ drop_at node (gap_of g ++ back) n refl in
     let behind_it : drop (n + g) leb ≡ back = sym (drop-drop g n leb) ∙ ap (drop g) rest ∙ drop_at (gap_of g) back g (gap_length g) in
     let long : length leb ≡ n + length (gap_of g ++ back) = ap length whole ∙ length-append node (gap_of g ++ back) in
-    let others = gap_others g leb n back fits even_gap rest in
+    let stand : Stand leb n (gap_items n g) (n + g) = gap_stands g leb n back fits even_gap rest in
     let found : Found = record { offs = 0; len = n; kind = 11; group = 0; sqnum = sqnum } in
     let P : List ℕ → Type 0 = λ bytes. IsSystemNode bytes sqnum 0 (orphans o) in
     let there : IsNodeAt leb 0 found = record { node = system (orphans o); stands = record { here = refl; room = omega (arith, long); kind = refl; is = subst P (sym front) is_node }; other = omega arith } in
     let next : n ≡ min ((0 + n + 7) / 8 * 8) (length leb) = omega (arith, even, long) in
-    let Q : ℕ → Type 0 = λ p. Stand leb p others.items (n + g) in
+    let Q : ℕ → Type 0 = λ p. Stand leb p (gap_items n g) (n + g) in
     let R : List ℕ → Type 0 = λ bytes. is_blank bytes ≡ true in
     record {
-      items = Node found ∷ others.items;
+      items = Node found ∷ gap_items n g;
       end = n + g;
       tail = Clean;
-      is_text = record { stand = (there, subst Q next others.stand); ends = subst R (sym behind_it) (blank_replicate (size - length (node ++ gap_of g))) };
-      listed = inr (o, [], record { sqnum = sqnum; group = 0; is = subst P (sym front) is_node }, listed_padding leb (nodes_of others.items) others.padding, sym (append-nil o.inos));
+      is_text = record { stand = (there, subst Q next stand); ends = subst R (sym behind_it) (blank_replicate (size - length (node ++ gap_of g))) };
+      listed = inr (o, [], record { sqnum = sqnum; group = 0; is = subst P (sym front) is_node }, listed_padding leb (nodes_of (gap_items n g)) (gap_padding_alone n g), sym (append-nil o.inos));
     }
 
 -- one LEB more

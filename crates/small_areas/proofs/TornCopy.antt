@@ -8,8 +8,10 @@ use Rattle.ubi_volume.specs.Volume.{VolumeState, Only, filled, put}
 use Rattle.ubi_volume.specs.VolumeLaws.{WriteUnderWay-only}
 use Rattle.media_sys.specs.SystemNode.{IsMaster}
 use Rattle.media_sys.specs.declared.master.Master.{Master}
+use Rattle.leb_scan.specs.Fronts.{same_part, stand_alike, within}
+use Rattle.leb_scan.specs.Gaps.{gap_length}
 use Rattle.leb_scan.specs.Text.{IsText, nodes_of, is_blank}
-use Rattle.leb_scan.specs.TextLaws.{Stand-then, nodes_of-append}
+use Rattle.leb_scan.specs.TextLaws.{Stand-then, nodes_of-append, blank_drop, blank_replicate}
 use Rattle.leb_scan.specs.declared.found.Found.{Found}
 use Rattle.leb_scan.specs.declared.item.Item.{Item}
 use Rattle.leb_scan.specs.declared.tail.Tail.{Tail}
@@ -18,13 +20,11 @@ use Rattle.small_areas.specs.Copies.{copy_of, IsNodeOf, IsRoom, IsPlace, IsCopie
 use Rattle.small_areas.specs.Later.{IsReadOf}
 use Rattle.small_areas.specs.Masters.{HasNone, IsLastOf, IsLastFound, IsLastMaster, HasNoMaster}
 use Rattle.small_areas.specs.declared.placed_master.PlacedMaster.{PlacedMaster}
-use Rattle.small_areas.proofs.Fronts.{same_part, stand_alike, within}
-use Rattle.small_areas.proofs.LaidCopy.{standing_at, read_new, HasCopy, laid, laid_there, laid_unmended, blank_drop, blank_replicate}
+use Rattle.small_areas.proofs.LaidCopy.{standing_at, read_new, HasCopy, laid, laid_there, laid_unmended}
 use Rattle.small_areas.proofs.LastMaster.{OneNode}
 use Rattle.small_areas.proofs.LastNode.{none_of_both, last_behind, last_before, last_of, of_last}
 use Rattle.small_areas.proofs.Places.{OneText}
 use Rattle.small_areas.proofs.Rooms.{mod_through}
-use Rattle.small_areas.proofs.Gaps.{gap_length}
 
 -- the text of a LEB that was clean goes on behind its end
 record IsContinued (a left : List ℕ) (place : ℕ) : Type 0 where
