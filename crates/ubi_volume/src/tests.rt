@@ -129,7 +129,7 @@ fn patterns_say_what_a_cut_leaves(rt: HostRuntime) -> Result<(), Fail> {
     ];
     for (step, pattern, behind, strikes) in rows {
         let found = find(&rt, step, pattern)?;
-        assert_eq!(rt; found.image.as_slice().split_at(8).1, behind);
+        assert!(rt; found.image.as_slice().ends_with(behind));
         assert_eq!(rt;
             (found.cut_short, found.refused, found.is_cut),
             (strikes, strikes, strikes)
