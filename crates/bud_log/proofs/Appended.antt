@@ -1,5 +1,5 @@
 -- Nodes are written to the log: the volume is ready for the next, and what a cut leaves on the way.
-use Rattle.std.proofs.Common.{◌≡◌, inl, inr, ℕ, List, [], ◌∷◌, take, ap, sym, ◌∙◌, subst, arith}
+use Rattle.std.proofs.Common.{◌≡◌, inl, inr, ℕ, List, [], ◌∷◌, take, refl, ap, sym, ◌∙◌, subst, arith}
 use Rattle.std.specs.Prelude.{◌≢◌, fold}
 use Rattle.std.proofs.lemmas.Bool.{cases_eq}
 use Rattle.ubifs_base.specs.declared.raw_geometry.RawGeometry.{RawGeometry}
@@ -11,7 +11,7 @@ use Rattle.leb_scan.specs.declared.tail.Tail.TheVariants.{Clean}
 use Rattle.bud_log.specs.Buds.{named, buds_of}
 use Rattle.bud_log.specs.Log.{IsLogLeb, next_leb, references_of}
 use Rattle.bud_log.specs.LogText.{LogText}
-use Rattle.bud_log.specs.Writing.{references_in, AreSpelled, IsAmong, IsOlder, IsChain, last_end, IsReady, NamesBuds, NamesSome, IsMeant}
+use Rattle.bud_log.specs.Writing.{references_in, AreSpelled, IsAmong, IsOlder, IsChain, last_end, GoesOn, IsReady, NamesBuds, NamesSome, IsMeant}
 use Rattle.bud_log.specs.declared.head_at.HeadAt.{HeadAt}
 use Rattle.bud_log.specs.declared.log_end.LogEnd.{LogEnd}
 use Rattle.bud_log.specs.LogLaws.{among_log, chain_alike, next_in}
@@ -90,19 +90,26 @@ ready_works a b geo from lnum offs number buds h k D aside older w =
       ];
     }
 
-ends_among : (first : LogText) (more : List LogText) (lnum offs : ℕ) → last_end first.ends more ≡ record { lnum = lnum; offs = offs; tail = Clean } → IsAmong lnum (first ∷ more)
-ends_among first [] lnum offs h = inl (sym (ap (λ (e : LogEnd). e.lnum) h))
-ends_among first (text ∷ more) lnum offs h = inr (last_among first.ends text more (record { lnum = lnum; offs = offs; tail = Clean }) h)
+ends_among : (first : LogText) (more : List LogText) (lnum : ℕ) → (last_end first.ends more).lnum ≡ lnum → IsAmong lnum (first ∷ more)
+ends_among first [] lnum h = inl (sym h)
+ends_among first (text ∷ more) lnum h =
+    let P : ℕ → Type 0 = λ n. IsAmong n (text ∷ more) in
+    inr (subst P h (last_among first.ends text more (last_end first.ends (text ∷ more)) refl))
+
+-- a log goes on in the LEB of its last text, or behind it
+pub goes_lnum : (geo : RawGeometry) (last : LogEnd) (lnum offs : ℕ) → GoesOn geo last lnum offs → last.lnum ≡ lnum
+goes_lnum geo last lnum offs (inl e) = ap (λ (z : LogEnd). z.lnum) e
+goes_lnum geo last lnum offs (inr full) = full.0
 
 -- the LEB in which the log ends is read
 pub end_among : (a : VolumeState) (geo : RawGeometry) (from lnum offs number : ℕ) (buds : List HeadAt) (h : IsReady a geo from lnum offs number buds) → IsAmong lnum (h.first ∷ h.more)
-end_among a geo from lnum offs number buds h = ends_among h.first h.more lnum offs h.last
+end_among a geo from lnum offs number buds h = ends_among h.first h.more lnum (goes_lnum geo (last_end h.first.ends h.more) lnum offs h.last)
 
 -- what was torn behind the end of the log
-pub here_names : OneNode → (a : VolumeState) (geo : RawGeometry) (from lnum offs number len : ℕ) (buds : List HeadAt) (nodes : List SystemNode) (h : IsReady a geo from lnum offs number buds) (x : ℕ → List ℕ) → IsLogLeb geo from
+pub here_names : OneNode → (a : VolumeState) (geo : RawGeometry) (from lnum offs number len : ℕ) (buds : List HeadAt) (nodes : List SystemNode) (h : IsReady a geo from lnum offs number buds) (x : ℕ → List ℕ) → last_end h.first.ends h.more ≡ record { lnum = lnum; offs = offs; tail = Clean } → IsLogLeb geo from
     → ((c : List ℕ) → a.left_mapped lnum c → a.left_now lnum c) → AreSpelled number nodes → ((k : ℕ) → IsLogLeb geo k → k ≢ lnum → a.left_now k (x k)) → WriteUnderWay a lnum offs len (x lnum) → IsMeant number offs nodes (x lnum)
     → NamesSome x geo from buds (references_in nodes)
-here_names one a geo from lnum offs number len buds nodes h x f sub spelled others here meant =
+here_names one a geo from lnum offs number len buds nodes h x clean f sub spelled others here meant =
     let there = end_among a geo from lnum offs number buds h in
     let all : List LogText = h.first ∷ h.more in
     let only = h.settled lnum there in
@@ -127,9 +134,9 @@ here_names one a geo from lnum offs number len buds nodes h x f sub spelled othe
           let E : LogEnd → Type 0 = λ z. take z.offs (a.holds lnum) ≡ take z.offs (x lnum) in
           let F : LogEnd → Type 0 = λ z. IsText (x lnum) z.offs meant.items meant.end meant.tail in
           grown (a.holds lnum) (x lnum) lnum meant.end meant.tail text meant.items some.0 is (subst E (sym e) (sym torn.front)) (sym torn.len) (subst F (sym e) meant.is_text) some.1 in
-          let chain = chain_grown a.holds x geo from h.start h.past h.first h.more (nodes_of meant.items) some.0 old ends f h.chain h.last (λ k ne is. sym (h.settled k is (x k) (others k (in_log k is) ne))) grows in
+          let chain = chain_grown a.holds x geo from h.start h.past h.first h.more (nodes_of meant.items) some.0 old ends f h.chain clean (λ k ne is. sym (h.settled k is (x k) (others k (in_log k is) ne))) grows in
           let g : LogText → LogText = λ t. grown_text t (nodes_of meant.items) some.0 ends in
-          let same : (last_end h.first.ends h.more).lnum ≡ ends.lnum = ap (λ (e : LogEnd). e.lnum) h.last in
+          let same : (last_end h.first.ends h.more).lnum ≡ ends.lnum = ap (λ (e : LogEnd). e.lnum) clean in
           let names = names_chain x geo from h.start h.past (last_first g h.first h.more) (last_more g h.more) f chain
           (λ k is none. not_read k is (λ i. none ((among_grown k h.first h.more (nodes_of meant.items) some.0 ends same).1 i))) in
           let P : List HeadAt → Type 0 = λ bs. NamesBuds x geo from bs in

@@ -26,10 +26,10 @@ use Rattle.bud_log.proofs.Parts.{part_references}
 use Rattle.bud_log.proofs.References.{OneNode, some_references}
 
 -- nodes behind the end of the log
-pub ready_here : (a b : VolumeState) (geo : RawGeometry) (from lnum offs number next end len : ℕ) (buds : List HeadAt) (nodes : List SystemNode) (bytes : List ℕ) (h : IsReady a geo from lnum offs number buds) → IsLogLeb geo from
+pub ready_here : (a b : VolumeState) (geo : RawGeometry) (from lnum offs number next end len : ℕ) (buds : List HeadAt) (nodes : List SystemNode) (bytes : List ℕ) (h : IsReady a geo from lnum offs number buds) → last_end h.first.ends h.more ≡ record { lnum = lnum; offs = offs; tail = Clean } → IsLogLeb geo from
     → ((c : List ℕ) → a.left_mapped lnum c → a.left_now lnum c) → number ≤ next → IsWritten a b lnum offs bytes → WorksOn a b lnum (WriteUnderWay a lnum offs len) → take offs (a.holds lnum) ≡ take offs (b.holds lnum)
     → length (a.holds lnum) ≡ length (b.holds lnum) → AreLaid (b.holds lnum) offs end number nodes → IsReady b geo from lnum end next (fold named buds (references_in nodes))
-ready_here a b geo from lnum offs number next end len buds nodes bytes h f sub later w works front long laid =
+ready_here a b geo from lnum offs number next end len buds nodes bytes h clean f sub later w works front long laid =
     let there = end_among a geo from lnum offs number buds h in
     let all : List LogText = h.first ∷ h.more in
     let only = h.settled lnum there in
@@ -42,18 +42,18 @@ ready_here a b geo from lnum offs number next end len buds nodes bytes h f sub l
     let F : LogEnd → Type 0 = λ z. IsText (b.holds lnum) z.offs laid.items end Clean in
     grown (a.holds lnum) (b.holds lnum) lnum end Clean text laid.items references is (subst E (sym e) front) long (subst F (sym e) laid.is_text) laid.refer in
     let g : LogText → LogText = λ t. grown_text t found references ends in
-    let same : (last_end h.first.ends h.more).lnum ≡ ends.lnum = ap (λ (e : LogEnd). e.lnum) h.last in
+    let same : (last_end h.first.ends h.more).lnum ≡ ends.lnum = ap (λ (e : LogEnd). e.lnum) clean in
     let low = h.low in
     record {
       start = h.start;
       first = last_first g h.first h.more;
       more = last_more g h.more;
       past = h.past;
-      chain = chain_grown a.holds b.holds geo from h.start h.past h.first h.more found references old ends f h.chain h.last (λ k ne is. sym (works.others k ne)) grows;
+      chain = chain_grown a.holds b.holds geo from h.start h.past h.first h.more found references old ends f h.chain clean (λ k ne is. sym (works.others k ne)) grows;
       low = omega (arith, low, later);
       below = below_more number next (last_first g h.first h.more ∷ last_more g h.more) later (below_grown a.holds geo from h.start h.past number h.first h.more found references ends h.chain h.below);
       buds_are = ap (λ (bs : List HeadAt). fold named bs references) h.buds_are ∙ sym (buds_behind (references_of all) references) ∙ ap buds_of (sym (references_grown h.first h.more found references ends));
-      last = last_end_grown h.first h.more found references ends;
+      last = inl (last_end_grown h.first h.more found references ends);
       settled = λ k is c left. elim (cases_eq k lnum) [
         | inl e ↦
             let L : ℕ → Type 0 = λ n. b.left_now n c in
@@ -151,7 +151,7 @@ ready_next a b geo from lnum offs number next end buds node nodes bytes D h f ne
       low = omega (arith, low, later);
       below = below_last next all text (below_more number next all more h.below) (not_above next number nodes node (nodes_of laid.items) laid.first later);
       buds_are = ap (λ (bs : List HeadAt). fold named bs references) h.buds_are ∙ sym (buds_behind (references_of all) references) ∙ ap buds_of (sym (references_added h.first h.more text));
-      last = last_end_added h.first.ends h.more text;
+      last = inl (last_end_added h.first.ends h.more text);
       settled = λ k is c left. elim (cases_eq k past) [
         | inl e ↦
             let L : ℕ → Type 0 = λ n. b.left_now n c in
@@ -178,7 +178,7 @@ ready_section a b geo number next end there start nodes bytes D older later w wo
       low = omega (arith, later);
       below = (not_above next number nodes (commit_start start) (nodes_of laid.items) laid.first later, tt);
       buds_are = ap buds_of (sym (append-nil references));
-      last = refl;
+      last = inl refl;
       settled = λ k among c left.
           let e : k ≡ there = elim among [ inl same ↦ same | inr none ↦ absurd none ] in
           let L : ℕ → Type 0 = λ n. b.left_now n c in
