@@ -104,10 +104,10 @@ ended_aside a at number k buds h f s l way is (inr there) =
     absurd (omega (arith, again, other))
 
 ended_quiet : (a : VolumeState) (at : LogAt) (number : ℕ) (buds : List HeadAt) (h : IsReady a at.geo at.section at.lnum at.offs number buds) (x : ℕ → List ℕ) → IsLogLeb at.geo at.first → IsLogLeb at.geo at.section → IsLogLeb at.geo at.lnum
-    → steps_to at.geo at.first at.section ≤ steps_to at.geo at.first at.lnum → EndUnderWay a at x → IsQuiet a at.geo at.section h.start (h.first ∷ h.more) x
+    → steps_to at.geo at.first at.section ≤ steps_to at.geo at.first at.lnum → EndUnderWay a at x → IsQuiet a at.geo h.start number h.past (h.first ∷ h.more) x
 ended_quiet a at number buds h x f s l way each = record {
   read = λ k there. elim (each k) [ inl now ↦ h.settled k there (x k) now | inr (is, e) ↦ absurd (ended_aside a at number k buds h f s l way is there) ];
-  not_read = λ k is none. elim (each k) [ inl now ↦ h.spare k (x k) is none now | inr (ended, e) ↦ let P : List ℕ → Type 0 = λ leb. IsOlder h.start k leb in subst P (sym e) (blank_older h.start k a.leb_size) ];
+  not_read = λ k is none. elim (each k) [ inl now ↦ h.spare k (x k) is none now | inr (ended, e) ↦ let P : List ℕ → Type 0 = λ leb. IsOlder h.start k leb in inl (subst P (sym e) (blank_older h.start k a.leb_size)) ];
 }
 
 -- at every moment the log reads as before
@@ -136,5 +136,5 @@ ended_ready a b at number buds h f s l way held w =
       buds_are = h.buds_are;
       last = h.last;
       settled = λ k there c left. elim (each k c left) [ inl now ↦ h.settled k there c now ∙ sym (w.others k (aside k there)).holds | inr (is, e) ↦ absurd (aside k there is) ];
-      spare = λ k leb is none left. elim (each k leb left) [ inl now ↦ h.spare k leb is none now | inr (ended, e) ↦ let P : List ℕ → Type 0 = λ bytes. IsOlder h.start k bytes in subst P (sym e) (blank_older h.start k a.leb_size) ];
+      spare = λ k leb is none left. elim (each k leb left) [ inl now ↦ h.spare k leb is none now | inr (ended, e) ↦ let P : List ℕ → Type 0 = λ bytes. IsOlder h.start k bytes in inl (subst P (sym e) (blank_older h.start k a.leb_size)) ];
     }

@@ -68,7 +68,7 @@ both_moment one here a b c at from number n buds node h e kept main start sub sp
     let f = start_in a at from h start in
     let works = opened_works here a b c at node.lnum n (there_other here at node.lnum h.here main) same done ab bc in
     let H : Bool → Type 0 = λ r. Leaves a c (λ left. IsOldOrMeant a (lnum_at r at) (offs_at r at) number (reference node ∷ []) (left (lnum_at r at)) → NamesOpened left at.geo from buds node) in
-    subst H e (opened_moment one here a c at from number n buds node ready f (λ r. free_of a at from h start (kept r)) sub spelled (main_out at.geo node.lnum main) works.time)
+    subst H e (opened_moment one here a c at from number n buds node ready f (λ r. sym e ∙ r) (λ r. free_of a at from h start (kept r)) sub spelled (main_out at.geo node.lnum main) works.time)
 
 -- the bud's LEB stays empty
 pub emptied_still : (here : Bool) (a b c : VolumeState) (at : LogAt) (bud : ℕ) (D : List ℕ → Type 0) → IsAt a at → main_first at.geo ≤ bud → IsEmptied a b bud → WorksOn b c (lnum_at here at) D → IsEmptied a c bud

@@ -13,14 +13,14 @@ use Rattle.leb_scan.specs.Text.{is_blank, IsText}
 use Rattle.leb_scan.specs.declared.tail.Tail.TheVariants.{Clean}
 use Rattle.bud_log.specs.Buds.{named}
 use Rattle.bud_log.specs.Log.{IsLogLeb, next_leb, Run}
-use Rattle.bud_log.specs.LogAt.{LogAt, lnum_at, offs_at}
+use Rattle.bud_log.specs.LogAt.{LogAt, has_room, lnum_at, offs_at}
 use Rattle.bud_log.specs.LogCalls.{IsBegun, IsAdded, AddDuring, OpenUnderWay, StartUnderWay}
 use Rattle.bud_log.specs.LogText.{LogText, IsTextOf}
-use Rattle.bud_log.specs.Writing.{references_in, AreSpelled, AreNodes, laid, IsAmong, IsOlder, IsChain, last_end, IsReady, NamesBuds, NamesSome, NamesOpened, IsMeant, IsOldOrMeant}
+use Rattle.bud_log.specs.Writing.{references_in, AreSpelled, AreNodes, laid, IsAmong, IsOlder, IsChain, last_end, GoesOn, IsReady, NamesBuds, NamesSome, NamesOpened, IsMeant, IsOldOrMeant}
 use Rattle.bud_log.specs.declared.head_at.HeadAt.{HeadAt}
 use Rattle.bud_log.specs.declared.log_end.LogEnd.{LogEnd}
 use Rattle.bud_log.specs.LogLaws.{blank-older, among_log}
-use Rattle.bud_log.proofs.Appended.{quiet_left, quiet_names, ready_works, here_names}
+use Rattle.bud_log.proofs.Appended.{goes_lnum, quiet_left, quiet_names, ready_works, here_names}
 use Rattle.bud_log.proofs.Gaps.{gap_length}
 use Rattle.bud_log.proofs.Laid.{AreLaid, laid_there}
 use Rattle.bud_log.proofs.ReadyAgain.{ready_here, ready_next, next_names}
@@ -40,13 +40,13 @@ pub blank_older : (start lnum size : ℕ) → IsOlder start lnum (filled size []
 blank_older start lnum size = blank-older start lnum (filled size []) (blank_replicate (size - 0))
 
 -- the LEB behind a chain is the next one
-run_past : (c : ℕ → List ℕ) (geo : RawGeometry) (from number l past lnum offs : ℕ) (first : LogEnd) (texts : List LogText) → Run c geo from number l texts past → l ≡ next_leb geo first.lnum → last_end first texts ≡ record { lnum = lnum; offs = offs; tail = Clean }
+run_past : (c : ℕ → List ℕ) (geo : RawGeometry) (from number l past lnum : ℕ) (first : LogEnd) (texts : List LogText) → Run c geo from number l texts past → l ≡ next_leb geo first.lnum → (last_end first texts).lnum ≡ lnum
     → past ≡ next_leb geo lnum
-run_past c geo from number l past lnum offs first [] h e last = sym h ∙ e ∙ ap (λ (z : LogEnd). next_leb geo z.lnum) last
-run_past c geo from number l past lnum offs first (text ∷ texts) h e last = run_past c geo from number (next_leb geo l) past lnum offs text.ends texts h.3 (ap (next_leb geo) (sym h.1.here)) last
+run_past c geo from number l past lnum first [] h e last = sym h ∙ e ∙ ap (next_leb geo) last
+run_past c geo from number l past lnum first (text ∷ texts) h e last = run_past c geo from number (next_leb geo l) past lnum text.ends texts h.3 (ap (next_leb geo) (sym h.1.here)) last
 
 pub past_is : (a : VolumeState) (geo : RawGeometry) (from lnum offs number : ℕ) (buds : List HeadAt) (h : IsReady a geo from lnum offs number buds) → h.past ≡ next_leb geo lnum
-past_is a geo from lnum offs number buds h = run_past a.holds geo from h.start (next_leb geo from) h.past lnum offs h.first.ends h.more h.chain.run (ap (next_leb geo) (sym h.chain.is_first.here)) h.last
+past_is a geo from lnum offs number buds h = run_past a.holds geo from h.start (next_leb geo from) h.past lnum h.first.ends h.more h.chain.run (ap (next_leb geo) (sym h.chain.is_first.here)) (goes_lnum geo (last_end h.first.ends h.more) lnum offs h.last)
 
 -- the last text
 run_end : (c : ℕ → List ℕ) (geo : RawGeometry) (from number l past : ℕ) (text : LogText) (texts : List LogText) (old : LogEnd) → Run c geo from number l (text ∷ texts) past → last_end text.ends texts ≡ old
@@ -63,10 +63,10 @@ chain_end c geo from start past first [] old h last =
 chain_end c geo from start past first (text ∷ texts) old h last = run_end c geo from start (next_leb geo from) past text texts old h.run last
 
 -- nothing is written behind the end
-pub end_blank : (a : VolumeState) (geo : RawGeometry) (from lnum offs number : ℕ) (buds : List HeadAt) (h : IsReady a geo from lnum offs number buds) → is_blank (drop offs (a.holds lnum)) ≡ true
-end_blank a geo from lnum offs number buds h =
+pub end_blank : (a : VolumeState) (geo : RawGeometry) (from lnum offs number : ℕ) (buds : List HeadAt) (h : IsReady a geo from lnum offs number buds) → last_end h.first.ends h.more ≡ record { lnum = lnum; offs = offs; tail = Clean } → is_blank (drop offs (a.holds lnum)) ≡ true
+end_blank a geo from lnum offs number buds h clean =
     let old : LogEnd = record { lnum = lnum; offs = offs; tail = Clean } in
-    let t = chain_end a.holds geo from h.start h.past h.first h.more old h.chain h.last in
+    let t = chain_end a.holds geo from h.start h.past h.first h.more old h.chain clean in
     let P : LogEnd → Type 0 = λ z. IsText (a.holds lnum) 0 t.1.items z.offs z.tail in
     (subst P t.2 t.1.is_text).ends
 
@@ -123,20 +123,26 @@ pub bud_ready : (a b : VolumeState) (geo : RawGeometry) (from lnum offs number b
     → IsReady b geo from lnum offs number buds
 bud_ready a b geo from lnum offs number bud buds D h f out w = ready_works a b geo from lnum offs number buds h bud D (aside_of a geo from lnum offs number bud buds h f out) (λ c is d. absurd (out is)) w
 
+-- where a reference has room the last text has a clean end
+clean_end : (at : LogAt) (last : LogEnd) → has_room at ≡ true → GoesOn at.geo last at.lnum at.offs → last ≡ record { lnum = at.lnum; offs = at.offs; tail = Clean }
+clean_end at last roomy (inl clean) = clean
+clean_end at last roomy (inr full) = let both : true ≡ false = sym roomy ∙ full.1 in absurd cc
+
 -- nodes were added to the log
 pub added_ready : (here : Bool) (a b : VolumeState) (at : LogAt) (from number next : ℕ) (buds : List HeadAt) (node : SystemNode) (nodes : List SystemNode) (bytes : List ℕ) → IsReady a at.geo from at.lnum at.offs number buds → IsLogLeb at.geo from
-    → (here ≡ false → next_leb at.geo at.lnum ≢ from) → number < next → HasMapped a → IsAdded here a b at bytes → WorksOn a b (lnum_at here at) (AddDuring here a at (length bytes)) → AreNodes bytes number (node ∷ nodes)
+    → (here ≡ true → has_room at ≡ true) → (here ≡ false → next_leb at.geo at.lnum ≢ from) → number < next → HasMapped a → IsAdded here a b at bytes → WorksOn a b (lnum_at here at) (AddDuring here a at (length bytes)) → AreNodes bytes number (node ∷ nodes)
     → length (a.holds at.lnum) ≡ a.leb_size → offs_at here at + length bytes ≤ a.leb_size → at.offs % 8 ≡ 0
     → IsReady b at.geo from (lnum_at here at) (offs_at here at + length bytes) next (fold named buds (references_in (node ∷ nodes)))
-added_ready true a b at from number next buds node nodes bytes h f free later sub w works are size room even =
+added_ready true a b at from number next buds node nodes bytes h f roomy free later sub w works are size room even =
     let old = a.holds at.lnum in
     let fits : at.offs + length bytes ≤ length old = omega (arith, room, size) in
     let front = put_front old bytes at.offs fits in
     let P : List ℕ → Type 0 = λ leb. AreLaid leb at.offs (at.offs + length bytes) number (node ∷ nodes) in
-    let laid = subst P (sym w.holds) (put_laid old bytes at.offs number are.gap (node ∷ nodes) are.spelled are.are fits (end_blank a at.geo from at.lnum at.offs number buds h) even are.fits are.even (gap_length are.gap)) in
-    ready_here a b at.geo from at.lnum at.offs number next (at.offs + length bytes) (length bytes) buds (node ∷ nodes) bytes h f (sub at.lnum) (omega (arith, later)) w works
+    let clean = clean_end at (last_end h.first.ends h.more) (roomy refl) h.last in
+    let laid = subst P (sym w.holds) (put_laid old bytes at.offs number are.gap (node ∷ nodes) are.spelled are.are fits (end_blank a at.geo from at.lnum at.offs number buds h clean) even are.fits are.even (gap_length are.gap)) in
+    ready_here a b at.geo from at.lnum at.offs number next (at.offs + length bytes) (length bytes) buds (node ∷ nodes) bytes h clean f (sub at.lnum) (omega (arith, later)) w works
     (front.0 ∙ ap (take at.offs) (sym w.holds)) (front.1 ∙ ap length (sym w.holds)) laid
-added_ready false a b at from number next buds node nodes bytes h f free later sub w works are size room even =
+added_ready false a b at from number next buds node nodes bytes h f roomy free later sub w works are size room even =
     let there = next_leb at.geo at.lnum in
     let e : h.past ≡ there = past_is a at.geo from at.lnum at.offs number buds h in
     let laid = begun_laid a b there number bytes (node ∷ nodes) w are room in
@@ -149,18 +155,18 @@ added_ready false a b at from number next buds node nodes bytes h f free later s
 
 -- and whatever a cut leaves on the way
 pub added_names : OneNode → (here : Bool) (a : VolumeState) (at : LogAt) (from number n : ℕ) (buds : List HeadAt) (nodes : List SystemNode) (x : ℕ → List ℕ) → IsReady a at.geo from at.lnum at.offs number buds → IsLogLeb at.geo from
-    → (here ≡ false → next_leb at.geo at.lnum ≢ from) → HasMapped a → AreSpelled number nodes → ((k : ℕ) → IsLogLeb at.geo k → k ≢ lnum_at here at → a.left_now k (x k)) → a.left_now (lnum_at here at) (x (lnum_at here at)) ⊎ AddDuring here a at n (x (lnum_at here at))
+    → (here ≡ true → has_room at ≡ true) → (here ≡ false → next_leb at.geo at.lnum ≢ from) → HasMapped a → AreSpelled number nodes → ((k : ℕ) → IsLogLeb at.geo k → k ≢ lnum_at here at → a.left_now k (x k)) → a.left_now (lnum_at here at) (x (lnum_at here at)) ⊎ AddDuring here a at n (x (lnum_at here at))
     → IsOldOrMeant a (lnum_at here at) (offs_at here at) number nodes (x (lnum_at here at)) → NamesSome x at.geo from buds (references_in nodes)
-added_names one here a at from number n buds nodes x h f free sub spelled others there (inl old) =
+added_names one here a at from number n buds nodes x h f roomy free sub spelled others there (inl old) =
     let all : (k : ℕ) → IsLogLeb at.geo k → a.left_now k (x k) = λ k is. elim (cases_eq k (lnum_at here at)) [
       | inl e ↦ let P : ℕ → Type 0 = λ m. a.left_now m (x m) in subst P (sym e) old
       | inr ne ↦ others k is ne
     ] in
     (0, quiet_names a at.geo from at.lnum at.offs number buds h x f (quiet_left a at.geo from at.lnum at.offs number buds h x f all))
-added_names one true a at from number n buds nodes x h f free sub spelled others there (inr meant) =
+added_names one true a at from number n buds nodes x h f roomy free sub spelled others there (inr meant) =
     let here : WriteUnderWay a at.lnum at.offs n (x at.lnum) = elim there [ inl now ↦ inl now | inr w ↦ w ] in
-    here_names one a at.geo from at.lnum at.offs number n buds nodes h x f (sub at.lnum) spelled others here meant
-added_names one false a at from number n buds nodes x h f free sub spelled others there (inr meant) =
+    here_names one a at.geo from at.lnum at.offs number n buds nodes h x (clean_end at (last_end h.first.ends h.more) (roomy refl) h.last) f (sub at.lnum) spelled others here meant
+added_names one false a at from number n buds nodes x h f roomy free sub spelled others there (inr meant) =
     let e : h.past ≡ next_leb at.geo at.lnum = past_is a at.geo from at.lnum at.offs number buds h in
     let N : ℕ → Type 0 = λ m. m ≢ from in
     let O : ℕ → Type 0 = λ m. (k : ℕ) → IsLogLeb at.geo k → k ≢ m → a.left_now k (x k) in
@@ -180,9 +186,9 @@ opened_names x geo from buds node (n, names) blank =
 
 -- a bud was opened, or the call failed on the way
 pub opened_moment : OneNode → (here : Bool) (a b : VolumeState) (at : LogAt) (from number n : ℕ) (buds : List HeadAt) (node : RefNode) → IsReady a at.geo from at.lnum at.offs number buds → IsLogLeb at.geo from
-    → (here ≡ false → next_leb at.geo at.lnum ≢ from) → HasMapped a → AreSpelled number (reference node ∷ []) → (IsLogLeb at.geo node.lnum → ⊥) → Leaves a b (OpenUnderWay here a at node.lnum n)
+    → (here ≡ true → has_room at ≡ true) → (here ≡ false → next_leb at.geo at.lnum ≢ from) → HasMapped a → AreSpelled number (reference node ∷ []) → (IsLogLeb at.geo node.lnum → ⊥) → Leaves a b (OpenUnderWay here a at node.lnum n)
     → Leaves a b (λ left. IsOldOrMeant a (lnum_at here at) (offs_at here at) number (reference node ∷ []) (left (lnum_at here at)) → NamesOpened left at.geo from buds node)
-opened_moment one here a b at from number n buds node h f free sub spelled out time =
+opened_moment one here a b at from number n buds node h f roomy free sub spelled out time =
     let there = lnum_at here at in
     let nodes : List SystemNode = reference node ∷ [] in
     let P : ℕ → Type 0 = λ m. IsLogLeb at.geo m in
@@ -198,7 +204,7 @@ opened_moment one here a b at from number n buds node h f free sub spelled out t
           inl (quiet_names a at.geo from at.lnum at.offs number buds h x f (quiet_left a at.geo from at.lnum at.offs number buds h x f all))
       | inr added ↦
           let B : List ℕ → Type 0 = λ leb. is_blank leb ≡ true in
-          let names = added_names one here a at from number n buds nodes x h f free sub spelled (λ k in_log ne. d.0 k (aside k in_log) ne) (inr added.1) meant in
+          let names = added_names one here a at from number n buds nodes x h f roomy free sub spelled (λ k in_log ne. d.0 k (aside k in_log) ne) (inr added.1) meant in
           opened_names x at.geo from buds node names (subst B (sym added.0) (blank_replicate (a.leb_size - 0)))
     ])
     time
@@ -210,5 +216,5 @@ pub started_moment : OneNode → (a b : VolumeState) (at : LogAt) (from number n
 started_moment one a b at from number n buds nodes h f free sub spelled time =
     let there = next_leb at.geo at.lnum in
     Leaves-more a b (StartUnderWay a at n) (λ left. IsOldOrMeant a there 0 number nodes (left there) → NamesSome left at.geo from buds (references_in nodes))
-    (λ x u meant. added_names one false a at from number n buds nodes x h f (λ e. free) sub spelled (λ k in_log ne. u.0 k ne) (inr u.1) meant)
+    (λ x u meant. added_names one false a at from number n buds nodes x h f (λ e. absurd cc) (λ e. free) sub spelled (λ k in_log ne. u.0 k ne) (inr u.1) meant)
     time

@@ -13,10 +13,10 @@ use Rattle.bud_log.specs.Buds.{named, buds_of}
 use Rattle.bud_log.specs.Log.{IsLogLeb, next_leb, references_of}
 use Rattle.bud_log.specs.LogCalls.{IsBegun}
 use Rattle.bud_log.specs.LogText.{LogText, IsTextOf, IsStartAt, at_start, begins_with, start_of, BeginsCommit, StartsCommit, is_later}
-use Rattle.bud_log.specs.Writing.{references_in, IsAmong, IsOlder, AreOthersOlder, AreSpelled, last_end, IsReady, NamesBuds, NamesSome, IsMeant}
+use Rattle.bud_log.specs.Writing.{references_in, IsAmong, IsPassedOver, AreOthersOlder, AreSpelled, last_end, IsReady, NamesBuds, NamesSome, IsMeant}
 use Rattle.bud_log.specs.declared.head_at.HeadAt.{HeadAt}
 use Rattle.bud_log.specs.declared.log_end.LogEnd.{LogEnd}
-use Rattle.bud_log.specs.LogLaws.{among_log, below_more, chain_alike, older_more}
+use Rattle.bud_log.specs.LogLaws.{among_log, below_more, chain_alike, older_more, passed-later}
 use Rattle.bud_log.proofs.Appended.{past_free, names_chain, IsQuiet, quiet_names, end_among}
 use Rattle.bud_log.proofs.Chains.{chain_more, last_first, last_more, Grows, chain_grown, references_grown, last_end_grown, among_grown, buds_behind, references_added, last_end_added, among_added}
 use Rattle.bud_log.proofs.Grown.{grown, grown_text}
@@ -26,10 +26,10 @@ use Rattle.bud_log.proofs.Parts.{part_references}
 use Rattle.bud_log.proofs.References.{OneNode, some_references}
 
 -- nodes behind the end of the log
-pub ready_here : (a b : VolumeState) (geo : RawGeometry) (from lnum offs number next end len : ℕ) (buds : List HeadAt) (nodes : List SystemNode) (bytes : List ℕ) (h : IsReady a geo from lnum offs number buds) → IsLogLeb geo from
+pub ready_here : (a b : VolumeState) (geo : RawGeometry) (from lnum offs number next end len : ℕ) (buds : List HeadAt) (nodes : List SystemNode) (bytes : List ℕ) (h : IsReady a geo from lnum offs number buds) → last_end h.first.ends h.more ≡ record { lnum = lnum; offs = offs; tail = Clean } → IsLogLeb geo from
     → ((c : List ℕ) → a.left_mapped lnum c → a.left_now lnum c) → number ≤ next → IsWritten a b lnum offs bytes → WorksOn a b lnum (WriteUnderWay a lnum offs len) → take offs (a.holds lnum) ≡ take offs (b.holds lnum)
     → length (a.holds lnum) ≡ length (b.holds lnum) → AreLaid (b.holds lnum) offs end number nodes → IsReady b geo from lnum end next (fold named buds (references_in nodes))
-ready_here a b geo from lnum offs number next end len buds nodes bytes h f sub later w works front long laid =
+ready_here a b geo from lnum offs number next end len buds nodes bytes h clean f sub later w works front long laid =
     let there = end_among a geo from lnum offs number buds h in
     let all : List LogText = h.first ∷ h.more in
     let only = h.settled lnum there in
@@ -42,18 +42,18 @@ ready_here a b geo from lnum offs number next end len buds nodes bytes h f sub l
     let F : LogEnd → Type 0 = λ z. IsText (b.holds lnum) z.offs laid.items end Clean in
     grown (a.holds lnum) (b.holds lnum) lnum end Clean text laid.items references is (subst E (sym e) front) long (subst F (sym e) laid.is_text) laid.refer in
     let g : LogText → LogText = λ t. grown_text t found references ends in
-    let same : (last_end h.first.ends h.more).lnum ≡ ends.lnum = ap (λ (e : LogEnd). e.lnum) h.last in
+    let same : (last_end h.first.ends h.more).lnum ≡ ends.lnum = ap (λ (e : LogEnd). e.lnum) clean in
     let low = h.low in
     record {
       start = h.start;
       first = last_first g h.first h.more;
       more = last_more g h.more;
       past = h.past;
-      chain = chain_grown a.holds b.holds geo from h.start h.past h.first h.more found references old ends f h.chain h.last (λ k ne is. sym (works.others k ne)) grows;
+      chain = chain_grown a.holds b.holds geo from h.start h.past h.first h.more found references old ends f h.chain clean (λ k ne is. sym (works.others k ne)) grows;
       low = omega (arith, low, later);
       below = below_more number next (last_first g h.first h.more ∷ last_more g h.more) later (below_grown a.holds geo from h.start h.past number h.first h.more found references ends h.chain h.below);
       buds_are = ap (λ (bs : List HeadAt). fold named bs references) h.buds_are ∙ sym (buds_behind (references_of all) references) ∙ ap buds_of (sym (references_grown h.first h.more found references ends));
-      last = last_end_grown h.first h.more found references ends;
+      last = inl (last_end_grown h.first h.more found references ends);
       settled = λ k is c left. elim (cases_eq k lnum) [
         | inl e ↦
             let L : ℕ → Type 0 = λ n. b.left_now n c in
@@ -65,7 +65,7 @@ ready_here a b geo from lnum offs number next end len buds nodes bytes h f sub l
       spare = λ k leb is none left.
           let old_none : IsAmong k all → ⊥ = λ i. none ((among_grown k h.first h.more found references ends same).1 i) in
           let ne : k ≢ lnum = λ e. let P : ℕ → Type 0 = λ n. IsAmong n all in old_none (subst P (sym e) there) in
-          h.spare k leb is old_none (works.others_left k leb ne left);
+          passed-later h.start number next h.past k leb later (h.spare k leb is old_none (works.others_left k leb ne left));
     }
 
 later_first : (start number place : ℕ) (nodes : List SystemNode) (node : SystemNode) (found : List Found) → FirstIs 0 number (node ∷ nodes) found → start ≤ number → is_later start (begins_with found) ≡ true
@@ -151,7 +151,7 @@ ready_next a b geo from lnum offs number next end buds node nodes bytes D h f ne
       low = omega (arith, low, later);
       below = below_last next all text (below_more number next all more h.below) (not_above next number nodes node (nodes_of laid.items) laid.first later);
       buds_are = ap (λ (bs : List HeadAt). fold named bs references) h.buds_are ∙ sym (buds_behind (references_of all) references) ∙ ap buds_of (sym (references_added h.first h.more text));
-      last = last_end_added h.first.ends h.more text;
+      last = inl (last_end_added h.first.ends h.more text);
       settled = λ k is c left. elim (cases_eq k past) [
         | inl e ↦
             let L : ℕ → Type 0 = λ n. b.left_now n c in
@@ -161,7 +161,7 @@ ready_next a b geo from lnum offs number next end buds node nodes bytes D h f ne
       ];
       spare = λ k leb is none left.
           let other : k ≢ past = λ e. none (inr ((among_added k h.more text).1 (inr e))) in
-          h.spare k leb is (λ i. none (among_new k h.first h.more text i)) (works.others_left k leb other left);
+          elim (h.spare k leb is (λ i. none (among_new k h.first h.more text i)) (works.others_left k leb other left)) [ inl older ↦ inl older | inr lone ↦ absurd (other lone.0) ];
     }
 
 -- a commit start and nodes behind it at the start of a LEB: the log that is read from there on
@@ -178,7 +178,7 @@ ready_section a b geo number next end there start nodes bytes D older later w wo
       low = omega (arith, later);
       below = (not_above next number nodes (commit_start start) (nodes_of laid.items) laid.first later, tt);
       buds_are = ap buds_of (sym (append-nil references));
-      last = refl;
+      last = inl refl;
       settled = λ k among c left.
           let e : k ≡ there = elim among [ inl same ↦ same | inr none ↦ absurd none ] in
           let L : ℕ → Type 0 = λ n. b.left_now n c in
@@ -186,7 +186,7 @@ ready_section a b geo number next end there start nodes bytes D older later w wo
           subst H (sym e) (w.left c (subst L e left) ∙ sym w.holds);
       spare = λ k leb in_log none left.
           let other : k ≢ there = λ e. none (inl e) in
-          older_more number (number + 1) k leb (omega arith) (older k leb in_log other (works.others_left k leb other left));
+          inl (older_more number (number + 1) k leb (omega arith) (older k leb in_log other (works.others_left k leb other left)));
     }
 
 -- what was torn at the start of the next LEB
@@ -206,17 +206,17 @@ next_names one a geo from lnum offs number buds nodes h x f ne spelled others me
           let part = part_references one (x past) (nodes_of meant.items) 0 number nodes some.0 spelled meant.part some.1 in
           let old = chain_alike a.holds x geo from h.start past h.first h.more (λ k is. sym (h.settled k is (x k) (others k (in_log k is) (apart k is)))) h.chain in
           let chain = chain_more x geo from h.start past h.first h.more text old ne is_text later in
-          let names = names_chain x geo from h.start (next_leb geo past) h.first (h.more ++ text ∷ []) f chain
-          (λ k is none. let other : k ≢ past = λ e. none (inr ((among_added k h.more text).1 (inr e))) in h.spare k (x k) is (λ i. none (among_new k h.first h.more text i)) (others k is other)) in
+          let names = names_chain x geo from h.start number (next_leb geo past) h.first (h.more ++ text ∷ []) f chain
+          (λ k is none. let other : k ≢ past = λ e. none (inr ((among_added k h.more text).1 (inr e))) in elim (h.spare k (x k) is (λ i. none (among_new k h.first h.more text i)) (others k is other)) [ inl older ↦ inl older | inr lone ↦ absurd (other lone.0) ]) in
           let P : List HeadAt → Type 0 = λ bs. NamesBuds x geo from bs in
           let e : buds_of (references_of (h.first ∷ (h.more ++ text ∷ []))) ≡ fold named buds (take part.0 (references_in nodes)) =
           ap buds_of (references_added h.first h.more text) ∙ buds_behind (references_of all) some.0 ∙ ap (λ (b : List HeadAt). fold named b some.0) (sym h.buds_are) ∙ ap (fold named buds) part.1 in
           (part.0, subst P e names)
       | inr not_later ↦
-          let quiet : IsQuiet a geo from h.start all x = record {
+          let quiet : IsQuiet a geo h.start number h.past all x = record {
             read = λ k is. h.settled k is (x k) (others k (in_log k is) (apart k is));
             not_read = λ k is none. elim (cases_eq k past) [
-              | inl e ↦ let Q : ℕ → Type 0 = λ n. IsOlder h.start n (x n) in subst Q (sym e) (text, is_text, not_later)
+              | inl e ↦ let Q : ℕ → Type 0 = λ n. IsPassedOver h.start number h.past n (x n) in subst Q (sym e) (inl (text, is_text, not_later))
               | inr other ↦ h.spare k (x k) is none (others k is other)
             ];
           } in

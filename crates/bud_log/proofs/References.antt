@@ -1,7 +1,7 @@
 -- The references among the nodes of a text.
 use Rattle.std.proofs.Common.{◌≡◌, inl, inr, ℕ, ◌+◌, ◌≤◌, Bool, true, false, List, [], ◌∷◌, ◌++◌, length, take, drop, Option, Some, None, IfSome, IfNone, refl, ap, sym, ◌∙◌, subst, arith, append-nil}
 use Rattle.std.specs.Prelude.{◌≢◌, ◌==◌, if◌then◌else◌, fold, IsSome}
-use Rattle.std.proofs.lemmas.Bool.{cases_eq, cases_Bool}
+use Rattle.std.proofs.lemmas.Bool.{cases_eq, cases_Bool, eqb-true}
 use Rattle.std.proofs.lemmas.List.Sums.{fold-append}
 use Rattle.ubifs_base.specs.NodeLaws.{IsBytes}
 use Rattle.media_leaf.specs.LeafNode.{LeafNode, inode, block, entry, truncation, leaf_form}
@@ -14,7 +14,7 @@ use Rattle.leb_scan.specs.declared.found.Found.{Found}
 use Rattle.leb_scan.specs.declared.item.Item.{Item}
 use Rattle.leb_scan.specs.declared.item.Item.TheVariants.{Node, Padding, Word}
 use Rattle.bud_log.specs.Buds.{named}
-use Rattle.bud_log.specs.LogText.{LogText, IsReferenceAt, Refer, IsTextOf, IsStartAt, begins_with, BeginsCommit}
+use Rattle.bud_log.specs.LogText.{LogText, IsReferenceAt, Refer, IsTextOf, IsStartAt, begins_with, BeginsCommit, others, is_one_start, is_start_alone}
 use Rattle.bud_log.specs.Seen.{HasBeginning, IsSeen, AreNamed}
 use Rattle.bud_log.specs.declared.head_at.HeadAt.{HeadAt}
 use Rattle.bud_log.specs.declared.seen.Seen.{Seen}
@@ -185,6 +185,41 @@ some_references leb (Node found ∷ items) place end h =
     more_references leb found (nodes_of items) (placed leb place found found h.0.node refl h.0.stands) (some_references leb items (behind leb place (Node found)) end h.1)
 some_references leb (Padding found pad_len ∷ items) place end h =
     more_references leb found (nodes_of items) (placed leb place found found _ refl h.0.stands) (some_references leb items (behind leb place (Padding found pad_len)) end h.1)
+
+others_skip : (found : Found) (nodes : List Found) → (found.kind == 5) ≡ true → others (found ∷ nodes) ≡ others nodes
+others_skip found nodes is = rw is refl
+
+others_keep : (found : Found) (nodes : List Found) → (found.kind == 5) ≡ false → others (found ∷ nodes) ≡ found ∷ others nodes
+others_keep found nodes is = rw is refl
+
+-- where padding alone stands there are no references
+padding_references : (leb : List ℕ) (nodes : List Found) (references : List RefNode) → Refer leb nodes references → others nodes ≡ [] → references ≡ []
+padding_references leb [] references h none = h
+padding_references leb (found ∷ nodes) references h none = elim (cases_Bool (found.kind == 5)) [
+  | inl is_gap ↦
+      let five = eqb-true found.kind 5 is_gap in
+      let rest : others nodes ≡ [] = sym (others_skip found nodes is_gap) ∙ none in
+      elim h [ inl (other, more) ↦ padding_references leb nodes references more rest | inr (eight, node, more, is, e, k) ↦ absurd (omega (arith, five, eight)) ]
+  | inr node ↦ let cons : found ∷ others nodes ≡ [] = sym (others_keep found nodes node) ∙ none in absurd cc
+]
+
+one_parts : (found : Found) (rest : List Found) → is_one_start (found ∷ rest) ≡ true → (rest ≡ []) × (found.kind ≡ 10)
+one_parts found [] h = (refl, eqb-true found.kind 10 h)
+one_parts found (other ∷ rest) h = absurd cc
+
+-- nor where a commit start stands alone
+pub lone_references : (leb : List ℕ) (nodes : List Found) (references : List RefNode) → Refer leb nodes references → is_start_alone nodes ≡ true → references ≡ []
+lone_references leb [] references h alone = absurd cc
+lone_references leb (found ∷ nodes) references h alone = elim (cases_Bool (found.kind == 5)) [
+  | inl is_gap ↦
+      let five = eqb-true found.kind 5 is_gap in
+      let rest : is_start_alone nodes ≡ true = ap is_one_start (sym (others_skip found nodes is_gap)) ∙ alone in
+      elim h [ inl (other, more) ↦ lone_references leb nodes references more rest | inr (eight, node, more, is, e, k) ↦ absurd (omega (arith, five, eight)) ]
+  | inr node ↦
+      let parts = one_parts found (others nodes) (ap is_one_start (sym (others_keep found nodes node)) ∙ alone) in
+      let ten = parts.1 in
+      elim h [ inl (other, more) ↦ padding_references leb nodes references more parts.0 | inr (eight, n, more, is, e, k) ↦ absurd (omega (arith, ten, eight)) ]
+]
 
 -- where bytes are a commit start, it is found, and no other
 pub start_is_there : (bytes : List ℕ) (sqnum group : ℕ) (node : CommitStart) (o : Option CommitStart) → IsCommitStart bytes sqnum group node → IfNone o ((s g : ℕ) (other : CommitStart) → IsCommitStart bytes s g other → ⊥) → IsSome o

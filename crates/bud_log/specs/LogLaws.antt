@@ -15,7 +15,7 @@ use Rattle.leb_scan.specs.declared.found.Found.{Found}
 use Rattle.bud_log.specs.Log.{IsLogLeb, next_leb, Run, Stops, AreFurther, Log, IsLog}
 use Rattle.bud_log.specs.LogAt.{room_of}
 use Rattle.bud_log.specs.LogText.{LogText, IsTextOf, begins_with, start_of, BeginsCommit, is_later}
-use Rattle.bud_log.specs.Writing.{IsAmong, IsOlder, AreBelow, AreOthersOlder, IsChain, IsReady}
+use Rattle.bud_log.specs.Writing.{IsAmong, IsOlder, AreBelow, AreOthersOlder, IsPassedOver, IsChain, IsReady}
 use Rattle.bud_log.specs.declared.head_at.HeadAt.{HeadAt}
 
 -- the next LEB is one of the log
@@ -100,7 +100,7 @@ IsReady-older a geo from lnum offs number there buds h = λ k leb is ne left. el
   | inl among ↦
       let P : List ℕ → Type 0 = λ bytes. IsOlder number k bytes in
       subst P (sym (h.settled k among leb left)) (chain_older a.holds geo from h.start h.past number k h.first h.more h.chain h.below among)
-  | inr none ↦ older_more h.start number k leb h.low (h.spare k leb is none left)
+  | inr none ↦ elim (h.spare k leb is none left) [ inl older ↦ older_more h.start number k leb h.low older | inr (here, text, is_text, alone, below) ↦ (text, is_text, below) ]
 ]
 
 -- a LEB to which nothing is written begins with no node
@@ -149,6 +149,11 @@ IsLog-same c d geo from log f same h =
       ends = h.ends;
     }
 
+-- what is passed over still is when sequence numbers rise
+pub passed-later : (start number next past k : ℕ) (leb : List ℕ) → number ≤ next → IsPassedOver start number past k leb → IsPassedOver start next past k leb
+passed-later start number next past k leb later (inl older) = inl older
+passed-later start number next past k leb later (inr (here, text, is, alone, below)) = inr (here, text, is, alone, later_more number next (begins_with text.nodes) later below)
+
 -- A volume stays ready.
 
 -- when sequence numbers rise
@@ -166,7 +171,7 @@ IsReady-later a geo from lnum offs number next buds later h =
       buds_are = h.buds_are;
       last = h.last;
       settled = h.settled;
-      spare = h.spare;
+      spare = λ k leb is none left. passed-later h.start number next h.past k leb later (h.spare k leb is none left);
     }
 
 -- where the LEBs of its log are as they were

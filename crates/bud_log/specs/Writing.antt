@@ -1,5 +1,5 @@
 -- A log that is written on: what it takes to be ready for its next nodes, and what a cut leaves while they are written.
-use Rattle.std.specs.Prelude.{◌≡◌, ◌≢◌, ◌⊎◌, ⊤, ℕ, ◌+◌, ◌%◌, ◌^◌, ◌<◌, ◌≤◌, IsTrue, IsFalse, Some, List, [], ◌∷◌, ◌++◌, take, drop, length, fold}
+use Rattle.std.specs.Prelude.{◌≡◌, ◌≢◌, ◌⊎◌, ⊤, ℕ, ◌+◌, ◌%◌, ◌^◌, ◌<◌, ◌≤◌, nat_le, IsTrue, IsFalse, Some, List, [], ◌∷◌, ◌++◌, take, drop, length, fold}
 use Rattle.ubifs_base.specs.Gap.{gap_of}
 use Rattle.ubifs_base.specs.NodeLaws.{IsBytes}
 use Rattle.ubifs_base.specs.NodeType.{type_number}
@@ -15,7 +15,8 @@ use Rattle.leb_scan.specs.declared.tail.Tail.{Tail}
 use Rattle.leb_scan.specs.declared.tail.Tail.TheVariants.{Clean}
 use Rattle.bud_log.specs.Buds.{named, buds_of}
 use Rattle.bud_log.specs.Log.{Log, IsLog, IsLogLeb, next_leb, Run, references_of}
-use Rattle.bud_log.specs.LogText.{LogText, IsTextOf, begins_with, start_of, is_later}
+use Rattle.bud_log.specs.LogAt.{room_of}
+use Rattle.bud_log.specs.LogText.{LogText, IsTextOf, begins_with, start_of, is_later, is_start_alone}
 use Rattle.bud_log.specs.declared.head_at.HeadAt.{HeadAt}
 use Rattle.bud_log.specs.declared.log_end.LogEnd.{LogEnd}
 
@@ -69,6 +70,11 @@ IsAmong lnum (text ∷ texts) = (lnum ≡ text.ends.lnum) ⊎ IsAmong lnum texts
 abbrev pub IsOlder : ℕ → ℕ → List ℕ → Type 0
 IsOlder number lnum leb = (text : LogText) × IsTextOf leb lnum text × IsFalse (is_later number (begins_with text.nodes))
 
+-- A LEB that isn't read, or says nothing: it doesn't begin with a number greater than the first, or it is the one behind the last
+-- that is read, and has the start of an unfinished commit alone, whose number isn't above the last one.
+abbrev pub IsPassedOver : ℕ → ℕ → ℕ → ℕ → List ℕ → Type 0
+IsPassedOver start number past lnum leb = IsOlder start lnum leb ⊎ ((lnum ≡ past) × (text : LogText) × IsTextOf leb lnum text × IsTrue (is_start_alone text.nodes) × IsFalse (is_later number (begins_with text.nodes)))
+
 -- whatever a cut leaves of the log's LEBs but this one, none begins with a number above this
 abbrev pub AreOthersOlder : VolumeState → RawGeometry → ℕ → ℕ → Type 0
 AreOthersOlder state geo lnum number = (k : ℕ) (leb : List ℕ) → IsLogLeb geo k → k ≢ lnum → state.left_now k leb → IsOlder number k leb
@@ -89,8 +95,13 @@ pub record IsChain (contents : ℕ → List ℕ) (geo : RawGeometry) (from start
   pub starts : start_of (begins_with first.nodes) ≡ Some start
   pub run : Run contents geo from start (next_leb geo from) more past
 
--- The volume holds a log of these buds, which ends here, and is ready for its next node: what is read of it a cut leaves as it
--- is, and whatever a cut leaves of the ring's other LEBs isn't read. No LEB begins with a number above this one.
+-- A log whose last text ends here is written on from this place: behind a clean end; or nowhere in that LEB, as behind a torn end,
+-- since no reference has room at the place.
+abbrev pub GoesOn : RawGeometry → LogEnd → ℕ → ℕ → Type 0
+GoesOn geo last lnum offs = (last ≡ record { lnum = lnum; offs = offs; tail = Clean }) ⊎ ((last.lnum ≡ lnum) × IsFalse (nat_le (offs + room_of geo.min_io 64) geo.leb_size))
+
+-- The volume holds a log of these buds, which goes on here, and is ready for its next node: what is read of it a cut leaves as it
+-- is, and whatever a cut leaves of the ring's other LEBs is passed over. No LEB begins with a number above this one.
 pub record IsReady (state : VolumeState) (geo : RawGeometry) (from lnum offs number : ℕ) (buds : List HeadAt) : Type 0 where
   pub start : ℕ
   pub first : LogText
@@ -100,9 +111,9 @@ pub record IsReady (state : VolumeState) (geo : RawGeometry) (from lnum offs num
   pub low : start ≤ number
   pub below : AreBelow number (first ∷ more)
   pub buds_are : buds ≡ buds_of (references_of (first ∷ more))
-  pub last : last_end first.ends more ≡ record { lnum = lnum; offs = offs; tail = Clean }
+  pub last : GoesOn geo (last_end first.ends more) lnum offs
   pub settled : (k : ℕ) → IsAmong k (first ∷ more) → Only (state.holds k) (state.left_now k)
-  pub spare : (k : ℕ) (leb : List ℕ) → IsLogLeb geo k → (IsAmong k (first ∷ more) → ⊥) → state.left_now k leb → IsOlder start k leb
+  pub spare : (k : ℕ) (leb : List ℕ) → IsLogLeb geo k → (IsAmong k (first ∷ more) → ⊥) → state.left_now k leb → IsPassedOver start number past k leb
 
 -- the log that is read from this LEB on names these buds
 abbrev pub NamesBuds : (ℕ → List ℕ) → RawGeometry → ℕ → List HeadAt → Type 0

@@ -45,6 +45,6 @@ returns-clause-done g c =
     on_ok c.add.result (IsAdded here a b at bytes) B
     (λ w from buds f free h.
     let Q : ℕ → Type 0 = λ n. IsReady b at.geo from (lnum_at here at) (offs_at here at + n) (number + 1) (named buds c.args.node.now) in
-    subst Q (size ∙ is) (added_ready here a b at from number (number + 1) buds (reference c.args.node.now) [] bytes h f free (omega arith) (g.met.V.Volume.mapped_now c.args.volume.now) w c.add.ensures.works c.lay_reference.ensures
+    subst Q (size ∙ is) (added_ready here a b at from number (number + 1) buds (reference c.args.node.now) [] bytes h f (λ e. sym c.requires.here ∙ e) free (omega arith) (g.met.V.Volume.mapped_now c.args.volume.now) w c.add.ensures.works c.lay_reference.ensures
     (g.met.V.Volume.leb_len c.args.volume.now at.lnum (omega (arith, high, lebs))) (omega (arith, there, size, leb_size)) (mod_through at.offs at.geo.min_io 8 c.requires.at.unit even)))
     c.add.ensures.done

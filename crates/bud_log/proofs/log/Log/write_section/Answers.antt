@@ -53,7 +53,7 @@ returns-clause-done g c =
     (λ w from next buds f free later h.
     let Q : ℕ → Type 0 = λ n. IsReady b at.geo from (next_leb at.geo at.lnum) n next (fold named buds (references_to heads)) in
     let S : List RefNode → Type 0 = λ r. IsReady b at.geo from (next_leb at.geo at.lnum) (0 + length bytes) next (fold named buds r) in
-    subst Q (all ∙ is) (subst S (references_same heads) (added_ready false a b at from number next buds (commit_start start) (head_nodes heads) bytes h f (λ e. free) later (g.met.V.Volume.mapped_now c.args.volume.now) w c.add.ensures.works c.lay_section.ensures
+    subst Q (all ∙ is) (subst S (references_same heads) (added_ready false a b at from number next buds (commit_start start) (head_nodes heads) bytes h f (λ e. absurd cc) (λ e. free) later (g.met.V.Volume.mapped_now c.args.volume.now) w c.add.ensures.works c.lay_section.ensures
     (g.met.V.Volume.leb_len c.args.volume.now at.lnum (omega (arith, high, lebs))) (omega (arith, short, size, leb_size)) (mod_through at.offs at.geo.min_io 8 c.requires.at.unit even))))
     c.add.ensures.done
 
