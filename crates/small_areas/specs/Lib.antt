@@ -4,3 +4,4 @@ pub mod Copies
 pub mod Puts
 pub mod Addresses
 pub mod Orphans
+pub mod FoundAreas
