@@ -23,13 +23,13 @@ pub record IsCall (a b : VolumeState) (lnum room sqnum : ℕ) (m : Master) (node
   pub works : WorksOn a b lnum (CopyUnderWay a lnum room (copy_of room node))
 
 -- the same of the node as it is spelled
-abbrev IsSpelled : VolumeState → VolumeState → ℕ → ℕ → ℕ → Master → Type 0
+abbrev pub IsSpelled : VolumeState → VolumeState → ℕ → ℕ → ℕ → Master → Type 0
 IsSpelled a b lnum room sqnum m = IsCall a b lnum room sqnum m (master_node sqnum m)
 
-spelled : (a b : VolumeState) (lnum room sqnum : ℕ) (m : Master) (node : List ℕ) → IsCall a b lnum room sqnum m node → IsSpelled a b lnum room sqnum m
+pub spelled : (a b : VolumeState) (lnum room sqnum : ℕ) (m : Master) (node : List ℕ) → IsCall a b lnum room sqnum m node → IsSpelled a b lnum room sqnum m
 spelled a b lnum room sqnum m node h = let P : List ℕ → Type 0 = λ n. IsCall a b lnum room sqnum m n in subst P h.spelling h
 
-copied_spelled : (a b : VolumeState) (lnum room sqnum : ℕ) (m : Master) (node : List ℕ) → node ≡ master_node sqnum m → IsCopied a b lnum room (copy_of room node) → IsCopied a b lnum room (copy_of room (master_node sqnum m))
+pub copied_spelled : (a b : VolumeState) (lnum room sqnum : ℕ) (m : Master) (node : List ℕ) → node ≡ master_node sqnum m → IsCopied a b lnum room (copy_of room node) → IsCopied a b lnum room (copy_of room (master_node sqnum m))
 copied_spelled a b lnum room sqnum m node e h = let P : List ℕ → Type 0 = λ n. IsCopied a b lnum room (copy_of room n) in subst P e h
 
 -- the first copy alone, whatever it answered

@@ -120,27 +120,27 @@ settled a c lnum room copy only sub (inl (place, is, w)) = λ x l. let d = w.lef
 settled a c lnum room copy only sub (inr (none, w)) = λ x l. w.left x l ∙ sym w.holds
 
 -- the last masters of two LEBs whose latest one is this
-record HasOld (one two : List ℕ) (old : PlacedMaster) (number : ℕ) : Type 0 where
-  first : Option PlacedMaster
-  second : Option PlacedMaster
-  first_read : IsReadOf 1 one first
-  second_read : IsReadOf 2 two second
-  later : later_of first second ≡ Some old
-  low : IfSome second (λ (p : PlacedMaster). p.sqnum ≤ number)
+pub record HasOld (one two : List ℕ) (old : PlacedMaster) (number : ℕ) : Type 0 where
+  pub first : Option PlacedMaster
+  pub second : Option PlacedMaster
+  pub first_read : IsReadOf 1 one first
+  pub second_read : IsReadOf 2 two second
+  pub later : later_of first second ≡ Some old
+  pub low : IfSome second (λ (p : PlacedMaster). p.sqnum ≤ number)
 
-abbrev with_lnum : ℕ → PlacedMaster → PlacedMaster
+abbrev pub with_lnum : ℕ → PlacedMaster → PlacedMaster
 with_lnum lnum p = record { lnum = lnum; offs = p.offs; sqnum = p.sqnum; master = p.master }
 
-read_with : (leb : List ℕ) (lnum : ℕ) (p : PlacedMaster) → IsLastMaster leb p → IsReadOf lnum leb (Some (with_lnum lnum p))
+pub read_with : (leb : List ℕ) (lnum : ℕ) (p : PlacedMaster) → IsLastMaster leb p → IsReadOf lnum leb (Some (with_lnum lnum p))
 read_with leb lnum p h = record { some = (record { found = h.found; last = h.last; offs = h.offs; sqnum = h.sqnum; is = h.is }, refl); none = tt }
 
-read_as : (leb : List ℕ) (lnum : ℕ) (p : PlacedMaster) → p.lnum ≡ lnum → IsLastMaster leb p → IsReadOf lnum leb (Some p)
+pub read_as : (leb : List ℕ) (lnum : ℕ) (p : PlacedMaster) → p.lnum ≡ lnum → IsLastMaster leb p → IsReadOf lnum leb (Some p)
 read_as leb lnum p is h = record { some = (h, is); none = tt }
 
 read_none : (leb : List ℕ) (lnum : ℕ) → HasNoMaster leb → IsReadOf lnum leb None
 read_none leb lnum h = record { some = tt; none = h }
 
-old_reads : (one two : List ℕ) (old : PlacedMaster) (number : ℕ) → old.sqnum ≤ number → IsLatest one two old → HasOld one two old number
+pub old_reads : (one two : List ℕ) (old : PlacedMaster) (number : ℕ) → old.sqnum ≤ number → IsLatest one two old → HasOld one two old number
 old_reads one two old number low (inl (is, last, inl none)) = record { first = Some old; second = None; first_read = read_as one 1 old is last; second_read = read_none two 2 none; later = refl; low = tt }
 old_reads one two old number low (inl (is, last, inr (other, older, le))) = record {
   first = Some old;
@@ -161,7 +161,7 @@ old_reads one two old number low (inr (is, last, inr (other, older, lt))) = reco
 }
 
 -- a new master in LEB 1 beside an older one in LEB 2
-new_first : (one two : List ℕ) (p : PlacedMaster) (o : Option PlacedMaster) (number : ℕ) → IsReadOf 1 one (Some p) → IsReadOf 2 two o → IfSome o (λ (q : PlacedMaster). q.sqnum ≤ number) → number < p.sqnum → IsLatest one two p
+pub new_first : (one two : List ℕ) (p : PlacedMaster) (o : Option PlacedMaster) (number : ℕ) → IsReadOf 1 one (Some p) → IsReadOf 2 two o → IfSome o (λ (q : PlacedMaster). q.sqnum ≤ number) → number < p.sqnum → IsLatest one two p
 new_first one two p None number h k low less = inl (h.some.1, h.some.0, inl k.none)
 new_first one two p (Some q) number h k low less = inl (h.some.1, h.some.0, inr (q, k.some.0, omega (arith, low, less)))
 
@@ -169,7 +169,7 @@ new_first one two p (Some q) number h k low less = inl (h.some.1, h.some.0, inr 
 pub new_second : (one two : List ℕ) (p q : PlacedMaster) → IsReadOf 1 one (Some p) → IsReadOf 2 two (Some q) → p.sqnum < q.sqnum → IsLatest one two q
 new_second one two p q h k less = inr (k.some.1, k.some.0, inr (p, h.some.0, less))
 
-first_stage : (one two x y : List ℕ) (old : PlacedMaster) (new : Master) (number : ℕ) (h : HasOld one two old number) → IsReadOf 2 y h.second
+pub first_stage : (one two x y : List ℕ) (old : PlacedMaster) (new : Master) (number : ℕ) (h : HasOld one two old number) → IsReadOf 2 y h.second
     → IsReadOf 1 x h.first ⊎ ((place : ℕ) × IsReadOf 1 x (Some (standing_at 1 place (number + 1) new))) → IsOldOrNew old new x y
 first_stage one two x y old new number h k (inl r) =
     let P : Option PlacedMaster → Type 0 = λ o. IfSome o (IsLatest x y) in

@@ -12,3 +12,4 @@ pub mod ByteLists
 pub mod BothCopies
 pub mod OrphanLists
 pub mod Kept
+pub mod OtherCopy

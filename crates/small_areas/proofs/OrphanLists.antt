@@ -12,12 +12,12 @@ use Rattle.media_sys.specs.Orphans.{Orphans}
 use Rattle.media_sys.specs.SystemNode.{padding, superblock, master, reference, index, commit_start, orphans, IsSystemNode}
 use Rattle.leb_scan.specs.Text.{leaf, system, IsNodeAt, IsNext, IsLast, Stand, is_blank, nodes_of, tail_at}
 use Rattle.leb_scan.specs.Gaps.{gap_items, gap_length, gap_padding_alone, gap_stands}
+use Rattle.leb_scan.specs.TextLaws.{blank_replicate}
 use Rattle.leb_scan.specs.Gathered.{IsGathered, gathered_end, gathered_next}
 use Rattle.leb_scan.specs.declared.found.Found.{Found}
 use Rattle.leb_scan.specs.declared.item.Item.TheVariants.{Node}
 use Rattle.leb_scan.specs.declared.tail.Tail.TheVariants.{Clean}
 use Rattle.small_areas.specs.Orphans.{AreListed, AreOrphans, HasOrphans, IsListLeb, IsListWritten, ListUnderWay, OrphanList, list_bytes, list_size}
-use Rattle.small_areas.proofs.LaidCopy.{blank_replicate}
 use Rattle.small_areas.proofs.Standing.{Stands, leaf_kind, stands_in}
 
 -- what some nodes and the nodes behind them have

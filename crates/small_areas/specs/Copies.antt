@@ -12,7 +12,7 @@ use Rattle.leb_scan.specs.declared.found.Found.{Found}
 use Rattle.leb_scan.specs.declared.item.Item.{Item}
 use Rattle.leb_scan.specs.declared.tail.Tail.{Tail}
 use Rattle.leb_scan.specs.declared.tail.Tail.TheVariants.{Clean}
-use Rattle.small_areas.specs.Masters.{IsLatest}
+use Rattle.small_areas.specs.Masters.{IsLastMaster, IsLatest}
 use Rattle.small_areas.specs.declared.placed_master.PlacedMaster.{PlacedMaster}
 
 -- the geometry is that of the volume, which may have more LEBs
@@ -128,3 +128,25 @@ pub record MasterUnderWay (state : VolumeState) (room number : ℕ) (fresh : Mas
   pub elsewhere : Elsewhere state IsMasterLeb left
   pub old_or_new : (old : PlacedMaster) → IsStart state number old → IsMeant (state.holds 1) room (master_node (number + 1) fresh) (left 1)
       → IsMeant (state.holds 2) room (master_node (number + 2) fresh) (left 2) → IsOldOrNew old fresh (left 1) (left 2)
+
+-- the other LEB that has copies
+abbrev pub other_leb : ℕ → ℕ
+other_leb lnum = 3 - lnum
+
+-- the last master of the LEB is this, whatever its header says
+abbrev pub HasMaster : List ℕ → Master → Type 0
+HasMaster leb this = (placed : PlacedMaster) × IsLastMaster leb placed × (placed.master ≡ this)
+
+-- What a cut leaves while the copy that isn't the latest is mended with the number behind this one: of all other LEBs what it
+-- might have left before, and from such a start the same latest master; of the outcomes, under the premise on checksums.
+pub record MendUnderWay (state : VolumeState) (room number : ℕ) (latest : PlacedMaster) (left : ℕ → List ℕ) : Type 0 where
+  pub elsewhere : Elsewhere state IsMasterLeb left
+  pub same : IsStart state number latest → IsMeant (state.holds (other_leb latest.lnum)) room (master_node (number + 1) latest.master) (left (other_leb latest.lnum)) → IsOldOrNew latest latest.master (left 1) (left 2)
+
+-- Both copies say the latest master, and it is the latest still. Where the next copies go, the LEBs are open.
+pub record IsMended (new : VolumeState) (room number : ℕ) (latest : PlacedMaster) : Type 0 where
+  pub first : HasMaster (new.holds 1) latest.master
+  pub second : HasMaster (new.holds 2) latest.master
+  pub still : latest.sqnum ≤ number → (now : PlacedMaster) × IsLatest (new.holds 1) (new.holds 2) now × (now.master ≡ latest.master) × (now.sqnum ≤ number + 1)
+  pub open_first : IsOpen new 1 room
+  pub open_second : IsOpen new 2 room

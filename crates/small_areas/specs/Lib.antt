@@ -5,3 +5,4 @@ pub mod Puts
 pub mod Addresses
 pub mod Orphans
 pub mod MeantCopies
+pub mod FoundAreas

@@ -14,7 +14,7 @@ use media_sys::{Master, one_node};
 use ubi_volume::{VolFault, Volume, read_leb};
 use ubifs_base::{Geometry, fill_gap};
 
-const MASTER_LEN: usize = 512;
+pub(crate) const MASTER_LEN: usize = 512;
 
 /// Writes a new master to LEB 1 and then to LEB 2. Each copy goes behind the text of its LEB and takes a sequence number of
 /// its own, of the two next. A LEB whose text has a torn tail, or doesn't end at a place with room for a copy, is replaced
@@ -50,7 +50,7 @@ pub fn write_master<V: Volume>(
 }
 
 // The bytes from one place for a copy to the next.
-fn copy_room(geometry: &Geometry) -> u32
+pub(crate) fn copy_room(geometry: &Geometry) -> u32
     ensures room { result ≡ room_of geometry.now.min_io }
     ensures is_room { IsRoom result }
     ensures fits { result ≤ geometry.now.leb_size }
@@ -94,7 +94,7 @@ fn write_copies<V: Volume>(
 }
 
 // Spells the node of a master.
-fn spell(master: &Master, sqnum: u64, node: &mut [u8])
+pub(crate) fn spell(master: &Master, sqnum: u64, node: &mut [u8])
     requires { length node.old ≡ 512 }
     ensures spelling { node.new ≡ master_node sqnum master.now }
     ensures is_node { IsNodeOf node.new sqnum master.now }
@@ -103,7 +103,7 @@ fn spell(master: &Master, sqnum: u64, node: &mut [u8])
 }
 
 // Writes a node to a LEB, with a gap behind it: where the LEB has a place for a copy, and else in place of all of it.
-fn write_copy<V: Volume>(
+pub(crate) fn write_copy<V: Volume>(
     volume: &mut V,
     lnum: u32,
     room: u32,

@@ -11,6 +11,7 @@
 mod copies;
 mod laws;
 mod masters;
+mod mending;
 mod misplaced;
 mod orphans;
 mod placed_master;
@@ -18,6 +19,7 @@ mod placed_master;
 pub use crate::copies::write_master;
 pub use crate::laws::meant_outcomes;
 pub use crate::masters::latest;
+pub use crate::mending::mend_master;
 pub use crate::misplaced::{Misplaced, misplaced_address};
 pub use crate::orphans::{read_orphans, write_orphans};
 pub use crate::placed_master::PlacedMaster;

@@ -34,7 +34,7 @@ pub fn latest<V: Volume>(alloc: Global, volume: &mut V) -> Result<Option<PlacedM
 }
 
 // The last master of a LEB, which is read into the buffer.
-fn master_in<V: Volume>(
+pub(crate) fn master_in<V: Volume>(
     alloc: Global,
     volume: &mut V,
     lnum: u32,
