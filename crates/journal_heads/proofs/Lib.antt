@@ -1,3 +1,2 @@
 pub mod OpenHeads
 pub mod Syncing
-pub mod TwoHeads

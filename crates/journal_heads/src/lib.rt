@@ -12,6 +12,3 @@ mod place;
 
 pub use crate::heads::Heads;
 pub use crate::place::Place;
-
-#[cfg(test)]
-mod tests;

@@ -21,6 +21,3 @@ pub use crate::laws::{one_list, still_there};
 pub use crate::lpt_at::LptAt;
 pub use crate::reading::read_tree;
 pub use crate::writing::write_tree;
-
-#[cfg(test)]
-mod tests;

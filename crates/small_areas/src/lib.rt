@@ -23,6 +23,3 @@ pub use crate::mending::mend_master;
 pub use crate::misplaced::{Misplaced, misplaced_address};
 pub use crate::orphans::{read_orphans, write_orphans};
 pub use crate::placed_master::PlacedMaster;
-
-#[cfg(test)]
-mod tests;

@@ -11,6 +11,3 @@ mod buffer;
 mod units;
 
 pub use crate::buffer::Buffer;
-
-#[cfg(test)]
-mod tests;

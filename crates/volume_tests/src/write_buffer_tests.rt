@@ -1,8 +1,8 @@
 // A buffer over a volume in memory: units of 512 bytes in LEBs of 16,384.
 
-use crate::Buffer;
 use std::test::Fail;
 use ubi_volume::{MemVolume, VolShape, Volume};
+use write_buffer::Buffer;
 
 const SHAPE: VolShape = VolShape {
     leb_size: 16384,

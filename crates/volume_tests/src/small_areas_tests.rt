@@ -1,7 +1,9 @@
 // Masters in a volume in memory, and their addresses.
 
-use crate::{Misplaced, latest, misplaced_address, read_orphans, write_master, write_orphans};
 use media_sys::Master;
+use small_areas::{
+    Misplaced, latest, misplaced_address, read_orphans, write_master, write_orphans,
+};
 use std::test::Fail;
 use ubi_volume::{MemVolume, VolShape, Volume};
 use ubifs_base::{Geometry, RawGeometry};

@@ -3,7 +3,7 @@ use Rattle.std.proofs.lemmas.List.{get_or-replicate}
 use Rattle.ubifs_base.specs.Geometry.{plain_geometry}
 use Rattle.media_lpt.specs.declared.lprop.Lprop.{Lprop}
 use Rattle.lpt_area.specs.Written.{IsLprop}
-use Rattle.lpt_area.proofs.tests.all_alike.Goals as goal
+use Rattle.volume_tests.proofs.lpt_area_tests.all_alike.Goals as goal
 
 pub returns : goal.returns
 returns c =

@@ -5,7 +5,7 @@ ghost use Rattle.ubifs_base.specs.Geometry.{plain_geometry};
 ghost use Rattle.ubifs_base.specs.RawOf.{raw_of};
 ghost use Rattle.lpt_area.specs.Written.{IsLprop, AreProps};
 
-use crate::{LptAt, read_tree, write_tree};
+use lpt_area::{LptAt, read_tree, write_tree};
 use media_lpt::Lprop;
 use std::process::Abort;
 use std::test::Fail;

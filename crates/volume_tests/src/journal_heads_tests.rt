@@ -1,6 +1,6 @@
 // The heads over a volume in memory: units of 512 bytes in LEBs of 16,384.
 
-use crate::{Heads, Place};
+use journal_heads::{Heads, Place};
 use std::test::Fail;
 use ubi_volume::{MemVolume, VolShape, Volume};
 use ubifs_base::{Geometry, JournalHead, RawGeometry};

@@ -4,8 +4,8 @@ use Rattle.ubifs_base.specs.declared.raw_geometry.RawGeometry.{RawGeometry}
 use Rattle.journal_heads.specs.declared.heads.Heads.{Heads}
 use Rattle.ubi_volume.specs.declared.mem_volume.VolShape.{VolShape}
 use Rattle.journal_heads.specs.Heads.{attached}
-use Rattle.journal_heads.proofs.TwoHeads.{blank_empty, two_open}
-use Rattle.journal_heads.proofs.tests.each_head_writes_its_own_leb.Goals as goal
+use Rattle.volume_tests.proofs.TwoHeads.{blank_empty, two_open}
+use Rattle.volume_tests.proofs.journal_heads_tests.each_head_writes_its_own_leb.Goals as goal
 
 pub put-requires-clause-open_there : goal.put-requires-clause-open_there
 put-requires-clause-open_there g c =
