@@ -39,7 +39,7 @@ tree_ready raw tree open_leb state geo main proper fits blank new =
       main = main;
       budget = omega (arith, sum, fits);
       fits = omega (arith, empty);
-      geometry = record { leb_size = blank.leb_size; min_io = blank.min_io; leb_cnt = blank.leb_cnt };
+      geometry = record { leb_size = blank.leb_size; min_io = blank.min_io; leb_cnt = blank.leb_cnt; sure = blank.sure };
     }
 
 -- then the last LEB can be closed

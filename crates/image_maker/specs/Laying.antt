@@ -13,11 +13,12 @@ use Rattle.fs_model.specs.Files.{Tree, Inodes}
 use Rattle.image_maker.specs.Image.{leaf_texts, to_unit, AreHeld}
 use Rattle.image_maker.specs.declared.open_leb.OpenLeb.{OpenLeb}
 
--- the volume is of this geometry
+-- the volume is of this geometry, and no call of it fails
 pub record HasGeometry (raw : RawGeometry) (state : VolumeState) : Type 0 where
   pub leb_size : state.leb_size ≡ raw.leb_size
   pub min_io : state.min_io ≡ raw.min_io
   pub leb_cnt : state.leb_cnt ≡ raw.leb_cnt
+  pub sure : state.sure
 
 -- These leaves are laid: whole parts stand in LEBs, and the rest in the buffer of the open LEB. Each LEB that is
 -- written took more bytes than it has beside its reserve.

@@ -11,7 +11,7 @@ use ubifs_base::Arm;
 /// A volume of logical erase blocks (LEBs). No call takes memory. What a power cut may leave is as the UBI documentation
 /// says: units that were written stay, each unit of a write under way is old, new or anything, a change is wholly done or
 /// not at all, and an unmapping may be undone until the LEB is mapped, written or changed. The units of a call that
-/// answered `Failed` are as under way, and that call was the last one that did anything unless it kept all (`failed`).
+/// answered `Failed` are as under way; only while no such call is under way (`unbroken`) has it kept all (`failed`).
 pub trait Volume {
     /// All that there is to say of the volume now.
     ghost state: { Self → VolumeState };
