@@ -1,4 +1,5 @@
 pub mod Buds
+pub mod LogAnswers
 pub mod LogAt
 pub mod LogCalls
 pub mod LogLaws

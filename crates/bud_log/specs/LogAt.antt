@@ -4,7 +4,7 @@ use Rattle.ubifs_base.specs.Areas.{lpt_first}
 use Rattle.ubifs_base.specs.declared.raw_geometry.RawGeometry.{RawGeometry}
 use Rattle.media_sys.specs.SystemNode.{SystemNode, reference, commit_start}
 use Rattle.media_sys.specs.declared.ref_node.RefNode.{RefNode}
-use Rattle.ubi_volume.specs.Volume.{VolumeState}
+use Rattle.ubi_volume.specs.Volume.{VolumeState, Keeps}
 use Rattle.ubi_volume.specs.Faults.{IsCause}
 use Rattle.bud_log.specs.Log.{IsLogLeb, next_leb}
 use Rattle.bud_log.specs.declared.head_at.HeadAt.{HeadAt}
@@ -117,17 +117,11 @@ head_nodes (at ∷ heads) = reference (reference_to at) ∷ head_nodes heads
 abbrev pub section_nodes : ℕ → List HeadAt → List SystemNode
 section_nodes cmt_no heads = commit_start (record { cmt_no = cmt_no }) ∷ head_nodes heads
 
--- Full comes exactly where the log is full, with its numbers
-abbrev pub IsFullExactly : {T : Type 0} → LogAt → Result T LogFault → Type 0
-IsFullExactly at (Ok x) = IsFull at → ⊥
-IsFullExactly at (Err (Volume count)) = IsFull at → ⊥
-IsFullExactly at (Err (Full used limit)) = IsFull at × (used ≡ used_lebs at) × (limit ≡ most_lebs at)
-
--- what holds where the log is full
-abbrev pub IfFull : {T : Type 0} → Result T LogFault → Type 0 → Type 0
-IfFull (Ok x) P = ⊤
-IfFull (Err (Volume count)) P = ⊤
-IfFull (Err (Full used limit)) P = P
+-- Full comes exactly where the log is full, with its numbers, and the volume is as it was then
+abbrev pub IsFullExactly : {T : Type 0} → VolumeState → VolumeState → LogAt → Result T LogFault → Type 0
+IsFullExactly old new at (Ok x) = IsFull at → ⊥
+IsFullExactly old new at (Err (Volume count)) = IsFull at → ⊥
+IsFullExactly old new at (Err (Full used limit)) = IsFull at × (used ≡ used_lebs at) × (limit ≡ most_lebs at) × Keeps old new
 
 -- a number rises by one where the node is written, and not where the log is full; where the volume failed it may have risen
 abbrev pub IsRaised : {T : Type 0} → ℕ → ℕ → Result T LogFault → Type 0

@@ -3,13 +3,14 @@
 ghost use Rattle.std.specs.Prelude.{◌≡◌, ◌≢◌, ◌⊎◌, ◌<◌, ◌≤◌, ◌+◌, ◌*◌, ◌%◌, ◌^◌, ℕ, IsTrue, IsFalse, false, List, [], ◌∷◌, length, fold, OnOk, OnErr};
 ghost use Rattle.ubifs_base.specs.Areas.{lpt_first, main_first};
 ghost use Rattle.ubifs_base.specs.RawOf.{raw_of};
-ghost use Rattle.ubi_volume.specs.Volume.{Each, AreUnits, filled, Keeps, Leaves, WorksOn, SameShape, ChangeUnderWay};
+ghost use Rattle.ubi_volume.specs.Volume.{Each, AreUnits, filled, Leaves, WorksOn, SameShape, ChangeUnderWay};
 ghost use Rattle.ubi_volume.specs.Frame.{Works};
 ghost use Rattle.ubi_volume.specs.Faults.{HasCause, StaysSure};
 ghost use Rattle.media_sys.specs.SystemNode.{reference};
 ghost use Rattle.bud_log.specs.Buds.{named, buds_of};
 ghost use Rattle.bud_log.specs.Log.{IsLogLeb, next_leb as leb_behind};
-ghost use Rattle.bud_log.specs.LogAt.{LogAt, IsAt, IsStart, IsBetween, IsEnded, IsFull, IsFullExactly, IfFull, IsRaised, HasLogCause, StaysSureLog, room_of, used_lebs, most_lebs, IsWithin, has_room as has_room_at, next_lnum, next_offs, lnum_at, offs_at, ending, starting, without_old, references_to, section_nodes};
+ghost use Rattle.bud_log.specs.LogAnswers.{IsAnswered, IsLogAnswered, IsOpened, IsStarted, HasEnded};
+ghost use Rattle.bud_log.specs.LogAt.{LogAt, IsAt, IsStart, IsBetween, IsEnded, IsFull, IsFullExactly, IsRaised, room_of, used_lebs, most_lebs, has_room as has_room_at, next_lnum, next_offs, lnum_at, offs_at, ending, references_to, section_nodes};
 ghost use Rattle.bud_log.specs.LogText.{StartsCommit};
 ghost use Rattle.bud_log.specs.LogCalls.{IsEmptied, IsBegun, BeginUnderWay, IsAdded, AddDuring, OpenUnderWay, StartUnderWay, UnmapUnderWay, EndUnderWay};
 ghost use Rattle.bud_log.specs.Writing.{AreSpelled, AreOthersOlder, IsReady, NamesBuds, NamesSome, NamesOpened, IsOldOrMeant};
@@ -85,8 +86,7 @@ impl Log {
         requires main { main_first self.old.geo ≤ lnum }
         requires bud { lnum < (V.state volume.old).leb_cnt }
         requires number { sqnum.old < 2 ^ 63 + 2 ^ 56 }
-        ensures full { IsFullExactly self.old result }
-        ensures untouched { IfFull result (Keeps (V.state volume.old) (V.state volume.new)) }
+        ensures full { IsFullExactly (V.state volume.old) (V.state volume.new) self.old result }
         ensures done { OnOk result ((from : ℕ) (buds : List AHead) → IsStart self.old from
             → IsReady (V.state volume.old) self.old.geo from self.old.lnum self.old.offs sqnum.old buds
             → IsReady (V.state volume.new) self.new.geo from self.new.lnum self.new.offs sqnum.new (named buds (record { lnum = lnum; offs = 0; head = head }))) }
@@ -97,15 +97,10 @@ impl Log {
             → NamesOpened left self.old.geo from buds (record { lnum = lnum; offs = 0; head = head })) }
         ensures works { Works (V.state volume.old) (V.state volume.new) (λ k. (k ≡ lnum) ⊎ (k ≡ next_lnum self.old))
             (OpenUnderWay (has_room_at self.old) (V.state volume.old) self.old lnum (room_of self.old.geo.min_io 64)) }
-        ensures emptied { OnOk result (IsEmptied (V.state volume.old) (V.state volume.new) lnum) }
-        ensures moved { OnOk result (self.new ≡ ending self.old (next_lnum self.old) (next_offs self.old + room_of self.old.geo.min_io 64)) }
+        ensures opened { OnOk result (IsOpened (V.state volume.old) (V.state volume.new) self.old self.new lnum) }
         ensures stays { OnErr result (self.new ≡ self.old) }
-        ensures at { OnOk result (IsAt (V.state volume.new) self.new) }
-        ensures within { OnOk result (IsWithin self.old → IsWithin self.new) }
         ensures raised { IsRaised sqnum.old sqnum.new result }
-        ensures shape { SameShape (V.state volume.old) (V.state volume.new) }
-        ensures cause { HasLogCause (V.state volume.old).faults (V.state volume.new).faults result }
-        ensures sure { StaysSureLog (V.state volume.old) (V.state volume.new) result }
+        ensures answered { IsLogAnswered (V.state volume.old) (V.state volume.new) result }
     {
         one_node();
         let here = self.has_room();
@@ -149,8 +144,6 @@ impl Log {
             → IsReady (V.state volume.new) self.new.geo from self.new.lnum self.new.offs sqnum.new (fold named buds (references_to heads.now))) }
         ensures section { OnOk result (AreOthersOlder (V.state volume.old) self.old.geo (leb_behind self.old.geo self.old.lnum) sqnum.old
             → IsReady (V.state volume.new) self.new.geo self.new.section self.new.lnum self.new.offs sqnum.new (buds_of (references_to heads.now))) }
-        ensures commit { OnOk result (StartsCommit ((V.state volume.new).holds self.new.section) self.new.section cmt_no) }
-        ensures within { OnOk result (used_lebs self.old + 1 < self.old.geo.log_lebs → IsWithin self.new) }
         ensures any_moment { (from : ℕ) (buds : List AHead) → IsStart self.old from
             → IsReady (V.state volume.old) self.old.geo from self.old.lnum self.old.offs sqnum.old buds
             → Leaves (V.state volume.old) (V.state volume.new) (λ left.
@@ -158,13 +151,10 @@ impl Log {
             → NamesSome left self.old.geo from buds (references_to heads.now)) }
         ensures works { Works (V.state volume.old) (V.state volume.new) (λ k. k ≡ leb_behind self.old.geo self.old.lnum)
             (StartUnderWay (V.state volume.old) self.old (room_of self.old.geo.min_io (32 + 64 * length heads.now))) }
-        ensures moved { OnOk result (self.new ≡ starting self.old (leb_behind self.old.geo self.old.lnum) (room_of self.old.geo.min_io (32 + 64 * length heads.now))) }
+        ensures started { OnOk result (IsStarted (V.state volume.new) self.old self.new cmt_no (length heads.now)) }
         ensures stays { OnErr result (self.new ≡ self.old) }
-        ensures at { OnOk result (IsAt (V.state volume.new) self.new) }
         ensures raised { sqnum.new ≡ sqnum.old + (1 + length heads.now) }
-        ensures shape { SameShape (V.state volume.old) (V.state volume.new) }
-        ensures cause { HasCause (V.state volume.old).faults (V.state volume.new).faults result }
-        ensures sure { StaysSure (V.state volume.old) (V.state volume.new) result }
+        ensures answered { IsAnswered (V.state volume.old) (V.state volume.new) result }
     {
         one_node();
         let number = *sqnum;
@@ -180,19 +170,14 @@ impl Log {
     /// At every moment, and whatever the answer, the log that is read from the present section on is as it was.
     pub fn end_section<V: Volume>(&mut self, volume: &mut V) -> Result<(), VolFault>
         requires at { IsAt (V.state volume.old) self.old }
-        ensures unwritten { OnOk result ((k : ℕ) → IsEnded self.old k → (V.state volume.new).holds k ≡ filled (V.state volume.old).leb_size []) }
         ensures stands { (number : ℕ) (buds : List AHead) → IsReady (V.state volume.old) self.old.geo self.old.section self.old.lnum self.old.offs number buds
             → IsReady (V.state volume.new) self.old.geo self.old.section self.old.lnum self.old.offs number buds }
         ensures any_moment { (number : ℕ) (buds : List AHead) → IsReady (V.state volume.old) self.old.geo self.old.section self.old.lnum self.old.offs number buds
             → Leaves (V.state volume.old) (V.state volume.new) (λ left. NamesBuds left self.old.geo self.old.section buds) }
         ensures works { Works (V.state volume.old) (V.state volume.new) (IsEnded self.old) (EndUnderWay (V.state volume.old) self.old) }
-        ensures moved { OnOk result (self.new ≡ without_old self.old) }
-        ensures within { OnOk result (IsWithin self.old → IsWithin self.new) }
+        ensures ended { OnOk result (HasEnded (V.state volume.old) (V.state volume.new) self.old self.new) }
         ensures stays { OnErr result (self.new ≡ self.old) }
-        ensures at { OnOk result (IsAt (V.state volume.new) self.new) }
-        ensures shape { SameShape (V.state volume.old) (V.state volume.new) }
-        ensures cause { HasCause (V.state volume.old).faults (V.state volume.new).faults result }
-        ensures sure { StaysSure (V.state volume.old) (V.state volume.new) result }
+        ensures answered { IsAnswered (V.state volume.old) (V.state volume.new) result }
     {
         unmap_between(volume, &self.geometry, self.first, self.section)?;
         self.first = self.section;

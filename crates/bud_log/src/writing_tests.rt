@@ -25,6 +25,17 @@ fn small_geometry() -> Result<Geometry, Fail>
     Ok(geometry)
 }
 
+fn ring_of_three() -> Result<Geometry, Fail>
+    ensures { IfOk result (λ geometry. raw_of geometry ≡ record (plain_geometry 16384 512 64 8) { log_lebs = 3 }) }
+{
+    let mut raw = RawGeometry::plain(16384, 512, 64, 8);
+    raw.log_lebs = 3;
+    let Ok(geometry) = Geometry::new(&raw) else {
+        return Err(Fail::from("no geometry"));
+    };
+    Ok(geometry)
+}
+
 #[test]
 fn written_section_is_read(rt: HostRuntime) -> Result<(), Fail> {
     let geometry = small_geometry()?;
@@ -36,7 +47,7 @@ fn written_section_is_read(rt: HostRuntime) -> Result<(), Fail> {
         lnum: 20,
         offs: 512,
     }];
-    let Ok(()) = log.start_section(&mut volume, 1, &heads, &mut sqnum) else {
+    let Ok(()) = log.start_section(&mut volume, 5, &heads, &mut sqnum) else {
         return Err(Fail::from("no section"));
     };
     let Ok(()) = log.end_section(&mut volume) else {
@@ -55,18 +66,21 @@ fn written_section_is_read(rt: HostRuntime) -> Result<(), Fail> {
         offs: 0,
     };
     assert_eq!(rt; read.buds.as_slice(), [heads[0], bud].as_slice());
-    assert_eq!(rt; (read.lnum, read.offs, read.tail), (4, 1024, Tail::Clean));
+    assert_eq!(rt;
+        (read.commit, read.lnum, read.offs, read.tail),
+        (Some(5), 4, 1024, Tail::Clean)
+    );
     Ok(())
 }
 
 #[test]
-fn two_lebs_are_kept(rt: HostRuntime) -> Result<(), Fail> {
-    let geometry = small_geometry()?;
+fn ring_of_three_lebs_is_full(rt: HostRuntime) -> Result<(), Fail> {
+    let geometry = ring_of_three()?;
     let mut volume = MemVolume::new(rt.alloc(), SHAPE)?;
     let mut sqnum = 7;
-    let mut log = Log::at(&geometry, 3, 4, 16384);
+    let mut log = Log::at(&geometry, 4, 4, 16384);
     let full = log.open_bud(&mut volume, JournalHead::Base, 20, &mut sqnum);
-    assert_eq!(rt; full, Err(LogFault::Full { used: 2, limit: 2 }));
+    assert_eq!(rt; full, Err(LogFault::Full { used: 1, limit: 1 }));
     assert_eq!(rt; sqnum, 7);
     Ok(())
 }

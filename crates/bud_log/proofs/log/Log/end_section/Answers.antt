@@ -1,4 +1,4 @@
-use Rattle.std.proofs.Common.{refl, ap, sym, ◌∙◌, subst}
+use Rattle.std.proofs.Common.{rules, refl, ap, sym, ◌∙◌, subst}
 use Rattle.ubi_volume.specs.Frame.{Works}
 use Rattle.bud_log.specs.LogAt.{LogAt, IsEnded, IsWithin, without_old}
 use Rattle.bud_log.specs.LogCalls.{EndUnderWay}
@@ -46,7 +46,12 @@ returns-clause-any_moment g c = λ number buds h.
     let works = subst W c.self.view_is c.unmap_between.ensures.works in
     ended_moment a b c.args.self.now number buds h c.requires.at.first c.requires.at.section c.requires.at.here c.requires.at.on_the_way works.time
 
-pub returns-clause-within : goal.returns-clause-within
-returns-clause-within g c = λ h.
+pub returns-clause-ended : goal.returns-clause-ended
+returns-clause-ended g c =
     let W : LogAt → Type 0 = λ z. IsWithin z in
-    subst W (ap without_old (sym c.self.view_is) ∙ refl) (within_ended c.args.self.now c.requires.at.first c.requires.at.section c.requires.at.here c.requires.at.on_the_way h)
+    record {
+      unwritten = search rules;
+      moved = search rules;
+      at = search rules;
+      within = λ h. subst W (ap without_old (sym c.self.view_is) ∙ refl) (within_ended c.args.self.now c.requires.at.first c.requires.at.section c.requires.at.here c.requires.at.on_the_way h);
+    }

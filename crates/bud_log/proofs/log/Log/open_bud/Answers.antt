@@ -1,9 +1,9 @@
-use Rattle.std.proofs.Common.{◌+◌, [], ◌∷◌, sym, subst}
+use Rattle.std.proofs.Common.{◌≡◌, ◌+◌, Bool, [], ◌∷◌, sym, subst}
 use Rattle.ubi_volume.specs.Volume.{ChangeUnderWay}
 use Rattle.media_sys.specs.SystemNode.{reference}
 use Rattle.media_sys.specs.declared.ref_node.RefNode.{RefNode}
 use Rattle.bud_log.specs.Buds.{named}
-use Rattle.bud_log.specs.LogAt.{LogAt, IsWithin, room_of, offs_at, next_lnum, next_offs}
+use Rattle.bud_log.specs.LogAt.{LogAt, IsWithin, ending, lnum_at, room_of, offs_at, next_lnum, next_offs}
 use Rattle.bud_log.specs.LogCalls.{AddDuring}
 use Rattle.bud_log.specs.Writing.{IsReady, IsOldOrMeant}
 use Rattle.bud_log.proofs.OneBud.{main_out, start_in, free_of, bud_moment, first_works, both_works, both_moment, emptied_still}
@@ -73,17 +73,20 @@ returns-clause-works g c =
     let at = c.args.self.now in
     both_works c.has_room-here.result a b e at c.args.lnum (room_of at.geo.min_io 64) c.requires.at c.has_room-here.ensures c.requires.main c.clear_bud.ensures.shape.leb_size c.in_ok-clear_bud.ensures.done c.clear_bud.ensures.works c.write_reference.ensures.works
 
-pub returns-clause-emptied : goal.returns-clause-emptied
-returns-clause-emptied g c =
+pub returns-clause-opened : goal.returns-clause-opened
+returns-clause-opened g c =
     let a = g.V.Volume.state c.args.volume.now in
     let b = g.V.Volume.state c.clear_bud.new.volume in
     let e = g.V.Volume.state c.write_reference.new.volume in
     let at = c.args.self.now in
     let here = c.has_room-here.result in
-    emptied_still here a b e at c.args.lnum (AddDuring here b at (room_of at.geo.min_io 64)) c.requires.at c.requires.main c.in_ok-clear_bud.ensures.done c.write_reference.ensures.works
-
-pub returns-clause-within : goal.returns-clause-within
-returns-clause-within g c = λ h.
-    let at = c.args.self.now in
+    let room = room_of at.geo.min_io 64 in
+    let done = c.in_ok-write_reference.ensures in
+    let M : Bool → Type 0 = λ r. c.write_reference.new.self ≡ ending at (lnum_at r at) (offs_at r at + room) in
     let W : LogAt → Type 0 = λ z. IsWithin z in
-    subst W (sym c.in_ok-write_reference.ensures.moved) (within_opened c.has_room-here.result at (offs_at c.has_room-here.result at + room_of at.geo.min_io 64) c.has_room-here.ensures c.requires.at.first c.requires.at.here (c.is_full.ensures.no c.if-is_full.false) h)
+    record {
+      emptied = emptied_still here a b e at c.args.lnum (AddDuring here b at room) c.requires.at c.requires.main c.in_ok-clear_bud.ensures.done c.write_reference.ensures.works;
+      moved = subst M c.has_room-here.ensures done.moved;
+      at = done.at;
+      within = λ h. subst W (sym done.moved) (within_opened here at (offs_at here at + room) c.has_room-here.ensures c.requires.at.first c.requires.at.here (c.is_full.ensures.no c.if-is_full.false) h);
+    }

@@ -1,4 +1,4 @@
-use Rattle.std.proofs.Common.{inl, false, refl, ℕ, ◌+◌, ◌*◌, List, length, sym, ◌∙◌, subst, arith}
+use Rattle.std.proofs.Common.{rules, inl, false, refl, ℕ, ◌+◌, ◌*◌, List, length, sym, ◌∙◌, subst, arith}
 use Rattle.std.specs.Prelude.{fold}
 use Rattle.media_sys.specs.declared.ref_node.RefNode.{RefNode}
 use Rattle.ubi_volume.specs.Volume.{Leaves}
@@ -41,19 +41,20 @@ returns-clause-section g c = λ older.
     let P : LogAt → Type 0 = λ z. IsReady b z.geo z.lnum z.lnum z.offs next (buds_of (references_to c.args.heads.now)) in
     subst P (sym (c.self.view_is ∙ c.in_ok-write_section.ensures.moved)) (c.in_ok-write_section.ensures.section next (omega arith) older)
 
-pub returns-clause-commit : goal.returns-clause-commit
-returns-clause-commit g c =
+pub returns-clause-started : goal.returns-clause-started
+returns-clause-started g c =
     let b = g.V.Volume.state c.write_section.new.volume in
-    let P : LogAt → Type 0 = λ z. StartsCommit (b.holds z.lnum) z.lnum c.args.cmt_no in
-    subst P (sym (c.self.view_is ∙ c.in_ok-write_section.ensures.moved)) c.in_ok-write_section.ensures.commit
-
-pub returns-clause-within : goal.returns-clause-within
-returns-clause-within g c = λ room.
-    let a = g.V.Volume.state c.args.volume.now in
     let at = c.args.self.now in
+    let moved = c.self.view_is ∙ c.in_ok-write_section.ensures.moved in
+    let C : LogAt → Type 0 = λ z. StartsCommit (b.holds z.lnum) z.lnum c.args.cmt_no in
     let W : LogAt → Type 0 = λ z. IsWithin (starting z z.lnum z.offs) in
-    subst W (sym (c.self.view_is ∙ c.in_ok-write_section.ensures.moved))
-    (within_started at (room_of at.geo.min_io (32 + 64 * length c.args.heads.now)) c.requires.at.first c.requires.at.here (free_of a at at.first c.requires.at (inl refl) c.requires.kept) room)
+    record {
+      commit = subst C (sym moved) c.in_ok-write_section.ensures.commit;
+      moved = search rules;
+      at = search rules;
+      within = λ room. subst W (sym moved)
+          (within_started at (room_of at.geo.min_io (32 + 64 * length c.args.heads.now)) c.requires.at.first c.requires.at.here (free_of (g.V.Volume.state c.args.volume.now) at at.first c.requires.at (inl refl) c.requires.kept) room);
+    }
 
 pub returns-clause-any_moment : goal.returns-clause-any_moment
 returns-clause-any_moment g c = λ from buds start h.

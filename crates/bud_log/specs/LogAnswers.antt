@@ -1,0 +1,43 @@
+-- What calls of the log answer, and where the log goes on afterwards.
+use Rattle.std.specs.Prelude.{◌≡◌, ℕ, ◌+◌, ◌*◌, ◌<◌, [], Result}
+use Rattle.ubi_volume.specs.Volume.{VolumeState, filled, SameShape}
+use Rattle.ubi_volume.specs.Faults.{HasCause, StaysSure}
+use Rattle.ubi_volume.specs.declared.fault.VolFault.{VolFault}
+use Rattle.bud_log.specs.Log.{next_leb}
+use Rattle.bud_log.specs.LogAt.{LogAt, IsAt, IsEnded, IsWithin, HasLogCause, StaysSureLog, room_of, used_lebs, next_lnum, next_offs, ending, starting, without_old}
+use Rattle.bud_log.specs.LogCalls.{IsEmptied}
+use Rattle.bud_log.specs.LogText.{StartsCommit}
+use Rattle.bud_log.specs.declared.log_fault.LogFault.{LogFault}
+
+-- whatever the answer: the shape is as it was, and the volume is told as failed only where it failed
+pub record IsAnswered {T : Type 0} (old new : VolumeState) (result : Result T VolFault) : Type 0 where
+  pub shape : SameShape old new
+  pub cause : HasCause old.faults new.faults result
+  pub sure : StaysSure old new result
+
+-- the same of a call that may find the log full
+pub record IsLogAnswered {T : Type 0} (old new : VolumeState) (result : Result T LogFault) : Type 0 where
+  pub shape : SameShape old new
+  pub cause : HasLogCause old.faults new.faults result
+  pub sure : StaysSureLog old new result
+
+-- a bud was opened in this LEB, which is blank, and the log goes on behind its reference
+pub record IsOpened (old new : VolumeState) (before after : LogAt) (lnum : ℕ) : Type 0 where
+  pub emptied : IsEmptied old new lnum
+  pub moved : after ≡ ending before (next_lnum before) (next_offs before + room_of before.geo.min_io 64)
+  pub at : IsAt new after
+  pub within : IsWithin before → IsWithin after
+
+-- a section of this commit, with so many references, was started in the next LEB
+pub record IsStarted (new : VolumeState) (before after : LogAt) (cmt_no count : ℕ) : Type 0 where
+  pub commit : StartsCommit (new.holds after.section) after.section cmt_no
+  pub moved : after ≡ starting before (next_leb before.geo before.lnum) (room_of before.geo.min_io (32 + 64 * count))
+  pub at : IsAt new after
+  pub within : used_lebs before + 1 < before.geo.log_lebs → IsWithin after
+
+-- the sections before the present one are unwritten, and needed no more
+pub record HasEnded (old new : VolumeState) (before after : LogAt) : Type 0 where
+  pub unwritten : (k : ℕ) → IsEnded before k → new.holds k ≡ filled old.leb_size []
+  pub moved : after ≡ without_old before
+  pub at : IsAt new after
+  pub within : IsWithin before → IsWithin after
