@@ -5,3 +5,4 @@ pub mod LogText
 pub mod Log
 pub mod Seen
 pub mod Writing
+pub mod MeantNodes
