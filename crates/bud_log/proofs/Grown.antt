@@ -2,6 +2,7 @@
 use Rattle.std.proofs.Common.{◌≡◌, inl, inr, ℕ, ◌+◌, ◌≤◌, List, [], ◌∷◌, ◌++◌, length, take, refl, ap, sym, ◌∙◌, subst, arith}
 use Rattle.media_sys.specs.SystemNode.{IsRef}
 use Rattle.media_sys.specs.declared.ref_node.RefNode.{RefNode}
+use Rattle.leb_scan.specs.Fronts.{same_part, stand_alike, not_before, short_padding}
 use Rattle.leb_scan.specs.Text.{Stand, behind, IsText, nodes_of}
 use Rattle.leb_scan.specs.TextLaws.{Stand-then, nodes_of-append}
 use Rattle.leb_scan.specs.declared.found.Found.{Found}
@@ -10,7 +11,6 @@ use Rattle.leb_scan.specs.declared.item.Item.TheVariants.{Node, Padding, Word}
 use Rattle.leb_scan.specs.declared.tail.Tail.{Tail}
 use Rattle.bud_log.specs.LogText.{LogText, Refer, IsTextOf}
 use Rattle.bud_log.specs.declared.log_end.LogEnd.{LogEnd}
-use Rattle.bud_log.proofs.Fronts.{same_part, stand_alike, not_before, short_padding}
 use Rattle.bud_log.proofs.References.{refer_then}
 
 refer_node : (a b : List ℕ) (end : ℕ) (found : Found) (nodes : List Found) (references : List RefNode) → take end a ≡ take end b → found.offs + found.len ≤ end → ((r : List RefNode) → Refer a nodes r → Refer b nodes r) → Refer a (found ∷ nodes) references

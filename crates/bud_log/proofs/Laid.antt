@@ -1,19 +1,20 @@
 -- Nodes that were laid one behind another, and a gap behind them.
-use Rattle.std.proofs.Common.{◌≡◌, inl, inr, ℕ, ◌+◌, ◌-◌, ◌*◌, ◌/◌, ◌%◌, ◌^◌, ◌<◌, ◌≤◌, min, true, List, [], ◌∷◌, ◌++◌, length, take, drop, Some, refl, ap, sym, ◌∙◌, subst, arith, append_assoc, length-append, length-drop}
-use Rattle.std.specs.Prelude.{⊤}
+use Rattle.std.proofs.Common.{◌≡◌, inl, inr, ℕ, ◌+◌, ◌%◌, ◌^◌, ◌<◌, ◌≤◌, true, List, [], ◌∷◌, ◌++◌, length, take, drop, Some, refl, ap, sym, ◌∙◌, subst, arith, append_assoc, length-append}
+use Rattle.std.specs.Prelude.{⊤, All}
 use Rattle.std.proofs.lemmas.Bool.{cases_eq}
-use Rattle.std.proofs.lemmas.List.{drop-drop, take_at, drop_at}
+use Rattle.std.proofs.lemmas.List.{drop-drop, drop_at}
+use Rattle.std.proofs.lemmas.List.Elements.{All-head, All-tail}
 use Rattle.ubifs_base.specs.Gap.{gap_of}
 use Rattle.media_sys.specs.SystemNode.{SystemNode, type_of, written, IsSystemNode}
 use Rattle.media_sys.specs.declared.ref_node.RefNode.{RefNode}
-use Rattle.leb_scan.specs.Text.{system, IsNodeAt, is_blank, Stand, IsText, nodes_of}
+use Rattle.leb_scan.specs.Gaps.{IsPadding, gap_items, gap_length, gap_padding_alone}
+use Rattle.leb_scan.specs.Text.{is_blank, IsText, nodes_of}
 use Rattle.leb_scan.specs.declared.found.Found.{Found}
 use Rattle.leb_scan.specs.declared.item.Item.{Item}
-use Rattle.leb_scan.specs.declared.item.Item.TheVariants.{Node}
 use Rattle.leb_scan.specs.declared.tail.Tail.TheVariants.{Clean}
 use Rattle.bud_log.specs.LogText.{Refer, first_of}
+use Rattle.bud_log.specs.MeantNodes.{node_at, node_front, laid_items, laid_stand}
 use Rattle.bud_log.specs.Writing.{reference_in, references_in, AreSpelled, laid}
-use Rattle.bud_log.proofs.Gaps.{gap_length, gap_there}
 use Rattle.bud_log.proofs.Parts.{none_in, one_in}
 
 -- the first of the nodes found, if any were laid
@@ -47,41 +48,48 @@ refer_more leb found node nodes references kind is h = elim (cases_eq (type_of n
       subst S (sym (none_in node other)) (inl ((λ e. other (sym kind ∙ e)), h))
 ]
 
+padding_refer : (leb : List ℕ) (found : List Found) → All IsPadding found → Refer leb found []
+padding_refer leb [] paddings = refl
+padding_refer leb (found ∷ others) paddings =
+    let padding = All-head IsPadding found others paddings in
+    inl ((λ eight. absurd (omega (arith, padding, eight))), padding_refer leb others (All-tail IsPadding found others paddings))
+
+laid_refer : (leb : List ℕ) (place number : ℕ) (nodes : List SystemNode) (g : ℕ) (back : List ℕ) → AreSpelled number nodes → drop place leb ≡ laid number nodes ++ (gap_of g ++ back) → place ≤ length leb → place % 8 ≡ 0
+    → Refer leb (nodes_of (laid_items place number nodes g)) (references_in nodes)
+laid_refer leb place number [] g back spelled h room even = padding_refer leb (nodes_of (gap_items place g)) (gap_padding_alone place g)
+laid_refer leb place number (node ∷ nodes) g back spelled h room even =
+    let w : List ℕ = written (number + 1) 0 node in
+    let at = node_front leb place (number + 1) node (laid (number + 1) nodes ++ (gap_of g ++ back)) spelled.0 (h ∙ append_assoc w (laid (number + 1) nodes) (gap_of g ++ back)) room even in
+    let P : List ℕ → Type 0 = λ b. IsSystemNode b (number + 1) 0 node in
+    refer_more leb (node_at place (number + 1) node) node (nodes_of (laid_items (place + length w) (number + 1) nodes g)) (references_in nodes) refl (subst P (sym at.front) spelled.0.is)
+    (laid_refer leb (place + length w) (number + 1) nodes g back spelled.1 at.next at.inside at.even)
+
+laid_first : (place number : ℕ) (nodes : List SystemNode) (g : ℕ) → FirstIs place number nodes (nodes_of (laid_items place number nodes g))
+laid_first place number [] g = tt
+laid_first place number (node ∷ nodes) g = (node_at place (number + 1) node, refl, refl, refl, refl)
+
+laid_stands : (leb : List ℕ) (place number : ℕ) (nodes : List SystemNode) (g : ℕ) (back : List ℕ) → AreSpelled number nodes → drop place leb ≡ laid number nodes ++ (gap_of g ++ back) → place ≤ length leb → place % 8 ≡ 0
+    → FirstStands leb nodes (nodes_of (laid_items place number nodes g))
+laid_stands leb place number [] g back spelled h room even = tt
+laid_stands leb place number (node ∷ nodes) g back spelled h room even =
+    let w : List ℕ = written (number + 1) 0 node in
+    let at = node_front leb place (number + 1) node (laid (number + 1) nodes ++ (gap_of g ++ back)) spelled.0 (h ∙ append_assoc w (laid (number + 1) nodes) (gap_of g ++ back)) room even in
+    let P : List ℕ → Type 0 = λ b. IsSystemNode b (number + 1) 0 node in
+    (node_at place (number + 1) node, refl, subst P (sym at.front) spelled.0.is)
+
 pub laid_there : (leb : List ℕ) (place number : ℕ) (nodes : List SystemNode) (g : ℕ) (back : List ℕ) → AreSpelled number nodes → drop place leb ≡ laid number nodes ++ (gap_of g ++ back) → place ≤ length leb → place % 8 ≡ 0 → g < 2 ^ 32 → g % 8 ≡ 0
     → is_blank back ≡ true → AreLaid leb place (place + length (laid number nodes) + g) number nodes
-laid_there leb place number [] g back spelled h room even fits even_gap blank =
-    let gap = gap_there g leb place back fits even_gap h in
-    let behind : drop (place + g) leb ≡ back = sym (drop-drop g place leb) ∙ ap (drop g) h ∙ drop_at (gap_of g) back g (gap_length g) in
+laid_there leb place number nodes g back spelled h room even fits even_gap blank =
+    let front = laid number nodes in
+    let n : ℕ = length front + g in
+    let all : length (front ++ gap_of g) ≡ n = length-append front (gap_of g) ∙ ap (λ (k : ℕ). length front + k) (gap_length g) in
+    let e : place + length front + g ≡ place + n = omega arith in
+    let behind : drop (place + length front + g) leb ≡ back = ap (λ (k : ℕ). drop k leb) e ∙ sym (drop-drop n place leb) ∙ ap (drop n) (h ∙ sym (append_assoc front (gap_of g) back)) ∙ drop_at (front ++ gap_of g) back n all in
     let R : List ℕ → Type 0 = λ b. is_blank b ≡ true in
-    let end : place + g ≡ place + 0 + g = omega arith in
-    let P : ℕ → Type 0 = λ e. AreLaid leb place e number [] in
-    subst P end (record { items = gap.items; is_text = record { stand = gap.stand; ends = subst R (sym behind) blank }; refer = gap.refer; first = tt; stands = tt })
-laid_there leb place number (node ∷ nodes) g back spelled h room even fits even_gap blank =
-    let w : List ℕ = written (number + 1) 0 node in
-    let n : ℕ = length w in
-    let rest : List ℕ = laid (number + 1) nodes ++ (gap_of g ++ back) in
-    let its = spelled.0 in
-    let even_n = its.even in
-    let here : drop place leb ≡ w ++ rest = h ∙ append_assoc w (laid (number + 1) nodes) (gap_of g ++ back) in
-    let next : drop (place + n) leb ≡ rest = sym (drop-drop n place leb) ∙ ap (drop n) here ∙ drop_at w rest n refl in
-    let front : take n (drop place leb) ≡ w = ap (take n) here ∙ take_at w rest n refl in
-    let a : length (drop place leb) ≡ n + length rest = ap length here ∙ length-append w rest in
-    let size : length (drop place leb) ≡ length leb - place = length-drop place leb in
-    let inside : place + n ≤ length leb = omega (arith, a, size, room) in
-    let found : Found = record { offs = place; len = n; kind = type_of node; group = 0; sqnum = number + 1 } in
-    let P : List ℕ → Type 0 = λ b. IsSystemNode b (number + 1) 0 node in
-    let is : IsSystemNode (take n (drop place leb)) (number + 1) 0 node = subst P (sym front) its.is in
-    let there : IsNodeAt leb place found = record { node = system node; stands = record { here = refl; room = inside; kind = refl; is = is }; other = its.other } in
-    let behind : place + n ≡ min ((place + n + 7) / 8 * 8) (length leb) = omega (arith, even, even_n, inside) in
-    let more = laid_there leb (place + n) (number + 1) nodes g back spelled.1 next inside (omega (arith, even, even_n)) fits even_gap blank in
-    let total : length (w ++ laid (number + 1) nodes) ≡ n + length (laid (number + 1) nodes) = length-append w (laid (number + 1) nodes) in
-    let end : place + n + length (laid (number + 1) nodes) + g ≡ place + length (laid number (node ∷ nodes)) + g = omega (arith, total) in
-    let Q : ℕ → Type 0 = λ p. Stand leb p more.items (place + n + length (laid (number + 1) nodes) + g) in
-    let E : ℕ → Type 0 = λ e. AreLaid leb place e number (node ∷ nodes) in
-    subst E end (record {
-      items = Node found ∷ more.items;
-      is_text = record { stand = (there, subst Q behind more.is_text.stand); ends = more.is_text.ends };
-      refer = refer_more leb found node (nodes_of more.items) (references_in nodes) refl is more.refer;
-      first = (found, refl, refl, refl, refl);
-      stands = (found, refl, is);
-    })
+    record {
+      items = laid_items place number nodes g;
+      is_text = record { stand = laid_stand leb place number nodes g back spelled h room even fits even_gap; ends = subst R (sym behind) blank };
+      refer = laid_refer leb place number nodes g back spelled h room even;
+      first = laid_first place number nodes g;
+      stands = laid_stands leb place number nodes g back spelled h room even;
+    }

@@ -5,8 +5,6 @@ pub mod Bytes
 pub mod Calls
 pub mod Chains
 pub mod Ended
-pub mod Fronts
-pub mod Gaps
 pub mod Grown
 pub mod Laid
 pub mod NodeLists

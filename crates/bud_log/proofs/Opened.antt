@@ -1,7 +1,7 @@
 -- A LEB is made a journal head's, and nodes are written to the log: over all calls together.
-use Rattle.std.proofs.Common.{◌≡◌, ◌⊎◌, inl, inr, ℕ, zero, suc, ◌+◌, ◌-◌, ◌%◌, ◌^◌, ◌<◌, ◌≤◌, ◌==◌, Bool, true, false, List, [], ◌∷◌, ◌++◌, length, take, drop, replicate, refl, ap, sym, ◌∙◌, subst, arith, append_assoc, length-append, length-drop}
+use Rattle.std.proofs.Common.{◌≡◌, ◌⊎◌, inl, inr, ℕ, ◌+◌, ◌-◌, ◌%◌, ◌^◌, ◌<◌, ◌≤◌, Bool, true, false, List, [], ◌∷◌, ◌++◌, length, take, drop, refl, ap, sym, ◌∙◌, subst, arith, append_assoc, length-append, length-drop}
 use Rattle.std.specs.Prelude.{◌≢◌, fold}
-use Rattle.std.proofs.lemmas.Bool.{and_parts, cases_eq}
+use Rattle.std.proofs.lemmas.Bool.{cases_eq}
 use Rattle.std.proofs.lemmas.List.{drop-drop, take_at, drop_at, length-take-le, length-replicate}
 use Rattle.ubifs_base.specs.Gap.{gap_of}
 use Rattle.ubifs_base.specs.declared.raw_geometry.RawGeometry.{RawGeometry}
@@ -9,7 +9,9 @@ use Rattle.ubi_volume.specs.Volume.{VolumeState, filled, put, WorksOn, Leaves, W
 use Rattle.ubi_volume.specs.VolumeLaws.{Leaves-more}
 use Rattle.media_sys.specs.SystemNode.{SystemNode, reference}
 use Rattle.media_sys.specs.declared.ref_node.RefNode.{RefNode}
+use Rattle.leb_scan.specs.Gaps.{gap_length}
 use Rattle.leb_scan.specs.Text.{is_blank, IsText}
+use Rattle.leb_scan.specs.TextLaws.{blank_drop, blank_replicate}
 use Rattle.leb_scan.specs.declared.tail.Tail.TheVariants.{Clean}
 use Rattle.bud_log.specs.Buds.{named}
 use Rattle.bud_log.specs.Log.{IsLogLeb, next_leb, Run}
@@ -21,19 +23,9 @@ use Rattle.bud_log.specs.declared.head_at.HeadAt.{HeadAt}
 use Rattle.bud_log.specs.declared.log_end.LogEnd.{LogEnd}
 use Rattle.bud_log.specs.LogLaws.{blank-older, among_log}
 use Rattle.bud_log.proofs.Appended.{goes_lnum, quiet_left, quiet_names, ready_works, here_names}
-use Rattle.bud_log.proofs.Gaps.{gap_length}
 use Rattle.bud_log.proofs.Laid.{AreLaid, laid_there}
 use Rattle.bud_log.proofs.ReadyAgain.{ready_here, ready_next, next_names}
 use Rattle.bud_log.proofs.References.{OneNode}
-
-pub blank_drop : (n : ℕ) (bytes : List ℕ) → is_blank bytes ≡ true → is_blank (drop n bytes) ≡ true
-blank_drop zero bytes h = h
-blank_drop (suc n) [] h = refl
-blank_drop (suc n) (x ∷ bytes) h = blank_drop n bytes (and_parts (x == 0xFF) (is_blank bytes) h).1
-
-pub blank_replicate : (n : ℕ) → is_blank (replicate n 255) ≡ true
-blank_replicate zero = refl
-blank_replicate (suc n) = blank_replicate n
 
 -- an unwritten LEB begins with no node
 pub blank_older : (start lnum size : ℕ) → IsOlder start lnum (filled size [])

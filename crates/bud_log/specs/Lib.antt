@@ -7,3 +7,4 @@ pub mod LogText
 pub mod Log
 pub mod Seen
 pub mod Writing
+pub mod MeantNodes

@@ -7,6 +7,7 @@ use Rattle.media_sys.specs.SystemNode.{padding, fields_of, IsSystemNode}
 use Rattle.media_sys.specs.declared.pad_node.PadNode.{PadNode}
 use Rattle.leb_scan.specs.Text.{AnyNode, IsAnyNode, StandsAt, IsPaddingAt, Begins, behind, up_to_8, Stand, nodes_of}
 use Rattle.leb_scan.specs.Meant.{own_len, IsUntorn}
+use Rattle.leb_scan.specs.TextLaws.{same_parts}
 use Rattle.leb_scan.specs.declared.found.Found.{Found}
 use Rattle.leb_scan.specs.declared.item.Item.{Item}
 use Rattle.leb_scan.specs.declared.item.Item.TheVariants.{Node, Padding, Word}
@@ -81,9 +82,6 @@ stand_alike a b end place (item ∷ items) same long h =
     let P : ℕ → Type 0 = λ next. Stand b next items end in
     (begins_alike a b place item long alike h.0, subst P (behind_alike a b place item long) (stand_alike a b end (behind a place item) items same long h.1))
 
-both_same : {X : Type 0} (x y : X) (xs ys : List X) → x ∷ xs ≡ y ∷ ys → (x ≡ y) × (xs ≡ ys)
-both_same x y xs ys h = (cc, cc)
-
 -- each node ends within them
 pub within : (leb : List ℕ) (items : List Item) (place end : ℕ) (before rest : List Found) (found : Found) → Stand leb place items end → nodes_of items ≡ before ++ (found ∷ rest) → found.offs + found.len ≤ end
 within leb [] place end [] rest found h e = absurd cc
@@ -95,15 +93,15 @@ within leb (Node first ∷ items) place end [] rest found h e =
     let here = h.0.stands.here in
     let later = not_before leb (behind leb place (Node first)) end items h.1 in
     let fits : first.offs + first.len ≤ end = omega (arith, own, here, later) in
-    subst P (both_same first found (nodes_of items) rest e).0 fits
+    subst P (same_parts first found (nodes_of items) rest e).0 fits
 within leb (Node first ∷ items) place end (b ∷ before) rest found h e =
-    within leb items (behind leb place (Node first)) end before rest found h.1 (both_same first b (nodes_of items) (before ++ (found ∷ rest)) e).1
+    within leb items (behind leb place (Node first)) end before rest found h.1 (same_parts first b (nodes_of items) (before ++ (found ∷ rest)) e).1
 within leb (Padding first pad_len ∷ items) place end [] rest found h e =
     let P : Found → Type 0 = λ f. f.offs + f.len ≤ end in
     let own = own_before leb place (Padding first pad_len) h.0 in
     let here = h.0.stands.here in
     let later = not_before leb (behind leb place (Padding first pad_len)) end items h.1 in
     let fits : first.offs + first.len ≤ end = omega (arith, own, here, later) in
-    subst P (both_same first found (nodes_of items) rest e).0 fits
+    subst P (same_parts first found (nodes_of items) rest e).0 fits
 within leb (Padding first pad_len ∷ items) place end (b ∷ before) rest found h e =
-    within leb items (behind leb place (Padding first pad_len)) end before rest found h.1 (both_same first b (nodes_of items) (before ++ (found ∷ rest)) e).1
+    within leb items (behind leb place (Padding first pad_len)) end before rest found h.1 (same_parts first b (nodes_of items) (before ++ (found ∷ rest)) e).1

@@ -3,13 +3,14 @@ use Rattle.std.proofs.Common.{◌≡◌, ℕ, zero, suc, ◌+◌, ◌-◌, ◌*�
 use Rattle.std.specs.Prelude.{All}
 use Rattle.std.proofs.lemmas.Bool.{cases_Bool, ltb-false}
 use Rattle.std.proofs.lemmas.List.{drop-drop, take_at, length-replicate, replicate-append-replicate}
-use Rattle.std.proofs.lemmas.List.Elements.{All-nil, All-cons}
+use Rattle.std.proofs.lemmas.List.Elements.{All-nil, All-cons, All-take}
 use Rattle.byteorder.specs.Endian.{little_bytes}
 use Rattle.ubifs_base.specs.Gap.{gap_of, padding_node}
 use Rattle.ubifs_base.specs.Node.{node_bytes}
 use Rattle.node_fields.specs.Fields.{Spells}
 use Rattle.media_sys.specs.SystemNode.{padding, IsSystemNode}
 use Rattle.leb_scan.specs.Text.{system, kind_of, IsPaddingAt, Stand, nodes_of}
+use Rattle.leb_scan.specs.TextLaws.{nodes_of-append}
 use Rattle.leb_scan.specs.declared.found.Found.{Found}
 use Rattle.leb_scan.specs.declared.item.Item.{Item}
 use Rattle.leb_scan.specs.declared.item.Item.TheVariants.{Padding, Word}
@@ -140,3 +141,12 @@ padding_by place n false = All-cons IsPadding (padding_found place (n - 28)) [] 
 -- and they have no other nodes than padding
 pub gap_padding_alone : (place n : ℕ) → All IsPadding (nodes_of (gap_items place n))
 gap_padding_alone place n = padding_by place n (nat_lt n 28)
+
+-- nor has a first part of them
+pub gap_part_alone : (place n : ℕ) (first rest : List Item) → gap_items place n ≡ first ++ rest → All IsPadding (nodes_of first)
+gap_part_alone place n first rest split =
+    let P : List Found → Type 0 = λ nodes. All IsPadding nodes in
+    let count : ℕ = length (nodes_of first) in
+    let both : nodes_of (gap_items place n) ≡ nodes_of first ++ nodes_of rest = ap nodes_of split ∙ nodes_of-append first rest in
+    let front : take count (nodes_of (gap_items place n)) ≡ nodes_of first = ap (take count) both ∙ take_at (nodes_of first) (nodes_of rest) count refl in
+    subst P front (All-take IsPadding count (nodes_of (gap_items place n)) (gap_padding_alone place n))

@@ -6,7 +6,7 @@ use Rattle.std.proofs.lemmas.Slice.Eq.{bytes_eq-Decides}
 use Rattle.leb_scan.specs.Fronts.{same_part, own_before, not_before, begins_alike, behind_alike}
 use Rattle.leb_scan.specs.Meant.{own_len, IsUntorn, IsTorn, NothingBegins, IsMeant, AreUntorn, ShowsFirst}
 use Rattle.leb_scan.specs.Text.{Begins, behind, Stand}
-use Rattle.leb_scan.specs.TextLaws.{ends}
+use Rattle.leb_scan.specs.TextLaws.{ends, same_parts}
 use Rattle.leb_scan.specs.declared.item.Item.{Item}
 
 -- items that end where the bytes are as they were meant are untorn
@@ -87,9 +87,6 @@ first_items meant left from end n (item ∷ items) long same h m =
       | inr torn ↦ torn_first meant left from end n item items same m (record { differs = torn })
     ]
 
-both_same : (x y : Item) (xs ys : List Item) → x ∷ xs ≡ y ∷ ys → (x ≡ y) × (xs ≡ ys)
-both_same x y xs ys h = (cc, cc)
-
 begins_with : (meant : List ℕ) (from n q place : ℕ) (before more first rest : List Item) → Stand meant from before q → q ≤ n → first ++ rest ≡ before ++ more → Stand meant from first place
     → ((item : Item) (others : List Item) → rest ≡ item ∷ others → n < place + own_len item) → (extra : List Item) × (first ≡ before ++ extra)
 begins_with meant from n q place [] more first rest h room e stand reaches = (first, refl)
@@ -99,7 +96,7 @@ begins_with meant from n q place (item ∷ before) more [] rest h room e stand r
     let later = not_before meant (behind meant from item) q before h.1 in
     absurd (omega (arith, far, own, later, room, stand))
 begins_with meant from n q place (item ∷ before) more (one ∷ first) rest h room e stand reaches =
-    let same = both_same one item (first ++ rest) (before ++ more) e in
+    let same = same_parts one item (first ++ rest) (before ++ more) e in
     let P : Item → Type 0 = λ i. Stand meant (behind meant from i) first place in
     let deeper = begins_with meant (behind meant from item) n q place before more first rest h.1 room same.1 (subst P same.0 stand.1) reaches in
     (deeper.0, ap (λ (i : Item). i ∷ first) same.0 ∙ ap (λ (i : List Item). item ∷ i) deeper.1)

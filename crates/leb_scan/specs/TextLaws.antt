@@ -42,3 +42,7 @@ blank_later leb place later h after =
 pub blank_replicate : (n : ℕ) → is_blank (replicate n 255) ≡ true
 blank_replicate zero = refl
 blank_replicate (suc n) = blank_replicate n
+
+-- equal lists have equal parts
+pub same_parts : {X : Type 0} (x y : X) (xs ys : List X) → x ∷ xs ≡ y ∷ ys → (x ≡ y) × (xs ≡ ys)
+same_parts x y xs ys h = (cc, cc)

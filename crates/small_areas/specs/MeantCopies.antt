@@ -3,16 +3,16 @@ use Rattle.std.proofs.Common.{◌≡◌, ◌⊎◌, ℕ, ◌+◌, ◌-◌, ◌*�
 use Rattle.std.specs.Prelude.{All}
 use Rattle.std.proofs.lemmas.Nat.Gcd.{dvd_of_mod-eq-zero, mod-eq-zero_of_dvd, dvd_trans}
 use Rattle.std.proofs.lemmas.List.{drop-drop, take_at, drop_at, length-take-le}
-use Rattle.std.proofs.lemmas.List.Elements.{All-nil, All-cons, All-take, All-weaker}
+use Rattle.std.proofs.lemmas.List.Elements.{All-nil, All-cons, All-weaker}
 use Rattle.ubifs_base.specs.Gap.{gap_of}
 use Rattle.ubi_volume.specs.Volume.{put}
 use Rattle.media_sys.specs.SystemNode.{IsMaster, master}
 use Rattle.media_sys.specs.declared.master.Master.{Master}
-use Rattle.leb_scan.specs.Gaps.{IsPadding, gap_items, gap_length, gap_stands, gap_padding_alone}
+use Rattle.leb_scan.specs.Gaps.{IsPadding, gap_items, gap_length, gap_stands, gap_part_alone}
 use Rattle.leb_scan.specs.Meant.{AreUntorn, IsMeant as AreMeant}
 use Rattle.leb_scan.specs.MeantLaws.{first_items}
 use Rattle.leb_scan.specs.Text.{system, kind_of, IsNodeAt, Stand, is_blank, IsText, tail_at, nodes_of}
-use Rattle.leb_scan.specs.TextLaws.{blank_later, nodes_of-append}
+use Rattle.leb_scan.specs.TextLaws.{blank_later, same_parts}
 use Rattle.leb_scan.specs.declared.found.Found.{Found}
 use Rattle.leb_scan.specs.declared.item.Item.{Item}
 use Rattle.leb_scan.specs.declared.item.Item.TheVariants.{Node}
@@ -54,32 +54,24 @@ copy_stands leb front node back place gap sqnum new h at even fits even_gap is_n
       stand = (there, subst Q after (gap_stands gap leb (place + 512) back fits even_gap next));
     }
 
-both_same : (x y : Item) (xs ys : List Item) → x ∷ xs ≡ y ∷ ys → (x ≡ y) × (xs ≡ ys)
-both_same x y xs ys h = (cc, cc)
-
 -- a node is no master, or it stands at the place and has these bytes
 abbrev IsThat : List ℕ → ℕ → List ℕ → Found → Type 0
 IsThat node place left found = found.kind ≡ 7 → (found.offs ≡ place) × (take found.len (drop place left) ≡ node)
 
--- of a first part of padding no node is a master
-padding_part : (node left : List ℕ) (place : ℕ) (first rest items : List Item) → items ≡ first ++ rest → All IsPadding (nodes_of items) → All (IsThat node place left) (nodes_of first)
-padding_part node left place first rest items split paddings =
-    let P : List Found → Type 0 = λ nodes. All IsPadding nodes in
-    let both : nodes_of items ≡ nodes_of first ++ nodes_of rest = ap nodes_of split ∙ nodes_of-append first rest in
-    let front : take (length (nodes_of first)) (nodes_of items) ≡ nodes_of first = ap (take (length (nodes_of first))) both ∙ take_at (nodes_of first) (nodes_of rest) (length (nodes_of first)) refl in
-    let alone : All IsPadding (nodes_of first) = subst P front (All-take IsPadding (length (nodes_of first)) (nodes_of items) paddings) in
-    All-weaker IsPadding (IsThat node place left) (λ found padding kind. absurd (omega (arith, padding, kind))) (nodes_of first) alone
+padding_alone : (node left : List ℕ) (place : ℕ) (nodes : List Found) → All IsPadding nodes → All (IsThat node place left) nodes
+padding_alone node left place = All-weaker IsPadding (IsThat node place left) (λ found padding kind. absurd (omega (arith, padding, kind)))
 
 -- of a first part of the copy's items, each whole, that node alone is a master
-copy_part : (meant node left : List ℕ) (place sqnum : ℕ) (new : Master) (first rest gap : List Item) → take 512 (drop place meant) ≡ node → Node (master_at place sqnum new) ∷ gap ≡ first ++ rest → All IsPadding (nodes_of gap)
-    → AreUntorn meant place first left → All (IsThat node place left) (nodes_of first)
-copy_part meant node left place sqnum new [] rest gap there split paddings whole = All-nil (IsThat node place left)
-copy_part meant node left place sqnum new (one ∷ first) rest gap there split paddings whole =
-    let its = both_same (Node (master_at place sqnum new)) one gap (first ++ rest) split in
+copy_part : (meant node left : List ℕ) (place gap sqnum : ℕ) (new : Master) (first rest : List Item) → take 512 (drop place meant) ≡ node → copy_items gap place sqnum new ≡ first ++ rest → AreUntorn meant place first left
+    → All (IsThat node place left) (nodes_of first)
+copy_part meant node left place gap sqnum new [] rest there split untorn = All-nil (IsThat node place left)
+copy_part meant node left place gap sqnum new (one ∷ first) rest there split untorn =
+    let its = same_parts (Node (master_at place sqnum new)) one (gap_items (place + 512) gap) (first ++ rest) split in
     let P : Item → Type 0 = λ item. All (IsThat node place left) (nodes_of (item ∷ first)) in
     let Q : Item → Type 0 = λ item. AreUntorn meant place (item ∷ first) left in
-    let its_own : AreUntorn meant place (Node (master_at place sqnum new) ∷ first) left = subst Q (sym its.0) whole in
-    subst P its.0 (All-cons (IsThat node place left) (master_at place sqnum new) (nodes_of first) (λ kind. (refl, its_own.0 ∙ there)) (padding_part node left place first rest gap its.1 paddings))
+    let own : AreUntorn meant place (Node (master_at place sqnum new) ∷ first) left = subst Q (sym its.0) untorn in
+    let others = padding_alone node left place (nodes_of first) (gap_part_alone (place + 512) gap first rest its.1) in
+    subst P its.0 (All-cons (IsThat node place left) (master_at place sqnum new) (nodes_of first) (λ kind. (refl, own.0 ∙ there)) others)
 
 shown_unmended : (left node : List ℕ) (place end : ℕ) (first rest : List Item) (shown : ℕ) → All (IsThat node place left) (nodes_of first) → is_blank (drop end left) ≡ true → Stand left place first shown
     → ((rest ≡ []) × (shown ≡ end)) ⊎ IsText left place first shown (tail_at left shown) → IsUnmended node place left
@@ -116,4 +108,4 @@ meant_unmended before left node room place sqnum new is_room is_node is_place lo
     let shows = first_items whole left place (place + room) 0 items (long ∙ sym same) refl (subst P end there.stand) meant in
     let blank : is_blank (drop (place + room) left) ≡ true = ap is_blank outside ∙ blank_later before place (place + room) is_place.is_text.ends (omega arith) in
     shown_unmended left node place (place + room) shows.first shows.rest shows.place
-    (copy_part whole node left place sqnum new shows.first shows.rest (gap_items (place + 512) (room - 512)) there.node_there shows.split (gap_padding_alone (place + 512) (room - 512)) shows.untorn) blank shows.stand shows.ends
+    (copy_part whole node left place (room - 512) sqnum new shows.first shows.rest there.node_there shows.split shows.untorn) blank shows.stand shows.ends
