@@ -1,16 +1,12 @@
 -- Numbers with which texts begin, and that none is above another.
-use Rattle.std.proofs.Common.{◌≡◌, inl, inr, ℕ, ◌≤◌, true, false, List, [], ◌∷◌, ◌++◌, Option, Some, None, refl, sym, ◌∙◌, subst, arith}
-use Rattle.std.proofs.lemmas.Bool.{le-ltb, ltb-false}
+use Rattle.std.proofs.Common.{◌≡◌, ℕ, true, false, List, [], ◌∷◌, ◌++◌, Option, Some, refl, subst}
 use Rattle.ubifs_base.specs.declared.raw_geometry.RawGeometry.{RawGeometry}
-use Rattle.ubi_volume.specs.Volume.{VolumeState}
 use Rattle.media_sys.specs.declared.ref_node.RefNode.{RefNode}
 use Rattle.leb_scan.specs.declared.found.Found.{Found}
-use Rattle.bud_log.specs.Log.{IsLogLeb, next_leb, Run}
+use Rattle.bud_log.specs.Log.{next_leb, Run}
 use Rattle.bud_log.specs.LogText.{LogText, begins_with, start_of, is_later}
-use Rattle.bud_log.specs.Writing.{IsAmong, IsOlder, AreBelow, IsChain, IsReady}
-use Rattle.bud_log.specs.declared.head_at.HeadAt.{HeadAt}
+use Rattle.bud_log.specs.Writing.{AreBelow, IsChain}
 use Rattle.bud_log.specs.declared.log_end.LogEnd.{LogEnd}
-use Rattle.bud_log.specs.LogLaws.{among_or}
 use Rattle.bud_log.proofs.Chains.{last_first, last_more}
 use Rattle.bud_log.proofs.Grown.{grown_text}
 

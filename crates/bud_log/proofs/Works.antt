@@ -1,5 +1,5 @@
 -- A bud's LEB is emptied, and then bytes are added to the log.
-use Rattle.std.proofs.Common.{◌≡◌, ◌⊎◌, inl, inr, ℕ, Bool, true, false, List, [], ap, sym, ◌∙◌, subst, refl}
+use Rattle.std.proofs.Common.{◌≡◌, ◌⊎◌, inl, inr, ℕ, Bool, true, false, List, [], ap, sym, ◌∙◌, subst}
 use Rattle.std.specs.Prelude.{◌≢◌}
 use Rattle.ubi_volume.specs.Volume.{VolumeState, filled, Torn, UnderWay, WorksOn, ChangeUnderWay}
 use Rattle.ubi_volume.specs.Frame.{Works}

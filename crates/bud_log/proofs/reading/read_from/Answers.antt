@@ -1,4 +1,4 @@
-use Rattle.std.proofs.Common.{◌≡◌, ℕ, Option, None, List, rules, sym, ◌∙◌, subst}
+use Rattle.std.proofs.Common.{◌≡◌, ℕ, None, List, rules, sym, ◌∙◌, subst}
 use Rattle.ubifs_base.specs.RawOf.{raw_of}
 use Rattle.ubi_volume.specs.VolumeLaws.{Keeps-then}
 use Rattle.bud_log.specs.Log.{Log, IsLog}
