@@ -1,5 +1,5 @@
 -- What calls of the log answer, and where the log goes on afterwards.
-use Rattle.std.specs.Prelude.{◌≡◌, ℕ, ◌+◌, ◌*◌, ◌<◌, [], Result}
+use Rattle.std.specs.Prelude.{◌≡◌, ℕ, ◌+◌, ◌*◌, ◌<◌, [], Result, OnErr}
 use Rattle.ubi_volume.specs.Volume.{VolumeState, filled, SameShape}
 use Rattle.ubi_volume.specs.Faults.{HasCause, StaysSure}
 use Rattle.ubi_volume.specs.declared.fault.VolFault.{VolFault}
@@ -9,17 +9,19 @@ use Rattle.bud_log.specs.LogCalls.{IsEmptied}
 use Rattle.bud_log.specs.LogText.{StartsCommit}
 use Rattle.bud_log.specs.declared.log_fault.LogFault.{LogFault}
 
--- whatever the answer: the shape is as it was, and the volume is told as failed only where it failed
-pub record IsAnswered {T : Type 0} (old new : VolumeState) (result : Result T VolFault) : Type 0 where
+-- whatever the answer: the shape is as it was, and the volume is told as failed only where it failed; then the log goes on where it did
+pub record IsAnswered {T : Type 0} (old new : VolumeState) (before after : LogAt) (result : Result T VolFault) : Type 0 where
   pub shape : SameShape old new
   pub cause : HasCause old.faults new.faults result
   pub sure : StaysSure old new result
+  pub stays : OnErr result (after ≡ before)
 
 -- the same of a call that may find the log full
-pub record IsLogAnswered {T : Type 0} (old new : VolumeState) (result : Result T LogFault) : Type 0 where
+pub record IsLogAnswered {T : Type 0} (old new : VolumeState) (before after : LogAt) (result : Result T LogFault) : Type 0 where
   pub shape : SameShape old new
   pub cause : HasLogCause old.faults new.faults result
   pub sure : StaysSureLog old new result
+  pub stays : OnErr result (after ≡ before)
 
 -- a bud was opened in this LEB, which is blank, and the log goes on behind its reference
 pub record IsOpened (old new : VolumeState) (before after : LogAt) (lnum : ℕ) : Type 0 where

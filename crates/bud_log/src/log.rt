@@ -98,9 +98,8 @@ impl Log {
         ensures works { Works (V.state volume.old) (V.state volume.new) (λ k. (k ≡ lnum) ⊎ (k ≡ next_lnum self.old))
             (OpenUnderWay (has_room_at self.old) (V.state volume.old) self.old lnum (room_of self.old.geo.min_io 64)) }
         ensures opened { OnOk result (IsOpened (V.state volume.old) (V.state volume.new) self.old self.new lnum) }
-        ensures stays { OnErr result (self.new ≡ self.old) }
         ensures raised { IsRaised sqnum.old sqnum.new result }
-        ensures answered { IsLogAnswered (V.state volume.old) (V.state volume.new) result }
+        ensures answered { IsLogAnswered (V.state volume.old) (V.state volume.new) self.old self.new result }
     {
         one_node();
         let here = self.has_room();
@@ -152,9 +151,8 @@ impl Log {
         ensures works { Works (V.state volume.old) (V.state volume.new) (λ k. k ≡ leb_behind self.old.geo self.old.lnum)
             (StartUnderWay (V.state volume.old) self.old (room_of self.old.geo.min_io (32 + 64 * length heads.now))) }
         ensures started { OnOk result (IsStarted (V.state volume.new) self.old self.new cmt_no (length heads.now)) }
-        ensures stays { OnErr result (self.new ≡ self.old) }
         ensures raised { sqnum.new ≡ sqnum.old + (1 + length heads.now) }
-        ensures answered { IsAnswered (V.state volume.old) (V.state volume.new) result }
+        ensures answered { IsAnswered (V.state volume.old) (V.state volume.new) self.old self.new result }
     {
         one_node();
         let number = *sqnum;
@@ -176,8 +174,7 @@ impl Log {
             → Leaves (V.state volume.old) (V.state volume.new) (λ left. NamesBuds left self.old.geo self.old.section buds) }
         ensures works { Works (V.state volume.old) (V.state volume.new) (IsEnded self.old) (EndUnderWay (V.state volume.old) self.old) }
         ensures ended { OnOk result (HasEnded (V.state volume.old) (V.state volume.new) self.old self.new) }
-        ensures stays { OnErr result (self.new ≡ self.old) }
-        ensures answered { IsAnswered (V.state volume.old) (V.state volume.new) result }
+        ensures answered { IsAnswered (V.state volume.old) (V.state volume.new) self.old self.new result }
     {
         unmap_between(volume, &self.geometry, self.first, self.section)?;
         self.first = self.section;
