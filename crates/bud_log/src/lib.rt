@@ -34,8 +34,3 @@ pub use crate::log_fault::LogFault;
 pub use crate::log_read::LogRead;
 pub use crate::reading::read_log;
 pub use crate::ring::next_leb;
-
-#[cfg(test)]
-mod tests;
-#[cfg(test)]
-mod writing_tests;

@@ -17,8 +17,6 @@ mod loading;
 mod mem_volume;
 mod settling;
 mod tear;
-#[cfg(test)]
-mod tests;
 mod volume;
 mod whole;
 

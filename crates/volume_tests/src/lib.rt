@@ -4,10 +4,16 @@
 #![tactic(auto)]
 
 #[cfg(test)]
+mod bud_log_tests;
+#[cfg(test)]
+mod bud_log_writing_tests;
+#[cfg(test)]
 mod journal_heads_tests;
 #[cfg(test)]
 mod lpt_area_tests;
 #[cfg(test)]
 mod small_areas_tests;
+#[cfg(test)]
+mod ubi_volume_tests;
 #[cfg(test)]
 mod write_buffer_tests;

@@ -3,7 +3,7 @@
 ghost use Rattle.std.specs.Prelude.{◌≡◌, ◌<◌, length};
 ghost use Rattle.ubi_volume.specs.Volume.{SameShape};
 
-use crate::{HeadAt, LogRead, read_log};
+use bud_log::{HeadAt, LogRead, read_log};
 use leb_scan::Tail;
 use media_sys::{CommitStart, RefNode};
 use std::alloc::Global;

@@ -4,7 +4,7 @@ ghost use Rattle.std.specs.Prelude.{◌≡◌, IfOk};
 ghost use Rattle.ubifs_base.specs.Geometry.{plain_geometry};
 ghost use Rattle.ubifs_base.specs.RawOf.{raw_of};
 
-use crate::{HeadAt, Log, LogFault, read_log};
+use bud_log::{HeadAt, Log, LogFault, read_log};
 use leb_scan::Tail;
 use std::test::Fail;
 use ubi_volume::{MemVolume, VolShape};

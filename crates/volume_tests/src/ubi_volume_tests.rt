@@ -1,7 +1,7 @@
 // A volume in memory, by hand.
 
-use crate::{LoadFault, MemVolume, VolShape, Volume, load_image, save_image};
 use std::test::Fail;
+use ubi_volume::{LoadFault, MemVolume, VolShape, Volume, load_image, save_image};
 use ubifs_base::{Arm, Cut};
 
 // Writes, unmaps, maps and changes, and reads what is told of it.
