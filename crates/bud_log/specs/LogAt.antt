@@ -5,7 +5,7 @@ use Rattle.ubifs_base.specs.declared.raw_geometry.RawGeometry.{RawGeometry}
 use Rattle.media_sys.specs.SystemNode.{SystemNode, reference, commit_start}
 use Rattle.media_sys.specs.declared.ref_node.RefNode.{RefNode}
 use Rattle.ubi_volume.specs.Volume.{VolumeState, Keeps}
-use Rattle.ubi_volume.specs.Faults.{IsCause}
+use Rattle.ubifs_base.specs.Faults.{IsCause}
 use Rattle.bud_log.specs.Log.{IsLogLeb, next_leb}
 use Rattle.bud_log.specs.declared.head_at.HeadAt.{HeadAt}
 use Rattle.bud_log.specs.declared.log_fault.LogFault.{LogFault}

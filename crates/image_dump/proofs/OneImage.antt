@@ -71,7 +71,7 @@ none_out geo out h (inr (_, inr (_, inl a))) = a.0 h.log_lebs
 none_out geo out h (inr (_, inr (_, inr (_, inl a)))) = a.0 h.lpt_lebs
 none_out geo out h (inr (_, inr (_, inr (_, inr (_, inl a))))) = a.0 h.orph_lebs
 none_out geo out h (inr (_, inr (_, inr (_, inr (_, inr (_, inl a)))))) = a.0 h.leb_cnt
-none_out geo out h (inr (_, inr (_, inr (_, inr (_, inr (_, inr (_, inl a))))))) = a.0 h.max_leb_cnt
+none_out geo out h (inr (_, inr (_, inr (_, inr (_, inr (_, inr (_, inl a))))))) = a.0 (h.max_leb_cnt, h.one_leb)
 none_out geo out h (inr (_, inr (_, inr (_, inr (_, inr (_, inr (_, inr (_, inl a)))))))) = a.0 h.fanout
 none_out geo out h (inr (_, inr (_, inr (_, inr (_, inr (_, inr (_, inr (_, inr (_, never))))))))) = never
 

@@ -32,7 +32,7 @@ small raw n d geo few less =
     let cnt : n ≤ raw.max_leb_cnt = let h = geo.leb_cnt.1 in omega (arith, h, few) in
     let a : n * d ≤ raw.max_leb_cnt * d = mul-le-mul_right d cnt in
     let b : raw.max_leb_cnt * d ≤ raw.max_leb_cnt * raw.leb_size = mul-le-mul_left raw.max_leb_cnt less in
-    let c = geo.max_leb_cnt.0 in
+    let c = geo.max_leb_cnt in
     omega (arith, a, b, c)
 
 -- where the open LEB and the next sequence number are

@@ -8,7 +8,7 @@ use Rattle.ubi_volume.specs.declared.fault.AreaFault.TheVariants.{Memory, Volume
 use Rattle.ubi_volume.specs.declared.fault.AreaFault.{AreaFault}
 use Rattle.ubi_volume.specs.declared.fault.VolFault.{VolFault}
 use Rattle.ubifs_base.specs.declared.raw_geometry.RawGeometry.{RawGeometry}
-use Rattle.lpt_area.specs.Written.{IsGeometryOf}
+use Rattle.ubi_volume.specs.Geometry.{IsGeometryOf}
 
 -- a volume as it was, but for its count of faults
 pub record IsKept (old now : VolumeState) : Type 0 where

@@ -12,12 +12,6 @@ use Rattle.lpt_area.specs.Tree.{HasPnode, Row, IsTree, IsTreeIn, root_of, empty_
 use Rattle.lpt_area.specs.Laid.{places, fours, past_main}
 use Rattle.lpt_area.specs.declared.lpt_at.LptAt.{LptAt}
 
--- the geometry is that of the volume, which may have more LEBs
-pub record IsGeometryOf (geo : RawGeometry) (state : VolumeState) : Type 0 where
-  pub leb_size : geo.leb_size ≡ state.leb_size
-  pub min_io : geo.min_io ≡ state.min_io
-  pub leb_cnt : geo.leb_cnt ≤ state.leb_cnt
-
 -- properties that a main LEB can have: free and dirty are multiples of 8, and together at most the LEB
 pub record IsLprop (geo : RawGeometry) (prop : Lprop) : Type 0 where
   pub free : prop.free % 8 ≡ 0

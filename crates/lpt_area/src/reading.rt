@@ -10,7 +10,7 @@ ghost use Rattle.media_lpt.specs.declared.lprop.Lprop.{Lprop as AnLprop};
 ghost use Rattle.media_lpt.specs.Nodes.{IsPlace};
 ghost use Rattle.lpt_area.specs.Tree.{IsTree, IsBelow, root_of, row_len};
 ghost use Rattle.lpt_area.specs.Only.{HasNone, SameFor};
-ghost use Rattle.lpt_area.specs.Written.{IsGeometryOf};
+ghost use Rattle.ubi_volume.specs.Geometry.{IsGeometryOf};
 
 use crate::LptAt;
 use crate::rows::{nnode_row, pnode_row};

@@ -8,7 +8,7 @@ ghost use Rattle.ubi_volume.specs.Faults.{HasCause, StaysSure, HasAreaCause, Sta
 ghost use Rattle.media_lpt.specs.Nodes.{IsPlace};
 ghost use Rattle.lpt_area.specs.Tree.{AtPlace, Row, HasPnode, HasNnode, no_place, empty_leb};
 ghost use Rattle.lpt_area.specs.Only.{IsOnly, HasNone};
-ghost use Rattle.lpt_area.specs.Written.{IsGeometryOf};
+ghost use Rattle.ubi_volume.specs.Geometry.{IsGeometryOf};
 
 use media_lpt::{Lprop, LptPlace, Nnode, Pnode, one_node};
 use std::alloc::Global;

@@ -6,7 +6,8 @@ ghost use Rattle.ubifs_base.specs.Properties.{tree_len};
 ghost use Rattle.ubifs_base.specs.RawOf.{raw_of};
 ghost use Rattle.ubi_volume.specs.Volume.{SameShape, filled};
 ghost use Rattle.ubi_volume.specs.Faults.{HasAreaCause, StaysSureArea};
-ghost use Rattle.lpt_area.specs.Written.{IsGeometryOf, AreProps, IsWritten, ChangesOne, KeepsTrees, IsTreeLeb, next_lpt, in_units};
+ghost use Rattle.ubi_volume.specs.Geometry.{IsGeometryOf};
+ghost use Rattle.lpt_area.specs.Written.{AreProps, IsWritten, ChangesOne, KeepsTrees, IsTreeLeb, next_lpt, in_units};
 
 use crate::LptAt;
 use crate::levels::{lay_levels, lay_pnodes};

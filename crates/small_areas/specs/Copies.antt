@@ -15,12 +15,6 @@ use Rattle.leb_scan.specs.declared.tail.Tail.TheVariants.{Clean}
 use Rattle.small_areas.specs.Masters.{IsLastMaster, IsLatest}
 use Rattle.small_areas.specs.declared.placed_master.PlacedMaster.{PlacedMaster}
 
--- the geometry is that of the volume, which may have more LEBs
-pub record IsGeometryOf (geo : RawGeometry) (state : VolumeState) : Type 0 where
-  pub leb_size : geo.leb_size ≡ state.leb_size
-  pub min_io : geo.min_io ≡ state.min_io
-  pub leb_cnt : geo.leb_cnt ≤ state.leb_cnt
-
 -- the bytes from one place for a copy to the next: 512, rounded up to whole units
 abbrev pub room_of : ℕ → ℕ
 room_of unit = (511 + unit) / unit * unit

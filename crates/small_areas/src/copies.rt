@@ -6,7 +6,8 @@ ghost use Rattle.ubifs_base.specs.RawOf.{raw_of};
 ghost use Rattle.ubi_volume.specs.Volume.{WorksOn, SameShape, AreUnits};
 ghost use Rattle.ubi_volume.specs.Faults.{HasCause, StaysSure};
 ghost use Rattle.ubi_volume.specs.Frame.{Works};
-ghost use Rattle.small_areas.specs.Copies.{IsGeometryOf, room_of, IsRoom, IsNodeOf, master_node, copy_of, IsPlace, HasNoPlace, IsOpen, IsCopied, AreCopied, CopyUnderWay, IsMasterLeb, MasterUnderWay};
+ghost use Rattle.ubi_volume.specs.Geometry.{IsGeometryOf};
+ghost use Rattle.small_areas.specs.Copies.{room_of, IsRoom, IsNodeOf, master_node, copy_of, IsPlace, HasNoPlace, IsOpen, IsCopied, AreCopied, CopyUnderWay, IsMasterLeb, MasterUnderWay};
 ghost use Rattle.small_areas.specs.Puts.{IsPut, PutUnderWay};
 
 use leb_scan::{Tail, one_text, text_end};

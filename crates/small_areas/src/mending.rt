@@ -5,7 +5,8 @@ ghost use Rattle.ubifs_base.specs.RawOf.{raw_of};
 ghost use Rattle.ubi_volume.specs.Volume.{SameShape};
 ghost use Rattle.ubi_volume.specs.Faults.{HasCause, StaysSure};
 ghost use Rattle.ubi_volume.specs.Frame.{Works};
-ghost use Rattle.small_areas.specs.Copies.{IsGeometryOf, room_of, IsOpen, IsRoom, IsMasterLeb, IsMended, MendUnderWay, other_leb};
+ghost use Rattle.ubi_volume.specs.Geometry.{IsGeometryOf};
+ghost use Rattle.small_areas.specs.Copies.{room_of, IsOpen, IsRoom, IsMasterLeb, IsMended, MendUnderWay, other_leb};
 ghost use Rattle.small_areas.specs.Masters.{IsLatest};
 ghost use Rattle.small_areas.specs.declared.placed_master.PlacedMaster.{PlacedMaster as APlacedMaster};
 

@@ -9,7 +9,7 @@ ghost use Rattle.ubi_volume.specs.Faults.{HasAreaCause, StaysSureArea};
 ghost use Rattle.media_sys.specs.Orphans.{orphans_of};
 ghost use Rattle.media_sys.specs.SystemNode.{IsSystemNode, orphans, written};
 ghost use Rattle.leb_scan.specs.Text.{AnyNode, StandsAt};
-ghost use Rattle.small_areas.specs.Copies.{IsGeometryOf};
+ghost use Rattle.ubi_volume.specs.Geometry.{IsGeometryOf};
 ghost use Rattle.small_areas.specs.Orphans.{orphan_limit, AreListed, HasOrphans, AreOrphans, list_len, list_nodes, list_units, list_size, list_bytes, IsListWritten, ListUnderWay};
 
 use leb_scan::{Found, Scanner};

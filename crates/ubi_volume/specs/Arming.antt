@@ -1,6 +1,6 @@
 -- When a volume in memory fails: from the step in which an armed cut falls until it is revived, and at the armed call.
 use Rattle.std.specs.Prelude.{◌≡◌, ℕ, ◌+◌, ◌-◌, ◌%◌, ◌<◌, Bool, true, false, min, nat_lt, nat_le, ◌==◌, if◌then◌else◌}
-use Rattle.ubi_volume.specs.Faults.{IsCause}
+use Rattle.ubifs_base.specs.Faults.{IsCause}
 use Rattle.ubi_volume.specs.declared.arming.Arming.{Arming}
 use Rattle.ubi_volume.specs.declared.arming.Fate.{Fate}
 use Rattle.ubi_volume.specs.declared.arming.Fate.TheVariants.{Runs, Refused, Struck}

@@ -1,5 +1,6 @@
 -- When a volume fails. A count of faults that reached 2 ^ 64 - 1 stays there.
 use Rattle.std.specs.Prelude.{◌≡◌, ◌⊎◌, ℕ, ◌<◌, ◌≤◌, Result, Err, Ok, IsOk}
+use Rattle.ubifs_base.specs.Faults.{IsCause}
 use Rattle.ubi_volume.specs.Volume.{VolumeState}
 use Rattle.ubi_volume.specs.declared.fault.VolFault.{VolFault}
 use Rattle.ubi_volume.specs.declared.fault.VolFault.TheVariants.{Failed}
@@ -9,14 +10,6 @@ use Rattle.ubi_volume.specs.declared.fault.AreaFault.TheVariants.{Memory, Volume
 -- the count that a fault tells
 abbrev pub count_of : VolFault → ℕ
 count_of (Failed count) = count
-
--- the count of faults rose, or it stands at its end
-abbrev pub Rose : ℕ → ℕ → Type 0
-Rose before now = (before < now) ⊎ (18446744073709551615 ≤ now)
-
--- the volume failed, and this is its count of faults at the end
-abbrev pub IsCause : ℕ → ℕ → ℕ → Type 0
-IsCause before now count = (before ≤ now) × (Rose before now × (count ≡ now))
 
 -- Failed comes only where the count of faults rose, and tells the count; the count never falls
 abbrev pub HasCause : {T : Type 0} → ℕ → ℕ → Result T VolFault → Type 0
