@@ -12,8 +12,8 @@ use crate::rank::rank;
 // So many children are walked from their start: a bisection of them isn't faster.
 const FEW: usize = 8;
 
-/// How many leaves a walk to this rank passes over: the one behind them has that rank or a lower one.
-pub fn leaves_passed(leaves: &[Leaf], at: u128) -> usize
+/// How many of many leaves a walk to this rank passes over: the one behind them has that rank or a lower one.
+fn bisect_leaves(leaves: &[Leaf], at: u128) -> usize
     ensures bound { result ≤ length leaves.now }
     ensures starts { 0 < result → starts_within at (drop result leaves.now) ≡ true }
 {
@@ -30,8 +30,8 @@ pub fn leaves_passed(leaves: &[Leaf], at: u128) -> usize
     low
 }
 
-/// How many nodes a walk to this rank passes over: the one behind them begins with that rank or a lower one.
-pub fn nodes_passed(nodes: &[Node], at: u128) -> usize
+/// How many of many nodes a walk to this rank passes over: the one behind them begins with that rank or a lower one.
+fn bisect_nodes(nodes: &[Node], at: u128) -> usize
     requires first_keys { kept_all nodes.now ≡ true }
     requires sound { filled (row nodes.now) ≡ true }
     ensures bound { result ≤ length nodes.now }
@@ -50,16 +50,40 @@ pub fn nodes_passed(nodes: &[Node], at: u128) -> usize
     low
 }
 
+/// The same of any number of leaves.
+pub fn leaves_passed(leaves: &[Leaf], at: u128) -> usize
+    ensures bound { result ≤ length leaves.now }
+    ensures starts { 0 < result → starts_within at (drop result leaves.now) ≡ true }
+{
+    if leaves.len() <= FEW {
+        return 0;
+    }
+    bisect_leaves(leaves, at)
+}
+
+/// The same of any number of nodes.
+pub fn nodes_passed(nodes: &[Node], at: u128) -> usize
+    requires first_keys { kept_all nodes.now ≡ true }
+    requires sound { filled (row nodes.now) ≡ true }
+    ensures bound { result ≤ length nodes.now }
+    ensures begins { 0 < result → begins_within at (row (drop result nodes.now)) ≡ true }
+{
+    if nodes.len() <= FEW {
+        return 0;
+    }
+    bisect_nodes(nodes, at)
+}
+
 /// How many leaves of a lower rank a walk to this one passes over.
 pub fn lower_leaves_passed(leaves: &[Leaf], at: u128) -> usize
     ensures bound { result ≤ length leaves.now }
     ensures positive { 0 < result → 0 < at }
     ensures starts { 0 < result → starts_within (at - 1) (drop result leaves.now) ≡ true }
 {
-    if at == 0 {
+    if leaves.len() <= FEW || at == 0 {
         return 0;
     }
-    leaves_passed(leaves, at - 1)
+    bisect_leaves(leaves, at - 1)
 }
 
 /// How many nodes that begin with a lower rank a walk to this one passes over.
@@ -70,8 +94,8 @@ pub fn lower_nodes_passed(nodes: &[Node], at: u128) -> usize
     ensures positive { 0 < result → 0 < at }
     ensures begins { 0 < result → begins_within (at - 1) (row (drop result nodes.now)) ≡ true }
 {
-    if at == 0 {
+    if nodes.len() <= FEW || at == 0 {
         return 0;
     }
-    nodes_passed(nodes, at - 1)
+    bisect_nodes(nodes, at - 1)
 }

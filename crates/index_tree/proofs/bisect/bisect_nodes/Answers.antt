@@ -3,7 +3,7 @@ use Rattle.std.proofs.lemmas.Bool.Decides.{nat_tests}
 use Rattle.index_tree.specs.declared.node.Node.TheViews.{out-Node}
 use Rattle.index_tree.specs.Order.{key_rank}
 use Rattle.index_tree.proofs.Bisection.{node_here}
-use Rattle.index_tree.proofs.bisect.nodes_passed.Goals as goal
+use Rattle.index_tree.proofs.bisect.bisect_nodes.Goals as goal
 
 pub loop-high-preserved-then-rank-at : goal.loop-high-preserved-then-rank-at
 loop-high-preserved-then-rank-at c =
