@@ -145,8 +145,12 @@ fn laid(alloc: Global) -> Result<(Vec<u8>, Vec<u8>), Fail> {
     first.resize(1032, 0)?;
     let mut second = Vec::new(alloc);
     second.resize(8, 0)?;
-    volume.read(10, 0, &mut first).unwrap();
-    volume.read(11, 0, &mut second).unwrap();
+    let Ok(()) = volume.read(10, 0, &mut first) else {
+        return Err(Fail::from("the first LEB isn't read"));
+    };
+    let Ok(()) = volume.read(11, 0, &mut second) else {
+        return Err(Fail::from("the second LEB isn't read"));
+    };
     Ok((first, second))
 }
 
