@@ -1,12 +1,17 @@
 -- Laws of what several calls of a backing keep to, one after another.
-use Rattle.std.proofs.Common.{◌≡◌, ℕ, ◌+◌, ◌-◌, ◌*◌, ◌/◌, ◌≤◌, ◌⊎◌, inl, inr, max, zero, suc, refl, sym, ap, subst, ◌∙◌, arith}
+use Rattle.std.proofs.Common.{◌≡◌, ℕ, ◌+◌, ◌-◌, ◌*◌, ◌/◌, ◌≤◌, ◌⊎◌, inl, inr, max, zero, suc, Ok, Err, List, length, refl, sym, ap, subst, ◌∙◌, arith}
 use Rattle.std.proofs.Math.Nat.{div-mul-le_self, div-zero}
 use Rattle.std.proofs.lemmas.Nat.{le-div}
 use Rattle.ubifs_base.specs.declared.raw_geometry.RawGeometry.{RawGeometry}
 use Rattle.ubifs_base.specs.Geometry.{index_nodes_per_leb}
+use Rattle.std.specs.Prelude.{Result}
+use Rattle.fs_model.specs.declared.backing_answers.StoreFault.{StoreFault}
+use Rattle.fs_model.specs.declared.backing_answers.StoreFault.TheVariants.{Memory, Volume, ReadOnly as IsReadOnly}
 use Rattle.fs_model.specs.declared.space.Need.{Need}
-use Rattle.fs_model.specs.Backing.{BackingState, Outlook, Goes, ModeGoes, Rose, KeepsFiles, granted}
+use Rattle.fs_model.specs.Backing.{BackingState, Outlook, FitsOrphans, Goes, ModeGoes, Rose, KeepsFiles, granted, put_by}
 use Rattle.fs_model.specs.Cover.{index_lebs}
+use Rattle.fs_model.specs.declared.change.Change.{Change}
+use Rattle.fs_model.specs.Files.{Tree}
 use Rattle.cached_files.specs.declared.kept.Kept.{Kept}
 use Rattle.cached_files.specs.Calls.{SureGoes, WasCovered}
 
@@ -89,7 +94,20 @@ pub Sure-none : (x : Outlook) (a : BackingState) → SureGoes x x a a
 Sure-none x a = record { sure = λ s. inr (s, refl); spent = λ s. s }
 
 pub Files-then : (a b c : BackingState) → KeepsFiles a b → KeepsFiles b c → KeepsFiles a c
-Files-then a b c first second = record { tree = second.tree ∙ first.tree; credits = second.credits ∙ first.credits; grant = second.grant ∙ first.grant }
+Files-then a b c first second = record {
+  tree = second.tree ∙ first.tree;
+  credits = second.credits ∙ first.credits;
+  grant = second.grant ∙ first.grant;
+  held = let p = first.held in let q = second.held in omega (arith, p, q);
+  closed = let p = first.closed in let q = second.closed in omega (arith, p, q);
+}
+
+-- a put puts at most what it would
+pub Goes-put : {T X : Type 0} (result : Result T StoreFault) (puts : List X) (a b : BackingState) → Goes (length (put_by result puts)) a b → Goes (length puts) a b
+Goes-put (Ok x) puts a b goes = goes
+Goes-put (Err Memory) puts a b goes = Goes-within 0 (length puts) a b (omega arith) goes
+Goes-put (Err (Volume count)) puts a b goes = goes
+Goes-put (Err (IsReadOnly cause)) puts a b goes = Goes-within 0 (length puts) a b (omega arith) goes
 
 -- to cover credits puts nothing
 pub Goes-granted : (n : ℕ) (a b c : BackingState) (need : Need) → Goes n a b → c ≡ granted b need → Goes n a c
@@ -109,3 +127,8 @@ pub Covered-then : (n : ℕ) (a b c : BackingState) (kept : Kept) (first second 
 Covered-then n a b c kept first second (inl now) goes = inl now
 Covered-then n a b c kept first second (inr last) goes =
     inr (record { state = last.state; room = last.room; covered = last.covered; since = Goes-within (0 + n) n (granted last.state second) c (omega arith) (Goes-then 0 n (granted last.state second) b c last.since goes) })
+
+-- where fewer are closed, a list of orphans still has room
+pub fewer_closed : (tree : Tree) (more closed limit same : ℕ) (group : List Change) → closed ≤ more → limit ≡ same → FitsOrphans tree more limit group → FitsOrphans tree closed same group
+fewer_closed tree more closed limit same group less e (inl few) = inl few
+fewer_closed tree more closed limit same group less e (inr room) = inr (omega (arith, less, e, room))

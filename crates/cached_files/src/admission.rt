@@ -40,6 +40,7 @@ pub fn admit<B: Backing>(
         → (result ≡ Ok tt) × (B.state backing.new ≡ granted (B.state backing.old) need.now) × (kept.new ≡ kept.old) }
     ensures refused { IfErr result (IsWithoutRoom (B.state backing.old) (B.state backing.new) kept.new need.now) }
     ensures goes { Goes (2 * length kept.old.pages.dirty) (B.state backing.old) (B.state backing.new) }
+    ensures closed { (B.state backing.new).closed ≤ (B.state backing.old).closed }
     ensures sure { SureGoes (B.outlook backing.old) (B.outlook backing.new) (B.state backing.old) (B.state backing.new) }
 {
     match backing.admit(need) {
@@ -70,6 +71,7 @@ fn admit_again<B: Backing>(
     ensures inodes { OnOk result (kept.new.inodes ≡ []) }
     ensures refused { IfErr result (IsWithoutRoom (B.state backing.old) (B.state backing.new) kept.new need.now) }
     ensures goes { Goes (2 * length kept.old.pages.dirty) (B.state backing.old) (B.state backing.new) }
+    ensures closed { (B.state backing.new).closed ≤ (B.state backing.old).closed }
     ensures sure { SureGoes (B.outlook backing.old) (B.outlook backing.new) (B.state backing.old) (B.state backing.new) }
 {
     match make_room(alloc, backing, kept) {
@@ -98,6 +100,7 @@ pub fn make_room<B: Backing>(
     ensures done { OnOk result (HasCommitted (B.state backing.new)) }
     ensures room { OnOk result (HasMadeRoom (B.state backing.old) (B.state backing.new) kept.old) }
     ensures goes { Goes (2 * length kept.old.pages.dirty) (B.state backing.old) (B.state backing.new) }
+    ensures closed { (B.state backing.new).closed ≤ (B.state backing.old).closed }
     ensures cause { HasCause (B.state backing.old) (B.state backing.new) result }
     ensures mode { TellsMode (B.state backing.new) result }
     ensures sure { SureGoes (B.outlook backing.old) (B.outlook backing.new) (B.state backing.old) (B.state backing.new) }

@@ -2,7 +2,7 @@
 
 ghost use Rattle.std.specs.Prelude.{◌≡◌, ◌+◌, ◌*◌, ◌≤◌, Some, IfOk, OnOk, OnErr, IfErr, length, filter};
 ghost use Rattle.fs_model.specs.declared.space.Grant.{Grant};
-ghost use Rattle.fs_model.specs.Backing.{FitsGroup, Goes, HasCause, IsModest, KeepsFiles};
+ghost use Rattle.fs_model.specs.Backing.{FitsGroup, FitsOrphans, Goes, HasCause, IsModest, KeepsFiles};
 ghost use Rattle.fs_model.specs.Change.{apply};
 ghost use Rattle.fs_model.specs.Cover.{needed, room_for};
 ghost use Rattle.cached_files.specs.Alike.{IsAlike};
@@ -30,6 +30,7 @@ pub fn put_group<B: Backing>(
     requires kept { IsKept (B.state backing.old).tree kept.old }
     requires paid { length kept.old.pages.dirty ≤ (B.state backing.old).space.credits }
     requires granted { (grant : Grant) × ((B.state backing.old).grant ≡ Some grant) × FitsGroup (present (B.state backing.old).tree kept.old).tree grant group.now }
+    requires orphans { FitsOrphans (present (B.state backing.old).tree kept.old).tree (B.state backing.old).closed (B.state backing.old).orphan_limit group.now }
     requires names { AreOfNames (present (B.state backing.old).tree kept.old).tree group.now }
     ensures kept { IsKept (B.state backing.new).tree kept.new }
     ensures paid { length kept.new.pages.dirty ≤ (B.state backing.new).space.credits }
@@ -65,6 +66,7 @@ pub fn apply_group<B: Backing>(
     requires kept { IsKept (B.state backing.old).tree kept.old }
     requires paid { length kept.old.pages.dirty ≤ (B.state backing.old).space.credits }
     requires fits { FitsGroup (present (B.state backing.old).tree kept.old).tree (record { bytes = need.now.bytes; nodes = need.now.nodes }) group.now }
+    requires orphans { FitsOrphans (present (B.state backing.old).tree kept.old).tree (B.state backing.old).closed (B.state backing.old).orphan_limit group.now }
     requires names { AreOfNames (present (B.state backing.old).tree kept.old).tree group.now }
     ensures kept { IsKept (B.state backing.new).tree kept.new }
     ensures paid { length kept.new.pages.dirty ≤ (B.state backing.new).space.credits }

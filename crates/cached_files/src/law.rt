@@ -1,17 +1,18 @@
 // Laws of the present files.
 
-ghost use Rattle.std.specs.Prelude.{◌≡◌, ℕ, ◌<◌, [], Some};
+ghost use Rattle.std.specs.Prelude.{◌≡◌, ℕ, ◌<◌, [], length, Some};
 ghost use Rattle.fs_laws.specs.Sound.{AreFiles, IsSound};
 ghost use Rattle.fs_model.specs.declared.inode.Inode.{Inode};
 ghost use Rattle.fs_model.specs.Files.{Files, Tree, inode_at};
 ghost use Rattle.fs_model.specs.Handles.{tree_written};
+ghost use Rattle.fs_model.specs.Orphan.{nameless};
 ghost use Rattle.fs_model.specs.Proper.{IsProper};
 ghost use Rattle.fs_model.specs.Same.{IsSame};
 ghost use Rattle.cached_files.specs.declared.kept.Kept.{Kept as AnyKept};
 ghost use Rattle.cached_files.specs.Alike.{IsAlike};
 ghost use Rattle.cached_files.specs.Present.{IsKept, present};
 
-use fs_laws::trees_built_alike_are_proper;
+use fs_laws::{groups_fit_trees_built_alike, trees_built_alike_are_proper};
 
 /// Files that are alike are the same to every caller.
 pub fn alike_files_are_the_same()
@@ -23,12 +24,15 @@ pub fn written_files_stay_alike()
     ensures { (a b : Files) (ino : ℕ) (inode : Inode) (now offs n byte : ℕ) → 0 < n → inode_at a.tree ino ≡ Some inode → IsAlike a b → IsAlike (record a { tree = tree_written a.tree ino inode now offs n byte }) (record b { tree = tree_written b.tree ino inode now offs n byte }) }
 {}
 
-/// The present tree is proper, and the present files are sound where each handle names a regular file of the tree below.
+/// The present tree is proper, and has as many inodes without a name as the tree below; the present files are sound where
+/// each handle names a regular file of that tree.
 pub fn present_files_are_sound()
     ensures proper { (tree : Tree) (kept : AnyKept) → IsKept tree kept → IsProper (present tree kept).tree }
     ensures sound { (tree : Tree) (kept : AnyKept) → IsKept tree kept → AreFiles tree kept.handles → IsSound (present tree kept) }
+    ensures nameless { (tree : Tree) (kept : AnyKept) → IsKept tree kept → length (nameless (present tree kept).tree) ≡ length (nameless tree) }
 {
     trees_built_alike_are_proper();
+    groups_fit_trees_built_alike();
 }
 
 /// Where no page is dirty, the present tree is the backing's own.

@@ -37,6 +37,7 @@ pub fn put_ticket<B: Backing>(
     ensures handles { kept.new.handles ≡ kept.old.handles }
     ensures err { OnErr result (kept.new ≡ kept.old) }
     ensures goes { Goes 2 (B.state backing.old) (B.state backing.new) }
+    ensures closed { (B.state backing.new).closed ≤ (B.state backing.old).closed }
     ensures cause { HasCause (B.state backing.old) (B.state backing.new) result }
     ensures mode { TellsMode (B.state backing.new) result }
     ensures sure { SureGoes (B.outlook backing.old) (B.outlook backing.new) (B.state backing.old) (B.state backing.new) }
@@ -70,6 +71,7 @@ pub fn put_oldest<B: Backing>(
     ensures pages { OnOk result (kept.new.pages.dirty ≡ drop 1 kept.old.pages.dirty) }
     ensures err { OnErr result (kept.new ≡ kept.old) }
     ensures goes { Goes 2 (B.state backing.old) (B.state backing.new) }
+    ensures closed { (B.state backing.new).closed ≤ (B.state backing.old).closed }
     ensures cause { HasCause (B.state backing.old) (B.state backing.new) result }
     ensures mode { TellsMode (B.state backing.new) result }
     ensures sure { SureGoes (B.outlook backing.old) (B.outlook backing.new) (B.state backing.old) (B.state backing.new) }
@@ -126,6 +128,7 @@ pub fn write_back<B: Backing>(
     ensures pages { OnOk result (kept.new.pages.dirty ≡ []) }
     ensures inodes { OnOk result (kept.new.inodes ≡ []) }
     ensures goes { Goes (2 * length kept.old.pages.dirty) (B.state backing.old) (B.state backing.new) }
+    ensures closed { (B.state backing.new).closed ≤ (B.state backing.old).closed }
     ensures cause { HasCause (B.state backing.old) (B.state backing.new) result }
     ensures mode { TellsMode (B.state backing.new) result }
     ensures sure { SureGoes (B.outlook backing.old) (B.outlook backing.new) (B.state backing.old) (B.state backing.new) }

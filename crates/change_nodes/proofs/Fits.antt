@@ -1,5 +1,7 @@
 -- Each number of a change's node fits its bytes.
-use Rattle.std.proofs.Common.{ℕ, ◌+◌, ◌%◌, ◌<◌, ◌≤◌, ◌^◌, false, List, length, arith, inl, inr}
+use Rattle.std.specs.Prelude.{◌==◌}
+use Rattle.change_nodes.specs.NodeLaws.{first_of}
+use Rattle.std.proofs.Common.{not, ℕ, ◌+◌, ◌%◌, ◌<◌, ◌≤◌, ◌^◌, false, List, length, arith, inl, inr}
 use Rattle.std.specs.Prelude.{if◌then◌else◌, nat_le}
 use Rattle.std.specs.Bool.{IsTrue}
 use Rattle.std.proofs.lemmas.Bool.{cases_Bool, leb-true}
@@ -113,13 +115,16 @@ cut_new ino old_size new_size h = grind (arith, nat_tests)
 gone_ino : (ino : ℕ) → IsTrue (is_node (DropInode ino)) → ino < 2 ^ 32
 gone_ino ino h = grind (arith, nat_tests)
 
+entry_of : (e : Entry) → IsTrue (is_node (SetEntry e)) → IsTrue (is_entry_node ((e.dir, e.name), e))
+entry_of e h = first_of (is_entry_node ((e.dir, e.name), e)) (not (e.ino == 0)) h
+
 pub node_fits : (change : Change) → IsTrue (is_node change) → AllFit (fields_of (node_of change))
 node_fits (SetInode ino node) h =
     let w = inode_words ino node h in
     let most = most_data (ino, node) h in
     let mode = mode_fits node.kind node.mode (plain_mode (ino, node) h) in
     (w.ino_fits, (omega arith, (w.size, (w.atime, (w.ctime, (w.mtime, (w.nlink, (w.uid, (w.gid, (mode, (w.flags, (omega (arith, most), (omega arith, (omega arith, (omega arith, tt)))))))))))))))
-node_fits (SetEntry e) h = entry_fits e.dir e.ino (entry_type e.kind) e.name (entry_dir e h) (entry_ino e h) (kind_fits e.kind) (name_most e.name (entry_name e h))
+node_fits (SetEntry e) h = entry_fits e.dir e.ino (entry_type e.kind) e.name (entry_dir e (entry_of e h)) (entry_ino e (entry_of e h)) (kind_fits e.kind) (name_most e.name (entry_name e (entry_of e h)))
 node_fits (DropEntry dir name) h = entry_fits dir 0 0 name (dropped_dir dir name h) (omega arith) (omega arith) (name_most name (dropped_name dir name h))
 node_fits (SetBlock ino number bytes) h =
     let stored : (ℕ × ℕ) × List ℕ = ((ino, number), bytes) in
@@ -133,7 +138,7 @@ node_fits (DropInode ino) h =
 -- and its length
 pub node_short : (change : Change) → IsTrue (is_node change) → leaf_len (node_of change) ≤ 4256
 node_short (SetInode ino node) h = let most = most_data (ino, node) h in omega (arith, most)
-node_short (SetEntry e) h = let most = name_most e.name (entry_name e h) in omega (arith, most)
+node_short (SetEntry e) h = let most = name_most e.name (entry_name e (entry_of e h)) in omega (arith, most)
 node_short (DropEntry dir name) h = let most = name_most name (dropped_name dir name h) in omega (arith, most)
 node_short (SetBlock ino number bytes) h =
     let stored : (ℕ × ℕ) × List ℕ = ((ino, number), bytes) in

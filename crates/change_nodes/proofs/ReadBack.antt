@@ -14,7 +14,7 @@ use Rattle.leb_scan.specs.Text.{leaf, StandsAt, IsNodeAt, Stand, behind, nodes_o
 use Rattle.fs_model.specs.declared.change.Change.{Change}
 use Rattle.fs_model.specs.Backing.{is_node}
 use Rattle.fs_model.specs.Cover.{round_8}
-use Rattle.change_nodes.specs.Nodes.{node_of, names_inode}
+use Rattle.change_nodes.specs.Nodes.{node_of}
 use Rattle.change_nodes.specs.NodeLaws.{leaf_of_node, node_carries}
 use Rattle.change_nodes.specs.Texts.{leaf_len, leaf_text}
 use Rattle.change_nodes.specs.TextLaws.{width, length-written, length-leaf_text}
@@ -128,11 +128,11 @@ and_second false b h = absurd cc
 pub first_is : (changes : List Change) (first : Change) (rest : List Change) → IsTrue (list_all is_node changes) → changes ≡ first ∷ rest → IsTrue (is_node first)
 first_is changes first rest h is = let P : List Change → Type 0 = λ all. IsTrue (list_all is_node all) in and_first (is_node first) (list_all is_node rest) (subst P is h)
 
-more_from : (leb : List ℕ) (place n i sqnum : ℕ) (change : Change) (changes : List Change) → place % 8 ≡ 0 → sqnum + 1 < 2 ^ 64 → IsTrue (is_node change) → IsTrue (names_inode change)
+more_from : (leb : List ℕ) (place n i sqnum : ℕ) (change : Change) (changes : List Change) → place % 8 ≡ 0 → sqnum + 1 < 2 ^ 64 → IsTrue (is_node change)
     → There leb place (texts_from n i sqnum (change ∷ changes))
     → AreFrom leb (place + length (leaf_text (sqnum + 1) (group_type n i) (node_of change))) n (suc i) (sqnum + 1) changes
     → AreFrom leb place n i sqnum (change ∷ changes)
-more_from leb place n i sqnum change changes even fits is named h more =
+more_from leb place n i sqnum change changes even fits is h more =
     let number = sqnum + 1 in
     let group = group_type n i in
     let node = node_of change in
@@ -152,7 +152,7 @@ more_from leb place n i sqnum change changes even fits is named h more =
         record {
           node = node;
           stands = stands leb place number group change is fits (group_type-known n i) front;
-          carries = node_carries change is named;
+          carries = node_carries change is;
           sqnum = refl;
           group_is = refl;
         },
@@ -160,19 +160,19 @@ more_from leb place n i sqnum change changes even fits is named h more =
       );
     }
 
-from : (leb : List ℕ) (place n i sqnum : ℕ) (changes : List Change) → place % 8 ≡ 0 → sqnum + length changes < 2 ^ 64 → IsTrue (list_all is_node changes) → IsTrue (list_all names_inode changes)
+from : (leb : List ℕ) (place n i sqnum : ℕ) (changes : List Change) → place % 8 ≡ 0 → sqnum + length changes < 2 ^ 64 → IsTrue (list_all is_node changes)
     → There leb place (texts_from n i sqnum changes) → AreFrom leb place n i sqnum changes
-from leb place n i sqnum [] even fits are named h = record { items = []; stand = omega arith; carried = tt }
-from leb place n i sqnum (change ∷ changes) even fits are named h =
+from leb place n i sqnum [] even fits are h = record { items = []; stand = omega arith; carried = tt }
+from leb place n i sqnum (change ∷ changes) even fits are h =
     let number = sqnum + 1 in
     let text = leaf_text number (group_type n i) (node_of change) in
     let len = length-leaf_text number (group_type n i) (node_of change) in
-    more_from leb place n i sqnum change changes even (omega (arith, fits)) (and_first (is_node change) (list_all is_node changes) are) (and_first (names_inode change) (list_all names_inode changes) named) h
+    more_from leb place n i sqnum change changes even (omega (arith, fits)) (and_first (is_node change) (list_all is_node changes) are) h
     (from leb (place + length text) n (suc i) number changes (omega (arith, even, len)) (omega (arith, fits)) (and_second (is_node change) (list_all is_node changes) are)
-    (and_second (names_inode change) (list_all names_inode changes) named) (back_there leb place text (texts_from n (suc i) number changes) h))
+    (back_there leb place text (texts_from n (suc i) number changes) h))
 
-pub read_back : (leb : List ℕ) (place sqnum : ℕ) (group : List Change) → place % 8 ≡ 0 → sqnum + length group < 2 ^ 64 → IsTrue (list_all is_node group) → IsTrue (list_all names_inode group)
+pub read_back : (leb : List ℕ) (place sqnum : ℕ) (group : List Change) → place % 8 ≡ 0 → sqnum + length group < 2 ^ 64 → IsTrue (list_all is_node group)
     → take (length (group_text sqnum group)) (drop place leb) ≡ group_text sqnum group → IsGroupAt leb place sqnum group
-read_back leb place sqnum group even fits are named h =
-    let all = from leb place (length group) 0 sqnum group even fits are named h in
+read_back leb place sqnum group even fits are h =
+    let all = from leb place (length group) 0 sqnum group even fits are h in
     record { items = all.items; stand = all.stand; carried = all.carried }

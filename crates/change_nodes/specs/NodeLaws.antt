@@ -17,7 +17,7 @@ use Rattle.fs_model.specs.Backing.{is_node}
 use Rattle.fs_model.specs.Path.{is_empty}
 use Rattle.fs_model.specs.Proper.{has_data, is_inode_node, is_block_node, is_entry_node, is_name}
 use Rattle.fs_model.specs.Recovery.{as_replayed}
-use Rattle.change_nodes.specs.Nodes.{type_bits, entry_type, kind_of_bits, kind_of_type, bits_of, inode_node, inode_of, inode_change, node_of, change_of, names_inode, HasPlainMode}
+use Rattle.change_nodes.specs.Nodes.{type_bits, entry_type, kind_of_bits, kind_of_type, bits_of, inode_node, inode_of, inode_change, node_of, change_of, HasPlainMode}
 
 -- ---- an inode is a node
 pub numbered : (e : ℕ × Inode) → IsTrue (is_inode_node e) → 1 ≤ e.0
@@ -105,10 +105,19 @@ leaf_of_entry e h =
       plain = name_plain e.1.name name;
     }
 
+-- two tests that pass together
+pub first_of : (a b : Bool) → IsTrue (a && b) → IsTrue a
+first_of true b h = refl
+first_of false b h = absurd cc
+
+pub second_of : (a b : Bool) → IsTrue (a && b) → IsTrue b
+second_of true b h = h
+second_of false b h = absurd cc
+
 -- the node of a change is in the grammar
 pub leaf_of_node : (change : Change) → IsTrue (is_node change) → IsLeaf (node_of change)
 leaf_of_node (SetInode ino node) h = leaf_of_inode (ino, node) h node.size node.nlink
-leaf_of_node (SetEntry e) h = leaf_of_entry ((e.dir, e.name), e) h
+leaf_of_node (SetEntry e) h = leaf_of_entry ((e.dir, e.name), e) (first_of (is_entry_node ((e.dir, e.name), e)) (not (e.ino == 0)) h)
 leaf_of_node (DropEntry dir name) h =
     let is = dropped_name dir name h in
     record { inum_fits = omega arith; kind_known = omega arith; some = not_empty name (name_some name is); most = name_most name is; plain = name_plain name is }
@@ -192,10 +201,10 @@ entry_carried e some = by (e.ino == 0) some
     by false h = ap (λ (k : Option Kind). option_map (λ kind. SetEntry (record { dir = e.dir; name = e.name; ino = e.ino; kind = kind })) k) (type_says e.kind)
 
 -- the node of a change carries what recovery makes of the change
-pub node_carries : (change : Change) → IsTrue (is_node change) → IsTrue (names_inode change) → change_of (node_of change) ≡ Some (as_replayed change)
-node_carries (SetInode ino node) h named = inode_carried ino node (plain_mode (ino, node) h)
-node_carries (SetEntry e) h named = entry_carried e named
-node_carries (DropEntry dir name) h named = refl
-node_carries (SetBlock ino number bytes) h named = refl
-node_carries (CutBlocks ino old_size new_size) h named = refl
-node_carries (DropInode ino) h named = refl
+pub node_carries : (change : Change) → IsTrue (is_node change) → change_of (node_of change) ≡ Some (as_replayed change)
+node_carries (SetInode ino node) h = inode_carried ino node (plain_mode (ino, node) h)
+node_carries (SetEntry e) h = entry_carried e (second_of (is_entry_node ((e.dir, e.name), e)) (not (e.ino == 0)) h)
+node_carries (DropEntry dir name) h = refl
+node_carries (SetBlock ino number bytes) h = refl
+node_carries (CutBlocks ino old_size new_size) h = refl
+node_carries (DropInode ino) h = refl

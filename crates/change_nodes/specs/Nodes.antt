@@ -131,11 +131,6 @@ change_of (block node) = Some (SetBlock node.ino node.block node.bytes)
 change_of (entry node) = entry_change node
 change_of (truncation node) = Some (CutBlocks node.ino node.old_size node.new_size)
 
--- whether an entry that is set names an inode: the node of one of inode 0 says that its name goes
-abbrev pub names_inode : Change → Bool
-names_inode (SetEntry e) = not (e.ino == 0)
-names_inode change = true
-
 -- This is what is read of bytes: the change that their node carries, and none where they are no node.
 pub record IsReadOf (bytes : List ℕ) (read : Option Change) : Type 0 where
   pub exact : (sqnum group : ℕ) (node : LeafNode) → IsLeafNode bytes sqnum group node → read ≡ change_of node

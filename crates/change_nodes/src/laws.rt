@@ -8,14 +8,14 @@ ghost use Rattle.fs_model.specs.Backing.{is_node};
 ghost use Rattle.fs_model.specs.Files.{Tree};
 ghost use Rattle.fs_model.specs.Need.{change_bytes};
 ghost use Rattle.fs_model.specs.Recovery.{as_replayed};
-ghost use Rattle.change_nodes.specs.Nodes.{node_of, change_of, names_inode};
+ghost use Rattle.change_nodes.specs.Nodes.{node_of, change_of};
 ghost use Rattle.change_nodes.specs.Texts.{text_bytes};
 ghost use Rattle.change_nodes.specs.Groups.{group_text, IsGroupAt};
 
 /// The node of a change is in the grammar, and carries what recovery makes of the change.
 pub fn changes_are_carried()
     ensures node { (change : AnyChange) → IsTrue (is_node change) → IsLeaf (node_of change) }
-    ensures carried { (change : AnyChange) → IsTrue (is_node change) → IsTrue (names_inode change) → change_of (node_of change) ≡ Some (as_replayed change) }
+    ensures carried { (change : AnyChange) → IsTrue (is_node change) → change_of (node_of change) ≡ Some (as_replayed change) }
 {}
 
 /// A group takes the bytes of its nodes, whatever their sequence numbers, which are a multiple of 8, and no change takes
@@ -29,6 +29,6 @@ pub fn texts_have_length()
 /// Where a LEB has the bytes of a group at a multiple of 8, nodes stand one behind another that carry its changes in order.
 pub fn a_group_is_read_back()
     ensures { (leb : List ℕ) (place sqnum : ℕ) (group : List AnyChange) → place % 8 ≡ 0 → sqnum + length group < 2 ^ 64
-        → IsTrue (list_all is_node group) → IsTrue (list_all names_inode group)
+        → IsTrue (list_all is_node group)
         → take (length (group_text sqnum group)) (drop place leb) ≡ group_text sqnum group → IsGroupAt leb place sqnum group }
 {}

@@ -1,8 +1,8 @@
 -- The sample's group and page are such as a fresh volume takes.
-use Rattle.std.proofs.Common.{◌≡◌, ℕ, ◌≤◌, refl, arith, subst, sym, List}
+use Rattle.std.proofs.Common.{◌≡◌, ℕ, ◌≤◌, inl, refl, arith, subst, sym, List}
 use Rattle.fs_model.specs.declared.change.Change.{Change}
 use Rattle.fs_model.specs.declared.page_node.PageNode.{PageNode}
-use Rattle.fs_model.specs.Backing.{FitsGroup, FitsPage}
+use Rattle.fs_model.specs.Backing.{FitsGroup, FitsOrphans, FitsPage}
 use Rattle.fs_model.specs.Change.{apply}
 use Rattle.fs_model.specs.Files.{Tree}
 use Rattle.fs_model.specs.Proper.{IsProper}
@@ -18,6 +18,7 @@ sample_fits bytes enough = record {
   nodes = omega arith;
   bytes = omega (arith, enough);
   limit = omega arith;
+  revives_none = refl;
   proper = record { inodes_ascend = refl; blocks_ascend = refl; entries_ascend = refl; inode_nodes = refl; block_nodes = refl; entry_nodes = refl; root = refl; entries = refl; inodes = refl; numbers = refl };
 }
 
@@ -27,6 +28,7 @@ sample_page_fits = record {
   inode = refl;
   file = refl;
   no_data = refl;
+  revives_none = refl;
   proper = record { inodes_ascend = refl; blocks_ascend = refl; entries_ascend = refl; inode_nodes = refl; block_nodes = refl; entry_nodes = refl; root = refl; entries = refl; inodes = refl; numbers = refl };
 }
 
@@ -40,3 +42,6 @@ fits_on_fresh tree group bytes enough e f = subst (λ t. FitsGroup t (record { b
 pub page_on_fresh : (tree : Tree) (group : List Change) (page : PageNode) → tree ≡ fresh.tree → group ≡ sample_group → page ≡ sample_page → FitsPage (apply tree group) page
 page_on_fresh tree group page e f h =
     subst (λ p. FitsPage (apply tree group) p) (sym h) (subst (λ t. FitsPage (apply t group) sample_page) (sym e) (subst (λ g. FitsPage (apply fresh.tree g) sample_page) (sym f) sample_page_fits))
+
+pub orphans_on_fresh : (tree : Tree) (group : List Change) (closed limit : ℕ) → tree ≡ fresh.tree → group ≡ sample_group → FitsOrphans tree closed limit group
+orphans_on_fresh tree group closed limit e f = subst (λ t. FitsOrphans t closed limit group) (sym e) (subst (λ g. FitsOrphans fresh.tree closed limit g) (sym f) (inl (omega arith)))

@@ -1,6 +1,6 @@
 -- Trees that are built alike are proper together, and stay alike over a group.
-use Rattle.std.proofs.Common.{◌≡◌, ℕ, ◌≤◌, zero, suc, Bool, true, false, cond, not, ◌&&◌, ◌||◌, max, List, [], ◌∷◌, length, Some, refl, sym, ap, subst, ◌∙◌, arith}
-use Rattle.std.specs.Prelude.{◌==◌, nat_le, is_some, filter, sum_by}
+use Rattle.std.proofs.Common.{◌≡◌, ℕ, ◌≤◌, zero, suc, Bool, true, false, cond, not, ◌&&◌, ◌||◌, max, List, [], ◌∷◌, length, Some, refl, sym, ap, subst, ◌∙◌, inl, inr, ◌+◌, ◌⊎◌, arith}
+use Rattle.std.specs.Prelude.{◌==◌, nat_le, nat_lt, is_some, filter, sum_by}
 use Rattle.std.specs.List.{list_all, list_any}
 use Rattle.std.specs.Map.{lookup, remove_entry, keys_of, values_of}
 use Rattle.std.specs.BTreeMap.{insert_entry, is_at}
@@ -17,13 +17,14 @@ use Rattle.fs_model.specs.declared.inode.Entry.{Entry}
 use Rattle.fs_model.specs.declared.inode.Kind.{Kind}
 use Rattle.fs_model.specs.declared.inode.Kind.TheVariants.{File, Dir}
 use Rattle.fs_model.specs.declared.space.Grant.{Grant}
-use Rattle.fs_model.specs.Backing.{FitsGroup, group_limit}
+use Rattle.fs_model.specs.Backing.{FitsGroup, FitsOrphans, group_limit}
 use Rattle.fs_model.specs.Change.{applied, apply}
 use Rattle.fs_model.specs.Cover.{inode_bytes}
 use Rattle.fs_model.specs.Files.{Tree, Inodes, Blocks, Handles, inode_at, name_cmp, with_block}
 use Rattle.fs_model.specs.Need.{change_bytes}
 use Rattle.fs_model.specs.Path.{is_dir}
 use Rattle.fs_model.specs.Proper.{IsProper, ascends, same_kind, climbs, names_of, has_kind, is_entry_node, is_sound_entry, is_sound_dir, is_sound_inode, are_numbered}
+use Rattle.fs_model.specs.Orphan.{nameless, revives_none, all_revive_none}
 use Rattle.fs_laws.specs.Alike.{kind_and_links, told_by, IsBuiltAlike, HasNodes}
 use Rattle.fs_laws.specs.Sound.{AreFiles}
 use Rattle.fs_laws.proofs.Local.{local_of, local_group}
@@ -222,6 +223,25 @@ sum_alike a b h (change ∷ group) =
     let right = sum_by-cons (change_bytes b) change group in
     omega (arith, first, rest, left, right)
 
+-- what brings back no inode brings back none over the other
+change_revives : (a b : Tree) (change : Change) → IsBuiltAlike a b → revives_none b change ≡ revives_none a change
+change_revives a b (SetInode ino inode) h =
+    sym (told_found kind_and_links (λ k. (inode.nlink == 0) || not (k.1 == 0)) (nat_lt b.highest ino) ino b.inodes)
+    ∙ ap (λ told. option_map_or (λ (k : Kind × ℕ). (inode.nlink == 0) || not (k.1 == 0)) (lookup (is_at (nat_cmp ino)) told) (nat_lt b.highest ino)) (sym h.inodes)
+    ∙ ap (λ n. option_map_or (λ (k : Kind × ℕ). (inode.nlink == 0) || not (k.1 == 0)) (lookup (is_at (nat_cmp ino)) (told_by kind_and_links a.inodes)) (nat_lt n ino)) (sym h.highest)
+    ∙ told_found kind_and_links (λ k. (inode.nlink == 0) || not (k.1 == 0)) (nat_lt a.highest ino) ino a.inodes
+change_revives a b (SetEntry entry) h = refl
+change_revives a b (DropEntry dir name) h = refl
+change_revives a b (SetBlock ino block bytes) h = refl
+change_revives a b (CutBlocks ino old_size new_size) h = refl
+change_revives a b (DropInode ino) h = refl
+
+revive_alike : (group : List Change) (a b : Tree) → IsBuiltAlike a b → all_revive_none b group ≡ all_revive_none a group
+revive_alike [] a b h = refl
+revive_alike (change ∷ group) a b h =
+    ap (λ c. c && all_revive_none (applied b change) group) (change_revives a b change h)
+    ∙ ap (λ c. revives_none a change && c) (revive_alike group (applied a change) (applied b change) (change_alike a b change h))
+
 -- a group that its grant pays over one tree is paid over the other
 pub group_fits_alike : (a b : Tree) (grant : Grant) (group : List Change) → IsBuiltAlike a b → told_by inode_bytes a.inodes ≡ told_by inode_bytes b.inodes → IsProper b → FitsGroup a grant group → FitsGroup b grant group
 group_fits_alike a b grant group h bytes proper fits =
@@ -232,6 +252,33 @@ group_fits_alike a b grant group h bytes proper fits =
       nodes = fits.nodes;
       bytes = subst (λ n. n ≤ grant.bytes) same fits.bytes;
       limit = subst (λ n. n ≤ group_limit) same fits.limit;
+      revives_none = revive_alike group a b h ∙ fits.revives_none;
       proper = proper_alike (apply a group) (apply b group) fits.proper (group_alike group a b h)
           (record { inode_nodes = local.inode_nodes; blocks_ascend = local.blocks_ascend; block_nodes = local.block_nodes; block_numbers = local.block_numbers });
     }
+
+-- as many inodes have no name
+nameless_told : (inodes : Inodes) → length (keys_of (filter (λ e. e.1.nlink == 0) inodes)) ≡ length (filter (λ e. e.1.1 == 0) (told_by kind_and_links inodes))
+nameless_told [] = refl
+nameless_told (e ∷ inodes) = by (e.1.nlink == 0) (nameless_told inodes)
+  where
+    by : (b : Bool) → length (keys_of (filter (λ e. e.1.nlink == 0) inodes)) ≡ length (filter (λ e. e.1.1 == 0) (told_by kind_and_links inodes))
+        → length (keys_of (cond b (e ∷ filter (λ e. e.1.nlink == 0) inodes) (filter (λ e. e.1.nlink == 0) inodes))) ≡ length (cond b ((e.0, kind_and_links e.1) ∷ filter (λ e. e.1.1 == 0) (told_by kind_and_links inodes)) (filter (λ e. e.1.1 == 0) (told_by kind_and_links inodes)))
+    by true more = ap (λ n. suc n) more
+    by false more = more
+
+pub as_many_nameless : (a b : Tree) → IsBuiltAlike a b → length (nameless a) ≡ length (nameless b)
+as_many_nameless a b h = nameless_told a.inodes ∙ ap (λ told. length (filter (λ (e : ℕ × (Kind × ℕ)). e.1.1 == 0) told)) h.inodes ∙ sym (nameless_told b.inodes)
+
+pub orphans_alike : (a b : Tree) (closed limit : ℕ) (group : List Change) → IsBuiltAlike a b → FitsOrphans a closed limit group → FitsOrphans b closed limit group
+orphans_alike a b closed limit group h fits = by fits
+  where
+    before : length (nameless a) ≡ length (nameless b)
+    before = as_many_nameless a b h
+
+    after : length (nameless (apply a group)) ≡ length (nameless (apply b group))
+    after = as_many_nameless (apply a group) (apply b group) (group_alike group a b h)
+
+    by : FitsOrphans a closed limit group → FitsOrphans b closed limit group
+    by (inl few) = let x = before in let y = after in inl (omega (arith, few, x, y))
+    by (inr room) = let y = after in inr (omega (arith, room, y))

@@ -10,10 +10,11 @@ use Rattle.fs_model.specs.declared.change.Change.TheVariants.{SetInode}
 use Rattle.fs_model.specs.declared.inode.Inode.{Inode}
 use Rattle.fs_model.specs.declared.inode.Kind.TheVariants.{File}
 use Rattle.fs_model.specs.Backing.{is_node}
-use Rattle.fs_model.specs.Change.{apply}
+use Rattle.fs_model.specs.Change.{apply, applied}
 use Rattle.fs_model.specs.Files.{Tree, Files, inode_at}
 use Rattle.fs_model.specs.Making.{touching, touched}
 use Rattle.fs_model.specs.Need.{change_bytes}
+use Rattle.fs_model.specs.Orphan.{revives_none, all_revive_none}
 use Rattle.fs_model.specs.Proper.{IsProper, is_inode_node}
 use Rattle.fs_laws.specs.Sound.{IsSound, KeepsSound}
 use Rattle.fs_laws.proofs.Climb.{proper_of}
@@ -22,6 +23,7 @@ use Rattle.fs_laws.proofs.Local.{local_of, local_group}
 use Rattle.fs_laws.specs.Maps.{all_at, all_weaken}
 use Rattle.fs_laws.specs.Orders.{numbers}
 use Rattle.fs_laws.proofs.Rel.{Rel, rel_of, kind_is}
+use Rattle.fs_laws.proofs.Revives.{kept_revives}
 use Rattle.fs_laws.proofs.Sizes.{cap, group_within}
 use Rattle.fs_laws.proofs.Steps.{KeepsKinds, keeps_kinds, rel_touched, some_same}
 
@@ -33,8 +35,9 @@ pub bytes_few : (files : Files) (group : List Change) → IsSound files → list
 bytes_few files group sound nodes few = let within = group_within files.tree group sound.proper.inode_nodes nodes in omega (arith, few, within)
 
 -- a group that takes no inode away
-pub keeps_sound : (files : Files) (group : List Change) → IsSound files → list_all is_node group ≡ true → sum_by cap group ≤ 5280 → Rel (apply files.tree group).inodes (apply files.tree group).entries → KeepsKinds files.tree.inodes (apply files.tree group).inodes → KeepsLinks files.tree group → KeepsSound files group
-keeps_sound files group sound nodes few rel keeps linked = record {
+pub keeps_sound : (files : Files) (group : List Change) → IsSound files → list_all is_node group ≡ true → all_revive_none files.tree group ≡ true → sum_by cap group ≤ 5280 → Rel (apply files.tree group).inodes (apply files.tree group).entries → KeepsKinds files.tree.inodes (apply files.tree group).inodes → KeepsLinks files.tree group → KeepsSound files group
+keeps_sound files group sound nodes revives few rel keeps linked = record {
+  revives_none = revives;
   linked = linked;
   nodes = nodes;
   limit = bytes_few files group sound nodes few;
@@ -43,7 +46,7 @@ keeps_sound files group sound nodes few rel keeps linked = record {
 }
 
 pub keeps_nothing : (files : Files) → IsSound files → KeepsSound files []
-keeps_nothing files sound = record { linked = λ h. h; nodes = refl; limit = omega arith; proper = sound.proper; handles = sound.handles }
+keeps_nothing files sound = record { linked = λ h. h; revives_none = refl; nodes = refl; limit = omega arith; proper = sound.proper; handles = sound.handles }
 
 pub node_at : (tree : Tree) → IsProper tree → (ino : ℕ) (i : Inode) → inode_at tree ino ≡ Some i → is_inode_node (ino, i) ≡ true
 node_at tree proper ino i f = all_at nat_cmp numbers is_inode_node tree.inodes ino i proper.inode_nodes f
@@ -52,9 +55,9 @@ pub touching_is : (tree : Tree) (ino now : ℕ) (i : Inode) → inode_at tree in
 touching_is tree ino now i f = rw f refl
 
 -- one inode that is set with its kind and links as they were
-pub set_keeps : (files : Files) (ino : ℕ) (old new : Inode) (rest : List Change) → IsSound files → inode_at files.tree ino ≡ Some old → new.kind ≡ old.kind → new.nlink ≡ old.nlink → is_inode_node (ino, new) ≡ true → list_all is_node rest ≡ true → sum_by cap (SetInode ino new ∷ rest) ≤ 5280
+pub set_keeps : (files : Files) (ino : ℕ) (old new : Inode) (rest : List Change) → IsSound files → inode_at files.tree ino ≡ Some old → new.kind ≡ old.kind → new.nlink ≡ old.nlink → is_inode_node (ino, new) ≡ true → list_all is_node rest ≡ true → all_revive_none (applied files.tree (SetInode ino new)) rest ≡ true → sum_by cap (SetInode ino new ∷ rest) ≤ 5280
     → (apply files.tree (SetInode ino new ∷ rest)).inodes ≡ insert_entry nat_cmp files.tree.inodes ino new → (apply files.tree (SetInode ino new ∷ rest)).entries ≡ files.tree.entries → KeepsSound files (SetInode ino new ∷ rest)
-set_keeps files ino old new rest sound f kind nlink node nodes few inodes entries =
+set_keeps files ino old new rest sound f kind nlink node nodes revives few inodes entries =
     let rel = rel_touched files.tree.inodes files.tree.entries ino old new f kind nlink (rel_of files.tree sound.proper) in
     let keeps = keeps_kinds files.tree.inodes ino new (λ o g. kind ∙ ap (λ (i : Inode). i.kind) (some_same (sym f ∙ g))) in
-    keeps_sound files (SetInode ino new ∷ rest) sound (and_from (is_inode_node (ino, new)) (list_all is_node rest) node nodes) few (rw (inodes, entries) rel) (rw inodes keeps) (λ h. rw inodes (linked_same files.tree.inodes ino old new f kind nlink h))
+    keeps_sound files (SetInode ino new ∷ rest) sound (and_from (is_inode_node (ino, new)) (list_all is_node rest) node nodes) (and_from (revives_none files.tree (SetInode ino new)) (all_revive_none (applied files.tree (SetInode ino new)) rest) (kept_revives files.tree ino old new f nlink) revives) few (rw (inodes, entries) rel) (rw inodes keeps) (λ h. rw inodes (linked_same files.tree.inodes ino old new f kind nlink h))

@@ -21,6 +21,7 @@ pub mod Plans
 pub mod Rel
 pub mod Removals
 pub mod Renames
+pub mod Revives
 pub mod Sizes
 pub mod Steps
 pub mod Truncates

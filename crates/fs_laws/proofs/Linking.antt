@@ -1,7 +1,11 @@
 -- A further name of an inode that is no directory.
-use Rattle.std.proofs.Common.{◌≡◌, ℕ, ◌+◌, ◌<◌, ◌^◌, Bool, true, false, not, ◌&&◌, ◌||◌, List, Ok, Err, refl, sym, ap, subst, ◌∙◌, arith}
+use Rattle.fs_model.specs.declared.change.Change.TheVariants.{SetEntry}
+use Rattle.fs_model.specs.Change.{applied}
+use Rattle.std.proofs.Common.{◌≡◌, ℕ, ◌+◌, ◌<◌, ◌^◌, Bool, true, false, not, ◌&&◌, ◌||◌, List, Ok, Err, refl, sym, ap, subst, ◌∙◌, inl, inr, arith}
 use Rattle.std.specs.Prelude.{is_some}
-use Rattle.std.proofs.lemmas.Bool.{false≢true, or_parts, ltb-false}
+use Rattle.std.proofs.lemmas.Bool.{false≢true, or_parts, ltb-false, eq-eqb}
+use Rattle.std.proofs.lemmas.Bool.Decides.{eqb_tells}
+use Rattle.std.specs.Prelude.{◌==◌}
 use Rattle.fs_model.specs.declared.inode.Inode.{Inode}
 use Rattle.fs_model.specs.declared.inode.Entry.{Entry}
 use Rattle.fs_model.specs.declared.inode.Kind.TheVariants.{Dir}
@@ -9,12 +13,13 @@ use Rattle.fs_model.specs.declared.refusal.Refusal.{Refusal}
 use Rattle.fs_model.specs.declared.refusal.Refusal.TheVariants.{Enoent, Eexist, Eisdir, Enametoolong, Einval, Emlink}
 use Rattle.fs_model.specs.declared.reply.Reply.TheVariants.{Done}
 use Rattle.fs_model.specs.Directory.{is_linked_out}
-use Rattle.fs_model.specs.Files.{Tree, Files, inode_at, entry_at}
+use Rattle.fs_model.specs.Files.{Tree, Files, inode_at, entry_at, name_cmp}
 use Rattle.fs_model.specs.Links.{linking, linked}
 use Rattle.fs_model.specs.Making.{is_name_path, touched}
 use Rattle.fs_model.specs.Outcome.{Plan, refuse, with_found, with_some, group_in}
 use Rattle.fs_model.specs.Path.{has_long_name, components, last_of, walked, parent_of, is_dir}
 use Rattle.fs_model.specs.Proper.{are_bytes, same_kind}
+use Rattle.fs_laws.specs.Maps.{count_found}
 use Rattle.fs_laws.specs.Sound.{IsSound, KeepsSound}
 use Rattle.fs_laws.proofs.Groups.{keeps_nothing, node_at}
 use Rattle.fs_laws.proofs.InodeKinds.{is_dir_same}
@@ -25,6 +30,7 @@ use Rattle.fs_laws.proofs.Names.{last_is_name}
 use Rattle.fs_laws.proofs.Nodes.{node_touched, node_linked}
 use Rattle.fs_laws.proofs.Plans.{refuse_to, found_to, some_to}
 use Rattle.fs_laws.proofs.Rel.{there_of, rel_of, kind_is}
+use Rattle.fs_laws.proofs.Revives.{linked_revives}
 use Rattle.fs_laws.proofs.Removals.{dir_agrees}
 use Rattle.fs_laws.proofs.Steps.{Comes, some_same}
 use Rattle.fs_laws.proofs.Walks.{walked_in, parent_in}
@@ -80,4 +86,5 @@ linked_keeps files now old new sound moment bytes =
     naming_keeps files e (touched now linked_inode) now sound moment comes (last_is_name new bytes paths.1 lengths.1)
     (node_touched entry.ino linked_inode now moment (node_linked entry.ino inode (inode.nlink + 1) (omega (arith, small)) (node_at tree sound.proper entry.ino inode found)))
     (plain_linked entry.ino (touched now linked_inode) (kind ∙ file))
+    (linked_revives (applied tree (SetEntry e)) entry.ino inode (touched now linked_inode) found (elim (eqb_tells inode.nlink 0) [ inl none ↦ (let z = none.1 in let some = count_found name_cmp (λ (x : Entry). x.ino == entry.ino) tree.entries (entry.dir, entry.name) entry here (eq-eqb entry.ino entry.ino refl) in absurd (omega (arith, z, links, some))) | inr some ↦ some.0 ]))
     (λ same. false≢true (sym file ∙ dir_agrees tree.inodes entry.ino entry.kind Dir was.ino (subst (λ n. kind_is tree.inodes n Dir ≡ true) same up_dir)))))))))))

@@ -97,7 +97,7 @@ local_after tree (SetEntry entry) node local = record {
   entries_ascend = insert_ascends name_cmp named tree.entries (entry.dir, entry.name) entry local.entries_ascend;
   inode_nodes = local.inode_nodes;
   block_nodes = local.block_nodes;
-  entry_nodes = all_insert name_cmp named is_entry_node tree.entries (entry.dir, entry.name) entry node local.entry_nodes;
+  entry_nodes = all_insert name_cmp named is_entry_node tree.entries (entry.dir, entry.name) entry (and_parts (is_entry_node ((entry.dir, entry.name), entry)) (not (entry.ino == 0)) node).0 local.entry_nodes;
   inode_numbers = inodes_max tree.inodes tree.highest entry.dir local.inode_numbers;
   block_numbers = blocks_max tree.blocks tree.highest entry.dir local.block_numbers;
 }

@@ -1,5 +1,6 @@
 -- A new inode with its name.
-use Rattle.std.proofs.Common.{◌≡◌, ℕ, ◌+◌, ◌<◌, ◌≤◌, ◌^◌, true, false, not, ◌&&◌, ◌||◌, List, [], ◌∷◌, length, Some, Ok, Err, refl, sym, ap, subst, ◌∙◌, arith, inl, inr}
+use Rattle.fs_model.specs.Change.{applied}
+use Rattle.std.proofs.Common.{max, ◌≡◌, ℕ, ◌+◌, ◌<◌, ◌≤◌, ◌^◌, true, false, not, ◌&&◌, ◌||◌, List, [], ◌∷◌, length, Some, Ok, Err, refl, sym, ap, subst, ◌∙◌, arith, inl, inr}
 use Rattle.std.specs.Prelude.{◌==◌, nat_le, nat_lt, is_some, Option, None}
 use Rattle.std.specs.List.{list_all}
 use Rattle.std.specs.BTreeMap.{insert_entry}
@@ -23,6 +24,8 @@ use Rattle.fs_model.specs.Making.{inode_limit, is_bad_mode, is_name_path, is_bad
 use Rattle.fs_model.specs.Outcome.{Plan, refuse, with_found, group_in}
 use Rattle.fs_model.specs.Path.{has_long_name, is_empty, components, last_of, parent_of, is_dir, is_same_name}
 use Rattle.fs_model.specs.Proper.{are_bytes, are_words, are_long_words, has_data, is_inode_node, is_entry_node, is_name}
+use Rattle.fs_model.specs.Orphan.{revives_none, all_revive_none}
+use Rattle.fs_laws.proofs.Revives.{kept_revives}
 use Rattle.fs_laws.specs.Sound.{IsSound, KeepsSound}
 use Rattle.fs_laws.proofs.Climb.{numbered}
 use Rattle.fs_laws.proofs.Groups.{keeps_nothing, keeps_sound, node_at, touching_is}
@@ -31,7 +34,7 @@ use Rattle.fs_laws.proofs.Linked.{has_links, linked_same, linked_set}
 use Rattle.fs_laws.proofs.Local.{IsLocal, local_of}
 use Rattle.fs_laws.specs.Maps.{set_other, count_none}
 use Rattle.fs_laws.proofs.Names.{last_is_name}
-use Rattle.fs_laws.proofs.Nodes.{node_from, node_number, node_touched}
+use Rattle.fs_laws.proofs.Nodes.{node_of, node_from, node_number, node_touched}
 use Rattle.fs_laws.specs.Orders.{numbers, named, bytes_same}
 use Rattle.fs_laws.proofs.Plans.{refuse_to, found_to}
 use Rattle.fs_laws.proofs.Rel.{Rel, there_of, rel_of, inode_in, entry_in, kind_is, names}
@@ -48,6 +51,9 @@ entry_node_from e name dir ino =
     and_from ((e.dir == e.dir) && is_same_name e.name e.name && is_name e.name) (are_words (e.dir ∷ e.ino ∷ []))
     (and_from ((e.dir == e.dir) && is_same_name e.name e.name) (is_name e.name) (and_from (e.dir == e.dir) (is_same_name e.name e.name) (same_number e.dir) same) name)
     (and_from (nat_lt e.dir (2 ^ 32)) (are_words (e.ino ∷ [])) dir (and_from (nat_lt e.ino (2 ^ 32)) true ino refl))
+
+pub entry_is_node : (e : Entry) → is_name e.name ≡ true → nat_lt e.dir (2 ^ 32) ≡ true → nat_lt e.ino (2 ^ 32) ≡ true → not (e.ino == 0) ≡ true → is_node (SetEntry e) ≡ true
+entry_is_node e name dir ino some = and_from (is_entry_node ((e.dir, e.name), e)) (not (e.ino == 0)) (entry_node_from e name dir ino) some
 
 pub none_of : {X : Type 0} (o : Option X) → is_some o ≡ false → o ≡ None
 none_of None h = refl
@@ -84,9 +90,9 @@ pub record IsNew (inode : Inode) : Type 0 where
   pub links : not (is_dir inode.kind && (inode.nlink == 0)) ≡ true
 
 -- a name comes with its inode, and its directory changes
-pub naming_keeps : (files : Files) (e : Entry) (new : Inode) (now : ℕ) → IsSound files → now < 2 ^ 64 → Comes files.tree.inodes files.tree.entries e new → is_name e.name ≡ true → is_inode_node (e.ino, new) ≡ true → has_links (e.ino, new) ≡ true → (e.dir ≡ e.ino → ⊥)
+pub naming_keeps : (files : Files) (e : Entry) (new : Inode) (now : ℕ) → IsSound files → now < 2 ^ 64 → Comes files.tree.inodes files.tree.entries e new → is_name e.name ≡ true → is_inode_node (e.ino, new) ≡ true → has_links (e.ino, new) ≡ true → revives_none (applied files.tree (SetEntry e)) (SetInode e.ino new) ≡ true → (e.dir ≡ e.ino → ⊥)
     → KeepsSound files (SetEntry e ∷ SetInode e.ino new ∷ touching files.tree e.dir now)
-naming_keeps files e new now sound moment comes good node links apart =
+naming_keeps files e new now sound moment comes good node links revives apart =
     let tree : Tree = files.tree in
     let rel = rel_of tree sound.proper in
     let it = there_of tree.inodes e.dir Dir comes.dir in
@@ -99,13 +105,16 @@ naming_keeps files e new now sound moment comes good node links apart =
     (keeps_kinds tree.inodes e.ino new comes.same x k h) in
     let group : List Change = SetEntry e ∷ SetInode e.ino new ∷ SetInode e.dir (touched now it.inode) ∷ [] in
     let nodes : list_all is_node group ≡ true =
-    and_from (is_entry_node ((e.dir, e.name), e)) (list_all is_node (SetInode e.ino new ∷ SetInode e.dir (touched now it.inode) ∷ [])) (entry_node_from e good (node_number e.dir it.inode dir_node) (node_number e.ino new node))
+    and_from (is_node (SetEntry e)) (list_all is_node (SetInode e.ino new ∷ SetInode e.dir (touched now it.inode) ∷ [])) (entry_is_node e good (node_number e.dir it.inode dir_node) (node_number e.ino new node) (node_of e.ino new node).ino)
     (and_from (is_inode_node (e.ino, new)) (list_all is_node (SetInode e.dir (touched now it.inode) ∷ [])) node
     (and_from (is_inode_node (e.dir, touched now it.inode)) true (node_touched e.dir it.inode now moment dir_node) refl)) in
+    let named_tree : Tree = applied tree (SetEntry e) in
+    let all_revive : all_revive_none tree group ≡ true = and_from (revives_none named_tree (SetInode e.ino new)) (all_revive_none (applied named_tree (SetInode e.ino new)) (SetInode e.dir (touched now it.inode) ∷ [])) revives
+    (and_from (revives_none (applied named_tree (SetInode e.ino new)) (SetInode e.dir (touched now it.inode))) true (kept_revives (applied named_tree (SetInode e.ino new)) e.dir it.inode (touched now it.inode) at refl) refl) in
     let most = cap_most (SetInode e.ino new) in
     let plain = cap_plain e.dir (touched now it.inode) Dir refl it.same in
     let P : List Change → Type 0 = λ rest. KeepsSound files (SetEntry e ∷ SetInode e.ino new ∷ rest) in
-    subst P (sym (touching_is tree e.dir now it.inode it.found)) (keeps_sound files group sound nodes (omega (arith, most, plain)) last kept (λ h. linked_same (insert_entry nat_cmp tree.inodes e.ino new) e.dir it.inode (touched now it.inode) at refl refl (linked_set tree.inodes e.ino new links h)))
+    subst P (sym (touching_is tree e.dir now it.inode it.found)) (keeps_sound files group sound nodes all_revive (omega (arith, most, plain)) last kept (λ h. linked_same (insert_entry nat_cmp tree.inodes e.ino new) e.dir it.inode (touched now it.inode) at refl refl (linked_set tree.inodes e.ino new links h)))
 
 making_keeps : (files : Files) (dir : ℕ) (name : List ℕ) (inode : Inode) (now : ℕ) → IsSound files → now < 2 ^ 64 → IsNew inode → is_name name ≡ true → kind_is files.tree.inodes dir Dir ≡ true → entry_in files.tree.entries (dir, name) ≡ None → files.tree.highest < inode_limit
     → KeepsSound files (making files.tree dir name inode now)
@@ -130,7 +139,9 @@ making_keeps files dir name inode now sound moment new good isdir free room =
       links = λ d. new.link d ∙ ap (λ n. 1 + n) (sym unnamed);
       none = λ d. unnamed;
     } in
-    naming_keeps files e inode now sound moment comes good (new.node ino (not_zero tree.highest) small) new.links (apart_by_none tree.inodes dir ino it.inode it.found fresh)
+    let low = leb-true dir tree.highest (numbered tree local dir it.inode it.found) in
+    let is_new : revives_none (applied tree (SetEntry e)) (SetInode ino inode) ≡ true = rw fresh (lt-ltb (max tree.highest dir) ino (omega (arith, low))) in
+    naming_keeps files e inode now sound moment comes good (new.node ino (not_zero tree.highest) small) new.links is_new (apart_by_none tree.inodes dir ino it.inode it.found fresh)
 
 pub made_keeps : (files : Files) (now : ℕ) (path : List ℕ) (inode : Inode) → IsSound files → now < 2 ^ 64 → are_bytes path ≡ true → not (is_name_path path) ≡ false → IsNew inode → KeepsSound files (group_in (made files now path inode))
 made_keeps files now path inode sound moment bytes good new =

@@ -25,13 +25,15 @@ use Rattle.fs_model.specs.Outcome.{Plan, refuse, with_found, with_some, group_in
 use Rattle.fs_model.specs.Path.{has_long_name, components, last_of, walked, parent_of, is_dir}
 use Rattle.fs_model.specs.Proper.{are_bytes, are_words, is_entry_node, is_name}
 use Rattle.fs_model.specs.Rename.{is_under, comes_linked_out, moving, moved, renamed}
+use Rattle.fs_model.specs.Orphan.{revives_none}
+use Rattle.fs_laws.proofs.Revives.{less_revives}
 use Rattle.fs_laws.specs.Sound.{IsSound, KeepsSound}
 use Rattle.fs_laws.proofs.Groups.{keeps_nothing, node_at}
 use Rattle.fs_laws.proofs.Linking.{both_paths}
 use Rattle.fs_laws.proofs.Linked.{are_linked, linked_left, linked_set, plain_linked}
 use Rattle.fs_laws.proofs.Local.{local_of}
 use Rattle.fs_laws.proofs.Losses.{IsChildless, without, kind_left, rel_dropped, rel_unlinked, still_there, up_less}
-use Rattle.fs_laws.proofs.Makes.{entry_node_from}
+use Rattle.fs_laws.proofs.Makes.{entry_is_node, entry_node_from}
 use Rattle.fs_laws.specs.Maps.{all_at, all_weaken, insert_again, remove_ascends, removed_here, removed_other, set_other}
 use Rattle.fs_laws.proofs.Moves.{IsNot, Moves, moved_entries, placed_at, rel_moved}
 use Rattle.fs_laws.proofs.Names.{last_is_name}
@@ -53,6 +55,7 @@ record Lost (files : Files) (e : Entry) (change : Change) : Type 0 where
   pub rel : Rel inodes (without files.tree.entries e)
   pub makes : (t : Tree) → t.inodes ≡ files.tree.inodes → (applied t change).inodes ≡ inodes
   pub leaves : (t : Tree) → (applied t change).entries ≡ t.entries
+  pub revives : (t : Tree) → t.inodes ≡ files.tree.inodes → revives_none t change ≡ true
   pub others : (x : ℕ) → (x ≡ e.ino → ⊥) → inode_in inodes x ≡ inode_in files.tree.inodes x
   pub handles : list_all (λ h. kind_is inodes h.1 File) files.handles ≡ true
   pub linked : are_linked files.tree.inodes ≡ true → are_linked inodes ≡ true
@@ -65,6 +68,7 @@ lost_by files e inode left now it = leaving_cases files e inode left now it (Los
       rel = rel_dropped files.tree.inodes files.tree.entries e it.sound.proper.inodes_ascend it.sound.proper.entries_ascend it.here it.childless one rel;
       makes = λ t same. ap (λ (is : Inodes). remove_entry (is_at (nat_cmp e.ino)) is) same;
       linked = λ h. linked_left files.tree.inodes e.ino h;
+      revives = λ t same. refl;
       leaves = λ t. refl;
       others = λ x other. removed_other nat_cmp numbers files.tree.inodes e.ino x other;
       handles = handles_left files.tree.inodes (remove_entry (is_at (nat_cmp e.ino)) files.tree.inodes) e.ino (λ x k other h. kind_left files.tree.inodes e.ino x k other h) files.handles it.sound.handles closed;
@@ -74,6 +78,7 @@ lost_by files e inode left now it = leaving_cases files e inode left now it (Los
       node = it.node;
       rel = rel_unlinked files.tree.inodes files.tree.entries e inode left it.sound.proper.entries_ascend it.here it.childless it.found it.kind (ap is_dir it.kind ∙ plain) links rel;
       makes = λ t same. ap (λ (is : Inodes). insert_entry nat_cmp is e.ino left) same;
+      revives = λ t same. less_revives t e.ino inode left (ap (λ (is : Inodes). inode_in is e.ino) same ∙ it.found) (it.plain plain);
       linked = λ h. linked_set files.tree.inodes e.ino left (plain_linked e.ino left (ap is_dir it.kind ∙ plain)) h;
       leaves = λ t. refl;
       others = λ x other. set_other nat_cmp numbers files.tree.inodes e.ino left x other;
@@ -114,7 +119,7 @@ moving_over files from over dir name change now sound moment it good lost =
     let word = node_number from.ino own.inode (node_at tree sound.proper from.ino own.inode own.found) in
     let before : List Change = SetEntry e ∷ DropEntry from.dir from.name ∷ [] in
     let front : List Change = SetEntry e ∷ DropEntry from.dir from.name ∷ change ∷ [] in
-    let nodes : list_all is_node front ≡ true = and_from (is_entry_node ((dir, name), e)) (list_all is_node (DropEntry from.dir from.name ∷ change ∷ [])) (entry_node_from e good (node_number dir new.inode new_node) word)
+    let nodes : list_all is_node front ≡ true = and_from (is_node (SetEntry e)) (list_all is_node (DropEntry from.dir from.name ∷ change ∷ [])) (entry_is_node e good (node_number dir new.inode new_node) word (node_of from.ino own.inode (node_at tree sound.proper from.ino own.inode own.found)).ino)
     (and_from (are_words (from.dir ∷ []) && is_name from.name) (list_all is_node (change ∷ [])) (drop_node files from sound it.here) (and_from (is_node change) true lost.node refl)) in
     let from_apart : from.dir ≡ over.ino → ⊥ = it.childless (from.dir, from.name) from it.here in
     let dir_is : over.dir ≡ dir = ap (λ (k : ℕ × List ℕ). k.0) it.place in
@@ -140,7 +145,7 @@ moving_over files from over dir name change now sound moment it good lost =
     let at_new : inode_in (apply tree front).inodes dir ≡ Some new.inode = subst (λ (is : Inodes). inode_in is dir ≡ Some new.inode) inodes (lost.others dir dir_apart ∙ new.found) in
     let handles = subst (λ (is : Inodes). list_all (λ h. kind_is is h.1 File) files.handles ≡ true) inodes lost.handles in
     let most = cap_most change in
-    joined_keeps files front (both tree from.dir dir now) sound nodes (omega (arith, most)) (λ h. subst (λ (is : Inodes). are_linked is ≡ true) inodes (lost.linked h))
+    joined_keeps files front (both tree from.dir dir now) sound nodes (and_from (revives_none (apply tree before) change) true (lost.revives (apply tree before) refl) refl) (omega (arith, most)) (λ h. subst (λ (is : Inodes). are_linked is ≡ true) inodes (lost.linked h))
     (both_touch tree (apply tree front) from.dir dir now old.inode new.inode moment old.found new.found at_old at_new old.same new.same old_node new_node after) handles
 
 over_childless : (files : Files) (over : Entry) → IsSound files → IsIn files.tree.entries over → (is_dir over.kind && not (has_no_entry files.tree over.ino)) ≡ false → IsChildless files.tree.entries over.ino

@@ -16,7 +16,7 @@ use Rattle.fs_model.specs.declared.refusal.Refusal.{Refusal}
 use Rattle.fs_model.specs.declared.refusal.Refusal.TheVariants.{Enoent, Enotdir, Eisdir, Enotempty, Enametoolong, Einval}
 use Rattle.fs_model.specs.declared.reply.Reply.TheVariants.{Done}
 use Rattle.fs_model.specs.Backing.{is_node}
-use Rattle.fs_model.specs.Change.{apply}
+use Rattle.fs_model.specs.Change.{applied, apply}
 use Rattle.fs_model.specs.Directory.{has_no_entry, entries_in}
 use Rattle.fs_model.specs.Files.{Tree, Files, Inodes, Handles, inode_at, name_cmp}
 use Rattle.fs_model.specs.Links.{less_linked, removing, unlinked, dir_removed}
@@ -25,6 +25,8 @@ use Rattle.fs_model.specs.Orphan.{is_open}
 use Rattle.fs_model.specs.Outcome.{Plan, refuse, with_found, with_some, group_in}
 use Rattle.fs_model.specs.Path.{has_long_name, walked, is_dir, is_empty}
 use Rattle.fs_model.specs.Proper.{is_inode_node, is_entry_node, is_name, are_words}
+use Rattle.fs_model.specs.Orphan.{revives_none, all_revive_none}
+use Rattle.fs_laws.proofs.Revives.{kept_revives, less_revives}
 use Rattle.fs_laws.specs.Sound.{IsSound, KeepsSound}
 use Rattle.fs_laws.proofs.Climb.{proper_of}
 use Rattle.fs_laws.proofs.Groups.{bytes_few, keeps_nothing, keeps_sound, node_at, touching_is}
@@ -110,6 +112,7 @@ drop_keeps files e inode left now it one closed =
     let plain = cap_plain e.dir (touched now up.inode) Dir refl up.same in
     let all : KeepsSound files group = record {
       nodes = nodes;
+      revives_none = and_from (revives_none (applied (applied tree (DropEntry e.dir e.name)) (DropInode e.ino)) (SetInode e.dir (touched now up.inode))) true (kept_revives (applied (applied tree (DropEntry e.dir e.name)) (DropInode e.ino)) e.dir up.inode (touched now up.inode) at refl) refl;
       limit = bytes_few files group it.sound nodes (omega (arith, plain));
       linked = λ h. linked_same left_inodes e.dir up.inode (touched now up.inode) at refl refl (linked_left tree.inodes e.ino h);
       proper = proper_of (apply tree group) (local_group group tree nodes (local_of tree it.sound.proper)) last;
@@ -137,10 +140,14 @@ unlink_keeps files e inode left now it plain links =
     let kept : KeepsKinds tree.inodes (insert_entry nat_cmp left_inodes e.dir (touched now up.inode)) = λ x k h.
     keeps_kinds left_inodes e.dir (touched now up.inode) (λ i f. ap (λ (j : Inode). j.kind) (some_same (sym at ∙ f))) x k
     (keeps_kinds tree.inodes e.ino left (λ o f. it.kind ∙ ap (λ (j : Inode). j.kind) (some_same (sym it.found ∙ f))) x k h) in
+    let named : Tree = applied tree (DropEntry e.dir e.name) in
+    let revives : all_revive_none tree group ≡ true = and_from (revives_none named (SetInode e.ino left)) (all_revive_none (applied named (SetInode e.ino left)) (SetInode e.dir (touched now up.inode) ∷ []))
+    (less_revives named e.ino inode left it.found (it.plain plain))
+    (and_from (revives_none (applied named (SetInode e.ino left)) (SetInode e.dir (touched now up.inode))) true (kept_revives (applied named (SetInode e.ino left)) e.dir up.inode (touched now up.inode) at refl) refl) in
     let most = cap_most (SetInode e.ino left) in
     let dir = cap_plain e.dir (touched now up.inode) Dir refl up.same in
     let P : List Change → Type 0 = λ rest. KeepsSound files (DropEntry e.dir e.name ∷ SetInode e.ino left ∷ rest) in
-    subst P (sym (touching_is tree e.dir now up.inode up.found)) (keeps_sound files group it.sound nodes (omega (arith, most, dir)) last kept (λ h. linked_same left_inodes e.dir up.inode (touched now up.inode) at refl refl (linked_set tree.inodes e.ino left (plain_linked e.ino left (ap is_dir it.kind ∙ plain)) h)))
+    subst P (sym (touching_is tree e.dir now up.inode up.found)) (keeps_sound files group it.sound nodes revives (omega (arith, most, dir)) last kept (λ h. linked_same left_inodes e.dir up.inode (touched now up.inode) at refl refl (linked_set tree.inodes e.ino left (plain_linked e.ino left (ap is_dir it.kind ∙ plain)) h)))
 
 -- either the inode goes, or it stays with a link less
 pub leaving_cases : (files : Files) (e : Entry) (inode left : Inode) (now : ℕ) → Leaves files e inode left now → (P : Change → Type 0) → (names files.tree.entries e.ino ≡ 1 → is_open files e.ino ≡ false → P (DropInode e.ino)) → (is_dir inode.kind ≡ false → left.nlink + 1 ≡ names files.tree.entries e.ino → P (SetInode e.ino left))

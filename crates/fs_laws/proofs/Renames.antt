@@ -17,15 +17,17 @@ use Rattle.fs_model.specs.Files.{Tree, Files, inode_at}
 use Rattle.fs_model.specs.Making.{touched, touching}
 use Rattle.fs_model.specs.Proper.{same_kind, is_inode_node, is_entry_node, is_name, are_words}
 use Rattle.fs_model.specs.Rename.{moving}
+use Rattle.fs_model.specs.Orphan.{revives_none, all_revive_none}
+use Rattle.fs_laws.proofs.Revives.{kept_revives, revive_append}
 use Rattle.fs_laws.specs.Sound.{IsSound, KeepsSound}
 use Rattle.fs_laws.proofs.Climb.{proper_of}
 use Rattle.fs_laws.proofs.Groups.{KeepsLinks, bytes_few, node_at, touching_is}
 use Rattle.fs_laws.proofs.Linked.{are_linked, linked_same}
 use Rattle.fs_laws.proofs.Local.{local_of, local_group}
-use Rattle.fs_laws.proofs.Makes.{entry_node_from}
+use Rattle.fs_laws.proofs.Makes.{entry_is_node, entry_node_from}
 use Rattle.fs_laws.specs.Maps.{all_weaken, set_other}
 use Rattle.fs_laws.proofs.Moves.{Moves, placed_at, rel_moved}
-use Rattle.fs_laws.proofs.Nodes.{node_number, node_touched}
+use Rattle.fs_laws.proofs.Nodes.{node_of, node_number, node_touched}
 use Rattle.fs_laws.specs.Orders.{numbers}
 use Rattle.fs_laws.proofs.Rel.{Rel, there_of, rel_of, inode_in, kind_is}
 use Rattle.fs_laws.proofs.Removals.{drop_node, parent_of_entry}
@@ -44,12 +46,13 @@ nodes_append (c ∷ a) b x y = let q = and_parts (is_node c) (list_all is_node a
 pub record Touches (t : Tree) (group : List Change) : Type 0 where
   pub nodes : list_all is_node group ≡ true
   pub few : sum_by cap group ≤ 320
+  pub revives : all_revive_none t group ≡ true
   pub linked : KeepsLinks t group
   pub rel : Rel (apply t group).inodes (apply t group).entries
   pub kinds : KeepsKinds t.inodes (apply t group).inodes
 
-pub joined_keeps : (files : Files) (front tail : List Change) → IsSound files → list_all is_node front ≡ true → sum_by cap front ≤ 4880 → KeepsLinks files.tree front → Touches (apply files.tree front) tail → list_all (λ h. kind_is (apply files.tree front).inodes h.1 File) files.handles ≡ true → KeepsSound files (front ++ tail)
-joined_keeps files front tail sound nodes few linked it handles =
+pub joined_keeps : (files : Files) (front tail : List Change) → IsSound files → list_all is_node front ≡ true → all_revive_none files.tree front ≡ true → sum_by cap front ≤ 4880 → KeepsLinks files.tree front → Touches (apply files.tree front) tail → list_all (λ h. kind_is (apply files.tree front).inodes h.1 File) files.handles ≡ true → KeepsSound files (front ++ tail)
+joined_keeps files front tail sound nodes revives few linked it handles =
     let same = sym (apply_append front tail files.tree) in
     let all = nodes_append front tail nodes it.nodes in
     let rel = subst (λ (t : Tree). Rel t.inodes t.entries) same it.rel in
@@ -58,6 +61,7 @@ joined_keeps files front tail sound nodes few linked it handles =
     let sums = sum_by-append cap front tail in
     record {
       nodes = all;
+      revives_none = revive_append front tail files.tree revives it.revives;
       linked = λ h. subst (λ (t : Tree). are_linked t.inodes ≡ true) same (it.linked (linked h));
       limit = bytes_few files (front ++ tail) sound all (omega (arith, few, more, sums));
       proper = proper_of (apply files.tree (front ++ tail)) (local_group (front ++ tail) files.tree all (local_of files.tree sound.proper)) rel;
@@ -83,17 +87,22 @@ both_touch tree t a b now p q moment fa fb ga gb da db na nb rel =
     first : cap (SetInode a (touched now p)) ≡ 160
     first = cap_plain a (touched now p) Dir refl da
 
+    first_revives : revives_none t (SetInode a (touched now p)) ≡ true
+    first_revives = kept_revives t a p (touched now p) ga refl
+
     second : cap (SetInode b (touched now q)) ≡ 160
     second = cap_plain b (touched now q) Dir refl db
 
     by : (s : Bool) → (a == b) ≡ s → Touches t (SetInode a (touched now p) ∷ cond s [] (SetInode b (touched now q) ∷ []))
-    by true e = record { nodes = and_from (is_inode_node (a, touched now p)) true (node_touched a p now moment na) refl; few = omega (arith, first); linked = λ h. linked_same t.inodes a p (touched now p) ga refl refl h; rel = one; kinds = kept }
+    by true e = record { nodes = and_from (is_inode_node (a, touched now p)) true (node_touched a p now moment na) refl; few = omega (arith, first); revives = and_from (revives_none t (SetInode a (touched now p))) true first_revives refl; linked = λ h. linked_same t.inodes a p (touched now p) ga refl refl h; rel = one; kinds = kept }
     by false e =
         let apart : b ≡ a → ⊥ = λ same. false≢true (sym e ∙ eq-eqb a b (sym same)) in
         let at : inode_in (insert_entry nat_cmp t.inodes a (touched now p)) b ≡ Some q = set_other nat_cmp numbers t.inodes a (touched now p) b apart ∙ gb in
         record {
           nodes = and_from (is_inode_node (a, touched now p)) (list_all is_node (SetInode b (touched now q) ∷ [])) (node_touched a p now moment na) (and_from (is_inode_node (b, touched now q)) true (node_touched b q now moment nb) refl);
           few = omega (arith, first, second);
+          revives = and_from (revives_none t (SetInode a (touched now p))) (all_revive_none (applied t (SetInode a (touched now p))) (SetInode b (touched now q) ∷ [])) first_revives
+              (and_from (revives_none (applied t (SetInode a (touched now p))) (SetInode b (touched now q))) true (kept_revives (applied t (SetInode a (touched now p))) b q (touched now q) at refl) refl);
           linked = λ h. linked_same (insert_entry nat_cmp t.inodes a (touched now p)) b q (touched now q) at refl refl (linked_same t.inodes a p (touched now p) ga refl refl h);
           rel = rel_touched (insert_entry nat_cmp t.inodes a (touched now p)) t.entries b q (touched now q) at refl refl one;
           kinds = λ x k h. keeps_kinds (insert_entry nat_cmp t.inodes a (touched now p)) b (touched now q) (λ o f. ap (λ (i : Inode). i.kind) (some_same (sym at ∙ f))) x k (kept x k h);
@@ -112,8 +121,8 @@ moving_free files from dir name now sound moment m good =
     let it = there_of tree.inodes from.ino from.kind (rel.entry (from.dir, from.name) from m.here).ino in
     let word = node_number from.ino it.inode (node_at tree sound.proper from.ino it.inode it.found) in
     let front : List Change = SetEntry e ∷ DropEntry from.dir from.name ∷ [] in
-    let nodes : list_all is_node front ≡ true = and_from (is_entry_node ((dir, name), e)) (list_all is_node (DropEntry from.dir from.name ∷ [])) (entry_node_from e good (node_number dir new.inode new_node) word)
+    let nodes : list_all is_node front ≡ true = and_from (is_node (SetEntry e)) (list_all is_node (DropEntry from.dir from.name ∷ [])) (entry_is_node e good (node_number dir new.inode new_node) word (node_of from.ino it.inode (node_at tree sound.proper from.ino it.inode it.found)).ino)
     (and_from (are_words (from.dir ∷ []) && is_name from.name) true (drop_node files from sound m.here) refl) in
     let after = rel_moved tree.inodes tree.entries from dir name rel m in
-    joined_keeps files front (both tree from.dir dir now) sound nodes (omega arith) (λ h. h)
+    joined_keeps files front (both tree from.dir dir now) sound nodes refl (omega arith) (λ h. h)
     (both_touch tree (apply tree front) from.dir dir now old.inode new.inode moment old.found new.found old.found new.found old.same new.same old_node new_node after) sound.handles

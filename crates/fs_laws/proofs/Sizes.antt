@@ -15,7 +15,7 @@ use Rattle.fs_model.specs.Cover.{inode_bytes}
 use Rattle.fs_model.specs.Files.{Tree, inode_at}
 use Rattle.fs_model.specs.Need.{change_bytes}
 use Rattle.fs_model.specs.Path.{is_empty}
-use Rattle.fs_model.specs.Proper.{same_kind, has_data, are_bytes, are_words, is_inode_node, is_name}
+use Rattle.fs_model.specs.Proper.{is_entry_node, same_kind, has_data, are_bytes, are_words, is_inode_node, is_name}
 use Rattle.fs_laws.proofs.InodeKinds.{same_is}
 use Rattle.fs_laws.specs.Maps.{all_at}
 use Rattle.fs_laws.proofs.Nodes.{node_of, block_node_of}
@@ -71,7 +71,7 @@ name_short name h =
 
 change_within : (tree : Tree) (c : Change) → list_all is_inode_node tree.inodes ≡ true → is_node c ≡ true → change_bytes tree c ≤ cap c
 change_within tree (SetInode ino inode) inodes node = inode_within ino inode node
-change_within tree (SetEntry entry) inodes node = let short = name_short entry.name (entry_node_of (entry.dir, entry.name) entry node).name in omega (arith, short)
+change_within tree (SetEntry entry) inodes node = let short = name_short entry.name (entry_node_of (entry.dir, entry.name) entry (and_parts (is_entry_node ((entry.dir, entry.name), entry)) (not (entry.ino == 0)) node).0).name in omega (arith, short)
 change_within tree (DropEntry dir name) inodes node = let short = name_short name (and_parts (are_words (dir ∷ [])) (is_name name) node).1 in omega (arith, short)
 change_within tree (SetBlock ino block bytes) inodes node = let short = (block_node_of ((ino, block), bytes) node).short in omega (arith, short)
 change_within tree (CutBlocks ino old_size new_size) inodes node = omega arith

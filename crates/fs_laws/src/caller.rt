@@ -1,6 +1,7 @@
 // A caller of a backing, proved from the laws and the trait alone.
 
 ghost use Rattle.std.specs.Prelude.{◌≡◌, IfOk, if◌then◌else◌};
+ghost use Rattle.fs_model.specs.Backing.{FitsOrphans};
 ghost use Rattle.fs_model.specs.Change.{apply};
 ghost use Rattle.fs_model.specs.Proper.{IsProper};
 ghost use Rattle.fs_laws.specs.Asked.{IsAsked};
@@ -14,7 +15,8 @@ pub fn put_operation<B: Backing>(
     need: &Need,
     group: &Group,
 ) -> Result<bool, StoreFault>
-    requires { IsAsked (B.state backing.old).tree need.now group.now }
+    requires asked { IsAsked (B.state backing.old).tree need.now group.now }
+    requires orphans { FitsOrphans (B.state backing.old).tree (B.state backing.old).closed (B.state backing.old).orphan_limit group.now }
     ensures ok { IfOk result (λ put. (B.state backing.new).tree ≡ (if put then apply (B.state backing.old).tree group.now else (B.state backing.old).tree)) }
     ensures proper { IsProper (B.state backing.new).tree }
 {

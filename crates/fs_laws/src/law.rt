@@ -1,20 +1,23 @@
 // Laws of the groups of operations, of pages and of mounts.
 
-ghost use Rattle.std.specs.Prelude.{◌≡◌, ℕ, List, IsTrue, ◌<◌};
+ghost use Rattle.std.specs.Prelude.{◌≡◌, ℕ, List, IsTrue, ◌<◌, map, length};
 ghost use Rattle.fs_model.specs.declared.change.Change.{Change};
 ghost use Rattle.fs_model.specs.declared.op.Op.{Op};
 ghost use Rattle.fs_model.specs.declared.op.Op.TheVariants.{Create, Mkdir, Symlink, Link, Unlink, Rmdir, Rename, Truncate, Chmod, OpenFile, Close, Write};
 ghost use Rattle.fs_model.specs.declared.page_node.PageNode.{PageNode};
 ghost use Rattle.fs_model.specs.declared.space.Grant.{Grant};
-ghost use Rattle.fs_model.specs.Backing.{FitsPage, FitsGroup, IsModest, page_group};
+ghost use Rattle.fs_model.specs.Backing.{FitsPage, FitsGroup, FitsOrphans, IsModest, page_group};
 ghost use Rattle.fs_model.specs.Cover.{inode_bytes};
+ghost use Rattle.fs_model.specs.Change.{apply, without_inode};
 ghost use Rattle.fs_model.specs.Files.{Tree, Files, Handles};
 ghost use Rattle.fs_model.specs.Need.{need_of};
-ghost use Rattle.fs_model.specs.Orphan.{without_nameless};
+ghost use Rattle.fs_model.specs.Orphan.{all_revive_none, is_nameless, nameless, without_nameless};
 ghost use Rattle.fs_model.specs.Operation.{group_of, outcome_of, files_in};
 ghost use Rattle.fs_model.specs.Proper.{IsProper, are_bytes};
+ghost use Rattle.fs_model.specs.Recovery.{as_replayed};
 ghost use Rattle.fs_model.specs.Worked.{fresh};
 ghost use Rattle.fs_laws.specs.Alike.{IsBuiltAlike, HasNodes, told_by};
+ghost use Rattle.fs_laws.specs.Forgotten.{IsInOrder};
 ghost use Rattle.fs_laws.specs.Sound.{AreFiles, IsSound, AreLinked, IsMoment, IsCall, IsFilePage, KeepsSound, LeavesSound, Pays};
 
 /// The files of a fresh volume are sound, and its root has links.
@@ -129,7 +132,17 @@ pub fn trees_built_alike_are_proper()
 {}
 
 /// A group that its grant pays over one tree is paid over a proper one that hangs together alike, whose inodes take as
-/// many bytes.
+/// many bytes; and the list of orphans has room for it over both or neither.
 pub fn groups_fit_trees_built_alike()
-    ensures { (a b : Tree) (grant : Grant) (group : List Change) → IsBuiltAlike a b → told_by inode_bytes a.inodes ≡ told_by inode_bytes b.inodes → IsProper b → FitsGroup a grant group → FitsGroup b grant group }
+    ensures fits { (a b : Tree) (grant : Grant) (group : List Change) → IsBuiltAlike a b → told_by inode_bytes a.inodes ≡ told_by inode_bytes b.inodes → IsProper b → FitsGroup a grant group → FitsGroup b grant group }
+    ensures nameless { (a b : Tree) → IsBuiltAlike a b → length (nameless a) ≡ length (nameless b) }
+    ensures orphans { (a b : Tree) (closed limit : ℕ) (group : List Change) → IsBuiltAlike a b → FitsOrphans a closed limit group → FitsOrphans b closed limit group }
+{}
+
+/// Changes that bring back no inode leave, once all is forgotten that has no name, what their replay makes of the tree from
+/// which that was gone before. So what a commit begins on is what the journal leads to.
+pub fn a_replay_leaves_what_has_a_name()
+    ensures group { (tree : Tree) (group : List Change) → IsInOrder tree → IsTrue (all_revive_none tree group) → without_nameless (apply tree group) ≡ apply (without_nameless tree) (map as_replayed group) }
+    ensures dropped { (tree : Tree) (ino : ℕ) → IsInOrder tree → IsTrue (is_nameless tree ino) → without_nameless (without_inode tree ino) ≡ without_nameless tree }
+    ensures twice { (tree : Tree) → IsInOrder tree → without_nameless (without_nameless tree) ≡ without_nameless tree }
 {}

@@ -17,7 +17,7 @@ pub use crate::law::{
     a_new_mode_keeps_trees_proper, a_new_size_keeps_trees_proper,
     a_new_symbolic_link_keeps_trees_proper, a_page_keeps_trees_proper, a_page_leaves_files_sound,
     a_removed_directory_keeps_trees_proper, a_removed_name_keeps_trees_proper,
-    a_write_keeps_trees_proper, an_opened_file_keeps_trees_proper, an_operation_asks_for_little,
-    an_operation_fits_its_grant, an_operation_keeps_trees_proper, an_operation_leaves_files_sound,
-    groups_fit_trees_built_alike, trees_built_alike_are_proper,
+    a_replay_leaves_what_has_a_name, a_write_keeps_trees_proper, an_opened_file_keeps_trees_proper,
+    an_operation_asks_for_little, an_operation_fits_its_grant, an_operation_keeps_trees_proper,
+    an_operation_leaves_files_sound, groups_fit_trees_built_alike, trees_built_alike_are_proper,
 };

@@ -1,5 +1,5 @@
 -- What there is to say of a backing of files, and what its calls do to it.
-use Rattle.std.specs.Prelude.{◌≡◌, ◌≢◌, ◌⊎◌, ℕ, zero, suc, Bool, IsTrue, ◌+◌, ◌-◌, ◌*◌, ◌^◌, ◌<◌, ◌≤◌, not, ◌==◌, ◌&&◌, max, is_some, Option, Some, None, Result, Ok, Err, List, [], ◌∷◌, length, sum_by}
+use Rattle.std.specs.Prelude.{◌≡◌, ◌≢◌, ◌⊎◌, ℕ, zero, suc, Bool, IsTrue, ◌+◌, ◌-◌, ◌*◌, ◌^◌, ◌<◌, ◌≤◌, not, ◌==◌, ◌&&◌, max, is_some, Option, Some, None, Result, Ok, Err, List, [], ◌∷◌, length, map, sum_by}
 use Rattle.std.specs.List.{list_all}
 use Rattle.ubifs_base.specs.declared.raw_geometry.RawGeometry.{RawGeometry}
 use Rattle.fs_model.specs.declared.backing_answers.Mode.{Mode}
@@ -25,9 +25,9 @@ use Rattle.fs_model.specs.declared.space.Need.{Need}
 use Rattle.fs_model.specs.Change.{apply, without_inode}
 use Rattle.fs_model.specs.Cover.{index_lebs}
 use Rattle.fs_model.specs.Files.{Tree}
-use Rattle.fs_model.specs.Journal.{Journal, IfTold, MayLeave, AreSynced, base_head, data_head}
+use Rattle.fs_model.specs.Journal.{Journal, Medium, IfTold, IfBothTold, MayLeave, AreSynced, base_head, data_head, later_groups}
 use Rattle.fs_model.specs.Need.{change_bytes}
-use Rattle.fs_model.specs.Orphan.{without_nameless}
+use Rattle.fs_model.specs.Orphan.{nameless, without_nameless, all_revive_none}
 use Rattle.fs_model.specs.Proper.{IsProper, is_inode_node, is_entry_node, is_block_node, is_name, are_words, are_long_words, has_kind}
 
 -- All that there is to say of a backing at one moment, but for what is expected of its volume.
@@ -35,11 +35,17 @@ pub record BackingState : Type 0 where
   -- the layout of the volume, and the length at which the next list of orphans is full
   pub geometry : RawGeometry
   pub orphan_limit : ℕ
+  -- how many inodes without a name were closed since the last commit's start, ended or not, whose list names them
+  pub closed : ℕ
   -- the files, and the numbers that admission reckons with, the credits that are covered among them
   pub tree : Tree
   pub space : Space
   pub grant : Option Grant
   pub journal : Journal
+  -- whether collection can gain a LEB
+  pub victim : Bool
+  -- the bytes of the volume, LEB after LEB, where they are told
+  pub contents : Option (List ℕ)
   -- whether it can be written, and how often the volume has failed
   pub mode : Mode
   pub faults : ℕ
@@ -95,6 +101,13 @@ abbrev pub HasMode : {T : Type 0} → Mode → Result T StoreFault → Type 0
 HasMode ReadWrite result = IsNotReadOnly result
 HasMode (ReadOnly cause) result = (result ≡ Err (IsReadOnly cause)) ⊎ (result ≡ Err Memory)
 
+-- What a call leaves in the journal of what it puts: all of it, also where the volume failed, and nothing where there was no memory or the backing is read-only.
+abbrev pub put_by : {T X : Type 0} → Result T StoreFault → List X → List X
+put_by (Ok x) puts = puts
+put_by (Err Memory) puts = []
+put_by (Err (Volume count)) puts = puts
+put_by (Err (IsReadOnly cause)) puts = []
+
 -- the answer isn't that the volume failed
 abbrev pub IsNotVolume : {T : Type 0} → Result T StoreFault → Type 0
 IsNotVolume (Err (Volume count)) = ⊥
@@ -117,11 +130,17 @@ abbrev pub Strikes : {T : Type 0} → Option ℕ → Option ℕ → Result T Sto
 Strikes before after (Err (IsReadOnly cause)) = after ≡ before
 Strikes before after result = IsStruck before after result
 
--- where the volume was sure, it still is, and the call met no fault; or the volume is spent now
+-- one that is refused as read-only leaves all as it was
+abbrev pub IsUntouched : {T : Type 0} → BackingState → BackingState → Result T StoreFault → Type 0
+IsUntouched old new (Err (IsReadOnly cause)) = new ≡ old
+IsUntouched old new result = Unit {0}
+
+-- Where the volume was sure, it still is, and the call met no fault; or the volume is spent now. A refusal as read-only changes nothing.
 pub record StaysSure {T : Type 0} (before after : Outlook) (old new : BackingState) (result : Result T StoreFault) : Type 0 where
   pub sure : before.sure → after.spent ⊎ (after.sure × (new.faults ≡ old.faults) × IsNotVolume result)
   pub spent : before.spent → after.spent
   pub strike : Strikes before.strike after.strike result
+  pub untouched : IsUntouched old new result
 
 -- the same of a call that can't fail
 pub record KeepsSure (before after : Outlook) : Type 0 where
@@ -133,11 +152,13 @@ pub record KeepsSure (before after : Outlook) : Type 0 where
 abbrev pub Reads : BackingState → BackingState → Type 0
 Reads old new = new ≡ record old { mode = new.mode; faults = new.faults }
 
--- the files, the credits and the grant are as they were
+-- the files, the credits and the grant are as they were, and neither more bytes are held nor more orphans closed
 pub record KeepsFiles (old new : BackingState) : Type 0 where
   pub tree : new.tree ≡ old.tree
   pub credits : new.space.credits ≡ old.space.credits
   pub grant : new.grant ≡ old.grant
+  pub held : new.space.held ≤ old.space.held
+  pub closed : new.closed ≤ old.closed
 
 -- each of its numbers is below 2^32
 pub record IsModest (need : Need) : Type 0 where
@@ -175,12 +196,13 @@ pub record FitsPage (tree : Tree) (page : PageNode) : Type 0 where
   pub inode : IsTrue (is_inode_node (page.ino, page.inode))
   pub file : IsTrue (has_kind tree page.ino File)
   pub no_data : page.inode.extra ≡ []
+  pub revives_none : IsTrue (all_revive_none tree (page_group page))
   pub proper : IsProper (apply tree (page_group page))
 
--- a change that a leaf node can carry (ubifs-media.h)
+-- a change that a leaf node can carry (ubifs-media.h); an entry of inode 0 is one that goes
 abbrev pub is_node : Change → Bool
 is_node (SetInode ino inode) = is_inode_node (ino, inode)
-is_node (SetEntry entry) = is_entry_node ((entry.dir, entry.name), entry)
+is_node (SetEntry entry) = is_entry_node ((entry.dir, entry.name), entry) && not (entry.ino == 0)
 is_node (DropEntry dir name) = are_words (dir ∷ []) && is_name name
 is_node (SetBlock ino block bytes) = is_block_node ((ino, block), bytes)
 is_node (CutBlocks ino old_size new_size) = are_words (ino ∷ []) && are_long_words (old_size ∷ new_size ∷ [])
@@ -196,29 +218,49 @@ pub record FitsGroup (tree : Tree) (grant : Grant) (group : List Change) : Type 
   pub nodes : length group ≤ grant.nodes
   pub bytes : sum_by (change_bytes tree) group ≤ grant.bytes
   pub limit : sum_by (change_bytes tree) group ≤ group_limit
+  pub revives_none : IsTrue (all_revive_none tree group)
   pub proper : IsProper (apply tree group)
 
--- a group that was admitted; where the tree is proper, its grant pays it
-abbrev pub IsAdmitted : BackingState → List Change → Type 0
-IsAdmitted state group = (grant : Grant) × (state.grant ≡ Some grant) × (IsProper state.tree → FitsGroup state.tree grant group)
+-- how many orphans the next list has: the open inodes without a name, and those closed that the list of the last commit names
+abbrev pub next_orphans : BackingState → ℕ
+next_orphans state = length (nameless state.tree) + state.closed
+
+-- how many more it takes
+abbrev pub orphan_room : BackingState → ℕ
+orphan_room state = state.orphan_limit - next_orphans state
+
+-- after a group there are no more inodes without a name than before, or, with those closed, at most as many as a list takes
+abbrev pub FitsOrphans : Tree → ℕ → ℕ → List Change → Type 0
+FitsOrphans tree closed limit group = (length (nameless (apply tree group)) ≤ length (nameless tree)) ⊎ (length (nameless (apply tree group)) + closed ≤ limit)
+
+-- A group that was admitted: it brings back no inode; and where the tree is proper, its grant pays it, and the list of orphans has room.
+pub record IsAdmitted (state : BackingState) (group : List Change) : Type 0 where
+  pub grant : Grant
+  pub granted : state.grant ≡ Some grant
+  pub revives_none : IsTrue (all_revive_none state.tree group)
+  pub paid : IsProper state.tree → FitsGroup state.tree grant group
+  pub orphans : IsProper state.tree → FitsOrphans state.tree state.closed state.orphan_limit group
 
 -- the page's inode and block are set, and a credit is spent
 pub record IsPagePut (old new : BackingState) (page : PageNode) : Type 0 where
   pub tree : new.tree ≡ apply old.tree (page_group page)
   pub credits : new.space.credits + 1 ≡ old.space.credits
   pub grant : new.grant ≡ old.grant
+  pub closed : new.closed ≤ old.closed
 
 -- the group's changes are made, and its grant has ended
 pub record IsGroupPut (old new : BackingState) (group : List Change) : Type 0 where
   pub tree : new.tree ≡ apply old.tree group
   pub credits : new.space.credits ≡ old.space.credits
   pub grant : new.grant ≡ None
+  pub closed : new.closed ≤ old.closed
 
--- an inode without a name is gone, with its blocks, and no node was put
+-- an inode without a name is gone, with its blocks, and no node was put; the next list of orphans gets no longer
 pub record IsDropped (old new : BackingState) (ino : ℕ) : Type 0 where
   pub tree : new.tree ≡ without_inode old.tree ino
   pub credits : new.space.credits ≡ old.space.credits
   pub grant : new.grant ≡ old.grant
+  pub closed : new.closed ≤ old.closed + 1
 
 -- all that was put is synced
 pub record IsSynced (state : BackingState) : Type 0 where
@@ -246,11 +288,39 @@ ended_of None left = NoEnd
 ended_of (Some cmt_no) zero = Done cmt_no
 ended_of (Some cmt_no) (suc left) = NotReady (suc left)
 
+-- what was committed, and what the running commit began on, are as they were, where they are told
+abbrev pub KeepsStart : Journal → Journal → Type 0
+KeepsStart old new = IfBothTold old new (λ before after. (after.committed ≡ before.committed) × (after.started ≡ before.started) × (after.begun ≡ before.begun))
+
+-- the commit that runs, if one does, goes on as it was
+pub record KeepsCommit (old new : Journal) : Type 0 where
+  pub running : new.running ≡ old.running
+  pub left : new.left ≡ old.left
+  pub nodes : new.nodes ≡ old.nodes
+  pub later : new.later ≡ old.later
+  pub start : KeepsStart old new
+
+-- The tree at the commit's start is the committed one, the nodes put since are those put since its start, and of each head those groups stay that it got since its start.
+pub record IsCommitted (old new : BackingState) : Type 0 where
+  pub running : new.journal.running ≡ None
+  pub nodes : new.journal.nodes ≡ old.journal.later
+  pub committed : IfBothTold old.journal new.journal (λ before after. after.committed ≡ before.started)
+  pub heads : IfBothTold old.journal new.journal (λ before after. map (λ head. head.groups) after.heads ≡ later_groups before.heads before.begun)
+
+-- the commit that runs goes on, or it was ended
+abbrev pub KeepsOrEnds : BackingState → BackingState → Type 0
+KeepsOrEnds old new = KeepsCommit old.journal new.journal ⊎ (IsTrue (is_some old.journal.running) × IsCommitted old new)
+
+-- What a commit began on: the tree without what has no name, with all groups that each head had.
+pub record IsBegun (tree : Tree) (medium : Medium) : Type 0 where
+  pub started : medium.started ≡ without_nameless tree
+  pub begun : medium.begun ≡ map (λ head. length head.groups) medium.heads
+
 -- a commit runs, begun on the tree as it is, or the one that ran before
 abbrev pub IsStarted : BackingState → BackingState → Started → Type 0
 IsStarted old new Began =
     (old.journal.running ≡ None) × ((cmt_no : ℕ) × (new.journal.running ≡ Some cmt_no)) × (new.journal.later ≡ 0)
-    × IfTold new.journal (λ medium. medium.started ≡ old.tree) × IsSynced new
+    × IfTold new.journal (IsBegun old.tree) × IsSynced new
 IsStarted old new (Running cmt_no) = (old.journal.running ≡ Some cmt_no) × (new.journal.running ≡ Some cmt_no)
 
 -- a LEB of the index is written where one is left
@@ -259,12 +329,7 @@ pub record IsStepped (old new : BackingState) (stepped : Stepped) : Type 0 where
   pub left : new.journal.left ≡ old.journal.left - 1
   pub running : new.journal.running ≡ old.journal.running
   pub later : new.journal.later ≡ old.journal.later
-
--- the tree at the commit's start is the committed one, and the nodes put since are those put since its start
-pub record IsCommitted (old new : BackingState) : Type 0 where
-  pub running : new.journal.running ≡ None
-  pub nodes : new.journal.nodes ≡ old.journal.later
-  pub committed : IfTold old.journal (λ before. IfTold new.journal (λ after. after.committed ≡ before.started))
+  pub start : KeepsStart old.journal new.journal
 
 -- the commit ends where nothing is left to write, and else it stays as it is
 abbrev pub IsEnded : BackingState → BackingState → Ended → Type 0
@@ -273,5 +338,5 @@ IsEnded old new ended = new.journal ≡ old.journal
 
 -- what a pass of collection answers
 abbrev pub IsCollected : BackingState → BackingState → Collected → Type 0
-IsCollected old new (Gained lnum) = IsTrue old.journal.victim × IsSynced new
-IsCollected old new Nothing = IsTrue (not old.journal.victim)
+IsCollected old new (Gained lnum) = IsTrue old.victim × IsSynced new
+IsCollected old new Nothing = IsTrue (not old.victim)

@@ -1,23 +1,23 @@
 -- The journal under a tree: what was committed, what each head got since, and what a cut may leave of it (Hunter 2008, "The journal" and "The commit").
-use Rattle.std.specs.Prelude.{◌≡◌, ℕ, zero, suc, Bool, IsTrue, not, nat_lt, Option, Some, None, List, [], ◌∷◌, ◌++◌, map, length}
-use Rattle.std.specs.List.{list_all}
+use Rattle.std.specs.Prelude.{◌≡◌, ℕ, zero, suc, Bool, IsTrue, not, nat_lt, nat_le, Option, Some, None, List, [], ◌∷◌, ◌++◌, map, drop, length}
+use Rattle.std.specs.List.{list_all, flat_map}
 use Rattle.std.specs.Ordering.{nat_cmp}
 use Rattle.fs_model.specs.declared.change.Change.{Change}
 use Rattle.fs_model.specs.Files.{Tree}
+use Rattle.fs_model.specs.Orphan.{nameless, without_nameless}
 use Rattle.fs_model.specs.Proper.{ascends}
 use Rattle.fs_model.specs.Recovery.{Numbered, Head, IsRecovered}
 
--- What only a store tells.
+-- What a backing may tell of its journal.
 pub record Medium : Type 0 where
-  -- the tree at the start of the last finished commit, and what each head got since then
+  -- the tree at the start of the last finished commit, without what had no name, and what each head got since then
   pub committed : Tree
   pub heads : List Head
   -- the greatest sequence number that was given
   pub sqnum : ℕ
-  -- the tree at the start of the running commit
+  -- the tree at the start of the running commit, without what had no name, and how many groups each head had then
   pub started : Tree
-  -- the bytes of the volume, LEB after LEB
-  pub contents : List ℕ
+  pub begun : List ℕ
 
 -- How far a store's journal and its commits are.
 pub record Journal : Type 0 where
@@ -27,8 +27,6 @@ pub record Journal : Type 0 where
   -- the nodes put since the start of the last finished commit, and of these the ones since the start of the running one
   pub nodes : ℕ
   pub later : ℕ
-  -- whether collection can gain a LEB
-  pub victim : Bool
   pub medium : Option Medium
 
 -- this is so of the medium, where it is told
@@ -38,6 +36,10 @@ IfTold journal P = by journal.medium
     by : Option Medium → Type 0
     by None = Unit {0}
     by (Some medium) = P medium
+
+-- this is so of the medium before and after, where it is told
+abbrev pub IfBothTold : Journal → Journal → (Medium → Medium → Type 0) → Type 0
+IfBothTold old new P = IfTold old (λ before. IfTold new (λ after. P before after))
 
 -- all groups are synced
 abbrev pub AreSynced : List Head → Type 0
@@ -55,6 +57,12 @@ abbrev pub with_group_at : List Head → ℕ → Numbered → List Head
 with_group_at [] at group = []
 with_group_at (head ∷ heads) zero group = record head { groups = head.groups ++ group ∷ [] } ∷ heads
 with_group_at (head ∷ heads) (suc at) group = head ∷ with_group_at heads at group
+
+-- the groups that each head has, but for its first ones, so many
+abbrev pub later_groups : List Head → List ℕ → List (List Numbered)
+later_groups [] counts = []
+later_groups (head ∷ heads) [] = head.groups ∷ later_groups heads []
+later_groups (head ∷ heads) (count ∷ counts) = drop count head.groups ∷ later_groups heads counts
 
 -- the numbers of a group ascend, and are above one that was given
 pub record AreNext (sqnum : ℕ) (group : Numbered) : Type 0 where
@@ -87,3 +95,11 @@ Leaves old new puts = (more : List (ℕ × List Change)) (tree : Tree) → Might
 -- a cut now may leave this tree
 abbrev pub MayLeave : Journal → Tree → Type 0
 MayLeave journal tree = MightLeave journal [] tree
+
+-- What is always so of a journal that is told, beside this tree. There are three heads, no more is synced than was put, and each number was given. What was committed has a name, and a cut now may leave the tree, without what has no name.
+pub record IsJournalOf (tree : Tree) (medium : Medium) : Type 0 where
+  pub three : length medium.heads ≡ 3
+  pub synced : IsTrue (list_all (λ head. nat_le head.synced (length head.groups)) medium.heads)
+  pub given : IsTrue (list_all (λ head. list_all (λ c. nat_le c.0 medium.sqnum) (flat_map (λ group. group) head.groups)) medium.heads)
+  pub named : nameless medium.committed ≡ []
+  pub left : IsRecovered medium.committed medium.heads (without_nameless tree)

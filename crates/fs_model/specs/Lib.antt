@@ -20,6 +20,7 @@ pub mod Outcome
 pub mod Path
 pub mod Proper
 pub mod Recovery
+pub mod RecoveryLaws
 pub mod Rename
 pub mod Same
 pub mod Settled

@@ -1,11 +1,13 @@
 -- Inodes that have lost their last name while they are open: unlink(2), and the orphans of Hunter 2008.
-use Rattle.std.specs.Prelude.{ℕ, Bool, false, ◌==◌, ◌&&◌, not, nat_lt, if◌then◌else◌, Ok, Err, List, filter, fold, length}
+use Rattle.std.specs.Prelude.{ℕ, Bool, true, false, ◌==◌, ◌&&◌, ◌||◌, not, nat_lt, if◌then◌else◌, Ok, Err, List, [], ◌∷◌, filter, fold, length}
 use Rattle.std.specs.List.{list_any}
 use Rattle.std.specs.Map.{keys_of}
 use Rattle.std.specs.Option.{option_map_or}
+use Rattle.fs_model.specs.declared.change.Change.{Change}
+use Rattle.fs_model.specs.declared.change.Change.TheVariants.{SetInode}
 use Rattle.fs_model.specs.declared.refusal.Refusal.TheVariants.{Enfile}
 use Rattle.fs_model.specs.declared.refusal.Table.TheVariants.{Orphans}
-use Rattle.fs_model.specs.Change.{without_inode}
+use Rattle.fs_model.specs.Change.{applied, without_inode}
 use Rattle.fs_model.specs.Files.{Tree, Files, inode_at}
 use Rattle.fs_model.specs.Outcome.{Outcome, refuse}
 
@@ -24,6 +26,16 @@ nameless tree = keys_of (filter (λ entry. entry.1.nlink == 0) tree.inodes)
 -- the tree without them and their blocks
 abbrev pub without_nameless : Tree → Tree
 without_nameless tree = fold without_inode tree (nameless tree)
+
+-- Whether a change brings back no inode: one that it sets is new, above the highest number, or it is there, and gets no links where it has lost its last name.
+abbrev pub revives_none : Tree → Change → Bool
+revives_none tree (SetInode ino inode) = option_map_or (λ old. (inode.nlink == 0) || not (old.nlink == 0)) (inode_at tree ino) (nat_lt tree.highest ino)
+revives_none tree change = true
+
+-- whether no change of a group does, each made on what those before it leave
+abbrev pub all_revive_none : Tree → List Change → Bool
+all_revive_none tree [] = true
+all_revive_none tree (change ∷ group) = revives_none tree change && all_revive_none (applied tree change) group
 
 -- an inode that has neither a name nor a handle is gone
 abbrev pub without_lost : Files → ℕ → Files

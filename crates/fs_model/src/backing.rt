@@ -2,12 +2,12 @@
 
 ghost use Rattle.std.specs.Prelude.{◌≡◌, ◌⊎◌, ◌↔◌, ◌+◌, ◌-◌, ◌≤◌, ◌<◌, ◌++◌, ℕ, ◌∷◌, [], length, take, min, replicate, IsTrue, IsOk, IfOk, OnOk, OnErr, IfErr};
 ghost use Rattle.ubifs_base.specs.Areas.{main_lebs};
-ghost use Rattle.fs_model.specs.Backing.{BackingState, Outlook, Goes, HasCause, HasMode, IsNotReadOnly, StaysSure, KeepsSure, Reads, KeepsFiles, IsModest, IsSmall, granted, given_back, page_puts, FitsPage, IsAdmitted, IsPagePut, IsGroupPut, IsDropped, IsSynced, LeavesTree, started_of, IsStarted, IsStepped, ended_of, IsEnded, IsCollected};
+ghost use Rattle.fs_model.specs.Backing.{BackingState, Outlook, Goes, HasCause, HasMode, IsNotReadOnly, StaysSure, KeepsSure, Reads, KeepsFiles, IsModest, IsSmall, granted, given_back, page_group, page_puts, put_by, orphan_room, FitsPage, IsAdmitted, IsPagePut, IsGroupPut, IsDropped, IsSynced, KeepsCommit, KeepsOrEnds, started_of, IsStarted, IsStepped, ended_of, IsEnded, IsCollected};
 ghost use Rattle.fs_model.specs.Cover.{needed, room_for, tree_bytes};
 ghost use Rattle.fs_model.specs.Directory.{entries_in};
 ghost use Rattle.fs_model.specs.Files.{inode_at, entry_at, block_at, last_block_of};
-ghost use Rattle.fs_model.specs.Journal.{Leaves, base_head};
-ghost use Rattle.fs_model.specs.Orphan.{is_nameless, nameless};
+ghost use Rattle.fs_model.specs.Journal.{Leaves, IfTold, IsJournalOf, base_head};
+ghost use Rattle.fs_model.specs.Orphan.{all_revive_none, is_nameless};
 ghost use Rattle.fs_model.specs.Proper.{IsProper};
 
 use crate::{
@@ -91,14 +91,16 @@ pub trait Backing {
         ensures given { state self.new ≡ given_back (state self.old) credits }
         ensures sure { KeepsSure (outlook self.old) (outlook self.new) };
 
-    /// Spends a credit, and sets a page's block and inode. After a fault the credit stays covered.
+    /// Spends a credit, and sets a page's block and inode. After a fault the credit stays covered. Where there was no memory,
+    /// or the backing is read-only, nothing was put; where the volume failed, a cut may leave what was.
     fn put_page(&mut self, page: &PageNode) -> Result<(), StoreFault>
         requires covered { 0 < (state self.old).space.credits }
+        requires revives_none { IsTrue (all_revive_none (state self.old).tree (page_group page.now)) }
         requires fits { IsProper (state self.old).tree → FitsPage (state self.old).tree page.now }
         ensures ok { OnOk result (IsPagePut (state self.old) (state self.new) page.now) }
         ensures err { OnErr result (KeepsFiles (state self.old) (state self.new)) }
-        ensures cut { Leaves (state self.old).journal (state self.new).journal (page_puts page.now) }
-        ensures goes { Goes 2 (state self.old) (state self.new) }
+        ensures cut { Leaves (state self.old).journal (state self.new).journal (put_by result (page_puts page.now)) }
+        ensures goes { Goes (length (put_by result (page_group page.now))) (state self.old) (state self.new) }
         ensures cause { HasCause (state self.old) (state self.new) result }
         ensures mode { HasMode (state self.old).mode result }
         ensures sure { StaysSure (outlook self.old) (outlook self.new) (state self.old) (state self.new) result };
@@ -108,8 +110,8 @@ pub trait Backing {
         requires { IsAdmitted (state self.old) group.now }
         ensures ok { OnOk result (IsGroupPut (state self.old) (state self.new) group.now) }
         ensures err { OnErr result (KeepsFiles (state self.old) (state self.new)) }
-        ensures cut { Leaves (state self.old).journal (state self.new).journal ((base_head, group.now) ∷ []) }
-        ensures goes { Goes (length group.now) (state self.old) (state self.new) }
+        ensures cut { Leaves (state self.old).journal (state self.new).journal (put_by result ((base_head, group.now) ∷ [])) }
+        ensures goes { Goes (length (put_by result group.now)) (state self.old) (state self.new) }
         ensures cause { HasCause (state self.old) (state self.new) result }
         ensures mode { HasMode (state self.old).mode result }
         ensures sure { StaysSure (outlook self.old) (outlook self.new) (state self.old) (state self.new) result };
@@ -125,10 +127,10 @@ pub trait Backing {
         ensures mode { IsNotReadOnly result }
         ensures sure { StaysSure (outlook self.old) (outlook self.new) (state self.old) (state self.new) result };
 
-    /// Brings all that was put to the medium.
+    /// Brings all that was put to the medium; then a cut leaves the tree, but for what has no name.
     fn sync(&mut self) -> Result<(), StoreFault>
         ensures ok { OnOk result (IsSynced (state self.new)) }
-        ensures left { OnOk result (LeavesTree (state self.new)) }
+        ensures commit { KeepsOrEnds (state self.old) (state self.new) }
         ensures files { KeepsFiles (state self.old) (state self.new) }
         ensures cut { Leaves (state self.old).journal (state self.new).journal [] }
         ensures goes { Goes 0 (state self.old) (state self.new) }
@@ -139,6 +141,7 @@ pub trait Backing {
     /// Collects one LEB, where there is one with enough that is obsolete (Hunter 2008, "Garbage collection").
     fn collect_step(&mut self) -> Result<Collected, StoreFault>
         ensures ok { IfOk result (λ collected. IsCollected (state self.old) (state self.new) collected) }
+        ensures commit { KeepsOrEnds (state self.old) (state self.new) }
         ensures files { KeepsFiles (state self.old) (state self.new) }
         ensures cut { Leaves (state self.old).journal (state self.new).journal [] }
         ensures goes { Goes 0 (state self.old) (state self.new) }
@@ -146,7 +149,7 @@ pub trait Backing {
         ensures mode { HasMode (state self.old).mode result }
         ensures sure { StaysSure (outlook self.old) (outlook self.new) (state self.old) (state self.new) result };
 
-    /// Starts a commit on the tree as it is, where none runs (Hunter 2008, "The commit").
+    /// Starts a commit on the tree as it is, but for what has no name, where none runs (Hunter 2008, "The commit").
     fn commit_start(&mut self) -> Result<Started, StoreFault>
         ensures answer { IfOk result (λ started. started ≡ started_of (state self.old).journal.running) }
         ensures ok { IfOk result (λ started. IsStarted (state self.old) (state self.new) started) }
@@ -160,6 +163,7 @@ pub trait Backing {
     /// Writes one LEB of the index of the commit that runs, where one is left.
     fn commit_step(&mut self) -> Result<Stepped, StoreFault>
         ensures ok { IfOk result (λ stepped. IsStepped (state self.old) (state self.new) stepped) }
+        ensures err { OnErr result (KeepsCommit (state self.old).journal (state self.new).journal) }
         ensures files { KeepsFiles (state self.old) (state self.new) }
         ensures cut { Leaves (state self.old).journal (state self.new).journal [] }
         ensures goes { Goes 0 (state self.old) (state self.new) }
@@ -171,6 +175,7 @@ pub trait Backing {
     fn commit_end(&mut self) -> Result<Ended, StoreFault>
         ensures answer { IfOk result (λ ended. ended ≡ ended_of (state self.old).journal.running (state self.old).journal.left) }
         ensures ok { IfOk result (λ ended. IsEnded (state self.old) (state self.new) ended) }
+        ensures err { OnErr result (KeepsCommit (state self.old).journal (state self.new).journal) }
         ensures files { KeepsFiles (state self.old) (state self.new) }
         ensures cut { Leaves (state self.old).journal (state self.new).journal [] }
         ensures goes { Goes 0 (state self.old) (state self.new) }
@@ -182,9 +187,10 @@ pub trait Backing {
     fn space(&self) -> Space
         ensures { result ≡ (state self.now).space };
 
-    /// How many more orphans the next list of orphans takes.
+    /// How many more orphans the next list of orphans takes. It has the open inodes without a name, and those closed since the
+    /// last commit's start whose list names them.
     fn orphan_room(&self) -> u64
-        ensures { result ≡ (state self.now).orphan_limit - length (nameless (state self.now).tree) };
+        ensures { result ≡ orphan_room (state self.now) };
 
     /// How many orphans a list of orphans takes.
     fn orphan_limit(&self) -> u64
@@ -215,4 +221,7 @@ pub trait Backing {
 
     /// The numbers of a proper tree are small.
     ghost small: { (backing : Self) → IsProper (state backing).tree → IsSmall (state backing).space };
+
+    /// A journal that is told has three heads, and a cut may leave the tree, but for what has no name.
+    ghost journal: { (backing : Self) → IfTold (state backing).journal (IsJournalOf (state backing).tree) };
 }

@@ -1,13 +1,14 @@
 // A caller of several calls, proved from the trait alone.
 
 ghost use Rattle.std.specs.Prelude.{◌≡◌, ◌-◌, ◌<◌, ◌≤◌, ◌↔◌, ◌++◌, ◌∷◌, [], length, min, take, replicate, IfErr, IfOk, OnOk};
-ghost use Rattle.fs_model.specs.Backing.{IsModest, FitsGroup, FitsPage, LeavesTree, page_group, page_puts};
+ghost use Rattle.fs_model.specs.Backing.{IsModest, FitsGroup, FitsOrphans, FitsPage, LeavesTree, page_group, page_puts};
 ghost use Rattle.fs_model.specs.CallFaults.{IsCallFault, IsNoSpace};
 ghost use Rattle.fs_model.specs.Change.{apply};
 ghost use Rattle.fs_model.specs.Cover.{needed, room_for};
 ghost use Rattle.fs_model.specs.Journal.{Leaves, base_head};
 ghost use Rattle.fs_model.specs.Proper.{IsProper};
 
+use crate::law::a_cut_keeps_what_was_synced;
 use crate::{Backing, Group, Need, NoSpace, PageNode, StoreFault};
 
 /// Why nothing was made, or not all.
@@ -50,6 +51,7 @@ pub fn make_and_read<B: Backing>(
     requires credit { 1 ≤ need.now.credits }
     requires proper { IsProper (B.state backing.old).tree }
     requires group { FitsGroup (B.state backing.old).tree (record { bytes = need.now.bytes; nodes = need.now.nodes }) group.now }
+    requires orphans { FitsOrphans (B.state backing.old).tree (B.state backing.old).closed (B.state backing.old).orphan_limit group.now }
     requires page { FitsPage (apply (B.state backing.old).tree group.now) page.now }
     requires out { length out.old ≡ 4096 }
     ensures made { OnOk result ((B.state backing.new).tree ≡ apply (apply (B.state backing.old).tree group.now) (page_group page.now)) }
@@ -60,6 +62,7 @@ pub fn make_and_read<B: Backing>(
     ensures full { IsNoSpace result ↔ (room_for (B.state backing.old).geometry (B.state backing.old).space need.now < needed (B.state backing.old).space need.now) }
     ensures refused { IfErr result (IsCallFault (B.state backing.old) (B.state backing.new) need.now) }
 {
+    a_cut_keeps_what_was_synced();
     backing.admit(need)?;
     backing.put_group(group)?;
     backing.put_page(page)?;

@@ -33,7 +33,8 @@ pub use crate::change::Change;
 pub use crate::group::Group;
 pub use crate::inode::{Entry, Inode, Kind};
 pub use crate::law::{
-    changes_are_seen, groups_make_the_changes, reads_are_what_was_written, writes_are_kept,
+    a_cut_keeps_what_was_synced, changes_are_seen, groups_make_the_changes,
+    later_groups_stand_alone, reads_are_what_was_written, writes_are_kept,
 };
 pub use crate::op::Op;
 pub use crate::ordered_name::OrderedName;

@@ -116,4 +116,5 @@ sure_still T geo tree after old new x e h =
       sure = λ none. inr (rw (strike, none) refl, ap (λ (n : Numbers). n.faults) e, tt);
       spent = λ never. never;
       strike = subst P (sym strike) (struck T old.strike x h);
+      untouched = tt;
     }

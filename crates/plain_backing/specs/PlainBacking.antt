@@ -1,5 +1,5 @@
 -- A backing in memory: what there is to say of it, and the numbers that it keeps.
-use Rattle.std.specs.Prelude.{◌≡◌, ℕ, ◌+◌, ◌-◌, false, min, Some, None}
+use Rattle.std.specs.Prelude.{◌≡◌, ℕ, ◌+◌, ◌-◌, Bool, false, if◌then◌else◌, min, Some, None}
 use Rattle.ubifs_base.specs.declared.raw_geometry.RawGeometry.{RawGeometry}
 use Rattle.ubifs_base.specs.Areas.{main_lebs}
 use Rattle.ubifs_base.specs.RawOf.{raw_of}
@@ -17,19 +17,22 @@ use Rattle.fs_model.specs.Cover.{tree_bytes}
 use Rattle.fs_model.specs.Files.{Tree}
 use Rattle.fs_model.specs.Journal.{Journal}
 
--- nothing is held, nothing of an index is ever left to write, and collection never gains
+-- nothing of an index is ever left to write
 abbrev pub journal_of : Numbers → Journal
-journal_of n = record { running = n.running; left = 0; nodes = n.nodes; later = n.later; victim = false; medium = None }
+journal_of n = record { running = n.running; left = 0; nodes = n.nodes; later = n.later; medium = None }
 
--- all that there is to say of a tree with these numbers
+-- all that there is to say of a tree with these numbers: nothing is held, and collection never gains
 abbrev pub state_with : RawGeometry → Tree → Numbers → BackingState
 state_with geo tree n = record {
   geometry = geo;
   orphan_limit = n.orphan_limit;
+  closed = n.closed;
   tree = tree;
   space = record { used = tree_bytes tree; held = 0; credits = n.credits; empty = n.empty; index = n.index; weight = n.weight; main = main_lebs geo };
   grant = n.grant;
   journal = journal_of n;
+  victim = false;
+  contents = None;
   mode = n.mode;
   faults = n.faults;
 }
@@ -62,10 +65,13 @@ abbrev pub new_state : RawGeometry → Tree → Space → ℕ → BackingState
 new_state geo tree space orphan_room = record {
   geometry = geo;
   orphan_limit = orphan_room;
+  closed = 0;
   tree = tree;
   space = record space { used = tree_bytes tree; held = 0 };
   grant = None;
-  journal = record { running = None; left = 0; nodes = 0; later = 0; victim = false; medium = None };
+  journal = record { running = None; left = 0; nodes = 0; later = 0; medium = None };
+  victim = false;
+  contents = None;
   mode = ReadWrite;
   faults = 0;
 }
@@ -90,9 +96,13 @@ page_spent n = with_nodes (record n { credits = n.credits - 1 }) 2
 abbrev pub group_spent : Numbers → ℕ → Numbers
 group_spent n nodes = with_nodes (record n { grant = None }) nodes
 
--- a commit runs, of the next number
+-- a commit runs, of the next number; no orphan was closed since its start
 abbrev pub begun : Numbers → Numbers
-begun n = record n { running = Some (plus n.ended 1); later = 0 }
+begun n = record n { running = Some (plus n.ended 1); later = 0; closed = 0 }
+
+-- an orphan was closed, which the last commit's list may name
+abbrev pub with_closed : Numbers → Bool → Numbers
+with_closed n named = record n { closed = if named then plus n.closed 1 else n.closed }
 
 -- the commit of this number has ended
 abbrev pub ended_as : Numbers → ℕ → Numbers

@@ -10,7 +10,8 @@ ghost use Rattle.plain_backing.specs.Spending.{is_spent};
 use crate::Tree;
 use crate::numbers::Numbers;
 use crate::steps::{
-    admit, changing_call, count_call, end, has_weight_for, spend_grant, spend_page, start,
+    admit, changing_call, count_call, count_closed, end, has_weight_for, listed_orphans,
+    spend_grant, spend_page, start,
 };
 use fs_model::{
     Backing, Change, Collected, Ended, Entry, Grant, Group, Inode, Mode, Need, NoSpace, PageNode,
@@ -27,6 +28,7 @@ pub struct PlainBacking {
     geo: Geometry,
     tree: Tree,
     numbers: Numbers,
+    listed: Vec<u32>,
     ghost few_bytes: { tree_bytes tree < 2 ^ 40 },
     ghost few_credits: { numbers.credits < 2 ^ 40 },
     ghost light: { numbers.weight < 2 ^ 40 },
@@ -64,6 +66,7 @@ impl PlainBacking {
             tree,
             numbers: Numbers {
                 orphan_limit: orphan_room,
+                closed: 0,
                 credits: 0,
                 empty: space.empty,
                 index: space.index,
@@ -78,6 +81,7 @@ impl PlainBacking {
                 faults: 0,
                 strike: 0,
             },
+            listed: Vec::new(alloc),
         })
     }
 
@@ -145,6 +149,8 @@ impl Backing for PlainBacking {
 
     ghost small = { small_of };
 
+    ghost journal = { λ b. tt };
+
     fn inode(&mut self, ino: u32) -> Result<Option<Inode>, StoreFault> {
         count_call(&mut self.numbers)?;
         copy_inode(self.tree.inode(ino))
@@ -204,6 +210,7 @@ impl Backing for PlainBacking {
     fn drop_orphan(&mut self, ino: u32) -> Result<(), StoreFault> {
         count_call(&mut self.numbers)?;
         self.tree.drop_inode(ino);
+        count_closed(&mut self.numbers, self.listed.as_slice(), ino);
         Ok(())
     }
 
@@ -218,6 +225,9 @@ impl Backing for PlainBacking {
 
     fn commit_start(&mut self) -> Result<Started, StoreFault> {
         changing_call(&mut self.numbers)?;
+        if let None = self.numbers.running {
+            self.listed = listed_orphans(self.alloc, &self.tree)?;
+        }
         Ok(start(&mut self.numbers))
     }
 
@@ -250,6 +260,7 @@ impl Backing for PlainBacking {
         self.numbers
             .orphan_limit
             .saturating_sub(self.tree.orphans())
+            .saturating_sub(self.numbers.closed)
     }
 
     fn orphan_limit(&self) -> u64 {

@@ -2,11 +2,13 @@
 
 use fs_model::{Grant, Mode};
 
-/// What a backing in memory keeps beside its tree. `strike` says which call from now on fails, 0 if none does; `base` is
+/// What a backing in memory keeps beside its tree. `closed` counts the inodes without a name that were closed since the
+/// last commit's start, if its list names them; `strike` says which call from now on fails, 0 if none does; `base` is
 /// the weight that a commit leaves.
 #[derive(Clone, Copy)]
 pub(crate) struct Numbers {
     pub(crate) orphan_limit: u64,
+    pub(crate) closed: u64,
     pub(crate) credits: u64,
     pub(crate) empty: u32,
     pub(crate) index: u32,

@@ -1,20 +1,24 @@
 // What calls do to the numbers of a backing in memory.
 
-ghost use Rattle.std.specs.Prelude.{◌≡◌, ◌≢◌, ◌↔◌, ◌+◌, ◌<◌, ◌≤◌, ◌^◌, ℕ, IsTrue, IsOk, IfErr, OnOk, OnErr};
+ghost use Rattle.std.specs.Prelude.{◌≡◌, ◌≢◌, ◌↔◌, ◌+◌, ◌<◌, ◌≤◌, ◌^◌, ℕ, ◌==◌, IsTrue, IsOk, IfErr, IfOk, OnOk, OnErr};
 ghost use Rattle.ubifs_base.specs.Areas.{main_lebs};
 ghost use Rattle.ubifs_base.specs.RawOf.{raw_of};
 ghost use Rattle.fs_model.specs.Backing.{IsModest, IsSmall};
 ghost use Rattle.fs_model.specs.Cover.{needed, room_for};
-ghost use Rattle.plain_backing.specs.PlainBacking.{counted, failed, IsRefused, admitted, with_nodes, page_spent, group_spent, begun, ended_as};
+ghost use Rattle.plain_backing.specs.PlainBacking.{counted, failed, IsRefused, admitted, with_nodes, page_spent, group_spent, begun, with_closed, ended_as};
+ghost use Rattle.std.specs.List.{list_any};
+ghost use Rattle.fs_model.specs.Orphan.{nameless};
 ghost use Rattle.fs_model.specs.declared.backing_answers.Mode.TheVariants.{ReadWrite};
 ghost use Rattle.fs_model.specs.declared.backing_answers.StoreFault.TheVariants.{Volume};
 ghost use Rattle.fs_model.specs.declared.backing_answers.Started.TheVariants.{Began, Running};
 ghost use Rattle.fs_model.specs.declared.backing_answers.Ended.TheVariants.{Idle, Done};
 
+use crate::Tree;
 use crate::numbers::Numbers;
 use fs_model::{Cause, Ended, Grant, Mode, Need, NoSpace, Space, Started, StoreFault};
 use space_sums::room;
-use ubifs_base::Geometry;
+use std::alloc::Global;
+use ubifs_base::{Geometry, Memory};
 
 /// Counts a call that may fail, and fails it where it is the one.
 pub(crate) fn count_call(numbers: &mut Numbers) -> Result<(), StoreFault>
@@ -110,7 +114,43 @@ pub(crate) fn start(numbers: &mut Numbers) -> Started
     }
     numbers.running = Some(numbers.ended.saturating_add(1));
     numbers.later = 0;
+    numbers.closed = 0;
     Started::Began
+}
+
+/// Counts an orphan that was closed, where the last commit's list names it.
+pub(crate) fn count_closed(numbers: &mut Numbers, listed: &[u32], ino: u32)
+    ensures { numbers.new ≡ with_closed numbers.old (list_any (λ n. n == ino) listed.now) }
+{
+    if is_listed(listed, ino) {
+        numbers.closed = numbers.closed.saturating_add(1);
+    }
+}
+
+// Whether a list has a number.
+fn is_listed(listed: &[u32], ino: u32) -> bool
+    ensures { result ≡ list_any (λ n. n == ino) listed.now }
+{
+    for number in listed {
+        if *number == ino {
+            return true;
+        }
+    }
+    false
+}
+
+/// The inodes without a name: what a commit lists.
+pub(crate) fn listed_orphans(alloc: Global, tree: &Tree) -> Result<Vec<u32>, Memory>
+    ensures { IfOk result (λ listed. listed.items ≡ nameless tree.now) }
+{
+    let mut listed = Vec::new(alloc);
+    let mut rest = tree.inodes();
+    'listing: while let Some((ino, inode)) = rest.next() {
+        if inode.nlink == 0 {
+            listed.push(ino)?;
+        }
+    }
+    Ok(listed)
 }
 
 /// Ends the commit that runs.

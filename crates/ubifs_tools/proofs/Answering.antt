@@ -13,10 +13,9 @@ use Rattle.fs_model.specs.declared.refusal.Refusal.TheVariants.{Enospc, Erofs, E
 use Rattle.fs_model.specs.declared.reply.Reply.{Reply}
 use Rattle.fs_model.specs.declared.reply.Reply.TheVariants.{Refused}
 use Rattle.fs_model.specs.declared.space.Need.{Need}
-use Rattle.fs_model.specs.Backing.{BackingState, Goes, ModeGoes, Rose}
+use Rattle.fs_model.specs.Backing.{BackingState, Goes, ModeGoes, Rose, next_orphans}
 use Rattle.fs_model.specs.Cover.{room_for, tree_bytes}
 use Rattle.fs_model.specs.Files.{Files}
-use Rattle.fs_model.specs.Orphan.{nameless}
 use Rattle.cached_files.specs.declared.kept.Kept.{Kept}
 use Rattle.cached_files.specs.Calls.{IsWithoutRoom, SureGoes}
 use Rattle.cached_files.specs.Present.{IsKept, present}
@@ -36,8 +35,8 @@ use Rattle.ubifs_tools.specs.Sessions.{IsSteady}
 -- a backing that takes no orphan
 plainly : (s : BackingState) (files : Files) (caller now : ℕ) (op : Op) → s.orphan_limit ≡ 0 → allowed_on s files caller now op ≡ plain files caller now op
 plainly s files caller now op e =
-    let none : 0 - length (nameless s.tree) ≡ 0 = omega arith in
-    ap (λ limit. allowed (limit - length (nameless s.tree)) limit files caller now op) e ∙ ap (λ room. allowed room 0 files caller now op) none
+    let none : 0 - next_orphans s ≡ 0 = omega arith in
+    ap (λ limit. allowed (limit - next_orphans s) limit files caller now op) e ∙ ap (λ room. allowed room 0 files caller now op) none
 
 fault_room : (old new : BackingState) (kept : Kept) (need : Need) (r : Refusal) → IsFault old new r → IsWithoutRoom old new kept need r
 fault_room old new kept need (Eio count) h = h

@@ -151,7 +151,7 @@ none_orphaned first (DropInode ino ∷ group) all = none_orphaned first group al
 
 -- a change that leaves no inode without a name but this one, and this one and those that had none without a name
 abbrev pub Leaves : Inodes → ℕ → Change → Type 0
-Leaves first left (SetInode ino inode) = (is_orphaned (SetInode ino inode) ≡ true → ino ≡ left) × (ino ≡ left → has_no_link inode ≡ true) × (no_link_at first ino ≡ true → has_no_link inode ≡ true)
+Leaves first left (SetInode ino inode) = (is_orphaned (SetInode ino inode) ≡ true → ino ≡ left) × (ino ≡ left → has_no_link inode ≡ true) × (no_link_at first ino ≡ true → has_no_link inode ≡ true) × (has_no_link inode ≡ true → (ino ≡ left) ⊎ (no_link_at first ino ≡ true))
 Leaves first left (DropInode ino) = ⊥
 Leaves first left (SetEntry entry) = Unit {0}
 Leaves first left (DropEntry dir name) = Unit {0}
@@ -235,3 +235,66 @@ orphan_told files group proper tells =
     let before : length (nameless files.tree) ≡ count_in has_no_link first = nameless_counted first in
     let after : length (nameless (apply files.tree group)) ≡ count_in has_no_link (fold set_in first group) = nameless_counted (apply files.tree group).inodes ∙ ap (λ inodes. count_in has_no_link inodes) (inodes_after files.tree group) in
     ap (λ n. nat_lt n (length (nameless (apply files.tree group)))) before ∙ ap (λ n. nat_lt (count_in has_no_link first) n) after ∙ counts_told first group proper.inodes_ascend tells
+
+-- an inode without a name is this one, or had none before
+record Within (first inodes : Inodes) (left : ℕ) : Type 0 where
+  ascends : ascends nat_cmp (keys_of inodes) ≡ true
+  within : (k : ℕ) → no_link_at inodes k ≡ true → (k ≡ left) ⊎ (no_link_at first k ≡ true)
+
+within_on : (first inodes : Inodes) (left : ℕ) (change : Change) → Leaves first left change → Within first inodes left → Within first (set_in inodes change) left
+within_on first inodes left (SetInode ino inode) leaves it = record {
+  ascends = insert_ascends nat_cmp numbers inodes ino inode it.ascends;
+  within = λ k h. elim (key_cases nat_cmp numbers k ino) [
+    | inl same ↦
+        let t : no_link_at (insert_entry nat_cmp inodes ino inode) ino ≡ true = subst (λ q. no_link_at (insert_entry nat_cmp inodes ino inode) q ≡ true) same h in
+        let z : has_no_link inode ≡ true = rw (set_here nat_cmp numbers inodes ino inode) at t in
+        subst (λ q. (q ≡ left) ⊎ (no_link_at first q ≡ true)) (sym same) (leaves.3 z)
+    | inr other ↦ it.within k (rw (set_other nat_cmp numbers inodes ino inode k other) at h)
+  ];
+}
+within_on first inodes left (DropInode ino) leaves it = absurd leaves
+within_on first inodes left (SetEntry entry) leaves it = it
+within_on first inodes left (DropEntry dir name) leaves it = it
+within_on first inodes left (SetBlock ino block bytes) leaves it = it
+within_on first inodes left (CutBlocks ino old_size new_size) leaves it = it
+
+within_after : (first inodes : Inodes) (left : ℕ) (group : List Change) → AllByRecursion (Leaves first left) group → Within first inodes left → Within first (fold set_in inodes group) left
+within_after first inodes left [] all it = it
+within_after first inodes left (change ∷ group) all it = within_after first (set_in inodes change) left group all.1 (within_on first inodes left change all.0 it)
+
+few_more : (first : Inodes) (group : List Change) → ascends nat_cmp (keys_of first) ≡ true → Orphaned first group → count_in has_no_link (fold set_in first group) ≤ count_in has_no_link first + 1
+few_more first group h it =
+    let after : Inodes = fold set_in first group in
+    let all = within_after first first it.left group it.all (record { ascends = h; within = λ k s. inr s }) in
+    let one = has_none after it.left (comes_after first first it.left group it.all it.any) in
+    let whole : cond (has_no_link one.value) 1 0 + count_in has_no_link (remove_entry (is_at (nat_cmp it.left)) after) ≡ count_in has_no_link after = count_remove nat_cmp has_no_link after it.left one.value one.found in
+    let counted = rw one.none at whole in
+    let less = count_within (remove_entry (is_at (nat_cmp it.left)) after) first (remove_ascends nat_cmp numbers (is_at (nat_cmp it.left)) after all.ascends) (λ k s. elim (key_cases nat_cmp numbers k it.left) [
+      | inl same ↦
+          let t : no_link_at (remove_entry (is_at (nat_cmp it.left)) after) it.left ≡ true = subst (λ q. no_link_at (remove_entry (is_at (nat_cmp it.left)) after) q ≡ true) same s in
+          absurd (false≢true (rw (removed_here nat_cmp numbers after it.left all.ascends) at t))
+      | inr other ↦
+          let t : no_link_at after k ≡ true = ap (λ o. option_map_or has_no_link o false) (sym (removed_other nat_cmp numbers after it.left k other)) ∙ s in
+          later k other (all.within k t)
+    ]) in
+    omega (arith, counted, less)
+  where
+    later : (k : ℕ) → (k ≡ it.left → ⊥) → (k ≡ it.left) ⊎ (no_link_at first k ≡ true) → no_link_at first k ≡ true
+    later k other (inl same) = absurd (other same)
+    later k other (inr had) = had
+
+-- such a group leaves one inode more without a name at most
+pub one_at_most : (files : Files) (group : List Change) → IsProper files.tree → Tells files.tree.inodes group → length (nameless (apply files.tree group)) ≤ length (nameless files.tree) + 1
+one_at_most files group proper tells =
+    let first : Inodes = files.tree.inodes in
+    let before : length (nameless files.tree) ≡ count_in has_no_link first = nameless_counted first in
+    let after : length (nameless (apply files.tree group)) ≡ count_in has_no_link (fold set_in first group) = nameless_counted (apply files.tree group).inodes ∙ ap (λ inodes. count_in has_no_link inodes) (inodes_after files.tree group) in
+    let most = by tells in
+    omega (arith, before, after, most)
+  where
+    by : Tells files.tree.inodes group → count_in has_no_link (fold set_in files.tree.inodes group) ≤ count_in has_no_link files.tree.inodes + 1
+    by (inl all) =
+        let fewer = fewer_after files.tree.inodes files.tree.inodes group all (record { ascends = proper.inodes_ascend; within = λ k s. s }) in
+        let less = count_within (fold set_in files.tree.inodes group) files.tree.inodes fewer.ascends fewer.within in
+        omega (arith, less)
+    by (inr it) = few_more files.tree.inodes group proper.inodes_ascend it

@@ -1,10 +1,10 @@
 -- Whether the group of an operation on names leaves an orphan.
-use Rattle.std.proofs.Common.{◌≡◌, ℕ, ◌+◌, ◌-◌, ◌⊎◌, inl, inr, Bool, true, false, cond, ◌&&◌, ◌||◌, not, List, [], ◌∷◌, ◌++◌, length, Option, Some, None, Ok, Err, refl, sym, ap, subst, ◌∙◌, arith}
-use Rattle.std.specs.Prelude.{◌==◌, nat_le, is_some, Result}
+use Rattle.std.proofs.Common.{◌≡◌, ℕ, ◌+◌, ◌-◌, ◌≤◌, ◌⊎◌, inl, inr, Bool, true, false, cond, ◌&&◌, ◌||◌, not, List, [], ◌∷◌, ◌++◌, length, Option, Some, None, Ok, Err, refl, sym, ap, subst, ◌∙◌, arith}
+use Rattle.std.specs.Prelude.{◌==◌, nat_le, nat_lt, is_some, Result}
 use Rattle.std.specs.List.{AllByRecursion}
 use Rattle.std.specs.Option.{option_map_or}
-use Rattle.std.proofs.lemmas.Bool.{false≢true}
-use Rattle.std.proofs.lemmas.Bool.Decides.{nat_tests}
+use Rattle.std.proofs.lemmas.Bool.{false≢true, ltb-false}
+use Rattle.std.proofs.lemmas.Bool.Decides.{eqb_tells, nat_tests}
 use Rattle.fs_model.specs.declared.change.Change.{Change}
 use Rattle.fs_model.specs.declared.change.Change.TheVariants.{SetInode, DropEntry, DropInode}
 use Rattle.fs_model.specs.declared.inode.Inode.{Inode}
@@ -17,7 +17,7 @@ use Rattle.fs_model.specs.declared.refusal.Table.TheVariants.{Inodes as InodeTab
 use Rattle.fs_model.specs.declared.reply.Reply.{Reply}
 use Rattle.fs_model.specs.declared.reply.Reply.TheVariants.{Done, Ino}
 use Rattle.fs_model.specs.Attributes.{found, mode_set}
-use Rattle.fs_model.specs.Backing.{BackingState, Outlook}
+use Rattle.fs_model.specs.Backing.{BackingState, FitsOrphans, Outlook, orphan_room}
 use Rattle.fs_model.specs.Change.{apply}
 use Rattle.fs_model.specs.Directory.{dir_links, has_no_entry, is_linked_out}
 use Rattle.fs_model.specs.Files.{Tree, Files, inode_at, entry_at}
@@ -37,7 +37,7 @@ use Rattle.vfs_plans.specs.Answers.{Looks}
 use Rattle.vfs_ops.specs.Operations.{is_of_names, is_orphaned, orphans}
 use Rattle.vfs_ops.proofs.Groups.{outcome_is}
 use Rattle.vfs_ops.proofs.Named.{Stands, IsDirAt, stored_at, walked_stands, above_is_dir, parent_is_dir, has_link, never_open}
-use Rattle.vfs_ops.proofs.Nameless.{Spares, Leaves, Tells, no_link_at, orphan_told}
+use Rattle.vfs_ops.proofs.Nameless.{Spares, Leaves, Tells, no_link_at, one_at_most, orphan_told}
 use Rattle.vfs_ops.proofs.Plans.{refuse_to, found_to, some_to}
 use Rattle.vfs_ops.proofs.Takes.{none_done}
 
@@ -77,6 +77,7 @@ touching_leaves tree ino now left dir plain = by (inode_at tree ino) refl
         λ t. absurd (false≢true (sym (dir_not ino (touched now inode) (dir inode e)) ∙ t)),
         λ same. absurd (false≢true (sym (plain inode (subst (λ q. inode_at tree q ≡ Some inode) same e)) ∙ dir inode e)),
         λ t. rw e at t,
+        λ z. inr (rw e z),
       ),
       tt,
     )
@@ -106,7 +107,7 @@ losing_tells files ino now inode sound there links = by (is_dir inode.kind) refl
     plainly true d z true = inr (record {
       orphaned = rw (d, z) refl;
       named = rw there (links d);
-      leaves = (λ t. refl, λ t. z, λ t. z);
+      leaves = (λ t. refl, λ t. z, λ t. z, λ t. inl refl);
       plain = λ other found. let e : Some inode ≡ Some other = sym there ∙ found in let same : inode ≡ other = cc e in subst (λ (i : Inode). is_dir i.kind ≡ false) same d;
     })
     plainly false d z o = inl (linked_spares files.tree ino (less (inode.nlink - 1)) z)
@@ -356,9 +357,27 @@ done_alike room limit t tree kept caller now op reply group b sound is same foun
     (record files { tree = apply files.tree group }, within_done room limit files caller now op reply group sound is found free, seen)
 
 -- a look leaves the room for orphans
-pub orphan_room_on : {x y : Outlook} {a b : BackingState} → Looks x y a b → b.orphan_limit - length (nameless b.tree) ≡ a.orphan_limit - length (nameless a.tree)
-orphan_room_on looks = ap (λ s. s.orphan_limit - length (nameless s.tree)) looks.reads
+pub orphan_room_on : {x y : Outlook} {a b : BackingState} → Looks x y a b → orphan_room b ≡ orphan_room a
+orphan_room_on looks = ap orphan_room looks.reads
 
 -- and how many there may be
 pub orphan_limit_on : {x y : Outlook} {a b : BackingState} → Looks x y a b → b.orphan_limit ≡ a.orphan_limit
 orphan_limit_on looks = ap (λ s. s.orphan_limit) looks.reads
+
+-- and how many were closed
+pub closed_on : {x y : Outlook} {a b : BackingState} → Looks x y a b → b.closed ≡ a.closed
+closed_on looks = ap (λ s. s.closed) looks.reads
+
+-- the list of orphans has room for the group of an operation that isn't refused for want of it
+pub orphans_fit : (files : Files) (caller now : ℕ) (op : Op) (reply : Reply) (group : List Change) (room closed limit : ℕ) → IsSound files → is_of_names op ≡ true → plan_of files caller now op ≡ Ok (reply, group)
+    → room ≡ limit - (length (nameless files.tree) + closed) → ((room == 0) && orphans group) ≡ false → FitsOrphans files.tree closed limit group
+orphans_fit files caller now op reply group room closed limit sound is found same free =
+    let tells : Tells files.tree.inodes group = subst (λ (plan : Plan). Told files plan) found (group_told files caller now op sound is) in
+    by (orphans group) (orphans_told files caller now op reply group sound is found) free (one_at_most files group sound.proper tells)
+  where
+    by : (b : Bool) → nat_lt (length (nameless files.tree)) (length (nameless (apply files.tree group))) ≡ b → ((room == 0) && b) ≡ false → length (nameless (apply files.tree group)) ≤ length (nameless files.tree) + 1 → FitsOrphans files.tree closed limit group
+    by false few none most = inl (ltb-false (length (nameless files.tree)) (length (nameless (apply files.tree group))) few)
+    by true more none most = elim (eqb_tells room 0) [
+      | inl zero_room ↦ absurd (false≢true (sym none ∙ rw zero_room.0 refl))
+      | inr some ↦ (let left = some.1 in inr (omega (arith, same, left, most)))
+    ]

@@ -10,7 +10,7 @@ use Rattle.fs_model.specs.declared.reply.Reply.{Reply}
 use Rattle.fs_model.specs.declared.refusal.Refusal.{Refusal}
 use Rattle.std.specs.BTreeMap.{is_at}
 use Rattle.std.specs.Map.{lookup}
-use Rattle.fs_model.specs.Backing.{BackingState, IsSynced}
+use Rattle.fs_model.specs.Backing.{BackingState, IsSynced, orphan_room}
 use Rattle.fs_model.specs.Files.{Files, pair_cmp}
 use Rattle.fs_model.specs.Operation.{outcome_of}
 use Rattle.fs_model.specs.Outcome.{Outcome}
@@ -35,7 +35,7 @@ alike_self files = record { inodes = refl; blocks = refl; entries = refl; highes
 
 -- an operation that isn't of names is the plain one
 plainly : (s : BackingState) (files : Files) (caller now : ℕ) (op : Op) → is_of_names op ≡ false → allowed_on s files caller now op ≡ outcome_of files caller now op
-plainly s files caller now op e = ap (λ (b : Bool). cond b (within_orphans (s.orphan_limit - length (nameless s.tree)) s.orphan_limit files (outcome_of files caller now op)) (outcome_of files caller now op)) e
+plainly s files caller now op e = ap (λ (b : Bool). cond b (within_orphans (orphan_room s) s.orphan_limit files (outcome_of files caller now op)) (outcome_of files caller now op)) e
 
 -- done, as that operation is
 pub done_on : (s : BackingState) (files after last : Files) (caller now : ℕ) (op other : Op) (reply : Reply) → op ≡ other → is_of_names other ≡ false

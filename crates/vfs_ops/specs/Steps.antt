@@ -12,11 +12,11 @@ use Rattle.fs_model.specs.declared.refusal.Refusal.TheVariants.{Enospc, Erofs}
 use Rattle.fs_model.specs.declared.reply.Reply.{Reply}
 use Rattle.fs_model.specs.declared.reply.Reply.TheVariants.{Refused}
 use Rattle.fs_model.specs.declared.space.Need.{Need}
-use Rattle.fs_model.specs.Backing.{BackingState}
+use Rattle.fs_model.specs.Backing.{BackingState, orphan_room}
 use Rattle.fs_model.specs.Files.{Files, handle_at}
 use Rattle.fs_model.specs.Need.{need_of}
 use Rattle.fs_model.specs.Operation.{group_of, outcome_of}
-use Rattle.fs_model.specs.Orphan.{nameless, within_orphans}
+use Rattle.fs_model.specs.Orphan.{within_orphans}
 use Rattle.fs_model.specs.Outcome.{Outcome}
 use Rattle.fs_laws.specs.Sound.{IsSound}
 use Rattle.cached_files.specs.declared.kept.Kept.{Kept}
@@ -63,10 +63,6 @@ is_tight cause = false
 abbrev pub read_only_cause : Mode → Op → Option Cause
 read_only_cause ReadWrite op = None
 read_only_cause (ReadOnly cause) op = if is_read op then None else if is_sync op && is_tight cause then None else Some cause
-
--- how many orphans more the backing's next list takes
-abbrev pub orphan_room : BackingState → ℕ
-orphan_room state = state.orphan_limit - length (nameless state.tree)
 
 -- the plain operation; one of names where so many more orphans can be told of, out of this limit
 abbrev pub allowed : ℕ → ℕ → Files → ℕ → ℕ → Op → Outcome

@@ -2,11 +2,11 @@
 
 ghost use Rattle.std.specs.Prelude.{◌≡◌, ◌⊎◌, ◌+◌, ◌-◌, ◌*◌, ◌≤◌, ◌==◌, ◌&&◌, true, Ok, IfOk, OnOk, OnErr, IfErr, length};
 ghost use Rattle.fs_model.specs.declared.reply.Reply.{Reply as AnyReply};
-ghost use Rattle.fs_model.specs.Backing.{Goes};
+ghost use Rattle.fs_model.specs.Backing.{Goes, orphan_room};
 ghost use Rattle.fs_model.specs.Files.{Files};
 ghost use Rattle.fs_model.specs.Need.{need_of};
 ghost use Rattle.fs_model.specs.Operation.{group_of, outcome_of};
-ghost use Rattle.fs_model.specs.Orphan.{nameless, within_orphans};
+ghost use Rattle.fs_model.specs.Orphan.{within_orphans};
 ghost use Rattle.fs_model.specs.Path.{is_dir};
 ghost use Rattle.fs_laws.specs.Sound.{IsCall, IsSound};
 ghost use Rattle.cached_files.specs.Alike.{IsAlike};
@@ -47,11 +47,11 @@ pub fn change<B: Backing>(
     ensures kept { IsKept (B.state backing.new).tree kept.new }
     ensures paid { length kept.new.pages.dirty ≤ (B.state backing.new).space.credits }
     ensures sound { IsSound (present (B.state backing.new).tree kept.new) }
-    ensures done { IfOk result (λ reply. (after : Files) × (within_orphans ((B.state backing.old).orphan_limit - length (nameless (B.state backing.old).tree)) (B.state backing.old).orphan_limit (present (B.state backing.old).tree kept.old) (outcome_of (present (B.state backing.old).tree kept.old) caller now op.now) ≡ Ok (reply, after)) × IsAlike after (present (B.state backing.new).tree kept.new)) }
+    ensures done { IfOk result (λ reply. (after : Files) × (within_orphans (orphan_room (B.state backing.old)) (B.state backing.old).orphan_limit (present (B.state backing.old).tree kept.old) (outcome_of (present (B.state backing.old).tree kept.old) caller now op.now) ≡ Ok (reply, after)) × IsAlike after (present (B.state backing.new).tree kept.new)) }
     ensures same { OnErr result (IsAlike (present (B.state backing.old).tree kept.old) (present (B.state backing.new).tree kept.new)) }
-    ensures refused { IfErr result (λ refusal. IsRefused (B.state backing.old) (B.state backing.new) (within_orphans ((B.state backing.old).orphan_limit - length (nameless (B.state backing.old).tree)) (B.state backing.old).orphan_limit (present (B.state backing.old).tree kept.old) (outcome_of (present (B.state backing.old).tree kept.old) caller now op.now)) refusal
+    ensures refused { IfErr result (λ refusal. IsRefused (B.state backing.old) (B.state backing.new) (within_orphans (orphan_room (B.state backing.old)) (B.state backing.old).orphan_limit (present (B.state backing.old).tree kept.old) (outcome_of (present (B.state backing.old).tree kept.old) caller now op.now)) refusal
         ⊎ (IsWithoutRoom (B.state backing.old) (B.state backing.new) kept.new (need_of (present (B.state backing.old).tree kept.old) caller now op.now) refusal
-        × IsLast (within_orphans ((B.state backing.old).orphan_limit - length (nameless (B.state backing.old).tree)) (B.state backing.old).orphan_limit (present (B.state backing.old).tree kept.old) (outcome_of (present (B.state backing.old).tree kept.old) caller now op.now)) refusal)) }
+        × IsLast (within_orphans (orphan_room (B.state backing.old)) (B.state backing.old).orphan_limit (present (B.state backing.old).tree kept.old) (outcome_of (present (B.state backing.old).tree kept.old) caller now op.now)) refusal)) }
     ensures admitted { OnOk result (IsGroupAdmitted (B.state backing.old) (B.state backing.new) kept.old (group_of (present (B.state backing.old).tree kept.old) caller now op.now) (need_of (present (B.state backing.old).tree kept.old) caller now op.now)) }
     ensures at_once { (done : AnyReply × Files) → outcome_of (present (B.state backing.old).tree kept.old) caller now op.now ≡ Ok done → HasGroupRoom (B.state backing.old) (need_of (present (B.state backing.old).tree kept.old) caller now op.now) → IsNotEnospc result }
     ensures issued { (B.state backing.new).space.credits + length kept.old.pages.dirty ≡ (B.state backing.old).space.credits + length kept.new.pages.dirty }
@@ -79,7 +79,7 @@ pub fn change<B: Backing>(
 
 // Whether a group leaves an orphan where no further one can be told of.
 fn lacks_orphan_room<B: Backing>(backing: &B, group: &Group) -> bool
-    ensures { result ≡ (((B.state backing.now).orphan_limit - length (nameless (B.state backing.now).tree) == 0) && orphans group.now) }
+    ensures { result ≡ ((orphan_room (B.state backing.now) == 0) && orphans group.now) }
 {
     backing.orphan_room() == 0 && orphans(group.as_slice())
 }

@@ -1,7 +1,7 @@
 // Files over a backing.
 
 ghost use Rattle.std.specs.Prelude.{◌≡◌, ◌+◌, ◌*◌, ◌<◌, ◌≤◌, ◌⊎◌, ◌++◌, [], false, length, Ok, IfOk, OnOk, OnErr, IfErr};
-ghost use Rattle.fs_model.specs.Backing.{FitsGroup, Goes, HasCause, IsModest, IsNotReadOnly, Reads};
+ghost use Rattle.fs_model.specs.Backing.{FitsGroup, FitsOrphans, Goes, HasCause, IsModest, IsNotReadOnly, Reads};
 ghost use Rattle.fs_model.specs.Change.{apply};
 ghost use Rattle.fs_model.specs.Directory.{entries_in};
 ghost use Rattle.fs_model.specs.Files.{entry_at, inode_at};
@@ -136,6 +136,7 @@ impl<B: Backing> Fs<B> {
         requires modest { IsModest need.now }
         requires credits { need.now.credits ≡ 0 }
         requires fits { FitsGroup (present (B.state self.old.backing).tree self.old.kept).tree (record { bytes = need.now.bytes; nodes = need.now.nodes }) group.now }
+        requires orphans { FitsOrphans (present (B.state self.old.backing).tree self.old.kept).tree (B.state self.old.backing).closed (B.state self.old.backing).orphan_limit group.now }
         requires names { AreOfNames (present (B.state self.old.backing).tree self.old.kept).tree group.now }
         requires sound { IsSound (record (present (B.state self.old.backing).tree self.old.kept) { tree = apply (present (B.state self.old.backing).tree self.old.kept).tree group.now }) }
         ensures ready { IsReady (B.state self.new.backing) self.new.kept }

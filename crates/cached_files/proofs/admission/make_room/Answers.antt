@@ -21,3 +21,10 @@ returns-clause-room g c =
     all_put old put new c.args.kept.now c.write_back.new.kept done c.write_back.ensures.same c.in_ok-write_back.ensures.pages c.in_ok-write_back.ensures.inodes
     (c.commit.ensures.files.tree ∙ c.sync_all.ensures.files.tree) (c.commit.ensures.files.credits ∙ c.sync_all.ensures.files.credits) c.write_back.ensures.issued
     (g.met.B.Backing.used c.commit.new.backing) (g.met.B.Backing.main c.commit.new.backing) (returns-clause-goes g c)) c.commit.ensures.done
+
+pub returns-clause-closed : goal.returns-clause-closed
+returns-clause-closed g c =
+    let put = c.write_back.ensures.closed in
+    let synced = c.sync_all.ensures.files.closed in
+    let done = c.commit.ensures.files.closed in
+    omega (arith, put, synced, done)

@@ -22,3 +22,7 @@ loop-left-preserved g c =
 pub returns-in_err-commit_end-clause-goes : goal.returns-in_err-commit_end-clause-goes
 returns-in_err-commit_end-clause-goes g c =
     Goes-then 0 0 (g.B.Backing.state c.args.backing.now) (g.B.Backing.state c.loop-left.backing) (g.B.Backing.state c.commit_end.new.self) c.loop-left.invariant.goes c.commit_end.ensures.goes
+
+pub returns-in_err-left-2-clause-goes : goal.returns-in_err-left-2-clause-goes
+returns-in_err-left-2-clause-goes g c =
+    Goes-then 0 0 (g.B.Backing.state c.args.backing.now) (g.B.Backing.state c.loop-left.backing) (g.B.Backing.state c.step-in-loop-left.new.backing) c.loop-left.invariant.goes c.step-in-loop-left.ensures.goes

@@ -1,9 +1,9 @@
-use Rattle.std.proofs.Common.{rules, ◌*◌, length}
+use Rattle.std.proofs.Common.{rules, arith, ◌+◌, sym, ◌*◌, length}
 use Rattle.fs_model.specs.declared.space.Grant.{Grant}
 use Rattle.cached_files.specs.Present.{present}
 use Rattle.cached_files.proofs.Applied.{built_alike, bytes_alike, names_alike, alike_put}
 use Rattle.cached_files.proofs.MakingRoom.{put_refused}
-use Rattle.cached_files.specs.CallLaws.{Covered-then, Goes-then}
+use Rattle.cached_files.specs.CallLaws.{Covered-then, Goes-then, Goes-within, fewer_closed}
 use Rattle.cached_files.proofs.groups.apply_group.Goals as goal
 
 pub put_group-requires-clause-granted : goal.put_group-requires-clause-granted
@@ -14,7 +14,16 @@ put_group-requires-clause-granted g c =
     let alike = c.admit.ensures.same in
     let grant : Grant = record { bytes = c.args.need.now.bytes; nodes = c.args.need.now.nodes } in
     let proper = c.present_files_are_sound.ensures.proper now.tree c.admit.new.kept c.admit.ensures.kept in
-    (grant, c.in_ok-admit.ensures.grant, c.groups_fit_trees_built_alike.ensures before.tree seen.tree grant c.args.group.now (built_alike before seen alike) (bytes_alike before seen alike) proper c.requires.fits)
+    (grant, c.in_ok-admit.ensures.grant, c.groups_fit_trees_built_alike.ensures.fits before.tree seen.tree grant c.args.group.now (built_alike before seen alike) (bytes_alike before seen alike) proper c.requires.fits)
+
+pub put_group-requires-clause-orphans : goal.put_group-requires-clause-orphans
+put_group-requires-clause-orphans g c =
+    let old = g.B.Backing.state c.args.backing.now in
+    let now = g.B.Backing.state c.admit.new.backing in
+    let before = present old.tree c.args.kept.now in
+    let seen = present now.tree c.admit.new.kept in
+    let fits = c.groups_fit_trees_built_alike.ensures.orphans before.tree seen.tree old.closed old.orphan_limit c.args.group.now (built_alike before seen c.admit.ensures.same) c.requires.orphans in
+    fewer_closed seen.tree old.closed now.closed old.orphan_limit now.orphan_limit c.args.group.now c.admit.ensures.closed (sym c.admit.ensures.goes.orphan_limit) fits
 
 pub put_group-requires-clause-names : goal.put_group-requires-clause-names
 put_group-requires-clause-names g c =
@@ -47,3 +56,7 @@ pub returns-in-Err-clause-refused : goal.returns-in-Err-clause-refused
 returns-in-Err-clause-refused g c =
     let why = put_refused (g.B.Backing.state c.args.backing.now) (g.B.Backing.state c.admit.new.backing) (g.B.Backing.state c.put_group.new.backing) c.put_group.new.kept c.args.need.now c.in-Err.fault c.admit.ensures.goes.faults c.in-Err.ensures.cause c.in-Err.ensures.mode in
     search (rules, why)
+
+pub returns-in_err-admit-clause-goes : goal.returns-in_err-admit-clause-goes
+returns-in_err-admit-clause-goes g c =
+    Goes-within (2 * length c.args.kept.now.pages.dirty) (2 * length c.args.kept.now.pages.dirty + length c.args.group.now) (g.B.Backing.state c.args.backing.now) (g.B.Backing.state c.admit.new.backing) (omega arith) c.admit.ensures.goes

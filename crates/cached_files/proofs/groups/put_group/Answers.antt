@@ -1,6 +1,7 @@
 use Rattle.std.proofs.Common.{length, ap, ◌∙◌}
 use Rattle.std.specs.Prelude.{filter}
 use Rattle.fs_model.specs.Backing.{FitsGroup}
+use Rattle.cached_files.specs.CallLaws.{Goes-put}
 use Rattle.cached_files.specs.Follow.{is_of_inode}
 use Rattle.cached_files.specs.Present.{present}
 use Rattle.cached_files.proofs.Alike.{present_alike, present_bytes}
@@ -13,14 +14,22 @@ put_group-requires g c =
     let tree = (g.B.Backing.state c.args.backing.now).tree in
     let kept = c.args.kept.now in
     let it = c.requires.granted in
-    (it.0, it.1, λ proper. c.groups_fit_trees_built_alike.ensures (present tree kept).tree tree it.0 c.args.group.now (present_alike tree kept c.requires.kept) (present_bytes tree kept c.requires.kept) proper it.2)
+    let alike = present_alike tree kept c.requires.kept in
+    let fits = c.groups_fit_trees_built_alike.ensures.fits (present tree kept).tree tree it.0 c.args.group.now alike (present_bytes tree kept c.requires.kept) c.requires.kept.proper it.2 in
+    record {
+      grant = it.0;
+      granted = it.1;
+      revives_none = fits.revives_none;
+      paid = λ proper. fits;
+      orphans = λ proper. c.groups_fit_trees_built_alike.ensures.orphans (present tree kept).tree tree (g.B.Backing.state c.args.backing.now).closed (g.B.Backing.state c.args.backing.now).orphan_limit c.args.group.now alike c.requires.orphans;
+    }
 
 made : (g : Over) (c : goal.After-give_back g) → GroupPut (g.B.Backing.state c.args.backing.now).tree (g.B.Backing.state c.give_back.new.self).tree c.args.kept.now c.follow_all-gone.new.kept c.args.group.now
 made g c =
     let old = g.B.Backing.state c.args.backing.now in
     let kept = c.args.kept.now in
     let it = c.requires.granted in
-    let fits : FitsGroup old.tree it.0 c.args.group.now = c.groups_fit_trees_built_alike.ensures (present old.tree kept).tree old.tree it.0 c.args.group.now (present_alike old.tree kept c.requires.kept) (present_bytes old.tree kept c.requires.kept) c.requires.kept.proper it.2 in
+    let fits : FitsGroup old.tree it.0 c.args.group.now = c.groups_fit_trees_built_alike.ensures.fits (present old.tree kept).tree old.tree it.0 c.args.group.now (present_alike old.tree kept c.requires.kept) (present_bytes old.tree kept c.requires.kept) c.requires.kept.proper it.2 in
     group_put old (g.B.Backing.state c.put_group.new.self) (g.B.Backing.state c.give_back.new.self) kept c.follow_all-gone.new.kept c.args.group.now c.in_ok-changes.changes.items it.0 c.follow_all-gone.result
     c.requires.kept c.requires.names fits c.in_ok-put_group.ensures.ok (c.in_ok-changes.ensures ∙ ap (λ changes. filter is_of_inode changes) c.as_slice.ensures) c.follow_all-gone.ensures.kept c.give_back.ensures.given
 
@@ -32,4 +41,7 @@ returns-clause-ok g c = (made g c).seen
 
 pub returns-clause-goes : goal.returns-clause-goes
 returns-clause-goes g c =
-    goes_given (length c.args.group.now) (g.B.Backing.state c.args.backing.now) (g.B.Backing.state c.put_group.new.self) (g.B.Backing.state c.give_back.new.self) c.follow_all-gone.result c.put_group.ensures.goes c.give_back.ensures.given
+    goes_given (length c.args.group.now) (g.B.Backing.state c.args.backing.now) (g.B.Backing.state c.put_group.new.self) (g.B.Backing.state c.give_back.new.self) c.follow_all-gone.result (Goes-put c.put_group.result c.args.group.now (g.B.Backing.state c.args.backing.now) (g.B.Backing.state c.put_group.new.self) c.put_group.ensures.goes) c.give_back.ensures.given
+
+pub returns-in_err-put_group-clause-goes : goal.returns-in_err-put_group-clause-goes
+returns-in_err-put_group-clause-goes g c = Goes-put c.put_group.result c.args.group.now (g.B.Backing.state c.args.backing.now) (g.B.Backing.state c.put_group.new.self) c.put_group.ensures.goes

@@ -1,3 +1,4 @@
+use Rattle.std.proofs.Common.{sym}
 use Rattle.cached_files.specs.Present.{present}
 use Rattle.cached_files.proofs.Alike.{tree_alike, present_nodes}
 use Rattle.cached_files.proofs.law.present_files_are_sound.Goals as goal
@@ -10,3 +11,6 @@ returns-clause-sound c tree kept is files = record {
   proper = c.trees_built_alike_are_proper.ensures.proper tree (present tree kept).tree is.proper (tree_alike tree kept is) (present_nodes tree kept is);
   handles = c.trees_built_alike_are_proper.ensures.handles tree (present tree kept).tree kept.handles (tree_alike tree kept is) files;
 }
+
+pub returns-clause-nameless : goal.returns-clause-nameless
+returns-clause-nameless c tree kept is = sym (c.groups_fit_trees_built_alike.ensures.nameless tree (present tree kept).tree (tree_alike tree kept is))

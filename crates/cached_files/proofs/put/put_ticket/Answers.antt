@@ -1,4 +1,6 @@
 use Rattle.std.proofs.Common.{is_some, ap, sym, ◌∙◌}
+use Rattle.fs_model.specs.Backing.{page_group}
+use Rattle.cached_files.specs.CallLaws.{Goes-put}
 use Rattle.cached_files.proofs.Putting.{at_ticket, putting_of, cleaned, AfterPut, after_put, is_file_page}
 use Rattle.cached_files.proofs.put.put_ticket.Given.{Over}
 use Rattle.cached_files.proofs.put.put_ticket.Goals as goal
@@ -18,6 +20,15 @@ put_page-requires-clause-fits g c proper =
     let p = putting_of tree c.args.kept.now c.args.ticket.now o c.requires.kept in
     let shown = c.in_ok-page.ensures p.inode o.page p.found o.found in
     c.a_page_keeps_trees_proper.ensures tree c.in_ok-page.page c.requires.kept.proper (is_file_page tree c.args.kept.now c.args.ticket.now c.in_ok-page.page o p shown)
+
+pub put_page-requires-clause-revives_none : goal.put_page-requires-clause-revives_none
+put_page-requires-clause-revives_none g c = (put_page-requires-clause-fits g c c.requires.kept.proper).revives_none
+
+pub returns-in_err-put_page-clause-goes : goal.returns-in_err-put_page-clause-goes
+returns-in_err-put_page-clause-goes g c = Goes-put c.put_page.result (page_group c.in_ok-page.page) (g.B.Backing.state c.args.backing.now) (g.B.Backing.state c.put_page.new.self) c.put_page.ensures.goes
+
+pub returns-clause-goes : goal.returns-clause-goes
+returns-clause-goes g c = Goes-put c.put_page.result (page_group c.in_ok-page.page) (g.B.Backing.state c.args.backing.now) (g.B.Backing.state c.put_page.new.self) c.put_page.ensures.goes
 
 made : (g : Over) (c : goal.After-drop-page-3 g) → AfterPut (g.B.Backing.state c.args.backing.now) (g.B.Backing.state c.put_page.new.self) c.args.kept.now (record c.args.kept.now { pages = c.mark_clean.new.self })
 made g c =

@@ -12,7 +12,7 @@ pub loop-left-preserved : goal.loop-left-preserved
 loop-left-preserved g c =
     let some = c.loop-left-test.true in
     written_more (g.B.Backing.outlook c.args.backing.now) (g.B.Backing.outlook c.loop-left.backing) (g.B.Backing.outlook c.put_oldest.new.backing) (g.B.Backing.state c.args.backing.now) (g.B.Backing.state c.loop-left.backing) (g.B.Backing.state c.put_oldest.new.backing) c.args.kept.now c.loop-left.kept c.put_oldest.new.kept
-    c.loop-left.left (c.loop-left.left - 1) c.loop-left.invariant (omega (arith, some)) c.put_oldest.ensures.kept c.put_oldest.ensures.same c.put_oldest.ensures.paid c.put_oldest.ensures.issued c.in_ok-put_oldest.ensures.pages c.put_oldest.ensures.goes c.put_oldest.ensures.sure
+    c.loop-left.left (c.loop-left.left - 1) c.loop-left.invariant (omega (arith, some)) c.put_oldest.ensures.kept c.put_oldest.ensures.same c.put_oldest.ensures.paid c.put_oldest.ensures.issued c.in_ok-put_oldest.ensures.pages c.put_oldest.ensures.goes c.put_oldest.ensures.closed c.put_oldest.ensures.sure
 
 pub returns-in_err-put_oldest-clause-goes : goal.returns-in_err-put_oldest-clause-goes
 returns-in_err-put_oldest-clause-goes g c =

@@ -1,13 +1,14 @@
-use Rattle.std.proofs.Common.{ℕ, List, sym, ap, subst, ◌∙◌, arith}
+use Rattle.std.proofs.Common.{◌≡◌, true, ℕ, List, sym, ap, subst, ◌∙◌, arith}
 use Rattle.fs_model.specs.declared.change.Change.{Change}
 use Rattle.fs_model.specs.declared.op.Op.{Op}
 use Rattle.fs_model.specs.declared.space.Grant.{Grant}
 use Rattle.fs_model.specs.declared.space.Need.{Need}
-use Rattle.fs_model.specs.Backing.{BackingState, FitsGroup}
+use Rattle.fs_model.specs.Backing.{BackingState, FitsGroup, FitsOrphans}
 use Rattle.fs_model.specs.Change.{apply}
 use Rattle.fs_model.specs.Files.{Tree, Files}
 use Rattle.fs_model.specs.Need.{need_of}
 use Rattle.fs_model.specs.Operation.{group_of}
+use Rattle.fs_model.specs.Orphan.{all_revive_none}
 use Rattle.fs_model.specs.Proper.{IsProper}
 use Rattle.fs_laws.specs.Asked.{IsAsked}
 use Rattle.fs_laws.specs.Sound.{IsSound, IsMoment, IsCall, Pays}
@@ -29,11 +30,18 @@ put_group-requires g c =
     let ok = c.in_default.ensures.ok in
     let grant : Grant = record { bytes = c.args.need.now.bytes; nodes = c.args.need.now.nodes } in
     let P : Tree → Type 0 = λ tree. FitsGroup tree grant c.args.group.now in
-    let fits = asked_fits (g.B.Backing.state c.args.backing.now).tree c.args.need.now c.args.group.now c.requires c.an_operation_fits_its_grant.ensures in
-    (grant, ap (λ (s : BackingState). s.grant) ok, λ proper. subst P (sym (ap (λ (s : BackingState). s.tree) ok)) fits)
+    let fits = asked_fits (g.B.Backing.state c.args.backing.now).tree c.args.need.now c.args.group.now c.requires.asked c.an_operation_fits_its_grant.ensures in
+    let tree = ap (λ (s : BackingState). s.tree) ok in
+    record {
+      grant = grant;
+      granted = ap (λ (s : BackingState). s.grant) ok;
+      revives_none = subst (λ (tree : Tree). all_revive_none tree c.args.group.now ≡ true) (sym tree) fits.revives_none;
+      paid = λ proper. subst P (sym tree) fits;
+      orphans = λ proper. subst (λ (s : BackingState). FitsOrphans s.tree s.closed s.orphan_limit c.args.group.now) (sym ok) c.requires.orphans;
+    }
 
 pub returns-clause-proper : goal.returns-clause-proper
 returns-clause-proper g c =
-    let fits = asked_fits (g.B.Backing.state c.args.backing.now).tree c.args.need.now c.args.group.now c.requires c.an_operation_fits_its_grant.ensures in
+    let fits = asked_fits (g.B.Backing.state c.args.backing.now).tree c.args.need.now c.args.group.now c.requires.asked c.an_operation_fits_its_grant.ensures in
     let tree = c.in_ok-put_group.ensures.ok.tree ∙ ap (λ (s : BackingState). apply s.tree c.args.group.now) c.in_default.ensures.ok in
     subst IsProper (sym tree) fits.proper

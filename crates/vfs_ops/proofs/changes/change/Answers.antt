@@ -1,9 +1,9 @@
-use Rattle.std.proofs.Common.{◌≡◌, ◌∙◌, rules, refl, true, false, ◌&&◌, inl, Err, length, sym, ap, subst, List}
+use Rattle.std.proofs.Common.{◌≡◌, ◌+◌, ◌∙◌, rules, refl, true, false, ◌&&◌, inl, Err, length, sym, ap, subst, List}
 use Rattle.std.specs.Prelude.{◌==◌, ◌-◌}
 use Rattle.fs_model.specs.Orphan.{nameless}
 use Rattle.fs_model.specs.declared.change.Change.{Change}
 use Rattle.fs_model.specs.declared.space.Grant.{Grant}
-use Rattle.fs_model.specs.Backing.{FitsGroup, IsModest}
+use Rattle.fs_model.specs.Backing.{BackingState, FitsGroup, FitsOrphans, IsModest, orphan_room}
 use Rattle.fs_model.specs.Change.{apply}
 use Rattle.fs_model.specs.Need.{need_of}
 use Rattle.fs_model.specs.Operation.{group_of, outcome_of}
@@ -12,7 +12,7 @@ use Rattle.cached_files.specs.Present.{present}
 use Rattle.fs_model.specs.Orphan.{within_orphans}
 use Rattle.vfs_ops.proofs.Admitted.{group_admitted, plan_refused, room_looked}
 use Rattle.vfs_ops.proofs.Groups.{AreFitting, group_fits, leaves, names_of}
-use Rattle.vfs_ops.proofs.Orphans.{within_none, within_full, within_done, done_alike, orphan_room_on, orphan_limit_on}
+use Rattle.vfs_ops.proofs.Orphans.{within_none, within_full, within_done, done_alike, orphans_fit, orphan_room_on, orphan_limit_on}
 use Rattle.vfs_ops.proofs.States.{both, tree_on}
 use Rattle.vfs_ops.proofs.Takes.{alike_on, alike_sound, sound_done, sound_on, fits_on, goes_looked, goes_whole, group_is, need_whole, not_truncate, pays_whole, refused_whole, last_done}
 use Rattle.vfs_ops.proofs.changes.change.Given.{Over}
@@ -60,7 +60,7 @@ returns-then-is_empty-clause-done g c =
     let files = present tree c.args.kept.now in
     let none : (length c.in_ok-reply.group == 0) ≡ true = ap (λ (group : List Change). length group == 0) (sym c.as_slice.ensures) ∙ sym c.is_empty.ensures ∙ c.if-is_empty.true in
     let limit = (g.B.Backing.state c.args.backing.now).orphan_limit in
-    (files, within_none (limit - length (nameless tree)) limit files c.args.caller c.args.now c.args.op.now c.in_ok-reply.reply c.in_ok-reply.group c.requires.op c.in_ok-reply.ensures.found none, alike_on (g.B.Backing.state c.plan.new.backing).tree tree c.args.kept.now (tree_on c.plan.ensures.looks))
+    (files, within_none (orphan_room (g.B.Backing.state c.args.backing.now)) limit files c.args.caller c.args.now c.args.op.now c.in_ok-reply.reply c.in_ok-reply.group c.requires.op c.in_ok-reply.ensures.found none, alike_on (g.B.Backing.state c.plan.new.backing).tree tree c.args.kept.now (tree_on c.plan.ensures.looks))
 
 pub need_of-requires-clause-gone : goal.need_of-requires-clause-gone
 need_of-requires-clause-gone g c =
@@ -97,6 +97,18 @@ apply_group-requires-clause-fits g c =
     fits_on (g.B.Backing.state c.need_of.new.backing).tree tree c.args.kept.now grant (group_of files c.args.caller c.args.now c.args.op.now) c.in_ok-reply.group
     (tree_on (both c.plan.ensures.looks c.need_of.ensures.looks)) made fits
 
+pub apply_group-requires-clause-orphans : goal.apply_group-requires-clause-orphans
+apply_group-requires-clause-orphans g c =
+    let old = g.B.Backing.state c.args.backing.now in
+    let files = present old.tree c.args.kept.now in
+    let looks = both c.plan.ensures.looks c.need_of.ensures.looks in
+    let free : ((orphan_room old == 0) && orphans c.in_ok-reply.group) ≡ false =
+    ap (λ n. (n == 0) && orphans c.in_ok-reply.group) (sym (orphan_room_on c.plan.ensures.looks)) ∙ sym c.lacks_orphan_room.ensures ∙ c.if-lacks_orphan_room.false in
+    let as_many = c.present_files_are_sound.ensures.nameless old.tree c.args.kept.now c.requires.kept in
+    let room : orphan_room old ≡ old.orphan_limit - (length (nameless files.tree) + old.closed) = rw (sym as_many) refl in
+    let fits = orphans_fit files c.args.caller c.args.now c.args.op.now c.in_ok-reply.reply c.in_ok-reply.group (orphan_room old) old.closed old.orphan_limit c.requires.sound c.requires.op c.in_ok-reply.ensures.found room free in
+    subst (λ (s : BackingState). FitsOrphans (present s.tree c.args.kept.now).tree s.closed s.orphan_limit c.in_ok-reply.group) (sym looks.reads) fits
+
 pub apply_group-requires-clause-names : goal.apply_group-requires-clause-names
 apply_group-requires-clause-names g c =
     let tree = (g.B.Backing.state c.args.backing.now).tree in
@@ -113,10 +125,10 @@ returns-in_err-apply_group-clause-refused g c =
     let made = group_is files c.args.caller c.args.now c.args.op.now c.in_ok-reply.reply c.in_ok-reply.group c.in_ok-reply.ensures.found in
     let is : c.in_ok-need.need ≡ whole = need_whole (g.B.Backing.state c.plan.new.backing).tree tree c.args.kept.now c.args.caller c.args.now c.args.op.now c.in_ok-reply.group c.class_of.result c.in_ok-need.need c.requires.op (tree_on c.plan.ensures.looks) made c.class_of.ensures c.in_ok-need.ensures.need in
     let limit = (g.B.Backing.state c.args.backing.now).orphan_limit in
-    let free : ((limit - length (nameless tree) == 0) && orphans c.in_ok-reply.group) ≡ false =
+    let free : ((orphan_room (g.B.Backing.state c.args.backing.now) == 0) && orphans c.in_ok-reply.group) ≡ false =
     ap (λ n. (n == 0) && orphans c.in_ok-reply.group) (sym (orphan_room_on c.plan.ensures.looks)) ∙ sym c.lacks_orphan_room.ensures ∙ c.if-lacks_orphan_room.false in
-    let plain = within_orphans (limit - length (nameless tree)) limit files (outcome_of files c.args.caller c.args.now c.args.op.now) in
-    let done = within_done (limit - length (nameless tree)) limit files c.args.caller c.args.now c.args.op.now c.in_ok-reply.reply c.in_ok-reply.group c.requires.sound c.requires.op c.in_ok-reply.ensures.found free in
+    let plain = within_orphans (orphan_room (g.B.Backing.state c.args.backing.now)) limit files (outcome_of files c.args.caller c.args.now c.args.op.now) in
+    let done = within_done (orphan_room (g.B.Backing.state c.args.backing.now)) limit files c.args.caller c.args.now c.args.op.now c.in_ok-reply.reply c.in_ok-reply.group c.requires.sound c.requires.op c.in_ok-reply.ensures.found free in
     let refused = refused_whole (both c.plan.ensures.looks c.need_of.ensures.looks) (g.B.Backing.state c.apply_group.new.backing) c.apply_group.new.kept c.in_ok-need.need whole c.in_err-apply_group.field-0.0 plain is (last_done plain (c.in_ok-reply.reply, record files { tree = apply files.tree c.in_ok-reply.group }) c.in_err-apply_group.field-0.0 done) c.in_err-apply_group.ensures.refused in
     search (rules, refused)
 
@@ -164,9 +176,9 @@ returns-then-lacks_orphan_room-clause-refused g c =
     let files = present tree c.args.kept.now in
     let limit = (g.B.Backing.state c.args.backing.now).orphan_limit in
     let looks = c.plan.ensures.looks in
-    let full : ((limit - length (nameless tree) == 0) && orphans c.in_ok-reply.group) ≡ true =
+    let full : ((orphan_room (g.B.Backing.state c.args.backing.now) == 0) && orphans c.in_ok-reply.group) ≡ true =
     ap (λ n. (n == 0) && orphans c.in_ok-reply.group) (sym (orphan_room_on looks)) ∙ sym c.lacks_orphan_room.ensures ∙ c.if-lacks_orphan_room.true in
-    let refused = within_full (limit - length (nameless tree)) limit files c.args.caller c.args.now c.args.op.now c.in_ok-reply.reply c.in_ok-reply.group c.requires.sound c.requires.op c.in_ok-reply.ensures.found full in
+    let refused = within_full (orphan_room (g.B.Backing.state c.args.backing.now)) limit files c.args.caller c.args.now c.args.op.now c.in_ok-reply.reply c.in_ok-reply.group c.requires.sound c.requires.op c.in_ok-reply.ensures.found full in
     inl (inl (refused ∙ ap (λ n. Err (Enfile OrphanTable n)) (sym (c.orphan_limit.ensures ∙ orphan_limit_on looks))))
 
 pub returns-clause-done : goal.returns-clause-done
@@ -174,9 +186,9 @@ returns-clause-done g c =
     let tree = (g.B.Backing.state c.args.backing.now).tree in
     let later = (g.B.Backing.state c.need_of.new.backing).tree in
     let limit = (g.B.Backing.state c.args.backing.now).orphan_limit in
-    let free : ((limit - length (nameless tree) == 0) && orphans c.in_ok-reply.group) ≡ false =
+    let free : ((orphan_room (g.B.Backing.state c.args.backing.now) == 0) && orphans c.in_ok-reply.group) ≡ false =
     ap (λ n. (n == 0) && orphans c.in_ok-reply.group) (sym (orphan_room_on c.plan.ensures.looks)) ∙ sym c.lacks_orphan_room.ensures ∙ c.if-lacks_orphan_room.false in
-    done_alike (limit - length (nameless tree)) limit later tree c.args.kept.now c.args.caller c.args.now c.args.op.now c.in_ok-reply.reply c.in_ok-reply.group (present (g.B.Backing.state c.apply_group.new.backing).tree c.apply_group.new.kept)
+    done_alike (orphan_room (g.B.Backing.state c.args.backing.now)) limit later tree c.args.kept.now c.args.caller c.args.now c.args.op.now c.in_ok-reply.reply c.in_ok-reply.group (present (g.B.Backing.state c.apply_group.new.backing).tree c.apply_group.new.kept)
     c.requires.sound c.requires.op (tree_on (both c.plan.ensures.looks c.need_of.ensures.looks)) c.in_ok-reply.ensures.found free c.in_ok-apply_group.ensures.ok
 
 pub returns-then-is_empty-clause-admitted : goal.returns-then-is_empty-clause-admitted
