@@ -11,6 +11,7 @@ pub mod Handles
 pub mod Journal
 pub mod JournalLaws
 pub mod Law
+pub mod Legal
 pub mod Links
 pub mod Making
 pub mod Need
@@ -24,6 +25,6 @@ pub mod RecoveryLaws
 pub mod Rename
 pub mod Same
 pub mod Settled
-pub mod Trace
 pub mod Truncation
 pub mod Worked
+pub mod WorkedTrace

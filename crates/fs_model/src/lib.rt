@@ -4,7 +4,7 @@
 //! order and, where it changes the tree at once, the group of changes that it puts; what one operation does stands in a
 //! file of its own (`Making`, `Links`, `Rename`, `Handles`, `Truncation`, `Attributes`). `specs/Change.antt` says what a
 //! change does, `specs/Recovery.antt` which trees a cut may leave, `specs/Proper.antt` what every tree keeps,
-//! `specs/Trace.antt` what a history of calls is, and `specs/Cover.antt` and `specs/Need.antt` have the sums that
+//! `specs/Legal.antt` which lines of calls are legal, and `specs/Cover.antt` and `specs/Need.antt` have the sums that
 //! admission tests. `specs/Worked.antt` has runs worked by hand.
 #![tactic(auto)]
 
@@ -45,7 +45,8 @@ pub use crate::rows::Rows;
 pub use crate::space::{Class, Grant, Need, Space};
 pub use crate::trace::TraceLine;
 pub use crate::worked::{
-    groups_and_trees_are_told, names_are_answered, open_files_are_answered, recovery_is_told,
+    a_trace_is_judged, groups_and_trees_are_told, names_are_answered, open_files_are_answered,
+    recovery_is_told,
 };
 
 #[cfg(test)]

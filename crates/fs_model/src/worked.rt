@@ -5,11 +5,13 @@ ghost use Rattle.fs_model.specs.declared.op.Op.TheVariants.{Create, Link, Unlink
 ghost use Rattle.fs_model.specs.declared.space.Class.TheVariants.{Ordinary, Removal};
 ghost use Rattle.fs_model.specs.declared.refusal.Refusal.TheVariants.{Emlink};
 ghost use Rattle.fs_model.specs.declared.reply.Reply.TheVariants.{Refused};
+ghost use Rattle.fs_model.specs.Legal.{IsLegal, AreSides};
 ghost use Rattle.fs_model.specs.Need.{need_of};
 ghost use Rattle.fs_model.specs.Operation.{group_of};
 ghost use Rattle.fs_model.specs.Proper.{IsProper};
 ghost use Rattle.fs_model.specs.Recovery.{recovered, taken};
 ghost use Rattle.fs_model.specs.Worked.{new_file_group, one_file_heads, once_used, with_one_file, files_after, fresh, many_links, replies_of, replies_within, one_hash, one_hash_replies, long_names, long_names_replies, refusals, refusals_replies, changes_of_names, changes_of_names_replies, three_orphans, three_orphans_replies, over_open, over_open_replies, limits, limits_replies, over_a_page, over_a_page_replies, holes, holes_replies, cuts, cuts_replies};
+ghost use Rattle.fs_model.specs.WorkedTrace.{tight, first_line, second_line, at_second, then, too_much, too_little};
 
 /// Names: two of one hash, the longest, each refusal, links and targets, directories that move, and full tables.
 pub fn names_are_answered()
@@ -49,4 +51,12 @@ pub fn recovery_is_told()
     ensures byte { recovered fresh.tree (taken one_file_heads (0 ∷ 1 ∷ 1 ∷ [])) ≡ with_one_file (((65, 0), 97 ∷ []) ∷ []) }
     ensures byte_alone { recovered fresh.tree (taken one_file_heads (0 ∷ 0 ∷ 1 ∷ [])) ≡ once_used }
     ensures orphan { recovered fresh.tree (taken one_file_heads (0 ∷ 2 ∷ 1 ∷ [])) ≡ once_used }
+{}
+
+/// A trace of two callers: a file is made, and for a second one there is no room. The refusal tells the most that may be needed,
+/// and the least room that there may be; a byte more, or a byte less, is no answer of any history.
+pub fn a_trace_is_judged()
+    ensures legal { IsLegal tight (first_line ∷ second_line ∷ []) then }
+    ensures need { AreSides tight at_second second_line too_much → ⊥ }
+    ensures room { AreSides tight at_second second_line too_little → ⊥ }
 {}

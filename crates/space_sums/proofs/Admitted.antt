@@ -8,8 +8,8 @@ use Rattle.fs_model.specs.declared.space.Class.{Class}
 use Rattle.fs_model.specs.declared.space.Class.TheVariants.{Ordinary, Removal}
 use Rattle.fs_model.specs.Cover.{index_room, reserve, needed, room_for}
 use Rattle.fs_model.specs.Settled.{IsCovered, nothing}
-use Rattle.space_sums.specs.Spaces.{AsksNoLess, HasRoom, IsAfterPage, IsAfterGroup, with_credits, grant_of}
-use Rattle.space_sums.proofs.Index.{index_room-grows}
+use Rattle.space_sums.specs.Spaces.{AsksNoLess, HasRoom, IsAfterCommit, IsAfterPage, IsAfterGroup, IsNoMore, with_credits, grant_of}
+use Rattle.space_sums.proofs.Index.{index_room-anew, index_room-grows}
 use Rattle.space_sums.proofs.Keeps.{more_room, needed-grows, room_for-falls}
 
 -- what the index may weigh
@@ -72,4 +72,36 @@ unfolding weight_with
 covered_after_group geo old new grant put h = record {
   fits = still_has_room geo old new grant nothing
       (omega (arith, put.bytes, put.credits)) (omega (arith, put.main)) (omega (arith, put.index)) (omega (arith, put.weight, put.credits)) (least_reserve grant.class) h;
+}
+
+pub has_room_with_no_more : (geo : RawGeometry) (old new : Space) (need : Need) → IsNoMore old new → HasRoom geo old need → HasRoom geo new need
+unfolding weight_with
+has_room_with_no_more geo old new need less h = record {
+  fits = still_has_room geo old new need need
+      (omega (arith, less.bytes, less.credits)) (omega (arith, less.main)) (omega (arith, less.index)) (omega (arith, less.weight, less.credits)) (omega arith) h;
+}
+
+pub covered_with_no_more : (geo : RawGeometry) (old new : Space) → IsNoMore old new → IsCovered geo old → IsCovered geo new
+covered_with_no_more geo old new less h =
+    let room : HasRoom geo old nothing = record { fits = h.fits } in
+    let after : HasRoom geo new nothing = has_room_with_no_more geo old new nothing less room in
+    record { fits = after.fits }
+
+pub has_room_after_commit : (geo : RawGeometry) (old new : Space) (need : Need) → IsAfterCommit geo old new → HasRoom geo old need → HasRoom geo new need
+has_room_after_commit geo old new need end h = record {
+  fits = omega (
+    arith,
+    h.fits,
+    end.bytes,
+    end.credits,
+    more_room (geo.leb_size - leb_reserve geo) old.main new.main
+        (index_room geo old.index (old.weight + 2 * (old.credits + need.credits) + need.nodes))
+        (index_room geo new.index (new.weight + 2 * (new.credits + need.credits) + need.nodes))
+        (reserve need.class) (reserve need.class) (omega (arith, end.main))
+        (index_room-anew geo old.index old.weight new.index
+            (new.weight + 2 * (new.credits + need.credits) + need.nodes)
+            (old.weight + 2 * (old.credits + need.credits) + need.nodes)
+            end.index (omega arith) (omega (arith, end.weight, end.credits)))
+        (omega arith),
+  );
 }

@@ -8,9 +8,13 @@ use Rattle.std.proofs.lemmas.List.Elements.{All-head, All-tail}
 use Rattle.ubifs_base.specs.declared.raw_geometry.RawGeometry.{RawGeometry}
 use Rattle.ubifs_base.specs.Geometry.{leb_reserve}
 use Rattle.fs_model.specs.declared.space.Space.{Space}
-use Rattle.fs_model.specs.Cover.{index_lebs, index_room}
-use Rattle.fs_model.specs.Settled.{IsCovered}
+use Rattle.fs_model.specs.declared.space.Need.{Need}
+use Rattle.fs_model.specs.declared.space.Class.{Class}
+use Rattle.fs_model.specs.declared.space.Class.TheVariants.{Ordinary, Removal}
+use Rattle.fs_model.specs.Cover.{index_lebs, index_room, reserve}
+use Rattle.fs_model.specs.Settled.{IsCovered, IsSettled, nothing}
 use Rattle.space_sums.specs.MainLebs.{Role, Empty, Index, Head, Leaves, MainLeb, is_empty, is_index, is_head, empty_count, index_count, head_count, IsPacked}
+use Rattle.space_sums.specs.Spaces.{HasRoom, with_heads}
 use Rattle.space_sums.proofs.Index.{index_lebs-grows, index_room-grows}
 
 has_leaves : Role → Bool
@@ -88,22 +92,52 @@ some_room used (suc room) size p h = omega arith
 left_over : (main room leaves heads spare : ℕ) → leaves < main - room - 6 → heads ≤ 3 → spare + heads + leaves ≡ main → room + 4 ≤ spare
 left_over main room leaves heads spare p q e = omega arith
 
-pub spare_lebs : (geo : RawGeometry) (space : Space) (lebs : List MainLeb) →
-    0 < space.used → IsCovered geo space → IsPacked geo space lebs →
-    index_room geo space.index (space.weight + 2 * space.credits) + 4 ≤ empty_count lebs + index_count lebs
-spare_lebs geo space lebs p h packed =
+least_reserve : (class : Class) → 6 ≤ reserve class
+least_reserve Ordinary = omega arith
+least_reserve Removal = omega arith
+
+-- where a need has room, more LEBs than are kept for the index that it may lead to are left over
+spare_for : (geo : RawGeometry) (space : Space) (need : Need) (lebs : List MainLeb) →
+    0 < space.used → HasRoom geo space need → IsPacked geo space lebs →
+    index_room geo space.index (space.weight + 2 * (space.credits + need.credits) + need.nodes) + 4 ≤ empty_count lebs + index_count lebs
+spare_for geo space need lebs p h packed =
     let size : ℕ = geo.leb_size - leb_reserve geo in
-    let kept : ℕ = index_room geo space.index (space.weight + 2 * (space.credits + 0) + 0) in
-    let fits : space.used + space.held ≤ (space.main - kept - 6) * size = omega (arith, h.fits) in
+    let kept : ℕ = index_room geo space.index (space.weight + 2 * (space.credits + need.credits) + need.nodes) in
+    let fits : space.used + space.held ≤ (space.main - kept - 6) * size =
+    omega (arith, h.fits, mul-le-mul_right {m = space.main - kept - reserve need.class} {n = space.main - kept - 6} size (omega (arith, least_reserve need.class))) in
     let few : leaves_count lebs < space.main - kept - 6 =
     few_full (leaves_count lebs) (space.main - kept - 6) size (omega (arith, full_all size lebs packed.full, packed.used, fits))
     (some_room (space.used + space.held) (space.main - kept - 6) size (omega (arith, p)) fits) in
     let all : empty_count lebs + index_count lebs + head_count lebs + leaves_count lebs ≡ space.main = parts lebs ∙ packed.all in
+    omega (arith, left_over space.main kept (leaves_count lebs) (head_count lebs) (empty_count lebs + index_count lebs) few packed.heads all)
+
+pub spare_lebs : (geo : RawGeometry) (space : Space) (lebs : List MainLeb) →
+    0 < space.used → IsCovered geo space → IsPacked geo space lebs →
+    index_room geo space.index (space.weight + 2 * space.credits) + 4 ≤ empty_count lebs + index_count lebs
+spare_lebs geo space lebs p h packed =
+    let room : HasRoom geo space nothing = record { fits = h.fits } in
     omega (
       arith,
-      left_over space.main kept (leaves_count lebs) (head_count lebs) (empty_count lebs + index_count lebs) few packed.heads all,
+      spare_for geo space nothing lebs p room packed,
       index_room-grows geo space.index space.index (space.weight + 2 * space.credits) (space.weight + 2 * (space.credits + 0) + 0) (omega arith) (omega arith),
     )
+
+-- the heads may go on to three of them, and the nodes be put
+pub takes_what_was_admitted : (geo : RawGeometry) (space : Space) (need : Need) (lebs : List MainLeb) (opened nodes : ℕ) →
+    0 < space.used → HasRoom geo space need → IsPacked geo space lebs →
+    empty_count lebs ≡ space.empty → index_count lebs ≡ space.index →
+    opened ≤ 3 → nodes ≤ 2 * (space.credits + need.credits) + need.nodes →
+    IsSettled geo (with_heads opened nodes space)
+takes_what_was_admitted geo space need lebs opened nodes p h packed e i three few =
+    let most : ℕ = space.weight + 2 * (space.credits + need.credits) + need.nodes in
+    let sides =
+    both (index_lebs geo (space.weight + nodes)) (index_lebs geo most) (empty_count lebs) (index_count lebs)
+    (index_lebs-grows geo (space.weight + nodes) most (omega (arith, few))) e i (spare_for geo space need lebs p h packed) in
+    record { empty = sides.0; index = sides.1 }
+  where
+    both : (a b x y : ℕ) → a ≤ b → x ≡ space.empty → y ≡ space.index → max (3 * b) (space.index + b) + 4 ≤ x + y →
+        (1 + a ≤ space.empty - opened) × (1 + 3 * a ≤ space.empty - opened + space.index)
+    both a b x y l e i m = (omega (arith, l, e, i, m, three), omega (arith, l, e, i, m, three))
 
 pub settled_with_three : (geo : RawGeometry) (space : Space) (lebs : List MainLeb) →
     0 < space.used → IsCovered geo space → IsPacked geo space lebs →

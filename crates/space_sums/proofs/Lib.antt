@@ -2,3 +2,4 @@ pub mod Admitted
 pub mod Full
 pub mod Index
 pub mod Keeps
+pub mod NextIndex

@@ -6,18 +6,27 @@ ghost use Rattle.fs_model.specs.declared.space.Space.{Space as AnySpace};
 ghost use Rattle.fs_model.specs.declared.space.Need.{Need as AnyNeed};
 ghost use Rattle.fs_model.specs.Cover.{index_lebs, index_room, needed, room_for};
 ghost use Rattle.fs_model.specs.Settled.{IsCovered, IsSettled, settled, leaf_room};
-ghost use Rattle.space_sums.specs.Spaces.{IsLeftByCut, IsAfterCommit, AsksNoLess, HasRoom, with_empty, with_lebs};
+ghost use Rattle.space_sums.specs.Spaces.{IsLeftByCut, IsAfterCommit, IsNoMore, AsksNoLess, HasRoom, with_empty, with_lebs};
 
 /// The end of a commit: an index that weighs no more than before, in at most twice the LEBs that the old weight asks for, keeps
-/// no more LEBs, however many nodes are written on top, and whatever index was there before. So a covered store stays covered,
-/// and a settled one settled, where as many LEBs as before are empty or the index's.
+/// no more LEBs, however many nodes are written on top, and whatever index was there before. So a need that had room has room,
+/// also one that was granted and isn't put yet; a covered store stays covered, and a settled one settled, where as many LEBs as
+/// before are empty or the index's.
 pub fn a_commit_keeps_what_was_granted()
     ensures index { (geo : Raw) (old_index old_weight new_index new_weight more : ℕ) →
         new_weight ≤ old_weight → new_index ≤ 2 * index_lebs geo old_weight →
         index_room geo new_index (new_weight + more) ≤ index_room geo old_index (old_weight + more) }
+    ensures room { (geo : Raw) (old new : AnySpace) (need : AnyNeed) → IsAfterCommit geo old new → HasRoom geo old need → HasRoom geo new need }
     ensures covered { (geo : Raw) (old new : AnySpace) → IsAfterCommit geo old new → IsCovered geo old → IsCovered geo new }
     ensures settled { (geo : Raw) (old new : AnySpace) → IsAfterCommit geo old new → old.empty + old.index ≤ new.empty + new.index →
         IsSettled geo old → IsSettled geo new }
+{}
+
+/// A collection, or an inode that is dropped: neither asks for more bytes or more weight. So a need that had room has room, and
+/// a covered store stays covered.
+pub fn what_takes_no_more_keeps_what_was_granted()
+    ensures room { (geo : Raw) (old new : AnySpace) (need : AnyNeed) → IsNoMore old new → HasRoom geo old need → HasRoom geo new need }
+    ensures covered { (geo : Raw) (old new : AnySpace) → IsNoMore old new → IsCovered geo old → IsCovered geo new }
 {}
 
 /// A cut: what it leaves of a covered store is covered, and settled where the store would be with the LEBs that a commit

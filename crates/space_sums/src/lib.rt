@@ -5,6 +5,7 @@
 #![tactic(auto)]
 
 mod admission;
+mod commits;
 mod grants;
 mod law;
 mod pigeonhole;
@@ -13,10 +14,12 @@ mod sides;
 mod sums;
 
 pub use crate::admission::room;
+pub use crate::commits::{a_packed_store_takes_what_was_admitted, a_settled_store_can_commit};
 pub use crate::grants::what_was_admitted_can_be_put;
 pub use crate::law::{
     a_commit_keeps_what_was_granted, a_cut_keeps_what_was_granted, a_settled_store_has_no_cause,
     growth_keeps_what_was_granted, more_never_lowers_the_need,
+    what_takes_no_more_keeps_what_was_granted,
 };
 pub use crate::pigeonhole::a_packed_store_has_spare_lebs;
 pub use crate::settling::settled;
