@@ -1,6 +1,9 @@
 -- Which leaf node carries a change of a tree, and which change a leaf node carries (the node table of ubifs-media.h).
 use Rattle.std.specs.Prelude.{◌≡◌, ℕ, ◌+◌, ◌*◌, ◌/◌, ◌%◌, ◌<◌, ◌==◌, not, Bool, true, if◌then◌else◌, false, List, [], Option, Some, None, IfSome}
 use Rattle.std.specs.Option.{option_map}
+use Rattle.ubifs_base.specs.declared.key.Key.{Key}
+use Rattle.ubifs_base.specs.declared.key.Key.TheVariants.{Ino, Block as BlockKey}
+use Rattle.media_leaf.specs.Entry.{entry_key}
 use Rattle.media_leaf.specs.LeafNode.{LeafNode, IsLeafNode, inode, block, entry, truncation}
 use Rattle.media_leaf.specs.declared.dent_node.DentNode.{DentNode}
 use Rattle.media_leaf.specs.declared.ino_node.InoNode.{InoNode}
@@ -135,3 +138,10 @@ change_of (truncation node) = Some (CutBlocks node.ino node.old_size node.new_si
 pub record IsReadOf (bytes : List ℕ) (read : Option Change) : Type 0 where
   pub exact : (sqnum group : ℕ) (node : LeafNode) → IsLeafNode bytes sqnum group node → read ≡ change_of node
   pub some : IfSome read (λ change. (sqnum : ℕ) × (group : ℕ) × (node : LeafNode) × IsLeafNode bytes sqnum group node × (change_of node ≡ Some change))
+
+-- The key of a node's leaf in the index: its inode, its block, or its directory and the hash of its name. A truncation has no leaf.
+abbrev pub leaf_key : LeafNode → Option Key
+leaf_key (inode node) = Some (Ino node.ino)
+leaf_key (block node) = Some (BlockKey node.ino node.block)
+leaf_key (entry node) = Some (entry_key node)
+leaf_key (truncation node) = None

@@ -1,5 +1,5 @@
 -- How long the texts of nodes are.
-use Rattle.std.proofs.Common.{◌≡◌, ℕ, suc, ◌+◌, ◌-◌, ◌%◌, ◌≤◌, List, [], ◌∷◌, length, replicate, refl, ◌∙◌, ap, arith, length-append, Option, Some, None}
+use Rattle.std.proofs.Common.{◌≡◌, ℕ, suc, ◌+◌, ◌-◌, ◌%◌, ◌≤◌, List, [], ◌∷◌, ◌++◌, length, replicate, refl, sym, subst, ◌∙◌, ap, arith, length-append, append_assoc, Option, Some, None}
 use Rattle.std.specs.List.{sum_by}
 use Rattle.std.specs.Option.{option_map_or}
 use Rattle.std.proofs.lemmas.List.{length-replicate}
@@ -54,6 +54,38 @@ length-texts_from n i sqnum (change ∷ changes) =
     let all = sum_by-cons text_bytes change changes in
     let both = length-append (leaf_text (sqnum + 1) (group_type n i) (node_of change)) (texts_from n (suc i) (sqnum + 1) changes) in
     omega (arith, here, more, all, both)
+
+-- the texts of changes behind others
+pub texts_from-append : (n i sqnum : ℕ) (before after : List Change) →
+    texts_from n i sqnum (before ++ after) ≡ texts_from n i sqnum before ++ texts_from n (i + length before) (sqnum + length before) after
+texts_from-append n i sqnum [] after = rw (none i, none sqnum) refl
+  where
+    none : (k : ℕ) → k + 0 ≡ k
+    none k = omega arith
+texts_from-append n i sqnum (change ∷ before) after =
+    rw (texts_from-append n (suc i) (sqnum + 1) before after, next i, next_number)
+    (sym (append_assoc (leaf_text (sqnum + 1) (group_type n i) (node_of change)) (texts_from n (suc i) (sqnum + 1) before) (texts_from n (i + length (change ∷ before)) (sqnum + length (change ∷ before)) after)))
+  where
+    next : (k : ℕ) → suc k + length before ≡ k + length (change ∷ before)
+    next k = omega arith
+
+    next_number : sqnum + 1 + length before ≡ sqnum + length (change ∷ before)
+    next_number = omega arith
+
+-- behind the nodes of the changes before it stands a change's own node, with the number and the group type of its place
+pub node_in_group : (sqnum : ℕ) (before after : List Change) (change : Change) →
+    let n = length (before ++ change ∷ after) in
+    group_text sqnum (before ++ change ∷ after)
+        ≡ texts_from n 0 sqnum before ++ (leaf_text (sqnum + length before + 1) (group_type n (length before)) (node_of change) ++ texts_from n (suc (length before)) (sqnum + length before + 1) after)
+node_in_group sqnum before after change =
+    subst (λ i. texts_from n 0 sqnum (before ++ change ∷ after) ≡ texts_from n 0 sqnum before ++ texts_from n i (sqnum + length before) (change ∷ after)) first
+    (texts_from-append n 0 sqnum before (change ∷ after))
+  where
+    n : ℕ
+    n = length (before ++ change ∷ after)
+
+    first : 0 + length before ≡ length before
+    first = omega arith
 
 -- a group's bytes are those of its nodes, whatever their numbers
 pub length-group_text : (sqnum : ℕ) (group : List Change) → length (group_text sqnum group) ≡ sum_by text_bytes group

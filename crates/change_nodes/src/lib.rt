@@ -15,8 +15,10 @@ mod node;
 mod read;
 mod write;
 
-pub use crate::laws::{a_group_is_read_back, changes_are_carried, texts_have_length};
-pub use crate::node::{text_len, write_text};
+pub use crate::laws::{
+    a_group_is_read_back, changes_are_carried, nodes_have_places, texts_have_length,
+};
+pub use crate::node::{key_of, node_len, text_len, write_text};
 pub use crate::read::read_change;
 pub use crate::write::{group_len, write_group};
 

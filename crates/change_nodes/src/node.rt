@@ -2,7 +2,9 @@
 
 ghost use Rattle.std.specs.Prelude.{◌≡◌, ◌≤◌, length};
 ghost use Rattle.media_leaf.specs.LeafNode.{IsLeaf, written};
-ghost use Rattle.change_nodes.specs.Nodes.{node_of, HasPlainMode};
+ghost use Rattle.ubifs_base.specs.declared.key.Key.TheVariants.{Dent};
+ghost use Rattle.ubifs_base.specs.R5.{r5_of};
+ghost use Rattle.change_nodes.specs.Nodes.{leaf_key, node_of, HasPlainMode};
 ghost use Rattle.change_nodes.specs.Texts.{leaf_len, leaf_text, text_bytes};
 
 use crate::encode::{
@@ -10,6 +12,7 @@ use crate::encode::{
 };
 use fs_model::Change;
 use std::alloc::Global;
+use ubifs_base::{Key, Name, r5};
 
 /// How many bytes the text of a change's node takes: the node's, and those up to a multiple of 8. Takes no memory.
 pub fn text_len(change: &Change) -> usize
@@ -20,8 +23,8 @@ pub fn text_len(change: &Change) -> usize
     node_len(change).div_ceil(8) * 8
 }
 
-// How many bytes a change's node takes.
-fn node_len(change: &Change) -> usize
+/// How many bytes a change's node takes. Takes no memory.
+pub fn node_len(change: &Change) -> usize
     requires { IsLeaf (node_of change.now) }
     ensures len { result ≡ leaf_len (node_of change.now) }
     ensures most { result ≤ 4256 }
@@ -33,6 +36,33 @@ fn node_len(change: &Change) -> usize
         Change::SetBlock { bytes, .. } => 48 + bytes.len(),
         Change::CutBlocks { .. } => 56,
         Change::DropInode { .. } => 160,
+    }
+}
+
+/// The key of a change's leaf in the index: its inode, its block, or its directory and the hash of its name
+/// (`UBIFS_SIMPLE_KEY_FMT` of ubifs-media.h). A truncation has no leaf. Takes no memory.
+pub fn key_of(change: &Change) -> Option<Key>
+    ensures { result ≡ leaf_key (node_of change.now) }
+{
+    match change {
+        Change::SetInode { ino, .. } | Change::DropInode { ino } => Some(Key::Ino { ino: *ino }),
+        Change::SetEntry { entry } => Some(entry_key(entry.dir, &entry.name)),
+        Change::DropEntry { dir, name } => Some(entry_key(*dir, name)),
+        Change::SetBlock { ino, block, .. } => Some(Key::Block {
+            ino: *ino,
+            block: *block,
+        }),
+        Change::CutBlocks { .. } => None,
+    }
+}
+
+// The key of an entry.
+fn entry_key(dir: u32, name: &Name) -> Key
+    ensures { result ≡ Dent dir (r5_of name.now) }
+{
+    Key::Dent {
+        dir,
+        hash: r5(name.as_slice()),
     }
 }
 
