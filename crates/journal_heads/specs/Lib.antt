@@ -1,2 +1,4 @@
 pub mod Heads
 pub mod HeadLaws
+pub mod PrefixLaws
+pub mod Prefixes
