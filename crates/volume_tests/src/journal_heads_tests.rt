@@ -56,6 +56,10 @@ fn each_head_writes_its_own_leb(rt: HostRuntime) -> Result<(), Fail> {
         ),
         (begin, 120, 0)
     );
+    // Put and not synced: the LEB has the unit that filled, and the rest waits.
+    let mut seam = [0u8; 2];
+    volume.read(0, 511, &mut seam)?;
+    assert_eq!(rt; seam, [7, 0xff]);
     heads.sync_all(&mut volume)?;
     assert_eq!(rt;
         heads.at(JournalHead::Data),
