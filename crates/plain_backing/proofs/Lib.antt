@@ -2,9 +2,13 @@ pub mod Counted
 pub mod Covered
 pub mod Greatest
 pub mod Listing
+pub mod Opening
 pub mod Orders
 pub mod PlainGoing
+pub mod Putting
 pub mod Seen
 pub mod SoFar
+pub mod Syncing
+pub mod Told
 pub mod Visits
 pub mod Walk

@@ -4,6 +4,8 @@ pub mod Orphans
 pub mod PlainBacking
 pub mod PlainBackingLaws
 pub mod Spending
+pub mod Story
+pub mod StoryLaws
 pub mod TreeCells
 pub mod TreeReads
 pub mod TreeRows

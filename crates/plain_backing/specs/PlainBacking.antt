@@ -16,21 +16,22 @@ use Rattle.fs_model.specs.Backing.{BackingState, Outlook}
 use Rattle.fs_model.specs.Cover.{tree_bytes}
 use Rattle.fs_model.specs.Files.{Tree}
 use Rattle.fs_model.specs.Journal.{Journal}
+use Rattle.plain_backing.specs.Story.{Story, medium_of, opened}
 
 -- nothing of an index is ever left to write
-abbrev pub journal_of : Numbers → Journal
-journal_of n = record { running = n.running; left = 0; nodes = n.nodes; later = n.later; medium = None }
+abbrev pub journal_of : Numbers → Story → Journal
+journal_of n s = record { running = n.running; left = 0; nodes = n.nodes; later = n.later; medium = Some (medium_of s) }
 
--- all that there is to say of a tree with these numbers: nothing is held, and collection never gains
-abbrev pub state_with : RawGeometry → Tree → Numbers → BackingState
-state_with geo tree n = record {
+-- all that there is to say of a tree with these numbers and this story: nothing is held, and collection never gains
+abbrev pub state_with : RawGeometry → Tree → Numbers → Story → BackingState
+state_with geo tree n s = record {
   geometry = geo;
   orphan_limit = n.orphan_limit;
   closed = n.closed;
   tree = tree;
   space = record { used = tree_bytes tree; held = 0; credits = n.credits; empty = n.empty; index = n.index; weight = n.weight; main = main_lebs geo };
   grant = n.grant;
-  journal = journal_of n;
+  journal = journal_of n s;
   victim = false;
   contents = None;
   mode = n.mode;
@@ -38,7 +39,7 @@ state_with geo tree n = record {
 }
 
 abbrev pub state_of : PlainBacking → BackingState
-state_of b = state_with (raw_of b.geo) b.tree b.numbers
+state_of b = state_with (raw_of b.geo) b.tree b.numbers b.story.value
 
 -- it is sure while no failing call is set, and never spent
 abbrev pub outlook_with : Numbers → Outlook
@@ -69,7 +70,7 @@ new_state geo tree space orphan_room = record {
   tree = tree;
   space = record space { used = tree_bytes tree; held = 0 };
   grant = None;
-  journal = record { running = None; left = 0; nodes = 0; later = 0; medium = None };
+  journal = record { running = None; left = 0; nodes = 0; later = 0; medium = Some (medium_of (opened tree)) };
   victim = false;
   contents = None;
   mode = ReadWrite;

@@ -1,11 +1,14 @@
 // A backing in memory.
 
-ghost use Rattle.std.specs.Prelude.{◌≡◌, ◌<◌, ◌≤◌, ◌^◌, ◌++◌, ◌-◌, false, length, take, min, replicate, IfOk, IfErr};
+ghost use Rattle.std.specs.Prelude.{◌≡◌, ◌<◌, ◌≤◌, ◌^◌, ◌++◌, ◌-◌, true, false, None, length, take, min, replicate, IfOk, IfErr};
 ghost use Rattle.std.specs.Option.{option_copied};
+ghost use Rattle.fs_model.specs.declared.backing_answers.Mode.TheVariants.{ReadWrite};
 ghost use Rattle.fs_model.specs.declared.backing_answers.StoreFault.TheVariants.{Memory as NoMemory};
 ghost use Rattle.fs_model.specs.Backing.{page_group};
 ghost use Rattle.fs_model.specs.Cover.{tree_bytes};
 ghost use Rattle.plain_backing.specs.Spending.{is_spent};
+ghost use Rattle.plain_backing.specs.Story.{IsStory, IsWhole, is_idle};
+ghost use Rattle.plain_backing.specs.StoryLaws.{story_prop};
 
 use crate::Tree;
 use crate::numbers::Numbers;
@@ -13,11 +16,16 @@ use crate::steps::{
     admit, changing_call, count_call, count_closed, end, has_weight_for, listed_orphans,
     spend_grant, spend_page, start,
 };
+use crate::story::{
+    Story, add_group, add_page, begin_story, count_all, end_story, lose_group, lose_page,
+    open_story, sync_story,
+};
 use fs_model::{
     Backing, Change, Collected, Ended, Entry, Grant, Group, Inode, Mode, Need, NoSpace, PageNode,
     Space, Started, Stepped, StoreFault,
 };
 use std::alloc::Global;
+use told_value::Told;
 use ubifs_base::{Arm, Geometry, Memory, Name};
 
 /// A tree of files in memory, with the numbers of a store that has it. Nothing is ever held, collection gains nothing, and
@@ -29,12 +37,16 @@ pub struct PlainBacking {
     tree: Tree,
     numbers: Numbers,
     listed: Vec<u32>,
+    story: Told<Story>,
     ghost few_bytes: { tree_bytes tree < 2 ^ 40 },
     ghost few_credits: { numbers.credits < 2 ^ 40 },
     ghost light: { numbers.weight < 2 ^ 40 },
     ghost light_base: { numbers.base ≤ numbers.weight },
     ghost later_of: { numbers.later ≤ numbers.nodes },
     ghost unspent: { is_spent numbers.mode ≡ false },
+    ghost told: { IsStory tree story.value } by { story_prop tree-code tree story.value },
+    ghost whole: { numbers.mode ≡ ReadWrite → IsWhole story.value },
+    ghost idle: { numbers.running ≡ None → is_idle story.value ≡ true },
 }
 
 impl PlainBacking {
@@ -60,6 +72,8 @@ impl PlainBacking {
         ensures state { IfOk result (λ backing. state_of backing ≡ new_state (raw_of geo) tree space orphan_room) }
         ensures strike { IfOk result (λ backing. (outlook_of backing).strike ≡ Some 0) }
     {
+        tree.show_order();
+        let story = open_story(&tree);
         Ok(PlainBacking {
             alloc,
             geo,
@@ -82,6 +96,7 @@ impl PlainBacking {
                 strike: 0,
             },
             listed: Vec::new(alloc),
+            story,
         })
     }
 
@@ -138,6 +153,7 @@ impl Backing for PlainBacking {
     ghost use Rattle.std.proofs.Common.{refl};
     ghost use Rattle.plain_backing.specs.PlainBacking.{state_of, outlook_of};
     ghost use Rattle.plain_backing.specs.PlainBackingLaws.{small_of};
+    ghost use Rattle.plain_backing.specs.StoryLaws.{story_journal};
 
     ghost state = { state_of };
 
@@ -149,7 +165,7 @@ impl Backing for PlainBacking {
 
     ghost small = { small_of };
 
-    ghost journal = { λ b. tt };
+    ghost journal = { λ b. story_journal b.tree b.story.value b.told };
 
     fn inode(&mut self, ino: u32) -> Result<Option<Inode>, StoreFault> {
         count_call(&mut self.numbers)?;
@@ -186,24 +202,34 @@ impl Backing for PlainBacking {
     }
 
     fn put_page(&mut self, page: &PageNode) -> Result<(), StoreFault> {
-        changing_call(&mut self.numbers)?;
+        if let Err(fault) = changing_call(&mut self.numbers) {
+            lose_page(&mut self.story, page, &fault);
+            return Err(fault);
+        }
         if !has_weight_for(&self.numbers, 2) {
             return Err(StoreFault::Memory);
         }
         let group = changes_of(self.alloc, page)?;
         self.tree.apply(self.alloc, &group)?;
         spend_page(&mut self.numbers);
+        add_page(&mut self.story, page);
+        count_all(&mut self.story);
         Ok(())
     }
 
     fn put_group(&mut self, group: &Group) -> Result<(), StoreFault> {
-        changing_call(&mut self.numbers)?;
+        if let Err(fault) = changing_call(&mut self.numbers) {
+            lose_group(&mut self.story, group, &fault);
+            return Err(fault);
+        }
         let nodes = group.as_slice().len();
         if !has_weight_for(&self.numbers, nodes) {
             return Err(StoreFault::Memory);
         }
         self.tree.apply(self.alloc, group)?;
         spend_grant(&mut self.numbers, nodes);
+        add_group(&mut self.story, group);
+        count_all(&mut self.story);
         Ok(())
     }
 
@@ -215,7 +241,9 @@ impl Backing for PlainBacking {
     }
 
     fn sync(&mut self) -> Result<(), StoreFault> {
-        changing_call(&mut self.numbers)
+        changing_call(&mut self.numbers)?;
+        sync_story(&mut self.story);
+        Ok(())
     }
 
     fn collect_step(&mut self) -> Result<Collected, StoreFault> {
@@ -225,10 +253,13 @@ impl Backing for PlainBacking {
 
     fn commit_start(&mut self) -> Result<Started, StoreFault> {
         changing_call(&mut self.numbers)?;
-        if let None = self.numbers.running {
-            self.listed = listed_orphans(self.alloc, &self.tree)?;
+        if let Some(cmt_no) = self.numbers.running {
+            return Ok(Started::Running { cmt_no });
         }
-        Ok(start(&mut self.numbers))
+        self.listed = listed_orphans(self.alloc, &self.tree)?;
+        start(&mut self.numbers);
+        begin_story(&mut self.story, &self.tree);
+        Ok(Started::Began)
     }
 
     fn commit_step(&mut self) -> Result<Stepped, StoreFault> {
@@ -241,7 +272,12 @@ impl Backing for PlainBacking {
 
     fn commit_end(&mut self) -> Result<Ended, StoreFault> {
         changing_call(&mut self.numbers)?;
-        Ok(end(&mut self.numbers))
+        let Some(cmt_no) = self.numbers.running else {
+            return Ok(Ended::Idle);
+        };
+        end(&mut self.numbers, cmt_no);
+        end_story(&mut self.story);
+        Ok(Ended::Done { cmt_no })
     }
 
     fn space(&self) -> Space {

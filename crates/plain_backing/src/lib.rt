@@ -12,6 +12,7 @@ mod node_bytes;
 mod numbers;
 mod rounds;
 mod steps;
+mod story;
 mod tree;
 mod tree_cells;
 mod tree_law;

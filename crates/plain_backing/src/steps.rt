@@ -1,6 +1,6 @@
 // What calls do to the numbers of a backing in memory.
 
-ghost use Rattle.std.specs.Prelude.{◌≡◌, ◌≢◌, ◌↔◌, ◌+◌, ◌<◌, ◌≤◌, ◌^◌, ℕ, ◌==◌, IsTrue, IsOk, IfErr, IfOk, OnOk, OnErr};
+ghost use Rattle.std.specs.Prelude.{◌≡◌, ◌≢◌, ◌↔◌, ◌+◌, ◌<◌, ◌≤◌, ◌^◌, ◌==◌, IsTrue, IsOk, IfErr, IfOk, OnOk, OnErr};
 ghost use Rattle.ubifs_base.specs.Areas.{main_lebs};
 ghost use Rattle.ubifs_base.specs.RawOf.{raw_of};
 ghost use Rattle.fs_model.specs.Backing.{IsModest, IsSmall};
@@ -10,12 +10,10 @@ ghost use Rattle.std.specs.List.{list_any};
 ghost use Rattle.fs_model.specs.Orphan.{nameless};
 ghost use Rattle.fs_model.specs.declared.backing_answers.Mode.TheVariants.{ReadWrite};
 ghost use Rattle.fs_model.specs.declared.backing_answers.StoreFault.TheVariants.{Volume};
-ghost use Rattle.fs_model.specs.declared.backing_answers.Started.TheVariants.{Began, Running};
-ghost use Rattle.fs_model.specs.declared.backing_answers.Ended.TheVariants.{Idle, Done};
 
 use crate::Tree;
 use crate::numbers::Numbers;
-use fs_model::{Cause, Ended, Grant, Mode, Need, NoSpace, Space, Started, StoreFault};
+use fs_model::{Cause, Grant, Mode, Need, NoSpace, Space, StoreFault};
 use space_sums::room;
 use std::alloc::Global;
 use ubifs_base::{Geometry, Memory};
@@ -104,18 +102,13 @@ pub(crate) fn count_nodes(numbers: &mut Numbers, nodes: usize)
     numbers.later = numbers.later.saturating_add(nodes);
 }
 
-/// Starts a commit, where none runs.
-pub(crate) fn start(numbers: &mut Numbers) -> Started
-    ensures began { numbers.old.running ≡ None → (numbers.new ≡ begun numbers.old) × (result ≡ Began) }
-    ensures running { (cmt_no : ℕ) → numbers.old.running ≡ Some cmt_no → (numbers.new ≡ numbers.old) × (result ≡ Running cmt_no) }
+/// Starts a commit.
+pub(crate) fn start(numbers: &mut Numbers)
+    ensures { numbers.new ≡ begun numbers.old }
 {
-    if let Some(cmt_no) = numbers.running {
-        return Started::Running { cmt_no };
-    }
     numbers.running = Some(numbers.ended.saturating_add(1));
     numbers.later = 0;
     numbers.closed = 0;
-    Started::Began
 }
 
 /// Counts an orphan that was closed, where the last commit's list names it.
@@ -153,19 +146,14 @@ pub(crate) fn listed_orphans(alloc: Global, tree: &Tree) -> Result<Vec<u32>, Mem
     Ok(listed)
 }
 
-/// Ends the commit that runs.
-pub(crate) fn end(numbers: &mut Numbers) -> Ended
-    ensures idle { numbers.old.running ≡ None → (numbers.new ≡ numbers.old) × (result ≡ Idle) }
-    ensures done { (cmt_no : ℕ) → numbers.old.running ≡ Some cmt_no → (numbers.new ≡ ended_as numbers.old cmt_no) × (result ≡ Done cmt_no) }
+/// Ends the commit of this number.
+pub(crate) fn end(numbers: &mut Numbers, cmt_no: u64)
+    ensures { numbers.new ≡ ended_as numbers.old cmt_no }
 {
-    let Some(cmt_no) = numbers.running else {
-        return Ended::Idle;
-    };
     numbers.running = None;
     numbers.ended = cmt_no;
     numbers.nodes = numbers.later;
     numbers.weight = numbers.base;
-    Ended::Done { cmt_no }
 }
 
 /// Spends a credit on a page of two nodes.

@@ -1,0 +1,40 @@
+use Rattle.std.proofs.Common.{[], ◌∷◌, ap, ◌∙◌}
+use Rattle.fs_model.specs.Journal.{base_head}
+use Rattle.plain_backing.specs.declared.numbers.Numbers.{Numbers}
+use Rattle.plain_backing.specs.Story.{lost_by}
+use Rattle.plain_backing.proofs.Told.{failed_told, failed_leaves, done_leaves, group_told, refused_mode, refused_running, idle_after, idle_done, whole_all}
+use Rattle.plain_backing.proofs.backing.PlainBackingBacking.put_group.Goals as goal
+
+pub returns-in-Err-clause-cut : goal.returns-in-Err-clause-cut
+returns-in-Err-clause-cut c = failed_leaves c.args.self.now.story.value c.lose_group.new.story.value (lost_by c.in-Err.fault ((base_head, c.args.group.now) ∷ [])) c.lose_group.ensures
+
+pub returns-clause-cut : goal.returns-clause-cut
+returns-clause-cut c = done_leaves c.args.self.now.story.value c.add_group.new.story.value c.count_all.new.story.value ((base_head, c.args.group.now) ∷ []) c.add_group.ensures c.count_all.ensures
+
+pub invariant_of-self-clause-told : goal.invariant_of-self-clause-told
+invariant_of-self-clause-told c =
+    let self = c.args.self.now in
+    failed_told self.tree self.story.value c.lose_group.new.story.value (lost_by c.in-Err.fault ((base_head, c.args.group.now) ∷ [])) c.lose_group.ensures self.told
+
+pub invariant_of-self-clause-whole : goal.invariant_of-self-clause-whole
+invariant_of-self-clause-whole c = λ written. absurd (refused_mode c.args.self.now.numbers c.changing_call.new.numbers c.in-Err.fault c.in-Err.ensures.told written)
+
+pub invariant_of-self-clause-idle : goal.invariant_of-self-clause-idle
+invariant_of-self-clause-idle c =
+    let self = c.args.self.now in
+    idle_after self.story.value c.lose_group.new.story.value (lost_by c.in-Err.fault ((base_head, c.args.group.now) ∷ [])) self.numbers.running c.changing_call.new.numbers.running c.lose_group.ensures
+    (refused_running self.numbers c.changing_call.new.numbers c.in-Err.fault c.in-Err.ensures.told) self.idle
+
+pub invariant_of-self-2-clause-told : goal.invariant_of-self-2-clause-told
+invariant_of-self-2-clause-told c =
+    let self = c.args.self.now in
+    group_told self.tree c.apply.new.self self.story.value c.add_group.new.story.value c.count_all.new.story.value c.args.group.now c.add_group.ensures c.count_all.ensures c.in_ok-apply.ensures.ok self.told (self.whole c.in_default.ensures.ok.2) c.requires.revives_none
+
+pub invariant_of-self-2-clause-whole : goal.invariant_of-self-2-clause-whole
+invariant_of-self-2-clause-whole c = λ written. whole_all c.add_group.new.story.value c.count_all.new.story.value c.count_all.ensures
+
+pub invariant_of-self-2-clause-idle : goal.invariant_of-self-2-clause-idle
+invariant_of-self-2-clause-idle c =
+    let self = c.args.self.now in
+    idle_done self.story.value c.add_group.new.story.value c.count_all.new.story.value ((base_head, c.args.group.now) ∷ []) self.numbers.running c.spend_grant.new.numbers.running c.add_group.ensures c.count_all.ensures
+    (ap (λ (n : Numbers). n.running) c.spend_grant.ensures ∙ ap (λ (n : Numbers). n.running) c.in_default.ensures.ok.0) self.idle
