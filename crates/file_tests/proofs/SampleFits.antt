@@ -10,7 +10,7 @@ use Rattle.fs_model.specs.Worked.{fresh}
 use Rattle.file_tests.specs.Sample.{sample_group, sample_page}
 
 fresh_proper : IsProper fresh.tree
-fresh_proper = record { inodes_ascend = refl; blocks_ascend = refl; entries_ascend = refl; inode_nodes = refl; block_nodes = refl; entry_nodes = refl; root = refl; entries = refl; inodes = refl; numbers = refl }
+fresh_proper = record { inodes_ascend = refl; blocks_ascend = refl; entries_ascend = refl; inode_nodes = refl; block_nodes = refl; entry_nodes = refl; root = refl; entries = refl; inodes = refl; linked = refl; numbers = refl }
 
 sample_fits : (bytes : ℕ) → 384 ≤ bytes → FitsGroup fresh.tree (record { bytes = bytes; nodes = 3 }) sample_group
 sample_fits bytes enough = record {
@@ -19,7 +19,7 @@ sample_fits bytes enough = record {
   bytes = omega (arith, enough);
   limit = omega arith;
   revives_none = refl;
-  proper = record { inodes_ascend = refl; blocks_ascend = refl; entries_ascend = refl; inode_nodes = refl; block_nodes = refl; entry_nodes = refl; root = refl; entries = refl; inodes = refl; numbers = refl };
+  proper = record { inodes_ascend = refl; blocks_ascend = refl; entries_ascend = refl; inode_nodes = refl; block_nodes = refl; entry_nodes = refl; root = refl; entries = refl; inodes = refl; linked = refl; numbers = refl };
 }
 
 sample_page_fits : FitsPage (apply fresh.tree sample_group) sample_page
@@ -29,7 +29,7 @@ sample_page_fits = record {
   file = refl;
   no_data = refl;
   revives_none = refl;
-  proper = record { inodes_ascend = refl; blocks_ascend = refl; entries_ascend = refl; inode_nodes = refl; block_nodes = refl; entry_nodes = refl; root = refl; entries = refl; inodes = refl; numbers = refl };
+  proper = record { inodes_ascend = refl; blocks_ascend = refl; entries_ascend = refl; inode_nodes = refl; block_nodes = refl; entry_nodes = refl; root = refl; entries = refl; inodes = refl; linked = refl; numbers = refl };
 }
 
 -- on a tree that is a fresh volume's

@@ -23,7 +23,7 @@ use Rattle.fs_model.specs.Cover.{inode_bytes}
 use Rattle.fs_model.specs.Files.{Tree, Inodes, Blocks, Handles, inode_at, name_cmp, with_block}
 use Rattle.fs_model.specs.Need.{change_bytes}
 use Rattle.fs_model.specs.Path.{is_dir}
-use Rattle.fs_model.specs.Proper.{IsProper, ascends, same_kind, climbs, names_of, has_kind, is_entry_node, is_sound_entry, is_sound_dir, is_sound_inode, are_numbered}
+use Rattle.fs_model.specs.Proper.{IsProper, ascends, same_kind, climbs, names_of, has_kind, is_entry_node, is_sound_entry, is_sound_dir, is_sound_inode, is_linked, are_numbered}
 use Rattle.fs_model.specs.Orphan.{nameless, revives_none, all_revive_none}
 use Rattle.fs_laws.specs.Alike.{kind_and_links, told_by, IsBuiltAlike, HasNodes}
 use Rattle.fs_laws.specs.Sound.{AreFiles}
@@ -101,6 +101,11 @@ inodes_alike a b h t =
     let there : list_all (is_placed a) (told_by kind_and_links b.inodes) ≡ true = subst (λ told. list_all (is_placed a) told ≡ true) h.inodes (told_all kind_and_links (is_placed a) a.inodes ∙ t) in
     sym (told_all kind_and_links (is_placed b) b.inodes) ∙ all_weaken (is_placed a) (is_placed b) (λ e u. placed_alike a b h e u) (told_by kind_and_links b.inodes) there
 
+linked_alike : (a b : Tree) → IsBuiltAlike a b → list_all is_linked a.inodes ≡ true → list_all is_linked b.inodes ≡ true
+linked_alike a b h t =
+    let test : ℕ × (Kind × ℕ) → Bool = λ e. not (is_dir e.1.0 && (e.1.1 == 0)) in
+    sym (told_all kind_and_links test b.inodes) ∙ ap (λ told. list_all test told) (sym h.inodes) ∙ told_all kind_and_links test a.inodes ∙ t
+
 entries_alike : (a b : Tree) → IsBuiltAlike a b → list_all (is_sound_entry a) (values_of a.entries) ≡ true → list_all (is_sound_entry b) (values_of b.entries) ≡ true
 entries_alike a b h t =
     all_weaken (is_sound_entry a) (is_sound_entry b) (λ e u. entry_alike a b h e u) (values_of b.entries) (subst (λ es. list_all (is_sound_entry a) (values_of es) ≡ true) h.entries t)
@@ -135,6 +140,7 @@ proper_alike a b proper h nodes = record {
   root = sym (kind_alike a b h.inodes 1 Dir) ∙ proper.root;
   entries = entries_alike a b h proper.entries;
   inodes = inodes_alike a b h proper.inodes;
+  linked = linked_alike a b h proper.linked;
   numbers = numbers_alike a b h nodes.block_numbers proper.numbers;
 }
 

@@ -13,7 +13,7 @@ use Rattle.fs_model.specs.declared.inode.Entry.{Entry}
 use Rattle.fs_model.specs.declared.inode.Kind.TheVariants.{Dir}
 use Rattle.fs_model.specs.Files.{Tree, name_cmp}
 use Rattle.fs_model.specs.Path.{is_dir, is_same_name}
-use Rattle.fs_model.specs.Proper.{IsProper, climbs, names_of, is_sound_entry, is_sound_dir, is_sound_inode, is_name, are_words, is_entry_node}
+use Rattle.fs_model.specs.Proper.{IsProper, climbs, names_of, is_sound_entry, is_sound_dir, is_sound_inode, is_linked, is_name, are_words, is_entry_node}
 use Rattle.fs_laws.proofs.Local.{IsLocal}
 use Rattle.fs_laws.specs.Maps.{IsOrder, all_at, all_from, found_any, values_all}
 use Rattle.fs_laws.specs.Orders.{numbers, named}
@@ -152,8 +152,9 @@ entry_numbered tree local rel key e f =
     let same = eqb-true key.0 e.dir (and_parts (key.0 == e.dir) (is_same_name key.1 e.name) both).0 in
     and_from (nat_le key.0 tree.highest) (nat_le e.ino tree.highest) (rw same (numbered tree local e.dir dir.inode dir.found)) (numbered tree local e.ino it.inode it.found)
 
-pub proper_of : (tree : Tree) → IsLocal tree → Rel tree.inodes tree.entries → IsProper tree
-proper_of tree local rel = record {
+pub proper_of : (tree : Tree) → IsLocal tree → Rel tree.inodes tree.entries → list_all is_linked tree.inodes ≡ true → IsProper tree
+proper_of tree local rel linked = record {
+  linked = linked;
   inodes_ascend = local.inodes_ascend;
   blocks_ascend = local.blocks_ascend;
   entries_ascend = local.entries_ascend;

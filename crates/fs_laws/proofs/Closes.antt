@@ -46,7 +46,7 @@ local_without tree ino local =
     }
 
 pub stays_sound : (files : Files) → IsSound files → LeavesSound files files
-stays_sound files sound = record { sound = sound; linked = λ h. h }
+stays_sound files sound = record { sound = sound }
 
 -- an inode without a name goes
 pub rel_forgotten : (inodes : Inodes) (entries : Entries) (ino : ℕ) → ascends nat_cmp (keys_of inodes) ≡ true → IsChildless entries ino → (ino ≡ 1 → ⊥) → names entries ino ≡ 0 → Rel inodes entries → Rel (remove_entry (is_at (nat_cmp ino)) inodes) entries
@@ -79,9 +79,8 @@ lost_sound files ino sound file = by (is_nameless files.tree ino) refl (is_open 
         false≢true (dir_agrees files.tree.inodes ino File Dir file (subst (λ k. kind_is files.tree.inodes k Dir ≡ true) same (rel.entry key x f).dir)) in
         let root : ino ≡ 1 → ⊥ = λ same. false≢true (dir_agrees files.tree.inodes ino File Dir file (subst (λ k. kind_is files.tree.inodes k Dir ≡ true) (sym same) rel.root)) in
         record {
-          linked = λ h. linked_left files.tree.inodes ino h;
           sound = record {
-            proper = proper_of (without_inode files.tree ino) (local_without files.tree ino (local_of files.tree sound.proper)) (rel_forgotten files.tree.inodes files.tree.entries ino sound.proper.inodes_ascend childless root (sym links ∙ none) rel);
+            proper = proper_of (without_inode files.tree ino) (local_without files.tree ino (local_of files.tree sound.proper)) (rel_forgotten files.tree.inodes files.tree.entries ino sound.proper.inodes_ascend childless root (sym links ∙ none) rel) (linked_left files.tree.inodes ino sound.proper.linked);
             handles = handles_left files.tree.inodes (remove_entry (is_at (nat_cmp ino)) files.tree.inodes) ino (λ x k other h. kind_left files.tree.inodes ino x k other h) files.handles sound.handles o;
           };
         }
@@ -101,7 +100,7 @@ closed_sound files caller slot sound =
     some_to P (handle_at files caller slot) Ebadf last nothing (λ ino held.
     let it = lost_sound left ino (record { proper = sound.proper; handles = all_remove (λ h. kind_is files.tree.inodes h.1 File) (is_at (pair_cmp (caller, slot))) files.handles sound.handles })
     (all_at pair_cmp pairs (λ h. kind_is files.tree.inodes h.1 File) files.handles (caller, slot) ino sound.handles held) in
-    record { sound = it.sound; linked = it.linked }))
+    record { sound = it.sound }))
 
 file_eq : (kind : Kind) → not (is_file kind) ≡ false → kind ≡ File
 file_eq File h = refl
@@ -124,7 +123,6 @@ opened_sound files caller path slot sound =
     refuse_to P (not (is_file entry.kind)) Einval (last entry) nothing (λ file.
     let kind = placed_kind tree (rel_of tree sound.proper) entry (reached_placed tree (local_of tree sound.proper) (components path) entry at) in
     record {
-      linked = λ h. h;
       sound = record {
         proper = sound.proper;
         handles = all_insert pair_cmp pairs (λ h. kind_is tree.inodes h.1 File) files.handles (caller, slot) entry.ino (subst (λ k. kind_is tree.inodes entry.ino k ≡ true) (file_eq entry.kind file) kind) sound.handles;

@@ -38,15 +38,14 @@ bytes_few files group sound nodes few = let within = group_within files.tree gro
 pub keeps_sound : (files : Files) (group : List Change) → IsSound files → list_all is_node group ≡ true → all_revive_none files.tree group ≡ true → sum_by cap group ≤ 5280 → Rel (apply files.tree group).inodes (apply files.tree group).entries → KeepsKinds files.tree.inodes (apply files.tree group).inodes → KeepsLinks files.tree group → KeepsSound files group
 keeps_sound files group sound nodes revives few rel keeps linked = record {
   revives_none = revives;
-  linked = linked;
   nodes = nodes;
   limit = bytes_few files group sound nodes few;
-  proper = proper_of (apply files.tree group) (local_group group files.tree nodes (local_of files.tree sound.proper)) rel;
+  proper = proper_of (apply files.tree group) (local_group group files.tree nodes (local_of files.tree sound.proper)) rel (linked sound.proper.linked);
   handles = all_weaken (λ handle. kind_is files.tree.inodes handle.1 File) (λ handle. kind_is (apply files.tree group).inodes handle.1 File) (λ handle t. keeps handle.1 File t) files.handles sound.handles;
 }
 
 pub keeps_nothing : (files : Files) → IsSound files → KeepsSound files []
-keeps_nothing files sound = record { linked = λ h. h; revives_none = refl; nodes = refl; limit = omega arith; proper = sound.proper; handles = sound.handles }
+keeps_nothing files sound = record { revives_none = refl; nodes = refl; limit = omega arith; proper = sound.proper; handles = sound.handles }
 
 pub node_at : (tree : Tree) → IsProper tree → (ino : ℕ) (i : Inode) → inode_at tree ino ≡ Some i → is_inode_node (ino, i) ≡ true
 node_at tree proper ino i f = all_at nat_cmp numbers is_inode_node tree.inodes ino i proper.inode_nodes f

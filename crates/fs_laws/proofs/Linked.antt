@@ -8,28 +8,25 @@ use Rattle.std.specs.Ordering.{nat_cmp}
 use Rattle.fs_model.specs.declared.inode.Inode.{Inode}
 use Rattle.fs_model.specs.Files.{Inodes}
 use Rattle.fs_model.specs.Path.{is_dir}
+use Rattle.fs_model.specs.Proper.{is_linked}
 use Rattle.fs_laws.specs.Maps.{all_at, all_insert, all_remove}
 use Rattle.fs_laws.specs.Orders.{numbers}
 use Rattle.fs_laws.proofs.Rel.{inode_in}
 
--- whether an inode is no directory, or has links
-abbrev pub has_links : ℕ × Inode → Bool
-has_links e = not (is_dir e.1.kind && (e.1.nlink == 0))
-
 abbrev pub are_linked : Inodes → Bool
-are_linked inodes = list_all has_links inodes
+are_linked inodes = list_all is_linked inodes
 
-pub linked_set : (inodes : Inodes) (ino : ℕ) (new : Inode) → has_links (ino, new) ≡ true → are_linked inodes ≡ true → are_linked (insert_entry nat_cmp inodes ino new) ≡ true
-linked_set inodes ino new one all = all_insert nat_cmp numbers has_links inodes ino new one all
+pub linked_set : (inodes : Inodes) (ino : ℕ) (new : Inode) → is_linked (ino, new) ≡ true → are_linked inodes ≡ true → are_linked (insert_entry nat_cmp inodes ino new) ≡ true
+linked_set inodes ino new one all = all_insert nat_cmp numbers is_linked inodes ino new one all
 
 -- an inode that is set with its kind and links as they were
 pub linked_same : (inodes : Inodes) (ino : ℕ) (old new : Inode) → inode_in inodes ino ≡ Some old → new.kind ≡ old.kind → new.nlink ≡ old.nlink → are_linked inodes ≡ true → are_linked (insert_entry nat_cmp inodes ino new) ≡ true
 linked_same inodes ino old new found kind nlink all =
-    let one = all_at nat_cmp numbers has_links inodes ino old all found in
+    let one = all_at nat_cmp numbers is_linked inodes ino old all found in
     linked_set inodes ino new (rw (kind, nlink) one) all
 
 pub linked_left : (inodes : Inodes) (gone : ℕ) → are_linked inodes ≡ true → are_linked (remove_entry (is_at (nat_cmp gone)) inodes) ≡ true
-linked_left inodes gone all = all_remove has_links (is_at (nat_cmp gone)) inodes all
+linked_left inodes gone all = all_remove is_linked (is_at (nat_cmp gone)) inodes all
 
-pub plain_linked : (ino : ℕ) (i : Inode) → is_dir i.kind ≡ false → has_links (ino, i) ≡ true
+pub plain_linked : (ino : ℕ) (i : Inode) → is_dir i.kind ≡ false → is_linked (ino, i) ≡ true
 plain_linked ino i plain = rw plain refl

@@ -23,14 +23,14 @@ use Rattle.fs_model.specs.Files.{Tree, Files, Inodes, entry_at, name_cmp}
 use Rattle.fs_model.specs.Making.{inode_limit, is_bad_mode, is_name_path, is_bad_target, new_inode, new_file, new_dir, new_symlink, touched, touching, making, made, created, dir_made, symlink_made}
 use Rattle.fs_model.specs.Outcome.{Plan, refuse, with_found, group_in}
 use Rattle.fs_model.specs.Path.{has_long_name, is_empty, components, last_of, parent_of, is_dir, is_same_name}
-use Rattle.fs_model.specs.Proper.{are_bytes, are_words, are_long_words, has_data, is_inode_node, is_entry_node, is_name}
+use Rattle.fs_model.specs.Proper.{are_bytes, are_words, are_long_words, has_data, is_inode_node, is_entry_node, is_linked, is_name}
 use Rattle.fs_model.specs.Orphan.{revives_none, all_revive_none}
 use Rattle.fs_laws.proofs.Revives.{kept_revives}
 use Rattle.fs_laws.specs.Sound.{IsSound, KeepsSound}
 use Rattle.fs_laws.proofs.Climb.{numbered}
 use Rattle.fs_laws.proofs.Groups.{keeps_nothing, keeps_sound, node_at, touching_is}
 use Rattle.fs_laws.proofs.InodeKinds.{same_self}
-use Rattle.fs_laws.proofs.Linked.{has_links, linked_same, linked_set}
+use Rattle.fs_laws.proofs.Linked.{linked_same, linked_set}
 use Rattle.fs_laws.proofs.Local.{IsLocal, local_of}
 use Rattle.fs_laws.specs.Maps.{set_other, count_none}
 use Rattle.fs_laws.proofs.Names.{last_is_name}
@@ -90,7 +90,7 @@ pub record IsNew (inode : Inode) : Type 0 where
   pub links : not (is_dir inode.kind && (inode.nlink == 0)) ≡ true
 
 -- a name comes with its inode, and its directory changes
-pub naming_keeps : (files : Files) (e : Entry) (new : Inode) (now : ℕ) → IsSound files → now < 2 ^ 64 → Comes files.tree.inodes files.tree.entries e new → is_name e.name ≡ true → is_inode_node (e.ino, new) ≡ true → has_links (e.ino, new) ≡ true → revives_none (applied files.tree (SetEntry e)) (SetInode e.ino new) ≡ true → (e.dir ≡ e.ino → ⊥)
+pub naming_keeps : (files : Files) (e : Entry) (new : Inode) (now : ℕ) → IsSound files → now < 2 ^ 64 → Comes files.tree.inodes files.tree.entries e new → is_name e.name ≡ true → is_inode_node (e.ino, new) ≡ true → is_linked (e.ino, new) ≡ true → revives_none (applied files.tree (SetEntry e)) (SetInode e.ino new) ≡ true → (e.dir ≡ e.ino → ⊥)
     → KeepsSound files (SetEntry e ∷ SetInode e.ino new ∷ touching files.tree e.dir now)
 naming_keeps files e new now sound moment comes good node links revives apart =
     let tree : Tree = files.tree in

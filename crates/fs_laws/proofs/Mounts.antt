@@ -14,11 +14,11 @@ use Rattle.fs_model.specs.Change.{without_inode}
 use Rattle.fs_model.specs.Files.{Tree, inode_at, name_cmp}
 use Rattle.fs_model.specs.Orphan.{nameless, without_nameless}
 use Rattle.fs_model.specs.Path.{is_dir}
-use Rattle.fs_model.specs.Proper.{IsProper}
+use Rattle.fs_model.specs.Proper.{IsProper, is_linked}
 use Rattle.fs_laws.proofs.Climb.{proper_of}
 use Rattle.fs_laws.proofs.Closes.{local_without, rel_forgotten}
 use Rattle.fs_laws.proofs.InodeKinds.{dir_is}
-use Rattle.fs_laws.proofs.Linked.{are_linked, linked_left}
+use Rattle.fs_laws.proofs.Linked.{linked_left}
 use Rattle.fs_laws.proofs.Local.{local_of}
 use Rattle.fs_laws.proofs.Makes.{apart_by_none}
 use Rattle.fs_laws.specs.Maps.{all_at, all_from, all_weaken, count_none, key_cases, removed_here, removed_other}
@@ -65,7 +65,7 @@ dropped_proper tree ino proper may =
     proper_of (without_inode tree ino) (local_without tree ino (local_of tree proper)) (rel_forgotten tree.inodes tree.entries ino proper.inodes_ascend
     (λ key x f same. no_directory tree ino may (subst (λ k. kind_is tree.inodes k Dir ≡ true) same (rel.entry key x f).dir))
     (λ same. no_directory tree ino may (subst (λ k. kind_is tree.inodes k Dir ≡ true) (sym same) rel.root))
-    (unnamed tree ino proper may) rel)
+    (unnamed tree ino proper may) rel) (linked_left tree.inodes ino proper.linked)
 
 still_may : (tree : Tree) (gone ino : ℕ) → IsProper tree → may_go tree ino ≡ true → may_go (without_inode tree gone) ino ≡ true
 still_may tree gone ino proper may = elim (key_cases nat_cmp numbers ino gone) [
@@ -89,9 +89,9 @@ keys_pass p q (e ∷ es) h = let parts = and_parts (not (p e) || q e.0) (list_al
     by true one more = and_from (q e.0) (list_all q (keys_of (filter p es))) one more
     by false one more = more
 
-pub mount_proper : (tree : Tree) → IsProper tree → list_all (λ e. not (is_dir e.1.kind && (e.1.nlink == 0))) tree.inodes ≡ true → IsProper (without_nameless tree)
-mount_proper tree proper linked = all_dropped (nameless tree) tree proper (keys_pass (λ e. e.1.nlink == 0) (may_go tree) tree.inodes (all_from nat_cmp numbers (λ e. not (e.1.nlink == 0) || may_go tree e.0) tree.inodes proper.inodes_ascend (λ ino i f.
-    let all = all_at nat_cmp numbers (λ e. not (is_dir e.1.kind && (e.1.nlink == 0))) tree.inodes ino i linked f in
+pub mount_proper : (tree : Tree) → IsProper tree → IsProper (without_nameless tree)
+mount_proper tree proper = all_dropped (nameless tree) tree proper (keys_pass (λ e. e.1.nlink == 0) (may_go tree) tree.inodes (all_from nat_cmp numbers (λ e. not (e.1.nlink == 0) || may_go tree e.0) tree.inodes proper.inodes_ascend (λ ino i f.
+    let all = all_at nat_cmp numbers is_linked tree.inodes ino i proper.linked f in
     let may : (not (i.nlink == 0) || is_idle i) ≡ true = idle (is_dir i.kind) (i.nlink == 0) all in
     rw f may)))
   where
@@ -100,10 +100,3 @@ mount_proper tree proper linked = all_dropped (nameless tree) tree proper (keys_
     idle true false h = refl
     idle false true h = refl
     idle false false h = refl
-
-still_linked : (inos : List ℕ) (tree : Tree) → are_linked tree.inodes ≡ true → are_linked (fold without_inode tree inos).inodes ≡ true
-still_linked [] tree linked = linked
-still_linked (ino ∷ inos) tree linked = still_linked inos (without_inode tree ino) (linked_left tree.inodes ino linked)
-
-pub mount_linked : (tree : Tree) → are_linked tree.inodes ≡ true → are_linked (without_nameless tree).inodes ≡ true
-mount_linked tree linked = still_linked (nameless tree) tree linked

@@ -46,7 +46,7 @@ group_keeps files caller now op sound moment bytes = keeps_nothing files sound
 
 done_sound : (files : Files) (plan : Plan) → IsSound files → KeepsSound files (group_in plan) → LeavesSound files (files_in files (done_by files plan))
 done_sound files (Err e) sound keeps = stays_sound files sound
-done_sound files (Ok found) sound keeps = record { sound = record { proper = keeps.proper; handles = keeps.handles }; linked = keeps.linked }
+done_sound files (Ok found) sound keeps = record { sound = record { proper = keeps.proper; handles = keeps.handles } }
 
 read_sound : (files : Files) (caller slot offs len : ℕ) → IsSound files → LeavesSound files (files_in files (bytes_read files caller slot offs len))
 read_sound files caller slot offs len sound =

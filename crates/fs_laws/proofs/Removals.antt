@@ -114,8 +114,7 @@ drop_keeps files e inode left now it one closed =
       nodes = nodes;
       revives_none = and_from (revives_none (applied (applied tree (DropEntry e.dir e.name)) (DropInode e.ino)) (SetInode e.dir (touched now up.inode))) true (kept_revives (applied (applied tree (DropEntry e.dir e.name)) (DropInode e.ino)) e.dir up.inode (touched now up.inode) at refl) refl;
       limit = bytes_few files group it.sound nodes (omega (arith, plain));
-      linked = λ h. linked_same left_inodes e.dir up.inode (touched now up.inode) at refl refl (linked_left tree.inodes e.ino h);
-      proper = proper_of (apply tree group) (local_group group tree nodes (local_of tree it.sound.proper)) last;
+      proper = proper_of (apply tree group) (local_group group tree nodes (local_of tree it.sound.proper)) last (linked_same left_inodes e.dir up.inode (touched now up.inode) at refl refl (linked_left tree.inodes e.ino it.sound.proper.linked));
       handles = handles_left tree.inodes after e.ino kept files.handles it.sound.handles closed;
     } in
     let P : List Change → Type 0 = λ rest. KeepsSound files (DropEntry e.dir e.name ∷ DropInode e.ino ∷ rest) in

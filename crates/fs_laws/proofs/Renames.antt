@@ -62,9 +62,8 @@ joined_keeps files front tail sound nodes revives few linked it handles =
     record {
       nodes = all;
       revives_none = revive_append front tail files.tree revives it.revives;
-      linked = λ h. subst (λ (t : Tree). are_linked t.inodes ≡ true) same (it.linked (linked h));
       limit = bytes_few files (front ++ tail) sound all (omega (arith, few, more, sums));
-      proper = proper_of (apply files.tree (front ++ tail)) (local_group (front ++ tail) files.tree all (local_of files.tree sound.proper)) rel;
+      proper = proper_of (apply files.tree (front ++ tail)) (local_group (front ++ tail) files.tree all (local_of files.tree sound.proper)) rel (subst (λ (t : Tree). are_linked t.inodes ≡ true) same (it.linked (linked sound.proper.linked)));
       handles = all_weaken (λ h. kind_is (apply files.tree front).inodes h.1 File) (λ h. kind_is (apply files.tree (front ++ tail)).inodes h.1 File) (λ h t. kinds h.1 File t) files.handles handles;
     }
 

@@ -1,5 +1,5 @@
 -- What the laws ask of the files and of a call, and what they say of a group of changes.
-use Rattle.std.specs.Prelude.{◌≡◌, ℕ, ◌==◌, ◌&&◌, not, IsTrue, ◌<◌, ◌≤◌, ◌^◌, Some, List, [], ◌∷◌, sum_by}
+use Rattle.std.specs.Prelude.{◌≡◌, ℕ, IsTrue, ◌<◌, ◌≤◌, ◌^◌, Some, List, [], ◌∷◌, sum_by}
 use Rattle.std.specs.List.{list_all}
 use Rattle.fs_model.specs.declared.change.Change.{Change}
 use Rattle.fs_model.specs.declared.inode.Inode.{Inode}
@@ -14,7 +14,6 @@ use Rattle.fs_model.specs.Change.{apply}
 use Rattle.fs_model.specs.Files.{Tree, Files, Handles, inode_at}
 use Rattle.fs_model.specs.Need.{change_bytes}
 use Rattle.fs_model.specs.Orphan.{all_revive_none}
-use Rattle.fs_model.specs.Path.{is_dir}
 use Rattle.fs_model.specs.Proper.{IsProper, are_bytes, is_inode_node, is_block_node, has_kind}
 
 -- each handle names a regular file that is there
@@ -25,10 +24,6 @@ AreFiles tree handles = IsTrue (list_all (λ handle. has_kind tree handle.1 File
 pub record IsSound (files : Files) : Type 0 where
   pub proper : IsProper files.tree
   pub handles : AreFiles files.tree files.handles
-
--- no directory's inode has the links of one that has lost its last name
-abbrev pub AreLinked : Tree → Type 0
-AreLinked tree = IsTrue (list_all (λ e. not (is_dir e.1.kind && (e.1.nlink == 0))) tree.inodes)
 
 -- a moment that a node can carry
 abbrev pub IsMoment : ℕ → Type 0
@@ -48,19 +43,17 @@ given op = []
 abbrev pub IsCall : Op → Type 0
 IsCall op = IsTrue (list_all are_bytes (given op))
 
--- A group whose changes are nodes, with no more bytes than a group may have, which brings back no inode and after which the files are sound. Directories keep their links.
+-- A group whose changes are nodes, with no more bytes than a group may have, which brings back no inode and after which the files are sound
 pub record KeepsSound (files : Files) (group : List Change) : Type 0 where
   pub nodes : IsTrue (list_all is_node group)
   pub limit : sum_by (change_bytes files.tree) group ≤ group_limit
   pub revives_none : IsTrue (all_revive_none files.tree group)
   pub proper : IsProper (apply files.tree group)
   pub handles : AreFiles (apply files.tree group) files.handles
-  pub linked : AreLinked files.tree → AreLinked (apply files.tree group)
 
--- an operation leaves the files sound, and directories keep their links
+-- an operation leaves the files sound
 pub record LeavesSound (files after : Files) : Type 0 where
   pub sound : IsSound after
-  pub linked : AreLinked files.tree → AreLinked after.tree
 
 -- a grant of what is asked for, or of more
 pub record Pays (grant : Grant) (need : Need) : Type 0 where

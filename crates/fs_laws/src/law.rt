@@ -18,12 +18,11 @@ ghost use Rattle.fs_model.specs.Recovery.{as_replayed};
 ghost use Rattle.fs_model.specs.Worked.{fresh};
 ghost use Rattle.fs_laws.specs.Alike.{IsBuiltAlike, HasNodes, told_by};
 ghost use Rattle.fs_laws.specs.Forgotten.{IsInOrder};
-ghost use Rattle.fs_laws.specs.Sound.{AreFiles, IsSound, AreLinked, IsMoment, IsCall, IsFilePage, KeepsSound, LeavesSound, Pays};
+ghost use Rattle.fs_laws.specs.Sound.{AreFiles, IsSound, IsMoment, IsCall, IsFilePage, KeepsSound, LeavesSound, Pays};
 
-/// The files of a fresh volume are sound, and its root has links.
+/// The files of a fresh volume are sound.
 pub fn a_fresh_volume_is_sound()
-    ensures sound { IsSound fresh }
-    ensures linked { AreLinked fresh.tree }
+    ensures { IsSound fresh }
 {}
 
 /// A new mode keeps a proper tree proper, and its changes are nodes.
@@ -117,11 +116,9 @@ pub fn an_operation_asks_for_little()
     ensures { (files : Files) (caller now : ℕ) (op : Op) → IsSound files → IsMoment now → IsCall op → IsModest (need_of files caller now op) }
 {}
 
-/// A mount, which drops what has no name, finds a proper tree where one was left, if no directory's inode says that it has
-/// no link.
+/// A mount, which drops what has no name, finds a proper tree where one was left.
 pub fn a_mount_keeps_trees_proper()
-    ensures proper { (tree : Tree) → IsProper tree → AreLinked tree → IsProper (without_nameless tree) }
-    ensures linked { (tree : Tree) → AreLinked tree → AreLinked (without_nameless tree) }
+    ensures { (tree : Tree) → IsProper tree → IsProper (without_nameless tree) }
 {}
 
 /// A tree that hangs together as a proper one does is proper where its own inodes and blocks are nodes, and what is a

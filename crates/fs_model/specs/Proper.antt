@@ -90,6 +90,10 @@ is_sound_dir tree ino = (ino == 1) || ((length (names_of tree ino) == 1) && clim
 abbrev pub is_sound_inode : Tree → ℕ × Inode → Bool
 is_sound_inode tree (ino, inode) = if is_dir inode.kind then is_sound_dir tree ino else inode.nlink == length (names_of tree ino)
 
+-- whether an inode is no directory, or has links: a mount drops what has none
+abbrev pub is_linked : ℕ × Inode → Bool
+is_linked e = not (is_dir e.1.kind && (e.1.nlink == 0))
+
 -- whether no number passes the highest
 abbrev pub are_numbered : Tree → Bool
 are_numbered tree =
@@ -107,4 +111,5 @@ pub record IsProper (tree : Tree) : Type 0 where
   pub root : IsTrue (has_kind tree 1 Dir)
   pub entries : IsTrue (list_all (is_sound_entry tree) (values_of tree.entries))
   pub inodes : IsTrue (list_all (is_sound_inode tree) tree.inodes)
+  pub linked : IsTrue (list_all is_linked tree.inodes)
   pub numbers : IsTrue (are_numbered tree)

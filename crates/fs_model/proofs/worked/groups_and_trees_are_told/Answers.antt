@@ -12,10 +12,10 @@ pub returns-clause-removal : goal.returns-clause-removal
 returns-clause-removal c = refl
 
 pub returns-clause-proper : goal.returns-clause-proper
-returns-clause-proper c = record { inodes_ascend = refl; blocks_ascend = refl; entries_ascend = refl; inode_nodes = refl; block_nodes = refl; entry_nodes = refl; root = refl; entries = refl; inodes = refl; numbers = refl }
+returns-clause-proper c = record { inodes_ascend = refl; blocks_ascend = refl; entries_ascend = refl; inode_nodes = refl; block_nodes = refl; entry_nodes = refl; root = refl; entries = refl; inodes = refl; linked = refl; numbers = refl }
 
 pub returns-clause-orphaned : goal.returns-clause-orphaned
-returns-clause-orphaned c = record { inodes_ascend = refl; blocks_ascend = refl; entries_ascend = refl; inode_nodes = refl; block_nodes = refl; entry_nodes = refl; root = refl; entries = refl; inodes = refl; numbers = refl }
+returns-clause-orphaned c = record { inodes_ascend = refl; blocks_ascend = refl; entries_ascend = refl; inode_nodes = refl; block_nodes = refl; entry_nodes = refl; root = refl; entries = refl; inodes = refl; linked = refl; numbers = refl }
 
 pub returns-clause-unlinked : goal.returns-clause-unlinked
 returns-clause-unlinked c = refl
