@@ -1,5 +1,5 @@
 -- What a step answers, from what each of its parts answers.
-use Rattle.std.proofs.Common.{◌≡◌, ℕ, ◌⊎◌, inl, inr, Bool, true, false, cond, Ok, Err, refl, sym, ap, subst, ◌∙◌, ◌-◌, length, List, [], ◌++◌, Result, IfOk, OnOk, IfErr, Option, None, Some}
+use Rattle.std.proofs.Common.{◌≡◌, ℕ, ◌⊎◌, inl, inr, Bool, true, false, cond, Ok, Err, refl, sym, ap, subst, ◌∙◌, List, [], ◌++◌, Result, IfOk, OnOk, IfErr, Option, None, Some}
 use Rattle.fs_model.specs.declared.op.Op.{Op}
 use Rattle.fs_model.specs.declared.op.Op.TheVariants.{Create, Mkdir, Symlink, Link, Unlink, Rmdir, Rename, OpenFile, Close, Read, Write, Truncate, Fsync, Flush, List as ListDir, Stat, Readlink, Chmod}
 use Rattle.fs_model.specs.declared.refusal.Cause.{Cause}
@@ -14,7 +14,7 @@ use Rattle.fs_model.specs.Backing.{BackingState, IsSynced, orphan_room}
 use Rattle.fs_model.specs.Files.{Files, pair_cmp}
 use Rattle.fs_model.specs.Operation.{outcome_of}
 use Rattle.fs_model.specs.Outcome.{Outcome}
-use Rattle.fs_model.specs.Orphan.{nameless, within_orphans}
+use Rattle.fs_model.specs.Orphan.{within_orphans}
 use Rattle.cached_files.specs.declared.kept.Kept.{Kept}
 use Rattle.cached_files.specs.Alike.{IsAlike}
 use Rattle.cached_files.specs.Calls.{IsNotEnospc}
