@@ -2,6 +2,7 @@
 use Rattle.std.specs.Prelude.{◌≡◌, ◌≢◌, ◌⊎◌, ℕ, zero, suc, Bool, IsTrue, ◌+◌, ◌-◌, ◌*◌, ◌^◌, ◌<◌, ◌≤◌, not, ◌==◌, ◌&&◌, max, is_some, Option, Some, None, Result, Ok, Err, List, [], ◌∷◌, length, map, sum_by}
 use Rattle.std.specs.List.{list_all}
 use Rattle.ubifs_base.specs.declared.raw_geometry.RawGeometry.{RawGeometry}
+pub use Rattle.ubifs_base.specs.Faults.{Rose}
 use Rattle.fs_model.specs.declared.backing_answers.Mode.{Mode}
 use Rattle.fs_model.specs.declared.backing_answers.Mode.TheVariants.{ReadWrite, ReadOnly}
 use Rattle.fs_model.specs.declared.backing_answers.StoreFault.{StoreFault}
@@ -58,10 +59,6 @@ pub record Outlook : Type 1 where
   pub spent : Type 0
   -- which call from now on fails, and no other, where this is told: 1 for the next one, 0 for none
   pub strike : Option ℕ
-
--- the count of faults rose, or it stands at its end
-abbrev pub Rose : ℕ → ℕ → Type 0
-Rose before now = (before < now) ⊎ (18446744073709551615 ≤ now)
 
 -- a read-write backing can be written no more: the volume failed in this call, or a number is used up
 abbrev pub IsLost : BackingState → BackingState → Type 0

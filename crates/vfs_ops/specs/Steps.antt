@@ -15,6 +15,7 @@ use Rattle.fs_model.specs.declared.space.Need.{Need}
 use Rattle.fs_model.specs.Backing.{BackingState, orphan_room}
 use Rattle.fs_model.specs.Files.{Files, handle_at}
 use Rattle.fs_model.specs.Need.{need_of}
+pub use Rattle.fs_model.specs.Legal.{is_read, is_sync, is_tight, read_only_cause}
 use Rattle.fs_model.specs.Operation.{group_of, outcome_of}
 use Rattle.fs_model.specs.Orphan.{within_orphans}
 use Rattle.fs_model.specs.Outcome.{Outcome}
@@ -34,35 +35,10 @@ pub record IsReady (state : BackingState) (kept : Kept) : Type 0 where
   pub paid : length kept.pages.dirty ≤ state.space.credits
   pub sound : IsSound (present state.tree kept)
 
--- whether it writes all back, or one file
-abbrev pub is_sync : Op → Bool
-is_sync (Fsync slot) = true
-is_sync Flush = true
-is_sync op = false
-
--- whether a read-only store lets it through: it opens, closes or looks
-abbrev pub is_read : Op → Bool
-is_read (OpenFile path slot) = true
-is_read (Close slot) = true
-is_read (Read slot offs len) = true
-is_read (ListDir path) = true
-is_read (Stat path) = true
-is_read (Readlink path) = true
-is_read op = false
-
 -- whether it writes to a file
 abbrev pub is_write : Op → Bool
 is_write (Write slot offs len byte) = true
 is_write op = false
-
-abbrev pub is_tight : Cause → Bool
-is_tight (Tight what need room) = true
-is_tight cause = false
-
--- Why a store doesn't do an operation at all: it is read-only. One that was too full to be mounted for writing has nothing to sync.
-abbrev pub read_only_cause : Mode → Op → Option Cause
-read_only_cause ReadWrite op = None
-read_only_cause (ReadOnly cause) op = if is_read op then None else if is_sync op && is_tight cause then None else Some cause
 
 -- the plain operation; one of names where so many more orphans can be told of, out of this limit
 abbrev pub allowed : ℕ → ℕ → Files → ℕ → ℕ → Op → Outcome
