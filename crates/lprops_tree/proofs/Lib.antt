@@ -1,0 +1,5 @@
+pub mod Keeping
+pub mod Picking
+pub mod Replaying
+pub mod Sums
+pub mod Winning

@@ -1,0 +1,7 @@
+//! Tests of what is free and who may take it.
+//!
+//! They stand above the crates whose public calls they make, since a crate that has tests is proved twice: by itself, and with its tests.
+#![tactic(auto)]
+
+#[cfg(test)]
+mod lprops_tree_tests;
