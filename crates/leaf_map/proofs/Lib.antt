@@ -1,0 +1,15 @@
+mod Apart
+mod Blocks
+mod Bytes
+mod Changes
+mod Copies
+mod Distinct
+mod Drops
+mod Inodes
+mod Keyed
+mod Lasts
+mod Maps
+mod Names
+mod Ranks
+mod Sorted
+mod Steps

@@ -1,0 +1,14 @@
+-- The rows are computed.
+use Rattle.std.proofs.Common.{refl}
+use Rattle.ubifs_base.specs.R5.{r5_of}
+use Rattle.index_tree.specs.Order.{key_rank}
+use Rattle.index_tree.specs.Removal.{same_leaf}
+use Rattle.leaf_map.proofs.worked.collections_are_told.Goals as goal
+
+pub returns-clause-whole : goal.returns-clause-whole
+unfolding key_rank r5_of same_leaf
+returns-clause-whole c = refl
+
+pub returns-clause-half : goal.returns-clause-half
+unfolding key_rank r5_of same_leaf
+returns-clause-half c = refl

@@ -1,0 +1,64 @@
+// Laws of the definitions: of leaves, and of the trees that they show.
+
+ghost use Rattle.std.specs.Prelude.{◌≡◌, ◌+◌, ℕ, List, Some, false, map, max};
+ghost use Rattle.std.specs.BTreeMap.{is_at};
+ghost use Rattle.std.specs.Map.{lookup};
+ghost use Rattle.media_leaf.specs.LeafNode.{IsLeaf};
+ghost use Rattle.index_tree.specs.Distinct.{AreDistinct};
+ghost use Rattle.index_tree.specs.Removal.{holds};
+ghost use Rattle.fs_model.specs.declared.change.Change.{Change as AnyChange};
+ghost use Rattle.fs_model.specs.Change.{applied, apply, key_number};
+ghost use Rattle.fs_model.specs.Files.{Tree, inode_at, name_cmp, pair_cmp};
+ghost use Rattle.change_nodes.specs.Nodes.{change_of};
+ghost use Rattle.leaf_map.specs.After.{Carries, come_by, gone_by, kept_after, kept_by, used_by};
+ghost use Rattle.leaf_map.specs.Kept.{Kept, Placed, kept_at};
+ghost use Rattle.leaf_map.specs.LastChange.{IsSorted, last_made, makes_block, makes_entry, makes_inode, there};
+ghost use Rattle.leaf_map.specs.LeafMap.{IsLeafMap};
+ghost use Rattle.leaf_map.specs.Parts.{Parts};
+ghost use Rattle.leaf_map.specs.Recovered.{moved};
+ghost use Rattle.leaf_map.specs.Shown.{tree_of};
+
+/// The tree of the leaves after a change is the change applied to their tree; they are leaves as an index has them again.
+/// The same is so of a node that is read of a journal, and of the change that it carries.
+pub fn a_change_of_leaves_is_one_of_the_tree()
+    ensures tree { (change : AnyChange) (new : Placed) (kept : List Kept) (highest : ℕ) → IsLeaf new.node → Carries change new.node → IsLeafMap kept
+        → tree_of (kept_by change (kept_at new) kept) (max highest (key_number change)) ≡ applied (tree_of kept highest) change }
+    ensures kept { (change : AnyChange) (new : Placed) (kept : List Kept) → IsLeaf new.node → Carries change new.node → IsLeafMap kept
+        → IsLeafMap (kept_by change (kept_at new) kept) }
+    ensures read { (change : AnyChange) (new : Placed) (kept : List Kept) (highest : ℕ) → IsLeaf new.node → change_of new.node ≡ Some change → IsLeafMap kept
+        → tree_of (kept_after kept new) (max highest (key_number change)) ≡ applied (tree_of kept highest) change }
+    ensures kept_read { (new : Placed) (kept : List Kept) → IsLeaf new.node → IsLeafMap kept → IsLeafMap (kept_after kept new) }
+{}
+
+/// Bytes add up: those of the leaves after a change and of the ones that it makes obsolete are those of the leaves before
+/// and of the one that comes.
+pub fn bytes_of_leaves_add_up()
+    ensures { (change : AnyChange) (new : Placed) (kept : List Kept) → IsLeaf new.node → Carries change new.node → IsLeafMap kept
+        → used_by (kept_by change (kept_at new) kept) + used_by (gone_by change kept) ≡ used_by kept + used_by (come_by change (kept_at new) kept) }
+{}
+
+/// The last change wins: what stands at an inode's number, a block or a name after changes is what the last of them that
+/// touches it made, or what stood there before. The tree that leaves show is one of which this is so.
+pub fn the_last_change_wins()
+    ensures inode { (q : ℕ) (changes : List AnyChange) (tree : Tree) → IsSorted tree
+        → inode_at (apply tree changes) q ≡ there (last_made (makes_inode q) tree changes) (inode_at tree q) }
+    ensures block { (q : ℕ × ℕ) (changes : List AnyChange) (tree : Tree) → IsSorted tree
+        → lookup (is_at (pair_cmp q)) (apply tree changes).blocks ≡ there (last_made (makes_block q) tree changes) (lookup (is_at (pair_cmp q)) tree.blocks) }
+    ensures entry { (q : ℕ × List ℕ) (changes : List AnyChange) (tree : Tree) → IsSorted tree
+        → lookup (is_at (name_cmp q)) (apply tree changes).entries ≡ there (last_made (makes_entry q) tree changes) (lookup (is_at (name_cmp q)) tree.entries) }
+    ensures sorted { (kept : List Kept) (highest : ℕ) → IsLeafMap kept → IsSorted (tree_of kept highest) }
+{}
+
+/// Distinct leaves stay distinct where no leaf stands at the place of the node that is put.
+pub fn leaves_stay_distinct()
+    ensures { (change : AnyChange) (new : Placed) (kept : List Kept) → holds (kept_at new).leaf (map (λ x. x.leaf) kept) ≡ false → AreDistinct (map (λ x. x.leaf) kept)
+        → AreDistinct (map (λ x. x.leaf) (kept_by change (kept_at new) kept)) }
+{}
+
+/// Leaves that stand elsewhere show the same tree, if their nodes are the same; so a mount's choice between originals and
+/// copies changes no tree.
+pub fn a_copy_changes_no_tree()
+    ensures places { (move : Kept → Kept) (kept : List Kept) (highest : ℕ) → ((x : Kept) → (move x).node ≡ x.node)
+        → tree_of (map move kept) highest ≡ tree_of kept highest }
+    ensures moved { (parts : Parts) (kept : List Kept) (highest : ℕ) → tree_of (map (moved parts kept) kept) highest ≡ tree_of kept highest }
+{}
