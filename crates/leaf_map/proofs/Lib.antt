@@ -1,3 +1,4 @@
+mod Agrees
 mod Apart
 mod Blocks
 mod Bytes
@@ -5,11 +6,15 @@ mod Changes
 mod Copies
 mod Distinct
 mod Drops
+mod Forgets
 mod Inodes
 mod Keyed
 mod Lasts
 mod Maps
 mod Names
 mod Ranks
+mod Recovers
+mod Replays
+mod Same
 mod Sorted
 mod Steps

@@ -1,4 +1,5 @@
 pub mod After
+pub mod Allowed
 pub mod Kept
 pub mod LastChange
 pub mod LeafMap

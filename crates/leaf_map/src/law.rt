@@ -10,12 +10,14 @@ ghost use Rattle.fs_model.specs.declared.change.Change.{Change as AnyChange};
 ghost use Rattle.fs_model.specs.Change.{applied, apply, key_number};
 ghost use Rattle.fs_model.specs.Files.{Tree, inode_at, name_cmp, pair_cmp};
 ghost use Rattle.change_nodes.specs.Nodes.{change_of};
+ghost use Rattle.fs_model.specs.Recovery.{Head, IsRecovered, KeepsSynced, Numbered, recovered, taken};
+ghost use Rattle.leaf_map.specs.Allowed.{FitsTree};
 ghost use Rattle.leaf_map.specs.After.{Carries, come_by, gone_by, kept_after, kept_by, used_by};
 ghost use Rattle.leaf_map.specs.Kept.{Kept, Placed, kept_at};
 ghost use Rattle.leaf_map.specs.LastChange.{IsSorted, last_made, makes_block, makes_entry, makes_inode, there};
 ghost use Rattle.leaf_map.specs.LeafMap.{IsLeafMap};
 ghost use Rattle.leaf_map.specs.Parts.{Parts};
-ghost use Rattle.leaf_map.specs.Recovered.{moved};
+ghost use Rattle.leaf_map.specs.Recovered.{moved, tree_found};
 ghost use Rattle.leaf_map.specs.Shown.{tree_of};
 
 /// The tree of the leaves after a change is the change applied to their tree; they are leaves as an index has them again.
@@ -61,4 +63,12 @@ pub fn a_copy_changes_no_tree()
     ensures places { (move : Kept → Kept) (kept : List Kept) (highest : ℕ) → ((x : Kept) → (move x).node ≡ x.node)
         → tree_of (map move kept) highest ≡ tree_of kept highest }
     ensures moved { (parts : Parts) (kept : List Kept) (highest : ℕ) → tree_of (map (moved parts kept) kept) highest ≡ tree_of kept highest }
+{}
+
+/// A mount finds a tree that a cut may leave: what was read fits a committed tree and the groups that were read, of each head
+/// first ones with all that are synced. The leaves that were found may lack, or tell otherwise, what these groups touch.
+pub fn a_mount_finds_what_a_cut_may_leave()
+    ensures found { (parts : Parts) (committed : Tree) (changes : Numbered) → FitsTree parts committed changes → tree_found parts ≡ recovered committed changes }
+    ensures allowed { (parts : Parts) (committed : Tree) (heads : List Head) (counts : List ℕ) → KeepsSynced heads counts → FitsTree parts committed (taken heads counts)
+        → IsRecovered committed heads (tree_found parts) }
 {}

@@ -1,0 +1,36 @@
+-- What a mount makes of what it has read is a tree that a cut may leave.
+use Rattle.std.proofs.Common.{◌≡◌, ℕ, List, ap, ◌∙◌}
+use Rattle.std.specs.Prelude.{fold}
+use Rattle.fs_model.specs.Change.{apply}
+use Rattle.fs_model.specs.Files.{Tree}
+use Rattle.fs_model.specs.Recovery.{Head, IsRecovered, KeepsSynced, Numbered, recovered, taken}
+use Rattle.leaf_map.specs.Allowed.{FitsTree, in_turn}
+use Rattle.leaf_map.specs.Kept.{Kept}
+use Rattle.leaf_map.specs.Parts.{Parts}
+use Rattle.leaf_map.specs.Recovered.{committed_highest, in_order, leaves_after, leaves_found, leaves_left, moved, recovered_of, tree_found}
+use Rattle.leaf_map.specs.Shown.{tree_of}
+use Rattle.leaf_map.proofs.Agrees.{agree_after}
+use Rattle.leaf_map.proofs.Copies.{moved_node, same_tree}
+use Rattle.leaf_map.proofs.Forgets.{forget, forgets_all, orphans_tree}
+use Rattle.leaf_map.proofs.Lasts.{apply_sorted}
+use Rattle.leaf_map.proofs.Replays.{map_replayed, read_in_order, tree_replayed}
+use Rattle.leaf_map.proofs.Sorted.{leaves_sorted}
+
+pub found_is : (parts : Parts) (committed : Tree) (changes : Numbered) → FitsTree parts committed changes → tree_found parts ≡ recovered committed changes
+found_is parts committed changes fits =
+    let kept : List Kept = leaves_found parts in
+    let before = committed_highest parts in
+    let now = (recovered_of parts).highest in
+    let read = read_in_order parts.nodes changes fits.nodes in
+    let after : List Kept = leaves_after kept (in_order parts.nodes) in
+    let start = leaves_sorted kept before fits.leaves in
+    let all = tree_replayed (in_order parts.nodes) _ kept before read fits.leaves in
+    let same = agree_after (in_turn changes) (tree_of kept before) committed start fits.sorted fits.shows in
+    let is = map_replayed (in_order parts.nodes) _ kept read fits.leaves in
+    same_tree (moved parts (leaves_left parts)) (leaves_left parts) now (moved_node parts (leaves_left parts))
+    ∙ orphans_tree parts.listed after now is
+    ∙ ap (λ t. fold forget t parts.listed) (all ∙ same)
+    ∙ forgets_all parts.listed (apply committed (in_turn changes)) (apply_sorted (in_turn changes) committed fits.sorted) fits.listed
+
+pub found_allowed : (parts : Parts) (committed : Tree) (heads : List Head) (counts : List ℕ) → KeepsSynced heads counts → FitsTree parts committed (taken heads counts) → IsRecovered committed heads (tree_found parts)
+found_allowed parts committed heads counts keeps fits = record { counts = counts; synced = keeps; tree_is = found_is parts committed (taken heads counts) fits }

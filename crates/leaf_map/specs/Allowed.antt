@@ -1,0 +1,49 @@
+-- What is asked of what a mount has read, so that it finds a tree that a cut may leave.
+use Rattle.std.specs.Prelude.{◌≡◌, ◌⊎◌, ℕ, ◌==◌, true, is_some, List, [], ◌∷◌, map, Some}
+use Rattle.std.specs.BTreeMap.{is_at}
+use Rattle.std.specs.List.{list_any}
+use Rattle.std.specs.Map.{lookup}
+use Rattle.media_leaf.specs.LeafNode.{IsLeaf}
+use Rattle.fs_model.specs.declared.change.Change.{Change}
+use Rattle.fs_model.specs.Change.{apply}
+use Rattle.fs_model.specs.Files.{Tree, inode_at, name_cmp, pair_cmp}
+use Rattle.fs_model.specs.Orphan.{is_nameless}
+use Rattle.fs_model.specs.Recovery.{Numbered, as_replayed, by_number}
+use Rattle.change_nodes.specs.Nodes.{change_of}
+use Rattle.leaf_map.specs.Kept.{Placed}
+use Rattle.leaf_map.specs.LastChange.{IsSorted, Made, last_made, makes_block, makes_entry, makes_inode}
+use Rattle.leaf_map.specs.LeafMap.{IsLeafMap}
+use Rattle.leaf_map.specs.Parts.{Parts}
+use Rattle.leaf_map.specs.Recovered.{committed_highest, leaves_found}
+use Rattle.leaf_map.specs.Shown.{tree_of}
+
+-- these nodes are nodes of the grammar with the numbers of these changes, and carry what recovery makes of them
+abbrev pub AreRead : List Placed → Numbered → Type 0
+AreRead [] [] = Unit {0}
+AreRead [] (change ∷ changes) = ⊥
+AreRead (x ∷ nodes) [] = ⊥
+AreRead (x ∷ nodes) (change ∷ changes) = IsLeaf x.node × (x.sqnum ≡ change.0) × (change_of x.node ≡ Some (as_replayed change.1)) × AreRead nodes changes
+
+-- a place is touched
+abbrev pub IsTouched : {X : Type 0} → Made X → Type 0
+IsTouched made = is_some made ≡ true
+
+-- Trees that differ in nothing but what these changes touch. They have the same inodes, though maybe other things are told of these.
+pub record AgreeBut (changes : List Change) (a b : Tree) : Type 0 where
+  pub there : (q : ℕ) → is_some (inode_at a q) ≡ is_some (inode_at b q)
+  pub inodes : (q : ℕ) → (inode_at a q ≡ inode_at b q) ⊎ IsTouched (last_made (makes_inode q) b changes)
+  pub blocks : (q : ℕ × ℕ) → (lookup (is_at (pair_cmp q)) a.blocks ≡ lookup (is_at (pair_cmp q)) b.blocks) ⊎ IsTouched (last_made (makes_block q) b changes)
+  pub entries : (q : ℕ × List ℕ) → (lookup (is_at (name_cmp q)) a.entries ≡ lookup (is_at (name_cmp q)) b.entries) ⊎ IsTouched (last_made (makes_entry q) b changes)
+  pub highest : a.highest ≡ b.highest
+
+-- the changes as they are replayed: in order of number, where an inode without links goes
+abbrev pub in_turn : Numbered → List Change
+in_turn changes = map (λ c. as_replayed c.1) (by_number changes)
+
+-- What was read fits a committed tree and changes: the nodes carry the changes, the leaves that were found show that tree but for what the changes touch, and what has no name at last is listed.
+pub record FitsTree (parts : Parts) (committed : Tree) (changes : Numbered) : Type 0 where
+  pub nodes : AreRead parts.nodes changes
+  pub leaves : IsLeafMap (leaves_found parts)
+  pub sorted : IsSorted committed
+  pub shows : AgreeBut (in_turn changes) (tree_of (leaves_found parts) (committed_highest parts)) committed
+  pub listed : (q : ℕ) → is_nameless (apply committed (in_turn changes)) q ≡ true → list_any (λ ino. q == ino) parts.listed ≡ true
