@@ -13,6 +13,7 @@ use Rattle.fs_model.specs.declared.inode.Inode.{Inode}
 use Rattle.fs_model.specs.Change.{applied, apply, without_blocks}
 use Rattle.fs_model.specs.Cover.{inode_bytes}
 use Rattle.fs_model.specs.Files.{Tree, Files, Blocks, inode_at, name_cmp, blocks_end, size_of}
+use Rattle.fs_model.specs.Path.{is_dir}
 use Rattle.fs_model.specs.Proper.{IsProper, ascends}
 use Rattle.fs_model.specs.Same.{trimmed, trimmed_blocks}
 use Rattle.fs_laws.specs.Alike.{kind_and_links, told_by, IsBuiltAlike}
@@ -137,9 +138,9 @@ above_proper tree ino proper above =
     let parts = and_parts (list_all (λ e. nat_le e.0 tree.highest) tree.inodes && list_all (λ e. nat_le e.0.0 tree.highest) tree.blocks) (list_all (λ e. nat_le e.0.0 tree.highest && nat_le e.1.ino tree.highest) tree.entries) proper.numbers in
     none_above tree.blocks tree.highest ino (and_parts (list_all (λ e. nat_le e.0 tree.highest) tree.inodes) (list_all (λ e. nat_le e.0.0 tree.highest) tree.blocks) parts.0).1 above
 
--- an inode has the size of the one that a tree has, or is new to it
+-- an inode has the kind of the one that a tree has and, unless it is a directory, its size, or is new to it
 abbrev IsSized : Tree → ℕ → Inode → Type 0
-IsSized t ino inode = ((old : Inode) × (inode_at t ino ≡ Some old) × (inode.size ≡ old.size)) ⊎ (t.highest < ino)
+IsSized t ino inode = ((old : Inode) × (inode_at t ino ≡ Some old) × KeepsSize old inode) ⊎ (t.highest < ino)
 
 -- a file's blocks end where they did in either of two trees, or are gone from both
 abbrev AreEnds : Blocks → Blocks → Blocks → Blocks → ℕ → Type 0
@@ -160,7 +161,7 @@ change_sized a b now later (SetInode n new) names s = record {
 }
   where
     sized : (inode : Inode) → new ≡ inode → ((old : Inode) × (inode_at a n ≡ Some old) × KeepsSize old new) ⊎ (a.highest < n) → IsSized a n inode
-    sized inode same (inl there) = inl (there.0, there.1, ap (λ i. i.size) (sym same) ∙ there.2.size)
+    sized inode same (inl there) = inl (there.0, there.1, subst (λ i. KeepsSize there.0 i) same there.2)
     sized inode same (inr high) = inr high
 
     by : (ino : ℕ) (inode : Inode) → lookup (is_at (nat_cmp ino)) (insert_entry nat_cmp now.inodes n new) ≡ Some inode → (ino ≡ n) ⊎ (ino ≡ n → ⊥) → IsSized a ino inode
@@ -198,14 +199,15 @@ group_sized : (a b : Tree) (group : List Change) (now later : Tree) → AreOfNam
 group_sized a b [] now later names s = s
 group_sized a b (change ∷ group) now later names s = group_sized a b group (applied now change) (applied later change) names.1 (change_sized a b now later change names.0 s)
 
-sizes_alike : (a b : Files) (now later : Tree) → IsProper a.tree → IsProper b.tree → IsAlike a b → Sized a.tree b.tree now later → (ino : ℕ) (inode : Inode) → inode_at now ino ≡ Some inode → size_of now ino inode ≡ size_of later ino inode
-sizes_alike a b now later pa pb h s ino inode found = by (s.ends ino) (s.inodes ino inode found)
+sizes_alike : (a b : Files) (now later : Tree) → IsProper a.tree → IsProper b.tree → IsAlike a b → Sized a.tree b.tree now later → (ino : ℕ) (inode : Inode) → inode_at now ino ≡ Some inode → is_dir inode.kind ≡ false → size_of now ino inode ≡ size_of later ino inode
+sizes_alike a b now later pa pb h s ino inode found plain = by (s.ends ino) (s.inodes ino inode found)
   where
     by : AreEnds a.tree.blocks b.tree.blocks now.blocks later.blocks ino → IsSized a.tree ino inode → size_of now ino inode ≡ size_of later ino inode
     by (inl none) sized = ap (λ n. max inode.size n) (none.0 ∙ sym none.1)
     by (inr same) (inl old) =
-        let before = h.sizes ino old.0 old.1 in
-        let size = old.2 in
+        let file : is_dir old.0.kind ≡ false = ap is_dir (sym old.2.kind) ∙ plain in
+        let before = h.sizes ino old.0 old.1 file in
+        let size = old.2.size file in
         let x = same.0 in
         let y = same.1 in
         omega (arith, before, size, x, y)
@@ -216,7 +218,7 @@ sizes_alike a b now later pa pb h s ino inode found = by (s.ends ino) (s.inodes 
 group_alike : (group : List Change) (a b : Files) → IsProper a.tree → IsProper b.tree → AreOfNames a.tree group → IsAlike a b → IsAlike (record a { tree = apply a.tree group }) (record b { tree = apply b.tree group })
 group_alike group a b pa pb names h =
     let same = group_agrees a.tree group a b names (record { inodes = h.inodes; blocks = h.blocks; entries = h.entries; highest = h.highest; handles = h.handles }) in
-    let begin : Sized a.tree b.tree a.tree b.tree = record { up = pa.inodes_ascend; inodes = λ ino inode found. inl (inode, found, refl); ends = λ ino. inr (refl, refl) } in
+    let begin : Sized a.tree b.tree a.tree b.tree = record { up = pa.inodes_ascend; inodes = λ ino inode found. inl (inode, found, record { kind = refl; size = λ d. refl }); ends = λ ino. inr (refl, refl) } in
     record {
       inodes = same.inodes;
       blocks = same.blocks;

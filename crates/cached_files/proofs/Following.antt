@@ -19,16 +19,21 @@ use Rattle.fs_model.specs.Proper.{IsProper, ascends, is_inode_node}
 use Rattle.page_cache.specs.Pages.{is_cut, cut_list}
 use Rattle.page_cache.specs.declared.dirty_page.DirtyPage.{DirtyPage}
 use Rattle.cached_files.specs.declared.kept.Kept.{Kept}
-use Rattle.cached_files.specs.Follow.{follow, followed, is_of_inode, KeepsSize}
+use Rattle.cached_files.specs.Follow.{follow, followed, is_of_inode}
 use Rattle.cached_files.specs.Present.{DirtyPages, with_page, covered, has_dirty, IsKept, FitsClean, FitsFile, FitsPages}
 use Rattle.fs_laws.specs.Maps.{key_cases, set_here, set_other, removed_here, removed_other, insert_ascends, remove_ascends, filter_ascends}
 use Rattle.fs_laws.specs.Orders.{numbers, pairs}
 use Rattle.cached_files.proofs.Clean.{clean_cut}
 use Rattle.cached_files.proofs.Throughs.{set_through, remove_through, filter_insert, filter_insert_gone, set_value_here, set_value_other, WasSet, was_set}
 
+-- an inode of the same kind and size
+pub record IsSized (old new : Inode) : Type 0 where
+  pub kind : new.kind ≡ old.kind
+  pub size : new.size ≡ old.size
+
 -- a change of inodes or names that leaves the kind and the size of each inode that is kept
 abbrev pub IsOfKept : Kept → Change → Type 0
-IsOfKept kept (SetInode ino inode) = (old : Inode) → lookup (is_at (nat_cmp ino)) kept.inodes ≡ Some old → KeepsSize old inode
+IsOfKept kept (SetInode ino inode) = (old : Inode) → lookup (is_at (nat_cmp ino)) kept.inodes ≡ Some old → IsSized old inode
 IsOfKept kept (SetBlock ino block bytes) = ⊥
 IsOfKept kept (CutBlocks ino old_size new_size) = ⊥
 IsOfKept kept change = Unit {0}
@@ -132,7 +137,7 @@ covered_follow tree kept (DropInode ino) fits names =
     ∙ ap (λ z. record seen { blocks = z }) blocks
 
 -- the inode of a dirty page that is set keeps its size
-page_set : (inodes : Inodes) (ino : ℕ) (inode : Inode) → ((old : Inode) → lookup (is_at (nat_cmp ino)) inodes ≡ Some old → KeepsSize old inode)
+page_set : (inodes : Inodes) (ino : ℕ) (inode : Inode) → ((old : Inode) → lookup (is_at (nat_cmp ino)) inodes ≡ Some old → IsSized old inode)
     → (e : (ℕ × ℕ) × DirtyPage) → FitsPages inodes e → FitsPages (set_value (is_at (nat_cmp ino)) inodes inode) e
 page_set inodes ino inode names e fits = by (key_cases nat_cmp numbers e.0.0 ino)
   where
@@ -145,7 +150,7 @@ page_set inodes ino inode names e fits = by (key_cases nat_cmp numbers e.0.0 ino
         (inode, set, fits.2, subst (λ n. 4096 * e.0.1 + length e.1.bytes ≤ n) (sym size) fits.3)
     by (inr two) = (fits.0, set_value_other nat_cmp numbers inodes ino e.0.0 inode two ∙ fits.1, fits.2, fits.3)
 
-pages_set : (inodes : Inodes) (ino : ℕ) (inode : Inode) → ((old : Inode) → lookup (is_at (nat_cmp ino)) inodes ≡ Some old → KeepsSize old inode)
+pages_set : (inodes : Inodes) (ino : ℕ) (inode : Inode) → ((old : Inode) → lookup (is_at (nat_cmp ino)) inodes ≡ Some old → IsSized old inode)
     → (dirty : DirtyPages) → AllByRecursion (FitsPages inodes) dirty → AllByRecursion (FitsPages (set_value (is_at (nat_cmp ino)) inodes inode)) dirty
 pages_set inodes ino inode names [] all = all
 pages_set inodes ino inode names (e ∷ dirty) all = (page_set inodes ino inode names e all.0, pages_set inodes ino inode names dirty all.1)
@@ -301,7 +306,7 @@ names_follow kept change (CutBlocks ino old_size new_size) h names later = later
 names_follow kept change (DropInode ino) h names later = tt
 names_follow kept (SetInode first set) (SetInode ino inode) h names later = λ x found. by x (was_set nat_cmp numbers kept.inodes first set ino x found)
   where
-    by : (x : Inode) → WasSet nat_cmp kept.inodes first set ino x ⊎ ((ino ≡ first → ⊥) × (lookup (is_at (nat_cmp ino)) kept.inodes ≡ Some x)) → KeepsSize x inode
+    by : (x : Inode) → WasSet nat_cmp kept.inodes first set ino x ⊎ ((ino ≡ first → ⊥) × (lookup (is_at (nat_cmp ino)) kept.inodes ≡ Some x)) → IsSized x inode
     by x (inl was) =
         let there : lookup (is_at (nat_cmp first)) kept.inodes ≡ Some was.before = subst (λ k. lookup (is_at (nat_cmp k)) kept.inodes ≡ Some was.before) was.same was.found in
         let a = names was.before there in
@@ -315,7 +320,7 @@ names_follow kept (SetBlock other block bytes) (SetInode ino inode) h names late
 names_follow kept (CutBlocks other old_size new_size) (SetInode ino inode) h names later = later
 names_follow kept (DropInode gone) (SetInode ino inode) h names later = λ x found. by x found (key_cases nat_cmp numbers ino gone)
   where
-    by : (x : Inode) → lookup (is_at (nat_cmp ino)) (remove_entry (is_at (nat_cmp gone)) kept.inodes) ≡ Some x → (ino ≡ gone) ⊎ (ino ≡ gone → ⊥) → KeepsSize x inode
+    by : (x : Inode) → lookup (is_at (nat_cmp ino)) (remove_entry (is_at (nat_cmp gone)) kept.inodes) ≡ Some x → (ino ≡ gone) ⊎ (ino ≡ gone → ⊥) → IsSized x inode
     by x found (inl same) =
         let none = removed_here nat_cmp numbers kept.inodes gone h in
         let some = subst (λ k. lookup (is_at (nat_cmp k)) (remove_entry (is_at (nat_cmp gone)) kept.inodes) ≡ Some x) same found in

@@ -11,10 +11,11 @@ use Rattle.fs_model.specs.declared.space.Grant.{Grant}
 use Rattle.fs_model.specs.Backing.{BackingState, FitsGroup, Goes, IsGroupPut, given_back}
 use Rattle.fs_model.specs.Change.{apply}
 use Rattle.fs_model.specs.Files.{Tree, inode_at}
+use Rattle.fs_model.specs.Path.{is_dir}
 use Rattle.cached_files.specs.declared.kept.Kept.{Kept}
 use Rattle.cached_files.specs.Follow.{followed, is_of_inode, KeepsSize, IsOfNames, AreOfNames}
 use Rattle.cached_files.specs.Present.{covered, present, IsKept}
-use Rattle.cached_files.proofs.Following.{IsOfKept, AreOfKept, followed_inodes, followed_is, fits_of, kept_of}
+use Rattle.cached_files.proofs.Following.{IsSized, IsOfKept, AreOfKept, followed_inodes, followed_is, fits_of, kept_of}
 use Rattle.cached_files.proofs.Putting.{numbered}
 use Rattle.cached_files.proofs.Reading.{seen_kept}
 
@@ -23,11 +24,12 @@ of_kept : (tree : Tree) (kept : Kept) (change : Change) → IsKept tree kept →
 of_kept tree kept (SetInode ino inode) is names = λ old found. by old found (seen_kept tree kept ino old is found) names
   where
     by : (old : Inode) → lookup (is_at (nat_cmp ino)) kept.inodes ≡ Some old → inode_at (present tree kept).tree ino ≡ Some old
-        → ((seen : Inode) × (inode_at (present tree kept).tree ino ≡ Some seen) × KeepsSize seen inode) ⊎ (tree.highest < ino) → KeepsSize old inode
+        → ((seen : Inode) × (inode_at (present tree kept).tree ino ≡ Some seen) × KeepsSize seen inode) ⊎ (tree.highest < ino) → IsSized old inode
     by old found seen (inl there) =
         let both : Some there.0 ≡ Some old = sym there.1 ∙ seen in
         let same : there.0 ≡ old = cc both in
-        subst (λ i. KeepsSize i inode) same there.2
+        let keeps = subst (λ i. KeepsSize i inode) same there.2 in
+        record { kind = keeps.kind; size = keeps.size (ap is_dir (is.inodes ino old found).kind) }
     by old found seen (inr new) =
         let below = is.inodes ino old found in
         let low = numbered tree ino below.below.0 is.proper below.below.1 in

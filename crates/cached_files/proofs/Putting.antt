@@ -20,7 +20,7 @@ use Rattle.cached_files.specs.Calls.{SureGoes}
 use Rattle.fs_model.specs.Backing.{BackingState, Outlook, Goes, page_group, IsPagePut}
 use Rattle.fs_model.specs.Change.{apply}
 use Rattle.fs_model.specs.Files.{Tree, Files, Blocks, inode_at, pair_cmp, with_block, blocks_end, size_of}
-use Rattle.fs_model.specs.Path.{is_empty}
+use Rattle.fs_model.specs.Path.{is_dir, is_empty}
 use Rattle.fs_model.specs.Proper.{IsProper, is_block_node, are_bytes}
 use Rattle.fs_model.specs.Same.{trimmed, before_zeros, trimmed_blocks}
 use Rattle.fs_laws.specs.Sound.{IsFilePage}
@@ -237,8 +237,8 @@ kept_still tree kept ticket o p is apart proper = record {
 -- a file has the size that it had, where its inode is kept still, or none of its pages was put
 sizes_after : (tree after : Tree) (kept : Kept) (rest : DirtyPages) → IsKept tree kept → IsKept after (kept_after kept rest) → (present tree kept).tree.inodes ≡ (present after (kept_after kept rest)).tree.inodes
     → ((ino : ℕ) → lookup (is_at (nat_cmp ino)) kept.inodes ≡ None → blocks_end after.blocks ino ≡ blocks_end tree.blocks ino)
-    → (ino : ℕ) (inode : Inode) → inode_at (present tree kept).tree ino ≡ Some inode → size_of (present tree kept).tree ino inode ≡ size_of (present after (kept_after kept rest)).tree ino inode
-sizes_after tree after kept rest is still same others ino inode seen = by (lookup (is_at (nat_cmp ino)) kept.inodes) refl
+    → (ino : ℕ) (inode : Inode) → inode_at (present tree kept).tree ino ≡ Some inode → is_dir inode.kind ≡ false → size_of (present tree kept).tree ino inode ≡ size_of (present after (kept_after kept rest)).tree ino inode
+sizes_after tree after kept rest is still same others ino inode seen plain = by (lookup (is_at (nat_cmp ino)) kept.inodes) refl
   where
     by : (o : Option Inode) → lookup (is_at (nat_cmp ino)) kept.inodes ≡ o → size_of (present tree kept).tree ino inode ≡ size_of (present after (kept_after kept rest)).tree ino inode
     by (Some found) there =
@@ -410,11 +410,11 @@ same-then a b c f g = record {
   entries = f.entries ∙ g.entries;
   highest = f.highest ∙ g.highest;
   handles = f.handles ∙ g.handles;
-  sizes = λ ino inode found. f.sizes ino inode found ∙ g.sizes ino inode (subst (λ inodes. lookup (is_at (nat_cmp ino)) inodes ≡ Some inode) f.inodes found);
+  sizes = λ ino inode found plain. f.sizes ino inode found plain ∙ g.sizes ino inode (subst (λ inodes. lookup (is_at (nat_cmp ino)) inodes ≡ Some inode) f.inodes found) plain;
 }
 
 pub same-none : (a : Files) → IsAlike a a
-same-none a = record { inodes = refl; blocks = refl; entries = refl; highest = refl; handles = refl; sizes = λ ino inode found. refl }
+same-none a = record { inodes = refl; blocks = refl; entries = refl; highest = refl; handles = refl; sizes = λ ino inode found plain. refl }
 
 -- what holds while dirty pages are put, with so many left
 pub record Written (x y : Outlook) (old now : BackingState) (kept still : Kept) (left : ℕ) : Type 0 where

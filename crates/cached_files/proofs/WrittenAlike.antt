@@ -10,6 +10,7 @@ use Rattle.fs_model.specs.declared.inode.Inode.{Inode}
 use Rattle.fs_model.specs.Files.{Files, Blocks, inode_at, pair_cmp, block_at, blocks_end, size_of, overlaid, page_written, pages_of, blocks_written, with_page as write_page}
 use Rattle.fs_model.specs.Handles.{tree_written}
 use Rattle.fs_model.specs.Making.{touched}
+use Rattle.fs_model.specs.Path.{is_dir}
 use Rattle.fs_model.specs.Same.{trimmed, before_zeros, trimmed_blocks}
 use Rattle.fs_laws.specs.Maps.{key_cases, set_here, set_other}
 use Rattle.fs_laws.specs.Orders.{numbers}
@@ -152,22 +153,22 @@ written_end blocks ino place n byte size some all ends =
     (steps_end ino place n byte size (place / 4096) (suc ((place + n - 1) / 4096 - place / 4096)) blocks all ends (λ p low high. (omega (arith, low, high, some), omega (arith, low))))
 
 -- what a write leaves of files that are alike is alike
-pub written_alike : (a b : Files) (ino : ℕ) (inode : Inode) (now place n byte : ℕ) → 0 < n → inode_at a.tree ino ≡ Some inode → IsAlike a b
+pub written_alike : (a b : Files) (ino : ℕ) (inode : Inode) (now place n byte : ℕ) → 0 < n → inode_at a.tree ino ≡ Some inode → is_dir inode.kind ≡ false → IsAlike a b
     → IsAlike (record a { tree = tree_written a.tree ino inode now place n byte }) (record b { tree = tree_written b.tree ino inode now place n byte })
-written_alike a b ino inode now place n byte some found h = record {
+written_alike a b ino inode now place n byte some found file h = record {
   inodes = ap (λ inodes. insert_entry nat_cmp inodes ino (grown (size_of a.tree ino inode))) h.inodes ∙ ap (λ size. insert_entry nat_cmp b.tree.inodes ino (grown size)) same;
   blocks = steps_same ino place n byte (pages_of place n) a.tree.blocks b.tree.blocks h.blocks;
   entries = h.entries;
   highest = h.highest;
   handles = h.handles;
-  sizes = λ i x there. by i x there (key_cases nat_cmp numbers i ino);
+  sizes = λ i x there plain. by i x there plain (key_cases nat_cmp numbers i ino);
 }
   where
     grown : ℕ → Inode
     grown size = touched now (record inode { size = max size (place + n) })
 
     same : size_of a.tree ino inode ≡ size_of b.tree ino inode
-    same = h.sizes ino inode found
+    same = h.sizes ino inode found file
 
     here : size_of (tree_written a.tree ino inode now place n byte) ino (grown (size_of a.tree ino inode)) ≡ size_of (tree_written b.tree ino inode now place n byte) ino (grown (size_of a.tree ino inode))
     here =
@@ -176,18 +177,18 @@ written_alike a b ino inode now place n byte some found h = record {
         let q = written_end b.tree.blocks ino place n byte (max (size_of a.tree ino inode) (place + n)) some (omega arith) (omega (arith, s)) in
         omega (arith, p, q)
 
-    by : (i : ℕ) (x : Inode) → lookup (is_at (nat_cmp i)) (insert_entry nat_cmp a.tree.inodes ino (grown (size_of a.tree ino inode))) ≡ Some x → (i ≡ ino) ⊎ (i ≡ ino → ⊥)
+    by : (i : ℕ) (x : Inode) → lookup (is_at (nat_cmp i)) (insert_entry nat_cmp a.tree.inodes ino (grown (size_of a.tree ino inode))) ≡ Some x → is_dir x.kind ≡ false → (i ≡ ino) ⊎ (i ≡ ino → ⊥)
         → size_of (tree_written a.tree ino inode now place n byte) i x ≡ size_of (tree_written b.tree ino inode now place n byte) i x
-    by i x there (inl e) =
+    by i x there plain (inl e) =
         let first = set_here nat_cmp numbers a.tree.inodes ino (grown (size_of a.tree ino inode)) in
         let both : Some (grown (size_of a.tree ino inode)) ≡ Some x = sym first ∙ subst (λ k. lookup (is_at (nat_cmp k)) (insert_entry nat_cmp a.tree.inodes ino (grown (size_of a.tree ino inode))) ≡ Some x) e there in
         let x_is : grown (size_of a.tree ino inode) ≡ x = cc both in
         let P : ℕ → Type 0 = λ k. size_of (tree_written a.tree ino inode now place n byte) k x ≡ size_of (tree_written b.tree ino inode now place n byte) k x in
         let Q : Inode → Type 0 = λ y. size_of (tree_written a.tree ino inode now place n byte) ino y ≡ size_of (tree_written b.tree ino inode now place n byte) ino y in
         subst P (sym e) (subst Q x_is here)
-    by i x there (inr other) =
+    by i x there plain (inr other) =
         let was = sym (set_other nat_cmp numbers a.tree.inodes ino (grown (size_of a.tree ino inode)) i other) ∙ there in
-        let before = h.sizes i x was in
+        let before = h.sizes i x was plain in
         let p = steps_other ino place n byte i (pages_of place n) a.tree.blocks (λ e. other (sym e)) in
         let q = steps_other ino place n byte i (pages_of place n) b.tree.blocks (λ e. other (sym e)) in
         ap (λ m. max x.size m) p ∙ before ∙ ap (λ m. max x.size m) (sym q)

@@ -8,6 +8,7 @@ use Rattle.fs_model.specs.declared.change.Change.{Change}
 use Rattle.fs_model.specs.declared.change.Change.TheVariants.{SetInode, SetBlock, CutBlocks, DropInode}
 use Rattle.fs_model.specs.declared.inode.Inode.{Inode}
 use Rattle.fs_model.specs.Files.{Tree, inode_at}
+use Rattle.fs_model.specs.Path.{is_dir}
 use Rattle.page_cache.specs.Pages.{without_cut}
 use Rattle.cached_files.specs.declared.kept.Kept.{Kept}
 
@@ -27,12 +28,12 @@ follow kept change = kept
 abbrev pub followed : Kept → List Change → Kept
 followed kept group = fold follow kept group
 
--- an inode of the same kind and size
+-- an inode of the same kind and, unless it is a directory, of the same size
 pub record KeepsSize (old new : Inode) : Type 0 where
   pub kind : new.kind ≡ old.kind
-  pub size : new.size ≡ old.size
+  pub size : is_dir old.kind ≡ false → new.size ≡ old.size
 
--- A change of inodes or names over a tree: an inode that is there keeps its kind and its size, and a new one has a number above all that were used. No block changes, but for those of an inode that goes.
+-- A change of inodes or names over a tree: an inode that is there keeps its kind and, unless it is a directory, its size, and a new one has a number above all that were used. No block changes, but for those of an inode that goes.
 abbrev pub IsOfNames : Tree → Change → Type 0
 IsOfNames tree (SetInode ino inode) = ((old : Inode) × (inode_at tree ino ≡ Some old) × KeepsSize old inode) ⊎ (tree.highest < ino)
 IsOfNames tree (SetBlock ino block bytes) = ⊥

@@ -1,11 +1,12 @@
 // Laws of the present files.
 
-ghost use Rattle.std.specs.Prelude.{◌≡◌, ℕ, ◌<◌, [], length, Some};
+ghost use Rattle.std.specs.Prelude.{◌≡◌, ℕ, ◌<◌, [], false, length, Some};
 ghost use Rattle.fs_laws.specs.Sound.{AreFiles, IsSound};
 ghost use Rattle.fs_model.specs.declared.inode.Inode.{Inode};
 ghost use Rattle.fs_model.specs.Files.{Files, Tree, inode_at};
 ghost use Rattle.fs_model.specs.Handles.{tree_written};
 ghost use Rattle.fs_model.specs.Orphan.{nameless};
+ghost use Rattle.fs_model.specs.Path.{is_dir};
 ghost use Rattle.fs_model.specs.Proper.{IsProper};
 ghost use Rattle.fs_model.specs.Same.{IsSame};
 ghost use Rattle.cached_files.specs.declared.kept.Kept.{Kept as AnyKept};
@@ -19,9 +20,9 @@ pub fn alike_files_are_the_same()
     ensures { (a b : Files) → IsAlike a b → IsSame a b }
 {}
 
-/// A write leaves files alike that were alike.
+/// A write to what is no directory leaves files alike that were alike.
 pub fn written_files_stay_alike()
-    ensures { (a b : Files) (ino : ℕ) (inode : Inode) (now offs n byte : ℕ) → 0 < n → inode_at a.tree ino ≡ Some inode → IsAlike a b → IsAlike (record a { tree = tree_written a.tree ino inode now offs n byte }) (record b { tree = tree_written b.tree ino inode now offs n byte }) }
+    ensures { (a b : Files) (ino : ℕ) (inode : Inode) (now offs n byte : ℕ) → 0 < n → inode_at a.tree ino ≡ Some inode → is_dir inode.kind ≡ false → IsAlike a b → IsAlike (record a { tree = tree_written a.tree ino inode now offs n byte }) (record b { tree = tree_written b.tree ino inode now offs n byte }) }
 {}
 
 /// The present tree is proper, and has as many inodes without a name as the tree below; the present files are sound where

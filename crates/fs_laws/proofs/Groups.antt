@@ -11,6 +11,8 @@ use Rattle.fs_model.specs.declared.inode.Inode.{Inode}
 use Rattle.fs_model.specs.declared.inode.Kind.TheVariants.{File}
 use Rattle.fs_model.specs.Backing.{is_node}
 use Rattle.fs_model.specs.Change.{apply, applied}
+use Rattle.fs_model.specs.declared.share.Share.{Share}
+use Rattle.fs_model.specs.Directory.{counted}
 use Rattle.fs_model.specs.Files.{Tree, Files, inode_at}
 use Rattle.fs_model.specs.Making.{touching, touched}
 use Rattle.fs_model.specs.Need.{change_bytes}
@@ -50,13 +52,13 @@ keeps_nothing files sound = record { revives_none = refl; nodes = refl; limit = 
 pub node_at : (tree : Tree) → IsProper tree → (ino : ℕ) (i : Inode) → inode_at tree ino ≡ Some i → is_inode_node (ino, i) ≡ true
 node_at tree proper ino i f = all_at nat_cmp numbers is_inode_node tree.inodes ino i proper.inode_nodes f
 
-pub touching_is : (tree : Tree) (ino now : ℕ) (i : Inode) → inode_at tree ino ≡ Some i → touching tree ino now ≡ SetInode ino (touched now i) ∷ []
-touching_is tree ino now i f = rw f refl
+pub touching_is : (tree : Tree) (dir now : ℕ) (came gone : Share) (i : Inode) → inode_at tree dir ≡ Some i → touching tree dir now came gone ≡ SetInode dir (touched now (counted came gone i)) ∷ []
+touching_is tree dir now came gone i f = rw f refl
 
 -- one inode that is set with its kind and links as they were
 pub set_keeps : (files : Files) (ino : ℕ) (old new : Inode) (rest : List Change) → IsSound files → inode_at files.tree ino ≡ Some old → new.kind ≡ old.kind → new.nlink ≡ old.nlink → is_inode_node (ino, new) ≡ true → list_all is_node rest ≡ true → all_revive_none (applied files.tree (SetInode ino new)) rest ≡ true → sum_by cap (SetInode ino new ∷ rest) ≤ 5280
     → (apply files.tree (SetInode ino new ∷ rest)).inodes ≡ insert_entry nat_cmp files.tree.inodes ino new → (apply files.tree (SetInode ino new ∷ rest)).entries ≡ files.tree.entries → KeepsSound files (SetInode ino new ∷ rest)
 set_keeps files ino old new rest sound f kind nlink node nodes revives few inodes entries =
-    let rel = rel_touched files.tree.inodes files.tree.entries ino old new f kind nlink (rel_of files.tree sound.proper) in
+    let rel = rel_touched files.tree.inodes files.tree.entries ino old new f kind (λ d. nlink) (rel_of files.tree sound.proper) in
     let keeps = keeps_kinds files.tree.inodes ino new (λ o g. kind ∙ ap (λ (i : Inode). i.kind) (some_same (sym f ∙ g))) in
     keeps_sound files (SetInode ino new ∷ rest) sound (and_from (is_inode_node (ino, new)) (list_all is_node rest) node nodes) (and_from (revives_none files.tree (SetInode ino new)) (all_revive_none (applied files.tree (SetInode ino new)) rest) (kept_revives files.tree ino old new f nlink) revives) few (rw (inodes, entries) rel) (rw inodes keeps) (λ h. rw inodes (linked_same files.tree.inodes ino old new f kind nlink h))

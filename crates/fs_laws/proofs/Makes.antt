@@ -18,23 +18,23 @@ use Rattle.fs_model.specs.declared.refusal.Refusal.TheVariants.{Eexist, Enametoo
 use Rattle.fs_model.specs.declared.refusal.Table.TheVariants.{Inodes as InodeTable}
 use Rattle.fs_model.specs.declared.reply.Reply.TheVariants.{Ino}
 use Rattle.fs_model.specs.Backing.{is_node}
-use Rattle.fs_model.specs.Directory.{dir_links, is_linked_out}
+use Rattle.fs_model.specs.Directory.{counted, dir_links, is_linked_out, no_share, share_of}
 use Rattle.fs_model.specs.Files.{Tree, Files, Inodes, entry_at, name_cmp}
 use Rattle.fs_model.specs.Making.{inode_limit, is_bad_mode, is_name_path, is_bad_target, new_inode, new_file, new_dir, new_symlink, touched, touching, making, made, created, dir_made, symlink_made}
 use Rattle.fs_model.specs.Outcome.{Plan, refuse, with_found, group_in}
 use Rattle.fs_model.specs.Path.{has_long_name, is_empty, components, last_of, parent_of, is_dir, is_same_name}
 use Rattle.fs_model.specs.Proper.{are_bytes, are_words, are_long_words, has_data, is_inode_node, is_entry_node, is_linked, is_name}
 use Rattle.fs_model.specs.Orphan.{revives_none, all_revive_none}
-use Rattle.fs_laws.proofs.Revives.{kept_revives}
+use Rattle.fs_laws.proofs.Revives.{linked_revives}
 use Rattle.fs_laws.specs.Sound.{IsSound, KeepsSound}
 use Rattle.fs_laws.proofs.Climb.{numbered}
 use Rattle.fs_laws.proofs.Groups.{keeps_nothing, keeps_sound, node_at, touching_is}
-use Rattle.fs_laws.proofs.InodeKinds.{same_self}
-use Rattle.fs_laws.proofs.Linked.{linked_same, linked_set}
+use Rattle.fs_laws.proofs.InodeKinds.{is_dir_same, same_self}
+use Rattle.fs_laws.proofs.Linked.{counted_linked, dir_linked, linked_set}
 use Rattle.fs_laws.proofs.Local.{IsLocal, local_of}
 use Rattle.fs_laws.specs.Maps.{set_other, count_none}
 use Rattle.fs_laws.proofs.Names.{last_is_name}
-use Rattle.fs_laws.proofs.Nodes.{node_of, node_from, node_number, node_touched}
+use Rattle.fs_laws.proofs.Nodes.{node_of, node_from, node_number, node_changed}
 use Rattle.fs_laws.specs.Orders.{numbers, named, bytes_same}
 use Rattle.fs_laws.proofs.Plans.{refuse_to, found_to}
 use Rattle.fs_laws.proofs.Rel.{Rel, there_of, rel_of, inode_in, entry_in, kind_is, names}
@@ -91,30 +91,32 @@ pub record IsNew (inode : Inode) : Type 0 where
 
 -- a name comes with its inode, and its directory changes
 pub naming_keeps : (files : Files) (e : Entry) (new : Inode) (now : ℕ) → IsSound files → now < 2 ^ 64 → Comes files.tree.inodes files.tree.entries e new → is_name e.name ≡ true → is_inode_node (e.ino, new) ≡ true → is_linked (e.ino, new) ≡ true → revives_none (applied files.tree (SetEntry e)) (SetInode e.ino new) ≡ true → (e.dir ≡ e.ino → ⊥)
-    → KeepsSound files (SetEntry e ∷ SetInode e.ino new ∷ touching files.tree e.dir now)
+    → KeepsSound files (SetEntry e ∷ SetInode e.ino new ∷ touching files.tree e.dir now (share_of e) no_share)
 naming_keeps files e new now sound moment comes good node links revives apart =
     let tree : Tree = files.tree in
     let rel = rel_of tree sound.proper in
     let it = there_of tree.inodes e.dir Dir comes.dir in
     let dir_node = node_at tree sound.proper e.dir it.inode it.found in
+    let is_a_dir : is_dir it.inode.kind ≡ true = is_dir_same it.inode.kind Dir it.same in
+    let up : Inode = touched now (counted (share_of e) no_share it.inode) in
     let first = rel_named tree.inodes tree.entries e new comes rel in
     let at : inode_in (insert_entry nat_cmp tree.inodes e.ino new) e.dir ≡ Some it.inode = set_other nat_cmp numbers tree.inodes e.ino new e.dir apart ∙ it.found in
-    let last = rel_touched (insert_entry nat_cmp tree.inodes e.ino new) (insert_entry name_cmp tree.entries (e.dir, e.name) e) e.dir it.inode (touched now it.inode) at refl refl first in
-    let kept : KeepsKinds tree.inodes (insert_entry nat_cmp (insert_entry nat_cmp tree.inodes e.ino new) e.dir (touched now it.inode)) = λ x k h.
-    keeps_kinds (insert_entry nat_cmp tree.inodes e.ino new) e.dir (touched now it.inode) (λ o f. ap (λ (i : Inode). i.kind) (some_same (sym at ∙ f))) x k
+    let last = rel_touched (insert_entry nat_cmp tree.inodes e.ino new) (insert_entry name_cmp tree.entries (e.dir, e.name) e) e.dir it.inode up at refl (λ d. absurd (false≢true (sym d ∙ is_a_dir))) first in
+    let kept : KeepsKinds tree.inodes (insert_entry nat_cmp (insert_entry nat_cmp tree.inodes e.ino new) e.dir up) = λ x k h.
+    keeps_kinds (insert_entry nat_cmp tree.inodes e.ino new) e.dir up (λ o f. ap (λ (i : Inode). i.kind) (some_same (sym at ∙ f))) x k
     (keeps_kinds tree.inodes e.ino new comes.same x k h) in
-    let group : List Change = SetEntry e ∷ SetInode e.ino new ∷ SetInode e.dir (touched now it.inode) ∷ [] in
+    let group : List Change = SetEntry e ∷ SetInode e.ino new ∷ SetInode e.dir up ∷ [] in
     let nodes : list_all is_node group ≡ true =
-    and_from (is_node (SetEntry e)) (list_all is_node (SetInode e.ino new ∷ SetInode e.dir (touched now it.inode) ∷ [])) (entry_is_node e good (node_number e.dir it.inode dir_node) (node_number e.ino new node) (node_of e.ino new node).ino)
-    (and_from (is_inode_node (e.ino, new)) (list_all is_node (SetInode e.dir (touched now it.inode) ∷ [])) node
-    (and_from (is_inode_node (e.dir, touched now it.inode)) true (node_touched e.dir it.inode now moment dir_node) refl)) in
+    and_from (is_node (SetEntry e)) (list_all is_node (SetInode e.ino new ∷ SetInode e.dir up ∷ [])) (entry_is_node e good (node_number e.dir it.inode dir_node) (node_number e.ino new node) (node_of e.ino new node).ino)
+    (and_from (is_inode_node (e.ino, new)) (list_all is_node (SetInode e.dir up ∷ [])) node
+    (and_from (is_inode_node (e.dir, up)) true (node_changed e.dir (share_of e) no_share it.inode now moment dir_node) refl)) in
     let named_tree : Tree = applied tree (SetEntry e) in
-    let all_revive : all_revive_none tree group ≡ true = and_from (revives_none named_tree (SetInode e.ino new)) (all_revive_none (applied named_tree (SetInode e.ino new)) (SetInode e.dir (touched now it.inode) ∷ [])) revives
-    (and_from (revives_none (applied named_tree (SetInode e.ino new)) (SetInode e.dir (touched now it.inode))) true (kept_revives (applied named_tree (SetInode e.ino new)) e.dir it.inode (touched now it.inode) at refl) refl) in
+    let all_revive : all_revive_none tree group ≡ true = and_from (revives_none named_tree (SetInode e.ino new)) (all_revive_none (applied named_tree (SetInode e.ino new)) (SetInode e.dir up ∷ [])) revives
+    (and_from (revives_none (applied named_tree (SetInode e.ino new)) (SetInode e.dir up)) true (linked_revives (applied named_tree (SetInode e.ino new)) e.dir it.inode up at (dir_linked tree.inodes e.dir it.inode it.found is_a_dir sound.proper.linked)) refl) in
     let most = cap_most (SetInode e.ino new) in
-    let plain = cap_plain e.dir (touched now it.inode) Dir refl it.same in
+    let plain = cap_plain e.dir up Dir refl it.same in
     let P : List Change → Type 0 = λ rest. KeepsSound files (SetEntry e ∷ SetInode e.ino new ∷ rest) in
-    subst P (sym (touching_is tree e.dir now it.inode it.found)) (keeps_sound files group sound nodes all_revive (omega (arith, most, plain)) last kept (λ h. linked_same (insert_entry nat_cmp tree.inodes e.ino new) e.dir it.inode (touched now it.inode) at refl refl (linked_set tree.inodes e.ino new links h)))
+    subst P (sym (touching_is tree e.dir now (share_of e) no_share it.inode it.found)) (keeps_sound files group sound nodes all_revive (omega (arith, most, plain)) last kept (λ h. linked_set (insert_entry nat_cmp tree.inodes e.ino new) e.dir up (counted_linked e.dir (share_of e) no_share it.inode now is_a_dir) (linked_set tree.inodes e.ino new links h)))
 
 making_keeps : (files : Files) (dir : ℕ) (name : List ℕ) (inode : Inode) (now : ℕ) → IsSound files → now < 2 ^ 64 → IsNew inode → is_name name ≡ true → kind_is files.tree.inodes dir Dir ≡ true → entry_in files.tree.entries (dir, name) ≡ None → files.tree.highest < inode_limit
     → KeepsSound files (making files.tree dir name inode now)

@@ -1,10 +1,12 @@
 -- Inodes and blocks that a node can carry.
-use Rattle.std.proofs.Common.{◌≡◌, ℕ, ◌<◌, ◌≤◌, ◌^◌, Bool, true, not, ◌&&◌, ◌||◌, List, [], ◌∷◌, length, refl, arith}
+use Rattle.std.proofs.Common.{◌≡◌, ℕ, ◌+◌, ◌-◌, ◌<◌, ◌≤◌, ◌^◌, Bool, true, false, cond, min, max, not, ◌&&◌, ◌||◌, List, [], ◌∷◌, length, refl, arith}
 use Rattle.std.specs.Prelude.{◌==◌, nat_le, nat_lt}
 use Rattle.std.proofs.lemmas.Bool.{and_parts, and_from, lt-ltb, ltb-true, le-leb, leb-true}
 use Rattle.fs_model.specs.declared.inode.Inode.{Inode}
+use Rattle.fs_model.specs.declared.share.Share.{Share}
+use Rattle.fs_model.specs.Directory.{counted}
 use Rattle.fs_model.specs.Making.{touched}
-use Rattle.fs_model.specs.Path.{is_empty}
+use Rattle.fs_model.specs.Path.{is_dir, is_empty}
 use Rattle.fs_model.specs.Proper.{are_bytes, are_words, are_long_words, has_data, is_inode_node, is_block_node}
 
 abbrev pub words_of : ℕ → Inode → List ℕ
@@ -111,6 +113,26 @@ node_number number i t =
 pub node_size : (number : ℕ) (i : Inode) → is_inode_node (number, i) ≡ true → i.size < 2 ^ 64
 node_size number i t =
     let n = node_of number i t in ltb-true i.size (2 ^ 64) (and_parts (nat_lt i.size (2 ^ 64)) (are_long_words (i.atime ∷ i.ctime ∷ i.mtime ∷ [])) n.longs).0
+
+-- a directory's inode whose entries change
+pub node_counted : (number : ℕ) (came gone : Share) (i : Inode) → is_inode_node (number, i) ≡ true → is_inode_node (number, counted came gone i) ≡ true
+node_counted number came gone i t =
+    let links : ℕ = cond (is_dir i.kind) (max 1 (min (i.nlink + came.links) 4294967295 - gone.links)) i.nlink in
+    let size : ℕ = cond (is_dir i.kind) (min (i.size + came.bytes) 18446744073709551615 - gone.bytes) i.size in
+    node_sized number (record i { nlink = links }) size (few_bytes (is_dir i.kind) (node_size number i t))
+    (node_linked number i links (few_links (is_dir i.kind) (node_links number i t)) t)
+  where
+    few_links : (d : Bool) → i.nlink < 2 ^ 32 → cond d (max 1 (min (i.nlink + came.links) 4294967295 - gone.links)) i.nlink < 2 ^ 32
+    few_links true h = omega arith
+    few_links false h = h
+
+    few_bytes : (d : Bool) → i.size < 2 ^ 64 → cond d (min (i.size + came.bytes) 18446744073709551615 - gone.bytes) i.size < 2 ^ 64
+    few_bytes true h = omega arith
+    few_bytes false h = h
+
+-- and that changes at this moment
+pub node_changed : (number : ℕ) (came gone : Share) (i : Inode) (now : ℕ) → now < 2 ^ 64 → is_inode_node (number, i) ≡ true → is_inode_node (number, touched now (counted came gone i)) ≡ true
+node_changed number came gone i now h t = node_touched number (counted came gone i) now h (node_counted number came gone i t)
 
 -- the parts of the test of a block
 pub record BlockNode (e : (ℕ × ℕ) × List ℕ) : Type 0 where

@@ -16,7 +16,7 @@ use Rattle.fs_model.specs.declared.refusal.Refusal.TheVariants.{Enoent, Enotdir,
 use Rattle.fs_model.specs.declared.reply.Reply.TheVariants.{Done}
 use Rattle.fs_model.specs.Backing.{is_node}
 use Rattle.fs_model.specs.Change.{applied, apply}
-use Rattle.fs_model.specs.Directory.{has_no_entry}
+use Rattle.fs_model.specs.Directory.{has_no_entry, no_share, share_of}
 use Rattle.fs_model.specs.Files.{Tree, Files, Inodes, Entries, inode_at, entry_at, name_cmp}
 use Rattle.fs_model.specs.Links.{less_linked, losing}
 use Rattle.fs_model.specs.Making.{is_name_path}
@@ -33,7 +33,7 @@ use Rattle.fs_laws.proofs.Linking.{both_paths}
 use Rattle.fs_laws.proofs.Linked.{are_linked, linked_left, linked_set, plain_linked}
 use Rattle.fs_laws.proofs.Local.{local_of}
 use Rattle.fs_laws.proofs.Losses.{IsChildless, without, kind_left, rel_dropped, rel_unlinked, still_there, up_less}
-use Rattle.fs_laws.proofs.Makes.{entry_is_node, entry_node_from}
+use Rattle.fs_laws.proofs.Makes.{entry_is_node}
 use Rattle.fs_laws.specs.Maps.{all_at, all_weaken, insert_again, remove_ascends, removed_here, removed_other, set_other}
 use Rattle.fs_laws.proofs.Moves.{IsNot, Moves, moved_entries, placed_at, rel_moved}
 use Rattle.fs_laws.proofs.Names.{last_is_name}
@@ -42,7 +42,7 @@ use Rattle.fs_laws.specs.Orders.{numbers, named}
 use Rattle.fs_laws.proofs.Plans.{refuse_to, found_to, some_to}
 use Rattle.fs_laws.proofs.Rel.{Rel, Reaches, there_of, rel_of, inode_in, entry_in, kind_is}
 use Rattle.fs_laws.proofs.Removals.{Leaves, leaves_less, leaving_cases, drop_node, parent_of_entry, handles_left, no_entry_childless, plain_childless}
-use Rattle.fs_laws.proofs.Renames.{both, both_touch, joined_keeps, moving_free}
+use Rattle.fs_laws.proofs.Renames.{Dirs, both, both_touch, joined_keeps, moving_free}
 use Rattle.fs_laws.proofs.Sizes.{cap_most}
 use Rattle.fs_laws.proofs.Steps.{keeps_kinds, some_same}
 use Rattle.fs_laws.proofs.Ways.{reaches_apart}
@@ -145,8 +145,9 @@ moving_over files from over dir name change now sound moment it good lost =
     let at_new : inode_in (apply tree front).inodes dir ≡ Some new.inode = subst (λ (is : Inodes). inode_in is dir ≡ Some new.inode) inodes (lost.others dir dir_apart ∙ new.found) in
     let handles = subst (λ (is : Inodes). list_all (λ h. kind_is is h.1 File) files.handles ≡ true) inodes lost.handles in
     let most = cap_most change in
-    joined_keeps files front (both tree from.dir dir now) sound nodes (and_from (revives_none (apply tree before) change) true (lost.revives (apply tree before) refl) refl) (omega (arith, most)) (λ h. subst (λ (is : Inodes). are_linked is ≡ true) inodes (lost.linked h))
-    (both_touch tree (apply tree front) from.dir dir now old.inode new.inode moment old.found new.found at_old at_new old.same new.same old_node new_node after) handles
+    let dirs : Dirs tree from.dir dir = record { p = old.inode; q = new.inode; at_a = old.found; at_b = new.found; dir_p = old.same; dir_q = new.same; node_p = old_node; node_q = new_node; linked = sound.proper.linked } in
+    joined_keeps files front (both tree from.dir dir now no_share (share_of from)) sound nodes (and_from (revives_none (apply tree before) change) true (lost.revives (apply tree before) refl) refl) (omega (arith, most)) (λ h. subst (λ (is : Inodes). are_linked is ≡ true) inodes (lost.linked h))
+    (both_touch tree (apply tree front) from.dir dir now no_share (share_of from) dirs moment at_old at_new after) handles
 
 over_childless : (files : Files) (over : Entry) → IsSound files → IsIn files.tree.entries over → (is_dir over.kind && not (has_no_entry files.tree over.ino)) ≡ false → IsChildless files.tree.entries over.ino
 over_childless files over sound here empty = by (is_dir over.kind) refl empty

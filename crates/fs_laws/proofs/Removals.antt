@@ -17,7 +17,7 @@ use Rattle.fs_model.specs.declared.refusal.Refusal.TheVariants.{Enoent, Enotdir,
 use Rattle.fs_model.specs.declared.reply.Reply.TheVariants.{Done}
 use Rattle.fs_model.specs.Backing.{is_node}
 use Rattle.fs_model.specs.Change.{applied, apply}
-use Rattle.fs_model.specs.Directory.{has_no_entry, entries_in}
+use Rattle.fs_model.specs.Directory.{counted, entries_in, has_no_entry, no_share, share_of}
 use Rattle.fs_model.specs.Files.{Tree, Files, Inodes, Handles, inode_at, name_cmp}
 use Rattle.fs_model.specs.Links.{less_linked, removing, unlinked, dir_removed}
 use Rattle.fs_model.specs.Making.{is_name_path, touched, touching}
@@ -26,16 +26,16 @@ use Rattle.fs_model.specs.Outcome.{Plan, refuse, with_found, with_some, group_in
 use Rattle.fs_model.specs.Path.{has_long_name, walked, is_dir, is_empty}
 use Rattle.fs_model.specs.Proper.{is_inode_node, is_entry_node, is_name, are_words}
 use Rattle.fs_model.specs.Orphan.{revives_none, all_revive_none}
-use Rattle.fs_laws.proofs.Revives.{kept_revives, less_revives}
+use Rattle.fs_laws.proofs.Revives.{linked_revives, less_revives}
 use Rattle.fs_laws.specs.Sound.{IsSound, KeepsSound}
 use Rattle.fs_laws.proofs.Climb.{proper_of}
 use Rattle.fs_laws.proofs.Groups.{bytes_few, keeps_nothing, keeps_sound, node_at, touching_is}
 use Rattle.fs_laws.proofs.InodeKinds.{is_dir_same}
-use Rattle.fs_laws.proofs.Linked.{linked_same, linked_left, linked_set, plain_linked}
+use Rattle.fs_laws.proofs.Linked.{counted_linked, dir_linked, linked_left, linked_set, plain_linked}
 use Rattle.fs_laws.proofs.Local.{local_of, local_group}
 use Rattle.fs_laws.proofs.Losses.{IsChildless, without, rel_dropped, rel_unlinked, kind_left}
 use Rattle.fs_laws.specs.Maps.{all_at, count_found, removed_other, set_other}
-use Rattle.fs_laws.proofs.Nodes.{node_of, node_number, node_touched, node_linked, node_links}
+use Rattle.fs_laws.proofs.Nodes.{node_of, node_number, node_touched, node_changed, node_linked, node_links}
 use Rattle.fs_laws.specs.Orders.{numbers, named}
 use Rattle.fs_laws.proofs.Plans.{refuse_to, found_to, some_to}
 use Rattle.fs_laws.proofs.Rel.{Rel, There, there_of, rel_of, inode_in, kind_is, names}
@@ -88,65 +88,69 @@ drop_node files e sound here =
 pub parent_of_entry : (files : Files) (e : Entry) → IsSound files → IsIn files.tree.entries e → There files.tree.inodes e.dir Dir
 parent_of_entry files e sound here = there_of files.tree.inodes e.dir Dir ((rel_of files.tree sound.proper).entry (e.dir, e.name) e here).dir
 
-drop_keeps : (files : Files) (e : Entry) (inode left : Inode) (now : ℕ) → Leaves files e inode left now → names files.tree.entries e.ino ≡ 1 → is_open files e.ino ≡ false → KeepsSound files (DropEntry e.dir e.name ∷ DropInode e.ino ∷ touching files.tree e.dir now)
+drop_keeps : (files : Files) (e : Entry) (inode left : Inode) (now : ℕ) → Leaves files e inode left now → names files.tree.entries e.ino ≡ 1 → is_open files e.ino ≡ false → KeepsSound files (DropEntry e.dir e.name ∷ DropInode e.ino ∷ touching files.tree e.dir now no_share (share_of e))
 drop_keeps files e inode left now it one closed =
     let tree : Tree = files.tree in
     let rel = rel_of tree it.sound.proper in
     let up = parent_of_entry files e it.sound it.here in
+    let is_a_dir : is_dir up.inode.kind ≡ true = is_dir_same up.inode.kind Dir up.same in
+    let left_up : Inode = touched now (counted no_share (share_of e) up.inode) in
     let apart : e.dir ≡ e.ino → ⊥ = it.childless (e.dir, e.name) e it.here in
     let first = rel_dropped tree.inodes tree.entries e it.sound.proper.inodes_ascend it.sound.proper.entries_ascend it.here it.childless one rel in
     let left_inodes : Inodes = remove_entry (is_at (nat_cmp e.ino)) tree.inodes in
     let at : inode_in left_inodes e.dir ≡ Some up.inode = removed_other nat_cmp numbers tree.inodes e.ino e.dir apart ∙ up.found in
-    let last = rel_touched left_inodes (without tree.entries e) e.dir up.inode (touched now up.inode) at refl refl first in
-    let group : List Change = DropEntry e.dir e.name ∷ DropInode e.ino ∷ SetInode e.dir (touched now up.inode) ∷ [] in
+    let last = rel_touched left_inodes (without tree.entries e) e.dir up.inode left_up at refl (λ d. absurd (false≢true (sym d ∙ is_a_dir))) first in
+    let group : List Change = DropEntry e.dir e.name ∷ DropInode e.ino ∷ SetInode e.dir left_up ∷ [] in
     let up_node = node_at tree it.sound.proper e.dir up.inode up.found in
     let own = node_of e.ino left it.node in
     let nodes : list_all is_node group ≡ true =
-    and_from (are_words (e.dir ∷ []) && is_name e.name) (list_all is_node (DropInode e.ino ∷ SetInode e.dir (touched now up.inode) ∷ [])) (drop_node files e it.sound it.here)
-    (and_from (not (e.ino == 0) && are_words (e.ino ∷ [])) (list_all is_node (SetInode e.dir (touched now up.inode) ∷ []))
+    and_from (are_words (e.dir ∷ []) && is_name e.name) (list_all is_node (DropInode e.ino ∷ SetInode e.dir left_up ∷ [])) (drop_node files e it.sound it.here)
+    (and_from (not (e.ino == 0) && are_words (e.ino ∷ [])) (list_all is_node (SetInode e.dir left_up ∷ []))
     (and_from (not (e.ino == 0)) (are_words (e.ino ∷ [])) own.ino (and_from (nat_lt e.ino (2 ^ 32)) true (node_number e.ino left it.node) refl))
-    (and_from (is_inode_node (e.dir, touched now up.inode)) true (node_touched e.dir up.inode now it.moment up_node) refl)) in
-    let after : Inodes = insert_entry nat_cmp left_inodes e.dir (touched now up.inode) in
+    (and_from (is_inode_node (e.dir, left_up)) true (node_changed e.dir no_share (share_of e) up.inode now it.moment up_node) refl)) in
+    let after : Inodes = insert_entry nat_cmp left_inodes e.dir left_up in
     let kept : (x : ℕ) (k : Kind) → (x ≡ e.ino → ⊥) → kind_is tree.inodes x k ≡ true → kind_is after x k ≡ true = λ x k o h.
-    keeps_kinds left_inodes e.dir (touched now up.inode) (λ i f. ap (λ (j : Inode). j.kind) (some_same (sym at ∙ f))) x k (kind_left tree.inodes e.ino x k o h) in
-    let plain = cap_plain e.dir (touched now up.inode) Dir refl up.same in
+    keeps_kinds left_inodes e.dir left_up (λ i f. ap (λ (j : Inode). j.kind) (some_same (sym at ∙ f))) x k (kind_left tree.inodes e.ino x k o h) in
+    let plain = cap_plain e.dir left_up Dir refl up.same in
     let all : KeepsSound files group = record {
       nodes = nodes;
-      revives_none = and_from (revives_none (applied (applied tree (DropEntry e.dir e.name)) (DropInode e.ino)) (SetInode e.dir (touched now up.inode))) true (kept_revives (applied (applied tree (DropEntry e.dir e.name)) (DropInode e.ino)) e.dir up.inode (touched now up.inode) at refl) refl;
+      revives_none = and_from (revives_none (applied (applied tree (DropEntry e.dir e.name)) (DropInode e.ino)) (SetInode e.dir left_up)) true (linked_revives (applied (applied tree (DropEntry e.dir e.name)) (DropInode e.ino)) e.dir up.inode left_up at (dir_linked tree.inodes e.dir up.inode up.found is_a_dir it.sound.proper.linked)) refl;
       limit = bytes_few files group it.sound nodes (omega (arith, plain));
-      proper = proper_of (apply tree group) (local_group group tree nodes (local_of tree it.sound.proper)) last (linked_same left_inodes e.dir up.inode (touched now up.inode) at refl refl (linked_left tree.inodes e.ino it.sound.proper.linked));
+      proper = proper_of (apply tree group) (local_group group tree nodes (local_of tree it.sound.proper)) last (linked_set left_inodes e.dir left_up (counted_linked e.dir no_share (share_of e) up.inode now is_a_dir) (linked_left tree.inodes e.ino it.sound.proper.linked));
       handles = handles_left tree.inodes after e.ino kept files.handles it.sound.handles closed;
     } in
     let P : List Change → Type 0 = λ rest. KeepsSound files (DropEntry e.dir e.name ∷ DropInode e.ino ∷ rest) in
-    subst P (sym (touching_is tree e.dir now up.inode up.found)) all
+    subst P (sym (touching_is tree e.dir now no_share (share_of e) up.inode up.found)) all
 
-unlink_keeps : (files : Files) (e : Entry) (inode left : Inode) (now : ℕ) → Leaves files e inode left now → is_dir inode.kind ≡ false → left.nlink + 1 ≡ names files.tree.entries e.ino → KeepsSound files (DropEntry e.dir e.name ∷ SetInode e.ino left ∷ touching files.tree e.dir now)
+unlink_keeps : (files : Files) (e : Entry) (inode left : Inode) (now : ℕ) → Leaves files e inode left now → is_dir inode.kind ≡ false → left.nlink + 1 ≡ names files.tree.entries e.ino → KeepsSound files (DropEntry e.dir e.name ∷ SetInode e.ino left ∷ touching files.tree e.dir now no_share (share_of e))
 unlink_keeps files e inode left now it plain links =
     let tree : Tree = files.tree in
     let rel = rel_of tree it.sound.proper in
     let up = parent_of_entry files e it.sound it.here in
+    let is_a_dir : is_dir up.inode.kind ≡ true = is_dir_same up.inode.kind Dir up.same in
+    let left_up : Inode = touched now (counted no_share (share_of e) up.inode) in
     let apart : e.dir ≡ e.ino → ⊥ = it.childless (e.dir, e.name) e it.here in
     let first = rel_unlinked tree.inodes tree.entries e inode left it.sound.proper.entries_ascend it.here it.childless it.found it.kind (ap is_dir it.kind ∙ plain) links rel in
     let left_inodes : Inodes = insert_entry nat_cmp tree.inodes e.ino left in
     let at : inode_in left_inodes e.dir ≡ Some up.inode = set_other nat_cmp numbers tree.inodes e.ino left e.dir apart ∙ up.found in
-    let last = rel_touched left_inodes (without tree.entries e) e.dir up.inode (touched now up.inode) at refl refl first in
-    let group : List Change = DropEntry e.dir e.name ∷ SetInode e.ino left ∷ SetInode e.dir (touched now up.inode) ∷ [] in
+    let last = rel_touched left_inodes (without tree.entries e) e.dir up.inode left_up at refl (λ d. absurd (false≢true (sym d ∙ is_a_dir))) first in
+    let group : List Change = DropEntry e.dir e.name ∷ SetInode e.ino left ∷ SetInode e.dir left_up ∷ [] in
     let up_node = node_at tree it.sound.proper e.dir up.inode up.found in
     let nodes : list_all is_node group ≡ true =
-    and_from (are_words (e.dir ∷ []) && is_name e.name) (list_all is_node (SetInode e.ino left ∷ SetInode e.dir (touched now up.inode) ∷ [])) (drop_node files e it.sound it.here)
-    (and_from (is_inode_node (e.ino, left)) (list_all is_node (SetInode e.dir (touched now up.inode) ∷ [])) it.node
-    (and_from (is_inode_node (e.dir, touched now up.inode)) true (node_touched e.dir up.inode now it.moment up_node) refl)) in
-    let kept : KeepsKinds tree.inodes (insert_entry nat_cmp left_inodes e.dir (touched now up.inode)) = λ x k h.
-    keeps_kinds left_inodes e.dir (touched now up.inode) (λ i f. ap (λ (j : Inode). j.kind) (some_same (sym at ∙ f))) x k
+    and_from (are_words (e.dir ∷ []) && is_name e.name) (list_all is_node (SetInode e.ino left ∷ SetInode e.dir left_up ∷ [])) (drop_node files e it.sound it.here)
+    (and_from (is_inode_node (e.ino, left)) (list_all is_node (SetInode e.dir left_up ∷ [])) it.node
+    (and_from (is_inode_node (e.dir, left_up)) true (node_changed e.dir no_share (share_of e) up.inode now it.moment up_node) refl)) in
+    let kept : KeepsKinds tree.inodes (insert_entry nat_cmp left_inodes e.dir left_up) = λ x k h.
+    keeps_kinds left_inodes e.dir left_up (λ i f. ap (λ (j : Inode). j.kind) (some_same (sym at ∙ f))) x k
     (keeps_kinds tree.inodes e.ino left (λ o f. it.kind ∙ ap (λ (j : Inode). j.kind) (some_same (sym it.found ∙ f))) x k h) in
     let named : Tree = applied tree (DropEntry e.dir e.name) in
-    let revives : all_revive_none tree group ≡ true = and_from (revives_none named (SetInode e.ino left)) (all_revive_none (applied named (SetInode e.ino left)) (SetInode e.dir (touched now up.inode) ∷ []))
+    let revives : all_revive_none tree group ≡ true = and_from (revives_none named (SetInode e.ino left)) (all_revive_none (applied named (SetInode e.ino left)) (SetInode e.dir left_up ∷ []))
     (less_revives named e.ino inode left it.found (it.plain plain))
-    (and_from (revives_none (applied named (SetInode e.ino left)) (SetInode e.dir (touched now up.inode))) true (kept_revives (applied named (SetInode e.ino left)) e.dir up.inode (touched now up.inode) at refl) refl) in
+    (and_from (revives_none (applied named (SetInode e.ino left)) (SetInode e.dir left_up)) true (linked_revives (applied named (SetInode e.ino left)) e.dir up.inode left_up at (dir_linked tree.inodes e.dir up.inode up.found is_a_dir it.sound.proper.linked)) refl) in
     let most = cap_most (SetInode e.ino left) in
-    let dir = cap_plain e.dir (touched now up.inode) Dir refl up.same in
+    let dir = cap_plain e.dir left_up Dir refl up.same in
     let P : List Change → Type 0 = λ rest. KeepsSound files (DropEntry e.dir e.name ∷ SetInode e.ino left ∷ rest) in
-    subst P (sym (touching_is tree e.dir now up.inode up.found)) (keeps_sound files group it.sound nodes revives (omega (arith, most, dir)) last kept (λ h. linked_same left_inodes e.dir up.inode (touched now up.inode) at refl refl (linked_set tree.inodes e.ino left (plain_linked e.ino left (ap is_dir it.kind ∙ plain)) h)))
+    subst P (sym (touching_is tree e.dir now no_share (share_of e) up.inode up.found)) (keeps_sound files group it.sound nodes revives (omega (arith, most, dir)) last kept (λ h. linked_set left_inodes e.dir left_up (counted_linked e.dir no_share (share_of e) up.inode now is_a_dir) (linked_set tree.inodes e.ino left (plain_linked e.ino left (ap is_dir it.kind ∙ plain)) h)))
 
 -- either the inode goes, or it stays with a link less
 pub leaving_cases : (files : Files) (e : Entry) (inode left : Inode) (now : ℕ) → Leaves files e inode left now → (P : Change → Type 0) → (names files.tree.entries e.ino ≡ 1 → is_open files e.ino ≡ false → P (DropInode e.ino)) → (is_dir inode.kind ≡ false → left.nlink + 1 ≡ names files.tree.entries e.ino → P (SetInode e.ino left))
@@ -184,9 +188,9 @@ leaving_cases files e inode left now it P drops sets = by (is_dir inode.kind) re
         let few = some in
         sets d (omega (arith, m, links, few))
 
-leaving_keeps : (files : Files) (e : Entry) (inode left : Inode) (now : ℕ) → Leaves files e inode left now → KeepsSound files (DropEntry e.dir e.name ∷ cond ((left.nlink == 0) && not (is_open files e.ino)) (DropInode e.ino) (SetInode e.ino left) ∷ touching files.tree e.dir now)
+leaving_keeps : (files : Files) (e : Entry) (inode left : Inode) (now : ℕ) → Leaves files e inode left now → KeepsSound files (DropEntry e.dir e.name ∷ cond ((left.nlink == 0) && not (is_open files e.ino)) (DropInode e.ino) (SetInode e.ino left) ∷ touching files.tree e.dir now no_share (share_of e))
 leaving_keeps files e inode left now it =
-    let P : Change → Type 0 = λ change. KeepsSound files (DropEntry e.dir e.name ∷ change ∷ touching files.tree e.dir now) in
+    let P : Change → Type 0 = λ change. KeepsSound files (DropEntry e.dir e.name ∷ change ∷ touching files.tree e.dir now no_share (share_of e)) in
     leaving_cases files e inode left now it P (λ one closed. drop_keeps files e inode left now it one closed) (λ plain links. unlink_keeps files e inode left now it plain links)
 
 less_small : (b : Bool) (n : ℕ) → n < 2 ^ 32 → (if b then 0 else n - 1) < 2 ^ 32

@@ -13,21 +13,25 @@ use Rattle.fs_model.specs.declared.inode.Entry.{Entry}
 use Rattle.fs_model.specs.declared.inode.Kind.TheVariants.{File, Dir}
 use Rattle.fs_model.specs.Backing.{is_node}
 use Rattle.fs_model.specs.Change.{applied, apply}
+use Rattle.fs_model.specs.declared.share.Share.{Share}
+use Rattle.fs_model.specs.Directory.{counted, no_share, share_of}
 use Rattle.fs_model.specs.Files.{Tree, Files, inode_at}
 use Rattle.fs_model.specs.Making.{touched, touching}
-use Rattle.fs_model.specs.Proper.{same_kind, is_inode_node, is_entry_node, is_name, are_words}
+use Rattle.fs_model.specs.Path.{is_dir}
+use Rattle.fs_model.specs.Proper.{same_kind, is_inode_node, is_name, are_words}
 use Rattle.fs_model.specs.Rename.{moving}
 use Rattle.fs_model.specs.Orphan.{revives_none, all_revive_none}
-use Rattle.fs_laws.proofs.Revives.{kept_revives, revive_append}
+use Rattle.fs_laws.proofs.Revives.{linked_revives, revive_append}
 use Rattle.fs_laws.specs.Sound.{IsSound, KeepsSound}
 use Rattle.fs_laws.proofs.Climb.{proper_of}
 use Rattle.fs_laws.proofs.Groups.{KeepsLinks, bytes_few, node_at, touching_is}
-use Rattle.fs_laws.proofs.Linked.{are_linked, linked_same}
+use Rattle.fs_laws.proofs.InodeKinds.{is_dir_same}
+use Rattle.fs_laws.proofs.Linked.{are_linked, counted_linked, dir_linked, linked_set}
 use Rattle.fs_laws.proofs.Local.{local_of, local_group}
-use Rattle.fs_laws.proofs.Makes.{entry_is_node, entry_node_from}
+use Rattle.fs_laws.proofs.Makes.{entry_is_node}
 use Rattle.fs_laws.specs.Maps.{all_weaken, set_other}
 use Rattle.fs_laws.proofs.Moves.{Moves, placed_at, rel_moved}
-use Rattle.fs_laws.proofs.Nodes.{node_of, node_number, node_touched}
+use Rattle.fs_laws.proofs.Nodes.{node_of, node_number, node_changed}
 use Rattle.fs_laws.specs.Orders.{numbers}
 use Rattle.fs_laws.proofs.Rel.{Rel, there_of, rel_of, inode_in, kind_is}
 use Rattle.fs_laws.proofs.Removals.{drop_node, parent_of_entry}
@@ -42,7 +46,7 @@ nodes_append : (a b : List Change) → list_all is_node a ≡ true → list_all 
 nodes_append [] b x y = y
 nodes_append (c ∷ a) b x y = let q = and_parts (is_node c) (list_all is_node a) x in and_from (is_node c) (list_all is_node (a ++ b)) q.0 (nodes_append a b q.1 y)
 
--- changes that leave kinds and links
+-- changes that leave kinds, and a link to each directory
 pub record Touches (t : Tree) (group : List Change) : Type 0 where
   pub nodes : list_all is_node group ≡ true
   pub few : sum_by cap group ≤ 320
@@ -67,44 +71,74 @@ joined_keeps files front tail sound nodes revives few linked it handles =
       handles = all_weaken (λ h. kind_is (apply files.tree front).inodes h.1 File) (λ h. kind_is (apply files.tree (front ++ tail)).inodes h.1 File) (λ h t. kinds h.1 File t) files.handles handles;
     }
 
+-- the two directories of a move, as they were found, with what comes and goes in each
+pub record Dirs (tree : Tree) (a b : ℕ) : Type 0 where
+  pub p : Inode
+  pub q : Inode
+  pub at_a : inode_at tree a ≡ Some p
+  pub at_b : inode_at tree b ≡ Some q
+  pub dir_p : same_kind p.kind Dir ≡ true
+  pub dir_q : same_kind q.kind Dir ≡ true
+  pub node_p : is_inode_node (a, p) ≡ true
+  pub node_q : is_inode_node (b, q) ≡ true
+  pub linked : are_linked tree.inodes ≡ true
+
 -- both directories change, or the one if they are one
-abbrev pub both : Tree → ℕ → ℕ → ℕ → List Change
-both tree a b now = touching tree a now ++ (if a == b then [] else touching tree b now)
+abbrev pub both : Tree → ℕ → ℕ → ℕ → Share → Share → List Change
+both tree a b now came gone = touching tree a now (if a == b then came else no_share) gone ++ (if a == b then [] else touching tree b now came no_share)
 
-pub both_touch : (tree t : Tree) (a b now : ℕ) (p q : Inode) → now < 2 ^ 64 → inode_at tree a ≡ Some p → inode_at tree b ≡ Some q → inode_in t.inodes a ≡ Some p → inode_in t.inodes b ≡ Some q → same_kind p.kind Dir ≡ true → same_kind q.kind Dir ≡ true → is_inode_node (a, p) ≡ true → is_inode_node (b, q) ≡ true → Rel t.inodes t.entries → Touches t (both tree a b now)
-both_touch tree t a b now p q moment fa fb ga gb da db na nb rel =
-    let P : List Change → Type 0 = λ first. Touches t (first ++ (if a == b then [] else touching tree b now)) in
-    let Q : List Change → Type 0 = λ second. Touches t (SetInode a (touched now p) ∷ (if a == b then [] else second)) in
-    subst P (sym (touching_is tree a now p fa)) (subst Q (sym (touching_is tree b now q fb)) (by (a == b) refl))
+pub both_touch : (tree t : Tree) (a b now : ℕ) (came gone : Share) → (d : Dirs tree a b) → now < 2 ^ 64 → inode_in t.inodes a ≡ Some d.p → inode_in t.inodes b ≡ Some d.q → Rel t.inodes t.entries → Touches t (both tree a b now came gone)
+both_touch tree t a b now came gone d moment ga gb rel =
+    let P : List Change → Type 0 = λ first. Touches t (first ++ (if a == b then [] else touching tree b now came no_share)) in
+    let Q : List Change → Type 0 = λ second. Touches t (SetInode a (touched now (counted (if a == b then came else no_share) gone d.p)) ∷ (if a == b then [] else second)) in
+    subst P (sym (touching_is tree a now (if a == b then came else no_share) gone d.p d.at_a)) (subst Q (sym (touching_is tree b now came no_share d.q d.at_b)) (by (a == b) refl))
   where
-    one : Rel (insert_entry nat_cmp t.inodes a (touched now p)) t.entries
-    one = rel_touched t.inodes t.entries a p (touched now p) ga refl refl rel
+    p_dir : is_dir d.p.kind ≡ true
+    p_dir = is_dir_same d.p.kind Dir d.dir_p
 
-    kept : KeepsKinds t.inodes (insert_entry nat_cmp t.inodes a (touched now p))
-    kept = keeps_kinds t.inodes a (touched now p) (λ o f. ap (λ (i : Inode). i.kind) (some_same (sym ga ∙ f)))
+    q_dir : is_dir d.q.kind ≡ true
+    q_dir = is_dir_same d.q.kind Dir d.dir_q
 
-    first : cap (SetInode a (touched now p)) ≡ 160
-    first = cap_plain a (touched now p) Dir refl da
+    -- the first directory, where this comes
+    left : Share → Inode
+    left c = touched now (counted c gone d.p)
 
-    first_revives : revives_none t (SetInode a (touched now p)) ≡ true
-    first_revives = kept_revives t a p (touched now p) ga refl
+    one : (c : Share) → Rel (insert_entry nat_cmp t.inodes a (left c)) t.entries
+    one c = rel_touched t.inodes t.entries a d.p (left c) ga refl (λ z. absurd (false≢true (sym z ∙ p_dir))) rel
 
-    second : cap (SetInode b (touched now q)) ≡ 160
-    second = cap_plain b (touched now q) Dir refl db
+    kept : (c : Share) → KeepsKinds t.inodes (insert_entry nat_cmp t.inodes a (left c))
+    kept c = keeps_kinds t.inodes a (left c) (λ o f. ap (λ (i : Inode). i.kind) (some_same (sym ga ∙ f)))
 
-    by : (s : Bool) → (a == b) ≡ s → Touches t (SetInode a (touched now p) ∷ cond s [] (SetInode b (touched now q) ∷ []))
-    by true e = record { nodes = and_from (is_inode_node (a, touched now p)) true (node_touched a p now moment na) refl; few = omega (arith, first); revives = and_from (revives_none t (SetInode a (touched now p))) true first_revives refl; linked = λ h. linked_same t.inodes a p (touched now p) ga refl refl h; rel = one; kinds = kept }
+    first : (c : Share) → cap (SetInode a (left c)) ≡ 160
+    first c = cap_plain a (left c) Dir refl d.dir_p
+
+    first_revives : (c : Share) → revives_none t (SetInode a (left c)) ≡ true
+    first_revives c = linked_revives t a d.p (left c) ga (dir_linked tree.inodes a d.p d.at_a p_dir d.linked)
+
+    first_linked : (c : Share) → KeepsLinks t (SetInode a (left c) ∷ [])
+    first_linked c = λ h. linked_set t.inodes a (left c) (counted_linked a c gone d.p now p_dir) h
+
+    come : Inode
+    come = touched now (counted came no_share d.q)
+
+    second : cap (SetInode b come) ≡ 160
+    second = cap_plain b come Dir refl d.dir_q
+
+    by : (s : Bool) → (a == b) ≡ s → Touches t (SetInode a (left (cond s came no_share)) ∷ cond s [] (SetInode b come ∷ []))
+    by true e = let few = first came in record { nodes = and_from (is_inode_node (a, left came)) true (node_changed a came gone d.p now moment d.node_p) refl; few = omega (arith, few); revives = and_from (revives_none t (SetInode a (left came))) true (first_revives came) refl; linked = first_linked came; rel = one came; kinds = kept came }
     by false e =
+        let it : Inode = left no_share in
+        let few = first no_share in
         let apart : b ≡ a → ⊥ = λ same. false≢true (sym e ∙ eq-eqb a b (sym same)) in
-        let at : inode_in (insert_entry nat_cmp t.inodes a (touched now p)) b ≡ Some q = set_other nat_cmp numbers t.inodes a (touched now p) b apart ∙ gb in
+        let at : inode_in (insert_entry nat_cmp t.inodes a it) b ≡ Some d.q = set_other nat_cmp numbers t.inodes a it b apart ∙ gb in
         record {
-          nodes = and_from (is_inode_node (a, touched now p)) (list_all is_node (SetInode b (touched now q) ∷ [])) (node_touched a p now moment na) (and_from (is_inode_node (b, touched now q)) true (node_touched b q now moment nb) refl);
-          few = omega (arith, first, second);
-          revives = and_from (revives_none t (SetInode a (touched now p))) (all_revive_none (applied t (SetInode a (touched now p))) (SetInode b (touched now q) ∷ [])) first_revives
-              (and_from (revives_none (applied t (SetInode a (touched now p))) (SetInode b (touched now q))) true (kept_revives (applied t (SetInode a (touched now p))) b q (touched now q) at refl) refl);
-          linked = λ h. linked_same (insert_entry nat_cmp t.inodes a (touched now p)) b q (touched now q) at refl refl (linked_same t.inodes a p (touched now p) ga refl refl h);
-          rel = rel_touched (insert_entry nat_cmp t.inodes a (touched now p)) t.entries b q (touched now q) at refl refl one;
-          kinds = λ x k h. keeps_kinds (insert_entry nat_cmp t.inodes a (touched now p)) b (touched now q) (λ o f. ap (λ (i : Inode). i.kind) (some_same (sym at ∙ f))) x k (kept x k h);
+          nodes = and_from (is_inode_node (a, it)) (list_all is_node (SetInode b come ∷ [])) (node_changed a no_share gone d.p now moment d.node_p) (and_from (is_inode_node (b, come)) true (node_changed b came no_share d.q now moment d.node_q) refl);
+          few = omega (arith, few, second);
+          revives = and_from (revives_none t (SetInode a it)) (all_revive_none (applied t (SetInode a it)) (SetInode b come ∷ [])) (first_revives no_share)
+              (and_from (revives_none (applied t (SetInode a it)) (SetInode b come)) true (linked_revives (applied t (SetInode a it)) b d.q come at (dir_linked tree.inodes b d.q d.at_b q_dir d.linked)) refl);
+          linked = λ h. linked_set (insert_entry nat_cmp t.inodes a it) b come (counted_linked b came no_share d.q now q_dir) (first_linked no_share h);
+          rel = rel_touched (insert_entry nat_cmp t.inodes a it) t.entries b d.q come at refl (λ z. absurd (false≢true (sym z ∙ q_dir))) (one no_share);
+          kinds = λ x k h. keeps_kinds (insert_entry nat_cmp t.inodes a it) b come (λ o f. ap (λ (i : Inode). i.kind) (some_same (sym at ∙ f))) x k (kept no_share x k h);
         }
 
 -- a name moves to a free place
@@ -123,5 +157,6 @@ moving_free files from dir name now sound moment m good =
     let nodes : list_all is_node front ≡ true = and_from (is_node (SetEntry e)) (list_all is_node (DropEntry from.dir from.name ∷ [])) (entry_is_node e good (node_number dir new.inode new_node) word (node_of from.ino it.inode (node_at tree sound.proper from.ino it.inode it.found)).ino)
     (and_from (are_words (from.dir ∷ []) && is_name from.name) true (drop_node files from sound m.here) refl) in
     let after = rel_moved tree.inodes tree.entries from dir name rel m in
-    joined_keeps files front (both tree from.dir dir now) sound nodes refl (omega arith) (λ h. h)
-    (both_touch tree (apply tree front) from.dir dir now old.inode new.inode moment old.found new.found old.found new.found old.same new.same old_node new_node after) sound.handles
+    let dirs : Dirs tree from.dir dir = record { p = old.inode; q = new.inode; at_a = old.found; at_b = new.found; dir_p = old.same; dir_q = new.same; node_p = old_node; node_q = new_node; linked = sound.proper.linked } in
+    joined_keeps files front (both tree from.dir dir now (share_of e) (share_of from)) sound nodes refl (omega arith) (λ h. h)
+    (both_touch tree (apply tree front) from.dir dir now (share_of e) (share_of from) dirs moment old.found new.found after) sound.handles

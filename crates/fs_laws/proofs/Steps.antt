@@ -36,8 +36,8 @@ keeps_kinds inodes ino new same x kind h = elim (key_cases nat_cmp numbers x ino
 pub sound_entry_kept : (before after : Inodes) (e : Entry) → KeepsKinds before after → SoundEntry before e → SoundEntry after e
 sound_entry_kept before after e keeps sound = record { dir = keeps e.dir Dir sound.dir; ino = keeps e.ino e.kind sound.ino; root = sound.root }
 
--- an inode that is set with its kind and links as they were
-pub rel_touched : (inodes : Inodes) (entries : Entries) (ino : ℕ) (old new : Inode) → inode_in inodes ino ≡ Some old → new.kind ≡ old.kind → new.nlink ≡ old.nlink → Rel inodes entries → Rel (insert_entry nat_cmp inodes ino new) entries
+-- an inode that is set with its kind as it was, and with its links, if it is no directory
+pub rel_touched : (inodes : Inodes) (entries : Entries) (ino : ℕ) (old new : Inode) → inode_in inodes ino ≡ Some old → new.kind ≡ old.kind → (is_dir old.kind ≡ false → new.nlink ≡ old.nlink) → Rel inodes entries → Rel (insert_entry nat_cmp inodes ino new) entries
 rel_touched inodes entries ino old new found kind nlink rel =
     let keeps = keeps_kinds inodes ino new (λ o f. kind ∙ ap (λ (i : Inode). i.kind) (some_same (sym found ∙ f))) in
     record {
@@ -49,7 +49,7 @@ rel_touched inodes entries ino old new found kind nlink rel =
             let is : new ≡ i = some_same (sym (set_here nat_cmp numbers inodes ino new) ∙ g) in
             let sound = rel.inode x old (subst (λ q. inode_in inodes q ≡ Some old) (sym here) found) in
             subst (λ j. SoundInode entries x j) is (record {
-              plain = λ d. nlink ∙ sound.plain (ap is_dir (sym kind) ∙ d);
+              plain = λ d. nlink (ap is_dir (sym kind) ∙ d) ∙ sound.plain (ap is_dir (sym kind) ∙ d);
               one = λ d r. sound.one (ap is_dir (sym kind) ∙ d) r;
               reaches = λ d. sound.reaches (ap is_dir (sym kind) ∙ d);
             })

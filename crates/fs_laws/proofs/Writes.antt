@@ -144,7 +144,7 @@ written_sound files ino inode now offs n byte sound moment small found all some 
     } in
     record {
       sound = record {
-        proper = proper_of (tree_written tree ino inode now offs n byte) after (rel_touched tree.inodes tree.entries ino inode new found refl refl (rel_of tree sound.proper)) (linked_same tree.inodes ino inode new found refl refl sound.proper.linked);
+        proper = proper_of (tree_written tree ino inode now offs n byte) after (rel_touched tree.inodes tree.entries ino inode new found refl (λ d. refl) (rel_of tree sound.proper)) (linked_same tree.inodes ino inode new found refl refl sound.proper.linked);
         handles = all_weaken (λ h. kind_is tree.inodes h.1 File) (λ h. kind_is (insert_entry nat_cmp tree.inodes ino new) h.1 File) (λ h t. keeps h.1 File t) files.handles sound.handles;
       };
     }

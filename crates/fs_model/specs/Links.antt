@@ -6,7 +6,7 @@ use Rattle.fs_model.specs.declared.inode.Inode.{Inode}
 use Rattle.fs_model.specs.declared.inode.Entry.{Entry}
 use Rattle.fs_model.specs.declared.refusal.Refusal.TheVariants.{Eexist, Enotdir, Eisdir, Enotempty, Enametoolong, Einval, Emlink}
 use Rattle.fs_model.specs.declared.reply.Reply.TheVariants.{Done}
-use Rattle.fs_model.specs.Directory.{has_no_entry, is_linked_out}
+use Rattle.fs_model.specs.Directory.{has_no_entry, is_linked_out, no_share, share_of}
 use Rattle.fs_model.specs.Files.{Tree, Files, entry_at}
 use Rattle.fs_model.specs.Making.{is_name_path, touched, touching}
 use Rattle.fs_model.specs.Orphan.{is_open}
@@ -16,7 +16,8 @@ use Rattle.fs_model.specs.Path.{has_long_name, components, last_of, walked, pare
 -- an inode has one name more
 abbrev pub linking : Tree → Entry → Inode → ℕ → List ℕ → ℕ → List Change
 linking tree entry inode dir name now =
-    SetEntry (record entry { dir = dir; name = name }) ∷ SetInode entry.ino (touched now (record inode { nlink = inode.nlink + 1 })) ∷ touching tree dir now
+    let new = record entry { dir = dir; name = name } in
+    SetEntry new ∷ SetInode entry.ino (touched now (record inode { nlink = inode.nlink + 1 })) ∷ touching tree dir now (share_of new) no_share
 
 -- an inode with one link less; a directory has but one name
 abbrev pub less_linked : ℕ → Inode → Inode
@@ -30,7 +31,7 @@ losing files ino now inode =
 
 -- a name goes
 abbrev pub removing : Files → Entry → Inode → ℕ → List Change
-removing files entry inode now = DropEntry entry.dir entry.name ∷ losing files entry.ino now inode ∷ touching files.tree entry.dir now
+removing files entry inode now = DropEntry entry.dir entry.name ∷ losing files entry.ino now inode ∷ touching files.tree entry.dir now no_share (share_of entry)
 
 -- gives an inode that is no directory a further name
 abbrev pub linked : Files → ℕ → List ℕ → List ℕ → Plan

@@ -4,12 +4,14 @@ use Rattle.std.specs.Option.{option_map_or}
 use Rattle.fs_model.specs.declared.change.Change.{Change}
 use Rattle.fs_model.specs.declared.change.Change.TheVariants.{SetInode, SetEntry}
 use Rattle.fs_model.specs.declared.inode.Inode.{Inode}
+use Rattle.fs_model.specs.declared.inode.Entry.{Entry}
 use Rattle.fs_model.specs.declared.inode.Kind.{Kind}
 use Rattle.fs_model.specs.declared.inode.Kind.TheVariants.{File, Dir, Symlink}
 use Rattle.fs_model.specs.declared.refusal.Refusal.TheVariants.{Eexist, Enametoolong, Einval, Emlink, Enfile}
 use Rattle.fs_model.specs.declared.refusal.Table.TheVariants.{Inodes}
 use Rattle.fs_model.specs.declared.reply.Reply.TheVariants.{Ino}
-use Rattle.fs_model.specs.Directory.{dir_links, is_linked_out}
+use Rattle.fs_model.specs.declared.share.Share.{Share}
+use Rattle.fs_model.specs.Directory.{counted, dir_links, is_linked_out, no_share, share_of}
 use Rattle.fs_model.specs.Files.{Tree, Files, inode_at, entry_at}
 use Rattle.fs_model.specs.Outcome.{Plan, refuse, with_found}
 use Rattle.fs_model.specs.Path.{is_path, has_long_name, is_empty, is_root, components, last_of, parent_of, is_dir}
@@ -48,15 +50,15 @@ new_symlink target now = new_inode Symlink 511 1 (length target) target now
 abbrev pub touched : ℕ → Inode → Inode
 touched now inode = record inode { ctime = now; mtime = now }
 
--- an inode is changed at this moment, as a directory is when its entries change
-abbrev pub touching : Tree → ℕ → ℕ → List Change
-touching tree ino now = option_map_or (λ inode. SetInode ino (touched now inode) ∷ []) (inode_at tree ino) []
+-- a directory changes at this moment, as an entry comes and another goes
+abbrev pub touching : Tree → ℕ → ℕ → Share → Share → List Change
+touching tree dir now came gone = option_map_or (λ inode. SetInode dir (touched now (counted came gone inode)) ∷ []) (inode_at tree dir) []
 
 -- a new inode of the next number, under a name in a directory
 abbrev pub making : Tree → ℕ → List ℕ → Inode → ℕ → List Change
 making tree dir name inode now =
-    let ino = tree.highest + 1 in
-    SetEntry (record { dir = dir; name = name; ino = ino; kind = inode.kind }) ∷ SetInode ino inode ∷ touching tree dir now
+    let entry : Entry = record { dir = dir; name = name; ino = tree.highest + 1; kind = inode.kind } in
+    SetEntry entry ∷ SetInode entry.ino inode ∷ touching tree dir now (share_of entry) no_share
 
 -- makes this inode under a path, where nothing may be yet
 abbrev pub made : Files → ℕ → List ℕ → Inode → Plan

@@ -5,12 +5,13 @@ use Rattle.fs_model.specs.declared.change.Change.TheVariants.{SetEntry, DropEntr
 use Rattle.fs_model.specs.declared.inode.Entry.{Entry}
 use Rattle.fs_model.specs.declared.refusal.Refusal.TheVariants.{Enotdir, Eisdir, Enotempty, Enametoolong, Einval, Emlink}
 use Rattle.fs_model.specs.declared.reply.Reply.TheVariants.{Done}
-use Rattle.fs_model.specs.Directory.{dir_links, has_no_entry, is_linked_out}
+use Rattle.fs_model.specs.declared.share.Share.{Share}
+use Rattle.fs_model.specs.Directory.{dir_links, has_no_entry, is_linked_out, no_share, share_of}
 use Rattle.fs_model.specs.Files.{Files, entry_at}
 use Rattle.fs_model.specs.Links.{losing}
 use Rattle.fs_model.specs.Making.{is_name_path, touching}
 use Rattle.fs_model.specs.Outcome.{Plan, refuse, with_found, with_named}
-use Rattle.fs_model.specs.Path.{has_long_name, components, last_of, walked, parent_of, is_dir, is_same_name}
+use Rattle.fs_model.specs.Path.{has_long_name, components, last_of, walked, parent_of, is_dir, is_empty, is_same_name}
 
 -- whether the second list of components lies under the first
 abbrev pub is_under : List (List ℕ) → List (List ℕ) → Bool
@@ -19,11 +20,17 @@ is_under [] (name ∷ new) = true
 is_under (name ∷ old) [] = false
 is_under (name ∷ old) (other ∷ new) = is_same_name name other && is_under old new
 
+-- what an entry adds where it moves to; over a name that stood there, nothing
+abbrev pub coming : Entry → List Change → Share
+coming new lost = if is_empty lost then share_of new else no_share
+
 -- An entry is moved to a name in a directory, and what was lost there goes. Both directories change, or the one if they are one.
 abbrev pub moving : Files → Entry → ℕ → List ℕ → List Change → ℕ → List Change
 moving files from dir name lost now =
-    SetEntry (record from { dir = dir; name = name }) ∷ DropEntry from.dir from.name
-    ∷ (lost ++ touching files.tree from.dir now ++ (if from.dir == dir then [] else touching files.tree dir now))
+    let new = record from { dir = dir; name = name } in
+    SetEntry new ∷ DropEntry from.dir from.name
+    ∷ (lost ++ touching files.tree from.dir now (if from.dir == dir then coming new lost else no_share) (share_of from)
+    ++ (if from.dir == dir then [] else touching files.tree dir now (coming new lost) no_share))
 
 -- a directory that comes to another one needs a link there
 abbrev pub comes_linked_out : Files → Entry → ℕ → Bool

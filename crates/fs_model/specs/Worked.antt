@@ -1,8 +1,10 @@
 -- Operations of one caller with the answers that they must get, worked by hand.
-use Rattle.std.specs.Prelude.{ℕ, ◌-◌, if◌then◌else◌, List, [], ◌∷◌, ◌++◌, replicate, codes}
+use Rattle.std.specs.Prelude.{ℕ, Bool, ◌-◌, ◌==◌, ◌&&◌, ◌||◌, not, if◌then◌else◌, List, [], ◌∷◌, ◌++◌, replicate, codes}
+use Rattle.std.specs.List.{list_all}
 use Rattle.fs_model.specs.declared.change.Change.{Change}
 use Rattle.fs_model.specs.declared.change.Change.TheVariants.{SetInode, SetEntry, DropEntry, SetBlock}
 use Rattle.fs_model.specs.declared.inode.Entry.{Entry}
+use Rattle.fs_model.specs.declared.inode.Inode.{Inode}
 use Rattle.fs_model.specs.declared.inode.Kind.TheVariants.{File, Dir}
 use Rattle.fs_model.specs.declared.op.Op.{Op}
 use Rattle.fs_model.specs.declared.op.Op.TheVariants.{Create, Mkdir, Symlink, Link, Unlink, Rmdir, Rename, OpenFile, Close, Read, Write, Truncate, Fsync, Flush, List as ListDir, Stat, Readlink, Chmod}
@@ -10,10 +12,12 @@ use Rattle.fs_model.specs.declared.refusal.Refusal.TheVariants.{Enoent, Eexist, 
 use Rattle.fs_model.specs.declared.refusal.Table.TheVariants.{Orphans}
 use Rattle.fs_model.specs.declared.reply.Reply.{Reply}
 use Rattle.fs_model.specs.declared.reply.Reply.TheVariants.{Done, Ino, Count, Bytes, List as Listed, Stat as Told, Target, Refused}
+use Rattle.fs_model.specs.Directory.{dir_links, dir_size}
 use Rattle.fs_model.specs.Files.{Tree, Files}
 use Rattle.fs_model.specs.Making.{new_dir, new_file}
 use Rattle.fs_model.specs.Operation.{outcome_of, reply_in, files_in}
 use Rattle.fs_model.specs.Orphan.{within_orphans, leaves_orphan}
+use Rattle.fs_model.specs.Path.{is_dir}
 use Rattle.fs_model.specs.Recovery.{Head}
 
 -- a fresh volume's files: the root alone
@@ -136,9 +140,32 @@ cuts = new_open ++ (Write 0 0 5 97 ∷ Truncate 0 2 ∷ Truncate 0 4 ∷ Read 0 
 abbrev pub cuts_replies : List Reply
 cuts_replies = Ino 65 ∷ Ino 65 ∷ Count 5 ∷ Done ∷ Done ∷ Bytes (97 ∷ 97 ∷ 0 ∷ 0 ∷ []) ∷ Done ∷ Done ∷ []
 
+-- whether each directory's inode says the links and the size that are reckoned
+abbrev pub says_reckoned : Tree → Bool
+says_reckoned tree = list_all (λ e. not (is_dir e.1.kind) || ((e.1.nlink == dir_links tree e.0) && (e.1.size == dir_size tree e.0))) tree.inodes
+
+-- directories and files that move, within a directory and to another, to a free name and over one; and what goes
+abbrev pub moves : List Op
+moves =
+    Mkdir (codes "/d") 493 ∷ Mkdir (codes "/e") 493 ∷ Mkdir (codes "/d/sub") 493 ∷ Create (codes "/d/f") 420 ∷ Create (codes "/e/f") 420
+    ∷ Rename (codes "/d/sub") (codes "/e/subordinate") ∷ Rename (codes "/d/f") (codes "/d/file.of.old") ∷ Rename (codes "/d/file.of.old") (codes "/e/f")
+    ∷ Mkdir (codes "/d/g") 493 ∷ Mkdir (codes "/d/h") 493 ∷ Rename (codes "/d/g") (codes "/d/h") ∷ Rename (codes "/d/h") (codes "/e/subordinate")
+    ∷ Mkdir (codes "/i") 493 ∷ Rmdir (codes "/i") ∷ Unlink (codes "/e/f") ∷ []
+
+abbrev pub moves_replies : List Reply
+moves_replies =
+    Ino 65 ∷ Ino 66 ∷ Ino 67 ∷ Ino 68 ∷ Ino 69
+    ∷ Done ∷ Done ∷ Done
+    ∷ Ino 70 ∷ Ino 71 ∷ Done ∷ Done
+    ∷ Ino 72 ∷ Done ∷ Done ∷ []
+
+-- the root where it has a file `f`: the bytes of the inode's node, and of the entry's
+abbrev pub root_of_one : Inode
+root_of_one = record (new_dir 493 0) { size = 224 }
+
 -- the group of a new file
 abbrev pub new_file_group : List Change
-new_file_group = SetEntry (in_root (codes "f") 65) ∷ SetInode 65 (new_file 420 0) ∷ SetInode 1 (new_dir 493 0) ∷ []
+new_file_group = SetEntry (in_root (codes "f") 65) ∷ SetInode 65 (new_file 420 0) ∷ SetInode 1 root_of_one ∷ []
 
 -- what the heads have of a file that was made, got a byte, and lost its name while it was open; nothing is synced
 abbrev pub one_file_heads : List Head
@@ -146,7 +173,7 @@ one_file_heads =
     record { groups = []; synced = 0 }
     ∷ record {
       groups =
-          ((10, SetEntry (in_root (codes "f") 65)) ∷ (11, SetInode 65 (new_file 420 0)) ∷ (12, SetInode 1 (new_dir 493 0)) ∷ [])
+          ((10, SetEntry (in_root (codes "f") 65)) ∷ (11, SetInode 65 (new_file 420 0)) ∷ (12, SetInode 1 root_of_one) ∷ [])
           ∷ ((14, DropEntry 1 (codes "f")) ∷ (15, SetInode 65 (record (new_file 420 0) { nlink = 0 })) ∷ (16, SetInode 1 (new_dir 493 0)) ∷ [])
           ∷ [];
       synced = 0;
@@ -160,4 +187,4 @@ once_used = record { inodes = (1, new_dir 493 0) ∷ []; blocks = []; entries = 
 
 -- a tree with that file, and these blocks
 abbrev pub with_one_file : List ((ℕ × ℕ) × List ℕ) → Tree
-with_one_file blocks = record { inodes = (1, new_dir 493 0) ∷ (65, new_file 420 0) ∷ []; blocks = blocks; entries = ((1, codes "f"), in_root (codes "f") 65) ∷ []; highest = 65 }
+with_one_file blocks = record { inodes = (1, root_of_one) ∷ (65, new_file 420 0) ∷ []; blocks = blocks; entries = ((1, codes "f"), in_root (codes "f") 65) ∷ []; highest = 65 }

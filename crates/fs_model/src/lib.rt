@@ -22,6 +22,7 @@ mod page_node;
 mod refusal;
 mod reply;
 mod rows;
+mod share;
 mod space;
 mod trace;
 mod worked;
@@ -42,11 +43,12 @@ pub use crate::page_node::PageNode;
 pub use crate::refusal::{Cause, NoSpace, Refusal, Scarce, Table};
 pub use crate::reply::Reply;
 pub use crate::rows::Rows;
+pub use crate::share::Share;
 pub use crate::space::{Class, Grant, Need, Space};
 pub use crate::trace::TraceLine;
 pub use crate::worked::{
-    a_trace_is_judged, groups_and_trees_are_told, names_are_answered, open_files_are_answered,
-    recovery_is_told,
+    a_trace_is_judged, directories_are_counted, groups_and_trees_are_told, names_are_answered,
+    open_files_are_answered, recovery_is_told,
 };
 
 #[cfg(test)]

@@ -1,6 +1,6 @@
 // Runs of operations worked by hand: what the definitions answer on them.
 
-ghost use Rattle.std.specs.Prelude.{◌≡◌, ◌∷◌, [], codes};
+ghost use Rattle.std.specs.Prelude.{◌≡◌, ◌∷◌, [], IsTrue, codes};
 ghost use Rattle.fs_model.specs.declared.op.Op.TheVariants.{Create, Link, Unlink};
 ghost use Rattle.fs_model.specs.declared.space.Class.TheVariants.{Ordinary, Removal};
 ghost use Rattle.fs_model.specs.declared.refusal.Refusal.TheVariants.{Emlink};
@@ -10,7 +10,7 @@ ghost use Rattle.fs_model.specs.Need.{need_of};
 ghost use Rattle.fs_model.specs.Operation.{group_of};
 ghost use Rattle.fs_model.specs.Proper.{IsProper};
 ghost use Rattle.fs_model.specs.Recovery.{recovered, taken};
-ghost use Rattle.fs_model.specs.Worked.{new_file_group, one_file_heads, once_used, with_one_file, files_after, fresh, many_links, replies_of, replies_within, one_hash, one_hash_replies, long_names, long_names_replies, refusals, refusals_replies, changes_of_names, changes_of_names_replies, three_orphans, three_orphans_replies, over_open, over_open_replies, limits, limits_replies, over_a_page, over_a_page_replies, holes, holes_replies, cuts, cuts_replies};
+ghost use Rattle.fs_model.specs.Worked.{new_file_group, one_file_heads, once_used, with_one_file, files_after, fresh, many_links, replies_of, replies_within, one_hash, one_hash_replies, long_names, long_names_replies, refusals, refusals_replies, changes_of_names, changes_of_names_replies, moves, moves_replies, says_reckoned, three_orphans, three_orphans_replies, over_open, over_open_replies, limits, limits_replies, over_a_page, over_a_page_replies, holes, holes_replies, cuts, cuts_replies};
 ghost use Rattle.fs_model.specs.WorkedTrace.{tight, first_line, second_line, at_second, then, too_much, too_little};
 
 /// Names: two of one hash, the longest, each refusal, links and targets, directories that move, and full tables.
@@ -41,6 +41,13 @@ pub fn groups_and_trees_are_told()
     ensures unlinked { (files_after fresh (Create (codes "/f") 420 ∷ Unlink (codes "/f") ∷ [])).tree ≡ once_used }
     ensures proper { IsProper (files_after fresh changes_of_names).tree }
     ensures orphaned { IsProper (files_after fresh three_orphans).tree }
+{}
+
+/// Directories whose entries come, go and move say the links and the size that are reckoned.
+pub fn directories_are_counted()
+    ensures replies { replies_of fresh moves ≡ moves_replies }
+    ensures moves { IsTrue (says_reckoned (files_after fresh moves).tree) }
+    ensures changes { IsTrue (says_reckoned (files_after fresh changes_of_names).tree) }
 {}
 
 /// What a mount may find of a file that was made, got a byte, and lost its name while it was open: nothing of it; its

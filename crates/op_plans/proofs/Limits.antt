@@ -17,6 +17,8 @@ use Rattle.fs_model.specs.declared.inode.Kind.{Kind}
 use Rattle.fs_model.specs.declared.inode.Kind.TheVariants.{File, Dir, Symlink, Block, Char, Fifo, Socket}
 use Rattle.fs_model.specs.Backing.{group_limit, is_node}
 use Rattle.fs_model.specs.Cover.{inode_bytes, entry_bytes, block_bytes, round_8}
+use Rattle.fs_model.specs.declared.share.Share.{Share}
+use Rattle.fs_model.specs.Directory.{counted, no_share, share_of}
 use Rattle.fs_model.specs.Files.{Tree, Files, Inodes, inode_at, block_at, size_of}
 use Rattle.fs_model.specs.Links.{less_linked, linking, losing, removing}
 use Rattle.fs_model.specs.Making.{making, touched, touching}
@@ -24,7 +26,7 @@ use Rattle.fs_model.specs.Need.{change_bytes, truncation_need}
 use Rattle.fs_model.specs.Orphan.{is_open}
 use Rattle.fs_model.specs.Path.{is_empty}
 use Rattle.fs_model.specs.Proper.{IsProper, has_kind, has_data, is_inode_node, same_kind}
-use Rattle.fs_model.specs.Rename.{moving}
+use Rattle.fs_model.specs.Rename.{coming, moving}
 use Rattle.fs_model.specs.Truncation.{truncating}
 use Rattle.op_plans.proofs.Asked.{one_little, rounded}
 
@@ -71,13 +73,13 @@ plain_little ino inode d h =
     let none : length inode.extra ≡ 0 = no_bytes inode.extra (has_data inode.kind) d (has_room ino inode h) in
     rounded (160 + length inode.extra) 20 (omega arith)
 
-touching_little : (tree : Tree) (dir now : ℕ) → has_kind tree dir Dir ≡ true → list_all is_node (touching tree dir now) ≡ true → sum_by (change_bytes tree) (touching tree dir now) ≤ 160
-touching_little tree dir now = by (inode_at tree dir)
+touching_little : (tree : Tree) (dir now : ℕ) (came gone : Share) → has_kind tree dir Dir ≡ true → list_all is_node (touching tree dir now came gone) ≡ true → sum_by (change_bytes tree) (touching tree dir now came gone) ≤ 160
+touching_little tree dir now came gone = by (inode_at tree dir)
   where
-    by : (at : Option Inode) → option_map_or (λ inode. same_kind inode.kind Dir) at false ≡ true → list_all is_node (option_map_or (λ inode. SetInode dir (touched now inode) ∷ []) at []) ≡ true
-        → sum_by (change_bytes tree) (option_map_or (λ inode. SetInode dir (touched now inode) ∷ []) at []) ≤ 160
+    by : (at : Option Inode) → option_map_or (λ inode. same_kind inode.kind Dir) at false ≡ true → list_all is_node (option_map_or (λ inode. SetInode dir (touched now (counted came gone inode)) ∷ []) at []) ≡ true
+        → sum_by (change_bytes tree) (option_map_or (λ inode. SetInode dir (touched now (counted came gone inode)) ∷ []) at []) ≤ 160
     by None d h = omega arith
-    by (Some inode) d h = rw (sum_by-cons (change_bytes tree) (SetInode dir (touched now inode)) []) (let little = plain_little dir (touched now inode) (dir_has_no_data inode.kind d) (and_parts (is_node (SetInode dir (touched now inode))) true h).0 in omega (arith, little))
+    by (Some inode) d h = rw (sum_by-cons (change_bytes tree) (SetInode dir (touched now (counted came gone inode))) []) (let little = plain_little dir (touched now (counted came gone inode)) (dir_has_no_data inode.kind d) (and_parts (is_node (SetInode dir (touched now (counted came gone inode)))) true h).0 in omega (arith, little))
 
 losing_little : (files : Files) (ino now : ℕ) (inode : Inode) → IsProper files.tree → inode_at files.tree ino ≡ Some inode → is_node (losing files ino now inode) ≡ true → change_bytes files.tree (losing files ino now inode) ≤ 4256
 losing_little files ino now inode proper found = by (found_little files.tree.inodes ino inode found proper.inode_nodes) (((less_linked now inode).nlink == 0) && not (is_open files ino))
@@ -102,51 +104,53 @@ sum_two tree a b rest = sum_by-cons (change_bytes tree) a (b ∷ rest) ∙ ap (�
 pub making_fits : (tree : Tree) (dir : ℕ) (name : List ℕ) (inode : Inode) (now : ℕ) → has_kind tree dir Dir ≡ true → list_all is_node (making tree dir name inode now) ≡ true → sum_by (change_bytes tree) (making tree dir name inode now) ≤ group_limit
 making_fits tree dir name inode now d h =
     let entry : Entry = record { dir = dir; name = name; ino = tree.highest + 1; kind = inode.kind } in
-    let n = split_two (SetEntry entry) (SetInode (tree.highest + 1) inode) (touching tree dir now) h in
+    let n = split_two (SetEntry entry) (SetInode (tree.highest + 1) inode) (touching tree dir now (share_of entry) no_share) h in
     let first = entry_little entry n.0 in
     let second = inode_little (tree.highest + 1) inode n.1 in
-    let rest = touching_little tree dir now d n.2 in
-    rw (sum_two tree (SetEntry entry) (SetInode (tree.highest + 1) inode) (touching tree dir now)) (omega (arith, first, second, rest))
+    let rest = touching_little tree dir now (share_of entry) no_share d n.2 in
+    rw (sum_two tree (SetEntry entry) (SetInode (tree.highest + 1) inode) (touching tree dir now (share_of entry) no_share)) (omega (arith, first, second, rest))
 
 pub linking_fits : (tree : Tree) (entry : Entry) (inode : Inode) (dir : ℕ) (name : List ℕ) (now : ℕ) → has_kind tree dir Dir ≡ true → list_all is_node (linking tree entry inode dir name now) ≡ true → sum_by (change_bytes tree) (linking tree entry inode dir name now) ≤ group_limit
 linking_fits tree entry inode dir name now d h =
     let new : Entry = record entry { dir = dir; name = name } in
     let more : Inode = touched now (record inode { nlink = inode.nlink + 1 }) in
-    let n = split_two (SetEntry new) (SetInode entry.ino more) (touching tree dir now) h in
+    let n = split_two (SetEntry new) (SetInode entry.ino more) (touching tree dir now (share_of new) no_share) h in
     let first = entry_little new n.0 in
     let second = inode_little entry.ino more n.1 in
-    let rest = touching_little tree dir now d n.2 in
-    rw (sum_two tree (SetEntry new) (SetInode entry.ino more) (touching tree dir now)) (omega (arith, first, second, rest))
+    let rest = touching_little tree dir now (share_of new) no_share d n.2 in
+    rw (sum_two tree (SetEntry new) (SetInode entry.ino more) (touching tree dir now (share_of new) no_share)) (omega (arith, first, second, rest))
 
 pub removing_fits : (files : Files) (entry : Entry) (inode : Inode) (now : ℕ) → IsProper files.tree → inode_at files.tree entry.ino ≡ Some inode → has_kind files.tree entry.dir Dir ≡ true → list_all is_node (removing files entry inode now) ≡ true
     → sum_by (change_bytes files.tree) (removing files entry inode now) ≤ group_limit
 removing_fits files entry inode now proper found d h =
     let lost : Change = losing files entry.ino now inode in
-    let n = split_two (DropEntry entry.dir entry.name) lost (touching files.tree entry.dir now) h in
+    let n = split_two (DropEntry entry.dir entry.name) lost (touching files.tree entry.dir now no_share (share_of entry)) h in
     let first = drop_little entry.dir entry.name n.0 in
     let second = losing_little files entry.ino now inode proper found n.1 in
-    let rest = touching_little files.tree entry.dir now d n.2 in
-    rw (sum_two files.tree (DropEntry entry.dir entry.name) lost (touching files.tree entry.dir now)) (omega (arith, first, second, rest))
+    let rest = touching_little files.tree entry.dir now no_share (share_of entry) d n.2 in
+    rw (sum_two files.tree (DropEntry entry.dir entry.name) lost (touching files.tree entry.dir now no_share (share_of entry))) (omega (arith, first, second, rest))
 
 moving_lost_fits : (files : Files) (from : Entry) (dir : ℕ) (name : List ℕ) (lost : List Change) (now : ℕ) → (list_all is_node lost ≡ true → sum_by (change_bytes files.tree) lost ≤ 4256) → has_kind files.tree from.dir Dir ≡ true → has_kind files.tree dir Dir ≡ true
     → list_all is_node (moving files from dir name lost now) ≡ true → sum_by (change_bytes files.tree) (moving files from dir name lost now) ≤ group_limit
 moving_lost_fits files from dir name lost now few f d h =
     let new : Entry = record from { dir = dir; name = name } in
-    let left : List Change = touching files.tree from.dir now in
-    let come : List Change = cond (from.dir == dir) [] (touching files.tree dir now) in
+    let came : Share = coming new lost in
+    let first_came : Share = cond (from.dir == dir) came no_share in
+    let left : List Change = touching files.tree from.dir now first_came (share_of from) in
+    let come : List Change = cond (from.dir == dir) [] (touching files.tree dir now came no_share) in
     let n = split_two (SetEntry new) (DropEntry from.dir from.name) (lost ++ left ++ come) h in
     let both = split_append (lost ++ left) come n.2 in
     let parts = split_append lost left both.0 in
     let first = entry_little new n.0 in
     let second = drop_little from.dir from.name n.1 in
     let third = few parts.0 in
-    let fourth = touching_little files.tree from.dir now f parts.1 in
-    let fifth = by (from.dir == dir) both.1 in
+    let fourth = touching_little files.tree from.dir now first_came (share_of from) f parts.1 in
+    let fifth = by came (from.dir == dir) both.1 in
     rw (sum_two files.tree (SetEntry new) (DropEntry from.dir from.name) (lost ++ left ++ come), sum_by-append (change_bytes files.tree) (lost ++ left) come, sum_by-append (change_bytes files.tree) lost left) (omega (arith, first, second, third, fourth, fifth))
   where
-    by : (b : Bool) → list_all is_node (cond b [] (touching files.tree dir now)) ≡ true → sum_by (change_bytes files.tree) (cond b [] (touching files.tree dir now)) ≤ 160
-    by true h = omega arith
-    by false h = touching_little files.tree dir now d h
+    by : (came : Share) (b : Bool) → list_all is_node (cond b [] (touching files.tree dir now came no_share)) ≡ true → sum_by (change_bytes files.tree) (cond b [] (touching files.tree dir now came no_share)) ≤ 160
+    by came true h = omega arith
+    by came false h = touching_little files.tree dir now came no_share d h
 
 pub moving_fits : (files : Files) (from : Entry) (dir : ℕ) (name : List ℕ) (now : ℕ) → has_kind files.tree from.dir Dir ≡ true → has_kind files.tree dir Dir ≡ true → list_all is_node (moving files from dir name [] now) ≡ true
     → sum_by (change_bytes files.tree) (moving files from dir name [] now) ≤ group_limit

@@ -17,6 +17,7 @@ mod needs;
 mod parent;
 mod paths;
 mod rows;
+mod shares;
 mod sizes;
 mod words;
 

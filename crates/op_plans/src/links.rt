@@ -10,6 +10,7 @@ ghost use Rattle.op_plans.specs.Facts.{IsParent};
 use crate::inodes::{less_linked, touched};
 use crate::makes::push_touched;
 use crate::parent::Parent;
+use crate::shares::{no_share, share_of};
 use fs_model::{Change, Entry, Group, Inode};
 use std::alloc::Global;
 use ubifs_base::{Memory, Name};
@@ -35,19 +36,19 @@ pub fn linking(
 {
     let ino = entry.ino;
     let nlink = inode.nlink + 1;
+    let new = Entry {
+        dir: parent.ino,
+        name,
+        ..entry
+    };
+    let came = share_of(&new);
     let mut group = Group::new(alloc);
-    group.push(Change::SetEntry {
-        entry: Entry {
-            dir: parent.ino,
-            name,
-            ..entry
-        },
-    })?;
+    group.push(Change::SetEntry { entry: new })?;
     group.push(Change::SetInode {
         ino,
         inode: touched(now, Inode { nlink, ..inode }),
     })?;
-    push_touched(&mut group, parent.ino, parent.inode, now)?;
+    push_touched(&mut group, parent, now, came, no_share())?;
     Ok(group)
 }
 
@@ -77,12 +78,17 @@ pub fn removing(
     ensures { IfOk result (λ group. (files : Files) → is_open files entry.ino ≡ held_open → inode_at files.tree entry.dir ≡ parent → group ≡ removing files entry inode now) }
 {
     let dir = entry.dir;
+    let gone = share_of(&entry);
     let mut group = Group::new(alloc);
     group.push(Change::DropEntry {
         dir,
         name: entry.name,
     })?;
     group.push(losing(entry.ino, now, inode, held_open))?;
-    push_touched(&mut group, dir, parent, now)?;
+    let dir = Parent {
+        ino: dir,
+        inode: parent,
+    };
+    push_touched(&mut group, dir, now, no_share(), gone)?;
     Ok(group)
 }

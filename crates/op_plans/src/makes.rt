@@ -4,12 +4,14 @@ ghost use Rattle.std.specs.Prelude.{◌≡◌, ◌<◌, ◌++◌, ◌∷◌, [],
 ghost use Rattle.std.specs.Option.{option_map_or};
 ghost use Rattle.fs_model.specs.declared.change.Change.TheVariants.{SetInode};
 ghost use Rattle.fs_model.specs.Files.{Tree};
+ghost use Rattle.fs_model.specs.Directory.{counted};
 ghost use Rattle.fs_model.specs.Making.{inode_limit, making, touched};
 ghost use Rattle.op_plans.specs.Facts.{IsParent};
 
 use crate::inodes::touched;
 use crate::parent::Parent;
-use fs_model::{Change, Entry, Group, Inode};
+use crate::shares::{counted, no_share, share_of};
+use fs_model::{Change, Entry, Group, Inode, Share};
 use std::alloc::Global;
 use ubifs_base::{Memory, Name};
 
@@ -36,33 +38,35 @@ pub fn making(
     ensures { IfOk result (λ group. (tree : Tree) → tree.highest ≡ highest → IsParent tree parent → group ≡ making tree parent.ino name inode now) }
 {
     let ino = highest + 1;
+    let entry = Entry {
+        dir: parent.ino,
+        name,
+        ino,
+        kind: inode.kind,
+    };
+    let came = share_of(&entry);
     let mut group = Group::new(alloc);
-    group.push(Change::SetEntry {
-        entry: Entry {
-            dir: parent.ino,
-            name,
-            ino,
-            kind: inode.kind,
-        },
-    })?;
+    group.push(Change::SetEntry { entry })?;
     group.push(Change::SetInode { ino, inode })?;
-    push_touched(&mut group, parent.ino, parent.inode, now)?;
+    push_touched(&mut group, parent, now, came, no_share())?;
     Ok(group)
 }
 
-/// Appends that the inode of a directory, where there is one, is changed at this moment.
+/// Appends that a directory, if its inode is there, changes at this moment, as an entry comes and another goes.
 pub(crate) fn push_touched(
     group: &mut Group,
-    ino: u32,
-    inode: Option<Inode>,
+    dir: Parent,
     now: u64,
+    came: Share,
+    gone: Share,
 ) -> Result<(), Memory>
-    ensures { OnOk result (group.new ≡ group.old ++ option_map_or (λ inode. SetInode ino (touched now inode) ∷ []) inode []) }
+    ensures { OnOk result (group.new ≡ group.old ++ option_map_or (λ inode. SetInode dir.ino (touched now (counted came gone inode)) ∷ []) dir.inode []) }
 {
+    let Parent { ino, inode } = dir;
     if let Some(inode) = inode {
         group.push(Change::SetInode {
             ino,
-            inode: touched(now, inode),
+            inode: touched(now, counted(came, gone, inode)),
         })?;
     }
     Ok(())

@@ -8,6 +8,7 @@ ghost use Rattle.op_plans.specs.Facts.{AreParents};
 
 use crate::makes::push_touched;
 use crate::parent::Parent;
+use crate::shares::{no_share, share_of};
 use fs_model::{Change, Entry, Group, Inode};
 use std::alloc::Global;
 use ubifs_base::{Memory, Name};
@@ -25,15 +26,23 @@ pub fn moving(
 ) -> Result<Group, Memory>
     ensures { IfOk result (λ group. (files : Files) → AreParents files.tree from old to → group ≡ moving files from to.ino name (option_to_list lost) now) }
 {
+    let gone = share_of(&from);
+    let new = Entry {
+        dir: to.ino,
+        name,
+        ino: from.ino,
+        kind: from.kind,
+    };
+    let came = match &lost {
+        Some(_) => no_share(),
+        None => share_of(&new),
+    };
+    let old = Parent {
+        ino: from.dir,
+        inode: old,
+    };
     let mut group = Group::new(alloc);
-    group.push(Change::SetEntry {
-        entry: Entry {
-            dir: to.ino,
-            name,
-            ino: from.ino,
-            kind: from.kind,
-        },
-    })?;
+    group.push(Change::SetEntry { entry: new })?;
     group.push(Change::DropEntry {
         dir: from.dir,
         name: from.name,
@@ -41,9 +50,11 @@ pub fn moving(
     if let Some(change) = lost {
         group.push(change)?;
     }
-    push_touched(&mut group, from.dir, old, now)?;
-    if from.dir != to.ino {
-        push_touched(&mut group, to.ino, to.inode, now)?;
+    if old.ino == to.ino {
+        push_touched(&mut group, old, now, came, gone)?;
+    } else {
+        push_touched(&mut group, old, now, no_share(), gone)?;
+        push_touched(&mut group, to, now, came, no_share())?;
     }
     Ok(group)
 }

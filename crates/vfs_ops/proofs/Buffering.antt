@@ -5,11 +5,12 @@ use Rattle.std.specs.List.{range_with_len}
 use Rattle.std.specs.Map.{lookup}
 use Rattle.std.specs.BTreeMap.{is_at}
 use Rattle.std.specs.Ordering.{nat_cmp}
-use Rattle.std.proofs.lemmas.Bool.{cases_lt}
+use Rattle.std.proofs.lemmas.Bool.{cases_lt, false≢true}
 use Rattle.std.proofs.lemmas.Bool.Decides.{nat_tests}
 use Rattle.std.proofs.lemmas.List.FromFn.{length-range_with_len}
 use Rattle.fs_model.specs.declared.inode.Inode.{Inode}
-use Rattle.fs_model.specs.declared.inode.Kind.TheVariants.{File}
+use Rattle.fs_model.specs.declared.inode.Kind.{Kind}
+use Rattle.fs_model.specs.declared.inode.Kind.TheVariants.{File, Dir, Symlink, Block, Char, Fifo, Socket}
 use Rattle.fs_model.specs.declared.refusal.NoSpace.{NoSpace}
 use Rattle.fs_model.specs.declared.refusal.Refusal.TheVariants.{Einval, Efbig}
 use Rattle.fs_model.specs.declared.reply.Reply.{Reply}
@@ -20,7 +21,8 @@ use Rattle.fs_model.specs.Cover.{needed, room_for}
 use Rattle.fs_model.specs.Files.{Files, inode_at, handle_at, pair_cmp, pages_of}
 use Rattle.fs_model.specs.Handles.{is_bad_slot, size_limit, bytes_written, tree_written}
 use Rattle.fs_model.specs.Outcome.{Outcome, files_in}
-use Rattle.fs_model.specs.Proper.{IsProper, has_kind}
+use Rattle.fs_model.specs.Path.{is_dir}
+use Rattle.fs_model.specs.Proper.{IsProper, has_kind, same_kind}
 use Rattle.fs_laws.specs.Maps.{all_at}
 use Rattle.fs_laws.specs.Orders.{pairs}
 use Rattle.fs_laws.specs.Sound.{IsSound, LeavesSound}
@@ -133,6 +135,19 @@ at_hand files ino file = by (inode_at files.tree ino) refl
     by : (o : Option Inode) → inode_at files.tree ino ≡ o → AtHand files ino
     by None none = let never = rw none at file in absurd cc
     by (Some inode) found = record { inode = inode; found = found }
+
+-- a regular file is no directory
+pub plain_file : (files : Files) (ino : ℕ) (inode : Inode) → IsTrue (has_kind files.tree ino File) → inode_at files.tree ino ≡ Some inode → is_dir inode.kind ≡ false
+plain_file files ino inode file found = by inode.kind (rw found at file)
+  where
+    by : (kind : Kind) → same_kind kind File ≡ true → is_dir kind ≡ false
+    by File h = refl
+    by Dir h = absurd (false≢true h)
+    by Symlink h = refl
+    by Block h = refl
+    by Char h = refl
+    by Fifo h = refl
+    by Socket h = refl
 
 -- the answers to a write, one test after another
 pub bad_slot : (files : Files) (caller now slot offs len byte : ℕ) → is_bad_slot slot ≡ true → bytes_written files caller now slot offs len byte ≡ Err Einval

@@ -14,7 +14,8 @@ use Rattle.fs_model.specs.declared.refusal.Refusal.TheVariants.{Eexist, Enotdir,
 use Rattle.fs_model.specs.declared.refusal.Table.TheVariants.{Inodes as InodeTable}
 use Rattle.fs_model.specs.declared.reply.Reply.TheVariants.{Done, Ino}
 use Rattle.fs_model.specs.Attributes.{found, mode_set}
-use Rattle.fs_model.specs.Directory.{dir_links, has_no_entry, is_linked_out}
+use Rattle.fs_model.specs.declared.share.Share.{Share}
+use Rattle.fs_model.specs.Directory.{counted, dir_links, has_no_entry, is_linked_out, no_share, share_of}
 use Rattle.fs_model.specs.Files.{Tree, Files, inode_at, entry_at}
 use Rattle.fs_model.specs.Links.{less_linked, linking, losing, removing, linked, unlinked, dir_removed}
 use Rattle.fs_model.specs.Making.{inode_limit, is_bad_mode, is_bad_target, is_name_path, touched, touching, making, made, new_file, new_dir, new_symlink}
@@ -23,12 +24,12 @@ use Rattle.fs_model.specs.Operation.{plan_of, group_of, outcome_of}
 use Rattle.fs_model.specs.Orphan.{is_open}
 use Rattle.fs_model.specs.Outcome.{Plan, done_by, group_in, refuse, with_found, with_some}
 use Rattle.fs_model.specs.Path.{has_long_name, components, last_of, walked, parent_of, is_dir}
-use Rattle.fs_model.specs.Rename.{is_under, moved, moving, comes_linked_out, renamed}
+use Rattle.fs_model.specs.Rename.{is_under, moved, moving, coming, comes_linked_out, renamed}
 use Rattle.cached_files.specs.Follow.{KeepsSize, AreOfNames}
 use Rattle.vfs_ops.specs.Operations.{is_of_names, class_of, LeavesOthers}
 use Rattle.vfs_ops.proofs.Plans.{refuse_to, found_to, some_to}
 
--- an inode that is there keeps kind and size, a new one has a number above all that were used, and no inode goes but this one
+-- an inode that is there keeps its kind and, unless it is a directory, its size, a new one has a number above all that were used, and no inode goes but this one
 abbrev pub FitsNames : Tree → ℕ → Change → Type 0
 FitsNames tree gone (SetInode ino inode) = ((old : Inode) × (inode_at tree ino ≡ Some old) × KeepsSize old inode) ⊎ (tree.highest < ino)
 FitsNames tree gone (DropInode ino) = ino ≡ gone
@@ -45,28 +46,28 @@ append : (tree : Tree) (gone : ℕ) (front back : List Change) → AllByRecursio
 append tree gone [] back f b = b
 append tree gone (change ∷ front) back f b = (f.0, append tree gone front back f.1 b)
 
-touching_fits : (tree : Tree) (ino now gone : ℕ) → AllByRecursion (FitsNames tree gone) (touching tree ino now)
-touching_fits tree ino now gone = by (inode_at tree ino) refl
+touching_fits : (tree : Tree) (ino now gone : ℕ) (came went : Share) → AllByRecursion (FitsNames tree gone) (touching tree ino now came went)
+touching_fits tree ino now gone came went = by (inode_at tree ino) refl
   where
-    by : (at : Option Inode) → inode_at tree ino ≡ at → AllByRecursion (FitsNames tree gone) (option_map_or (λ inode. SetInode ino (touched now inode) ∷ []) at [])
+    by : (at : Option Inode) → inode_at tree ino ≡ at → AllByRecursion (FitsNames tree gone) (option_map_or (λ inode. SetInode ino (touched now (counted came went inode)) ∷ []) at [])
     by None e = tt
-    by (Some inode) e = (inl (inode, e, record { kind = refl; size = refl }), tt)
+    by (Some inode) e = (inl (inode, e, record { kind = refl; size = λ d. rw d refl }), tt)
 
 losing_fits : (files : Files) (ino now : ℕ) (inode : Inode) → inode_at files.tree ino ≡ Some inode → FitsNames files.tree ino (losing files ino now inode)
 losing_fits files ino now inode e = by (((less_linked now inode).nlink == 0) && not (is_open files ino))
   where
     by : (b : Bool) → FitsNames files.tree ino (cond b (DropInode ino) (SetInode ino (less_linked now inode)))
     by true = refl
-    by false = inl (inode, e, record { kind = refl; size = refl })
+    by false = inl (inode, e, record { kind = refl; size = λ d. refl })
 
 making_fits : (tree : Tree) (dir : ℕ) (name : List ℕ) (inode : Inode) (now : ℕ) → AreFitting tree (making tree dir name inode now)
-making_fits tree dir name inode now = record { gone = 0; all = (tt, (inr (omega arith), touching_fits tree dir now 0)) }
+making_fits tree dir name inode now = record { gone = 0; all = (tt, (inr (omega arith), touching_fits tree dir now 0 (share_of (record { dir = dir; name = name; ino = tree.highest + 1; kind = inode.kind })) no_share)) }
 
 linking_fits : (tree : Tree) (entry : Entry) (inode : Inode) (dir : ℕ) (name : List ℕ) (now : ℕ) → inode_at tree entry.ino ≡ Some inode → AreFitting tree (linking tree entry inode dir name now)
-linking_fits tree entry inode dir name now e = record { gone = 0; all = (tt, (inl (inode, e, record { kind = refl; size = refl }), touching_fits tree dir now 0)) }
+linking_fits tree entry inode dir name now e = record { gone = 0; all = (tt, (inl (inode, e, record { kind = refl; size = λ d. refl }), touching_fits tree dir now 0 (share_of (record entry { dir = dir; name = name })) no_share)) }
 
 removing_fits : (files : Files) (entry : Entry) (inode : Inode) (now : ℕ) → inode_at files.tree entry.ino ≡ Some inode → AreFitting files.tree (removing files entry inode now)
-removing_fits files entry inode now e = record { gone = entry.ino; all = (tt, (losing_fits files entry.ino now inode e, touching_fits files.tree entry.dir now entry.ino)) }
+removing_fits files entry inode now e = record { gone = entry.ino; all = (tt, (losing_fits files entry.ino now inode e, touching_fits files.tree entry.dir now entry.ino no_share (share_of entry))) }
 
 moving_fits : (files : Files) (from : Entry) (dir : ℕ) (name : List ℕ) (lost : List Change) (now gone : ℕ) → AllByRecursion (FitsNames files.tree gone) lost → AreFitting files.tree (moving files from dir name lost now)
 moving_fits files from dir name lost now gone h = record {
@@ -75,15 +76,26 @@ moving_fits files from dir name lost now gone h = record {
     tt,
     (
       tt,
-      append files.tree gone (lost ++ touching files.tree from.dir now) (cond (from.dir == dir) [] (touching files.tree dir now))
-          (append files.tree gone lost (touching files.tree from.dir now) h (touching_fits files.tree from.dir now gone)) (by (from.dir == dir)),
+      append files.tree gone (lost ++ left) (cond (from.dir == dir) [] come) (append files.tree gone lost left h (touching_fits files.tree from.dir now gone first (share_of from))) (by (from.dir == dir)),
     ),
   );
 }
   where
-    by : (b : Bool) → AllByRecursion (FitsNames files.tree gone) (cond b [] (touching files.tree dir now))
+    came : Share
+    came = coming (record from { dir = dir; name = name }) lost
+
+    first : Share
+    first = cond (from.dir == dir) came no_share
+
+    left : List Change
+    left = touching files.tree from.dir now first (share_of from)
+
+    come : List Change
+    come = touching files.tree dir now came no_share
+
+    by : (b : Bool) → AllByRecursion (FitsNames files.tree gone) (cond b [] come)
     by true = tt
-    by false = touching_fits files.tree dir now gone
+    by false = touching_fits files.tree dir now gone came no_share
 
 -- a plan whose group fits
 abbrev Fits : Files → Plan → Type 0
@@ -213,7 +225,7 @@ mode_set_fits files now path mode =
     found_to P (found files path) with_it (nothing files) (λ at is.
     some_to P (inode_at tree at.ino) Enoent (last at) (nothing files) (λ inode there.
     let new : Inode = touched now (record inode { mode = mode }) in
-    record { gone = 0; all = (inl (inode, there, record { kind = refl; size = refl }), tt) })))
+    record { gone = 0; all = (inl (inode, there, record { kind = refl; size = λ d. refl }), tt) })))
 
 -- the group of an operation on names
 pub group_fits : (files : Files) (caller now : ℕ) (op : Op) → is_of_names op ≡ true → AreFitting files.tree (group_of files caller now op)

@@ -15,7 +15,7 @@ use Rattle.fs_model.specs.declared.refusal.Refusal.{Refusal}
 use Rattle.fs_model.specs.declared.refusal.Refusal.TheVariants.{Enotdir}
 use Rattle.fs_model.specs.Files.{Tree, Handles, inode_at, entry_at, name_cmp}
 use Rattle.fs_model.specs.Path.{root_entry, reached, child, or_missing, only_dir, walked, parent_of, components, front_of, is_dir}
-use Rattle.fs_model.specs.Proper.{IsProper, has_kind, same_kind, is_sound_entry, is_sound_inode, is_sound_dir, names_of}
+use Rattle.fs_model.specs.Proper.{IsProper, has_kind, same_kind, is_linked, is_sound_entry, is_sound_inode, is_sound_dir, names_of}
 use Rattle.fs_laws.specs.Maps.{all_at, values_all, count_found}
 use Rattle.fs_laws.specs.Orders.{numbers, named}
 
@@ -78,23 +78,35 @@ dir_is : (kind : Kind) → is_dir kind ≡ true → kind ≡ Dir
 dir_is Dir h = refl
 dir_is kind h = absurd (false≢true h)
 
+-- a directory, which says a link
+pub record IsLinkedDir (inode : Inode) : Type 0 where
+  pub dir : is_dir inode.kind ≡ true
+  pub linked : (inode.nlink == 0) ≡ false
+
 -- an inode of this number is a directory
 abbrev pub IsDirAt : Tree → ℕ → Type 0
-IsDirAt tree ino = (inode : Inode) → inode_at tree ino ≡ Some inode → is_dir inode.kind ≡ true
+IsDirAt tree ino = (inode : Inode) → inode_at tree ino ≡ Some inode → IsLinkedDir inode
 
-dir_at : (tree : Tree) (ino : ℕ) → has_kind tree ino Dir ≡ true → IsDirAt tree ino
-dir_at tree ino h inode found = dir_same inode.kind (rw found at h)
+dir_at : (tree : Tree) (ino : ℕ) → IsProper tree → has_kind tree ino Dir ≡ true → IsDirAt tree ino
+dir_at tree ino proper h inode found =
+    let dir = dir_same inode.kind (rw found at h) in
+    record { dir = dir; linked = by (is_dir inode.kind) (inode.nlink == 0) dir (all_at nat_cmp numbers is_linked tree.inodes ino inode proper.linked found) }
+  where
+    by : (d z : Bool) → d ≡ true → not (d && z) ≡ true → z ≡ false
+    by true true e h = sym h
+    by true false e h = refl
+    by false z e h = absurd (false≢true e)
 
 -- an entry's directory is one
 pub above_is_dir : (tree : Tree) (entry : Entry) → IsProper tree → Stands tree entry → IsDirAt tree entry.dir
-above_is_dir tree entry proper stands = dir_at tree entry.dir (dir_stands tree entry proper stands)
+above_is_dir tree entry proper stands = dir_at tree entry.dir proper (dir_stands tree entry proper stands)
 
 -- the directory of a path's last component is one
 pub parent_is_dir : (tree : Tree) (path : List ℕ) (parent : Entry) → IsProper tree → parent_of tree path ≡ Ok parent → IsDirAt tree parent.ino
 parent_is_dir tree path parent proper h = by (reached tree (Ok root_entry) (front_of (components path))) refl h
   where
     here : (at : Entry) → reached tree (Ok root_entry) (front_of (components path)) ≡ Ok at → is_dir at.kind ≡ true → IsDirAt tree at.ino
-    here at f d = dir_at tree at.ino (subst (λ kind. has_kind tree at.ino kind ≡ true) (dir_is at.kind d) (kind_stands tree at proper (from_root tree (front_of (components path)) at f)))
+    here at f d = dir_at tree at.ino proper (subst (λ kind. has_kind tree at.ino kind ≡ true) (dir_is at.kind d) (kind_stands tree at proper (from_root tree (front_of (components path)) at f)))
 
     turn : (at : Entry) → reached tree (Ok root_entry) (front_of (components path)) ≡ Ok at → (d : Bool) → is_dir at.kind ≡ d → cond d (Ok at) (Err Enotdir) ≡ Ok parent → IsDirAt tree parent.ino
     turn at f true d g = let same : at ≡ parent = cc g in subst (λ (e : Entry). IsDirAt tree e.ino) same (here at f d)
@@ -108,7 +120,7 @@ parent_is_dir tree path parent proper h = by (reached tree (Ok root_entry) (fron
 pub has_link : (tree : Tree) (entry : Entry) (inode : Inode) → IsProper tree → Stands tree entry → inode_at tree entry.ino ≡ Some inode → is_dir inode.kind ≡ false → (inode.nlink == 0) ≡ false
 has_link tree entry inode proper (inl root) found plain =
     let at : inode_at tree 1 ≡ Some inode = subst (λ (e : Entry). inode_at tree e.ino ≡ Some inode) root found in
-    absurd (false≢true (sym plain ∙ dir_at tree 1 proper.root inode at))
+    absurd (false≢true (sym plain ∙ (dir_at tree 1 proper proper.root inode at).dir))
 has_link tree entry inode proper (inr it) found plain =
     let sound : cond (is_dir inode.kind) (is_sound_dir tree entry.ino) (inode.nlink == length (names_of tree entry.ino)) ≡ true = all_at nat_cmp numbers (is_sound_inode tree) tree.inodes entry.ino inode proper.inodes found in
     let links : (inode.nlink == length (names_of tree entry.ino)) ≡ true = rw plain at sound in

@@ -1,5 +1,5 @@
 -- Whether the group of an operation on names leaves an orphan.
-use Rattle.std.proofs.Common.{◌≡◌, ℕ, ◌+◌, ◌-◌, ◌≤◌, ◌⊎◌, inl, inr, Bool, true, false, cond, ◌&&◌, ◌||◌, not, List, [], ◌∷◌, ◌++◌, length, Option, Some, None, Ok, Err, refl, sym, ap, subst, ◌∙◌, arith}
+use Rattle.std.proofs.Common.{◌≡◌, ℕ, ◌+◌, ◌-◌, ◌≤◌, ◌⊎◌, inl, inr, min, max, Bool, true, false, cond, ◌&&◌, ◌||◌, not, List, [], ◌∷◌, ◌++◌, length, Option, Some, None, Ok, Err, refl, sym, ap, subst, ◌∙◌, arith}
 use Rattle.std.specs.Prelude.{◌==◌, nat_le, nat_lt, is_some, Result}
 use Rattle.std.specs.List.{AllByRecursion}
 use Rattle.std.specs.Option.{option_map_or}
@@ -19,7 +19,8 @@ use Rattle.fs_model.specs.declared.reply.Reply.TheVariants.{Done, Ino}
 use Rattle.fs_model.specs.Attributes.{found, mode_set}
 use Rattle.fs_model.specs.Backing.{BackingState, FitsOrphans, Outlook, orphan_room}
 use Rattle.fs_model.specs.Change.{apply}
-use Rattle.fs_model.specs.Directory.{dir_links, has_no_entry, is_linked_out}
+use Rattle.fs_model.specs.declared.share.Share.{Share}
+use Rattle.fs_model.specs.Directory.{counted, dir_links, has_no_entry, is_linked_out, no_share, share_of}
 use Rattle.fs_model.specs.Files.{Tree, Files, inode_at, entry_at}
 use Rattle.fs_model.specs.Links.{linking, losing, removing, linked, unlinked, dir_removed}
 use Rattle.fs_model.specs.Making.{inode_limit, is_bad_mode, is_bad_target, is_name_path, touched, touching, making, made, new_file, new_dir, new_symlink}
@@ -28,7 +29,7 @@ use Rattle.fs_model.specs.Orphan.{is_open, leaves_orphan, nameless, within_orpha
 use Rattle.fs_model.specs.Outcome.{Plan, done_by, group_in, refuse, with_found, with_some}
 use Rattle.fs_model.specs.Path.{is_path, has_long_name, components, last_of, walked, parent_of, is_dir}
 use Rattle.fs_model.specs.Proper.{IsProper}
-use Rattle.fs_model.specs.Rename.{is_under, moved, moving, comes_linked_out, renamed}
+use Rattle.fs_model.specs.Rename.{is_under, moved, moving, coming, comes_linked_out, renamed}
 use Rattle.fs_laws.specs.Sound.{IsSound}
 use Rattle.cached_files.specs.declared.kept.Kept.{Kept}
 use Rattle.cached_files.specs.Alike.{IsAlike}
@@ -60,24 +61,31 @@ same_spares tree ino old new found links plain = (plain, λ t. rw found (subst (
 dir_not : (ino : ℕ) (inode : Inode) → is_dir inode.kind ≡ true → is_orphaned (SetInode ino inode) ≡ false
 dir_not ino inode dir = rw dir refl
 
-touching_spares : (tree : Tree) (ino now : ℕ) → IsDirAt tree ino → AllByRecursion (Spares tree.inodes) (touching tree ino now)
-touching_spares tree ino now dir = by (inode_at tree ino) refl
+-- a directory whose entries change says a link
+counted_links : (came gone : Share) (inode : Inode) → is_dir inode.kind ≡ true → ((counted came gone inode).nlink == 0) ≡ false
+counted_links came gone inode dir = rw dir (some (min (inode.nlink + came.links) 4294967295 - gone.links))
   where
-    by : (at : Option Inode) → inode_at tree ino ≡ at → AllByRecursion (Spares tree.inodes) (option_map_or (λ inode. SetInode ino (touched now inode) ∷ []) at [])
-    by None e = tt
-    by (Some inode) e = (same_spares tree ino inode (touched now inode) e refl (dir_not ino (touched now inode) (dir inode e)), tt)
+    some : (n : ℕ) → (max 1 n == 0) ≡ false
+    some n = grind (arith, nat_tests)
 
-touching_leaves : (tree : Tree) (ino now left : ℕ) → IsDirAt tree ino → ((inode : Inode) → inode_at tree left ≡ Some inode → is_dir inode.kind ≡ false) → AllByRecursion (Leaves tree.inodes left) (touching tree ino now)
-touching_leaves tree ino now left dir plain = by (inode_at tree ino) refl
+touching_spares : (tree : Tree) (ino now : ℕ) (came gone : Share) → IsDirAt tree ino → AllByRecursion (Spares tree.inodes) (touching tree ino now came gone)
+touching_spares tree ino now came gone dir = by (inode_at tree ino) refl
   where
-    by : (at : Option Inode) → inode_at tree ino ≡ at → AllByRecursion (Leaves tree.inodes left) (option_map_or (λ inode. SetInode ino (touched now inode) ∷ []) at [])
+    by : (at : Option Inode) → inode_at tree ino ≡ at → AllByRecursion (Spares tree.inodes) (option_map_or (λ inode. SetInode ino (touched now (counted came gone inode)) ∷ []) at [])
+    by None e = tt
+    by (Some inode) e = (linked_spares tree ino (touched now (counted came gone inode)) (counted_links came gone inode (dir inode e).dir), tt)
+
+touching_leaves : (tree : Tree) (ino now left : ℕ) (came gone : Share) → IsDirAt tree ino → ((inode : Inode) → inode_at tree left ≡ Some inode → is_dir inode.kind ≡ false) → AllByRecursion (Leaves tree.inodes left) (touching tree ino now came gone)
+touching_leaves tree ino now left came gone dir plain = by (inode_at tree ino) refl
+  where
+    by : (at : Option Inode) → inode_at tree ino ≡ at → AllByRecursion (Leaves tree.inodes left) (option_map_or (λ inode. SetInode ino (touched now (counted came gone inode)) ∷ []) at [])
     by None e = tt
     by (Some inode) e = (
       (
-        λ t. absurd (false≢true (sym (dir_not ino (touched now inode) (dir inode e)) ∙ t)),
-        λ same. absurd (false≢true (sym (plain inode (subst (λ q. inode_at tree q ≡ Some inode) same e)) ∙ dir inode e)),
-        λ t. rw e at t,
-        λ z. inr (rw e z),
+        λ t. absurd (false≢true (sym (dir_not ino (touched now (counted came gone inode)) (dir inode e).dir) ∙ t)),
+        λ same. absurd (false≢true (sym (plain inode (subst (λ q. inode_at tree q ≡ Some inode) same e)) ∙ (dir inode e).dir)),
+        λ z. let none = rw e at z in absurd (false≢true (sym (dir inode e).linked ∙ none)),
+        λ t. absurd (false≢true (sym (counted_links came gone inode (dir inode e).dir) ∙ t)),
       ),
       tt,
     )
@@ -117,12 +125,12 @@ losing_tells files ino now inode sound there links = by (is_dir inode.kind) refl
     by false d = plainly (inode.nlink - 1 == 0) d refl (is_open files ino)
 
 making_tells : (tree : Tree) (dir : ℕ) (name : List ℕ) (inode : Inode) (now : ℕ) → (inode.nlink == 0) ≡ false → IsDirAt tree dir → Tells tree.inodes (making tree dir name inode now)
-making_tells tree dir name inode now links is = inl (tt, (linked_spares tree (tree.highest + 1) inode links, touching_spares tree dir now is))
+making_tells tree dir name inode now links is = inl (tt, (linked_spares tree (tree.highest + 1) inode links, touching_spares tree dir now (share_of (record { dir = dir; name = name; ino = tree.highest + 1; kind = inode.kind })) no_share is))
 
 linking_tells : (tree : Tree) (entry : Entry) (inode : Inode) (dir : ℕ) (name : List ℕ) (now : ℕ) → IsDirAt tree dir → Tells tree.inodes (linking tree entry inode dir name now)
 linking_tells tree entry inode dir name now is =
     let more : (inode.nlink + 1 == 0) ≡ false = grind (arith, nat_tests) in
-    inl (tt, (linked_spares tree entry.ino (touched now (record inode { nlink = inode.nlink + 1 })) more, touching_spares tree dir now is))
+    inl (tt, (linked_spares tree entry.ino (touched now (record inode { nlink = inode.nlink + 1 })) more, touching_spares tree dir now (share_of (record entry { dir = dir; name = name })) no_share is))
 
 removing_tells : (files : Files) (entry : Entry) (inode : Inode) (now : ℕ) → IsSound files → Stands files.tree entry → inode_at files.tree entry.ino ≡ Some inode → Tells files.tree.inodes (removing files entry inode now)
 removing_tells files entry inode now sound stands there = by (losing files entry.ino now inode) (losing_tells files entry.ino now inode sound there (has_link files.tree entry inode sound.proper stands there))
@@ -130,23 +138,29 @@ removing_tells files entry inode now sound stands there = by (losing files entry
     above : IsDirAt files.tree entry.dir
     above = above_is_dir files.tree entry sound.proper stands
 
-    by : (change : Change) → Loses files.tree entry.ino change → Tells files.tree.inodes (DropEntry entry.dir entry.name ∷ change ∷ touching files.tree entry.dir now)
-    by change (inl spares) = inl (tt, (spares, touching_spares files.tree entry.dir now above))
-    by change (inr it) = inr (record { left = entry.ino; named = it.named; any = rw it.orphaned refl; all = (tt, (it.leaves, touching_leaves files.tree entry.dir now entry.ino above it.plain)) })
+    by : (change : Change) → Loses files.tree entry.ino change → Tells files.tree.inodes (DropEntry entry.dir entry.name ∷ change ∷ touching files.tree entry.dir now no_share (share_of entry))
+    by change (inl spares) = inl (tt, (spares, touching_spares files.tree entry.dir now no_share (share_of entry) above))
+    by change (inr it) = inr (record { left = entry.ino; named = it.named; any = rw it.orphaned refl; all = (tt, (it.leaves, touching_leaves files.tree entry.dir now entry.ino no_share (share_of entry) above it.plain)) })
 
 -- what is changed after the names of a move
-abbrev moved_dirs : Tree → ℕ → ℕ → ℕ → List Change → List Change
-moved_dirs tree above dir now lost = lost ++ touching tree above now ++ cond (above == dir) [] (touching tree dir now)
+abbrev moved_dirs : Files → Entry → ℕ → Share → ℕ → List Change → List Change
+moved_dirs files from dir came now lost =
+    lost ++ touching files.tree from.dir now (cond (from.dir == dir) came no_share) (share_of from) ++ cond (from.dir == dir) [] (touching files.tree dir now came no_share)
 
-dirs_all : (P : Change → Type 0) (tree : Tree) (above dir now : ℕ) (lost : List Change) → AllByRecursion P lost → AllByRecursion P (touching tree above now) → AllByRecursion P (touching tree dir now) → AllByRecursion P (moved_dirs tree above dir now lost)
-dirs_all P tree above dir now lost l a d = append P (lost ++ touching tree above now) (cond (above == dir) [] (touching tree dir now)) (append P lost (touching tree above now) l a) (by (above == dir))
+dirs_all : (P : Change → Type 0) (files : Files) (from : Entry) (dir : ℕ) (came : Share) (now : ℕ) (lost : List Change) → AllByRecursion P lost → ((c : Share) → AllByRecursion P (touching files.tree from.dir now c (share_of from))) → AllByRecursion P (touching files.tree dir now came no_share)
+    → AllByRecursion P (moved_dirs files from dir came now lost)
+dirs_all P files from dir came now lost l a d =
+    let left : List Change = touching files.tree from.dir now (cond (from.dir == dir) came no_share) (share_of from) in
+    append P (lost ++ left) (cond (from.dir == dir) [] (touching files.tree dir now came no_share)) (append P lost left l (a (cond (from.dir == dir) came no_share))) (by (from.dir == dir))
   where
-    by : (b : Bool) → AllByRecursion P (cond b [] (touching tree dir now))
+    by : (b : Bool) → AllByRecursion P (cond b [] (touching files.tree dir now came no_share))
     by true = tt
     by false = d
 
 moving_spares : (files : Files) (from : Entry) (dir : ℕ) (name : List ℕ) (lost : List Change) (now : ℕ) → IsDirAt files.tree from.dir → IsDirAt files.tree dir → AllByRecursion (Spares files.tree.inodes) lost → Tells files.tree.inodes (moving files from dir name lost now)
-moving_spares files from dir name lost now above is all = inl (tt, (tt, dirs_all (Spares files.tree.inodes) files.tree from.dir dir now lost all (touching_spares files.tree from.dir now above) (touching_spares files.tree dir now is)))
+moving_spares files from dir name lost now above is all =
+    let came : Share = coming (record from { dir = dir; name = name }) lost in
+    inl (tt, (tt, dirs_all (Spares files.tree.inodes) files from dir came now lost all (λ c. touching_spares files.tree from.dir now c (share_of from) above) (touching_spares files.tree dir now came no_share is)))
 
 moving_tells : (files : Files) (from : Entry) (dir : ℕ) (name : List ℕ) (ino : ℕ) (change : Change) (now : ℕ) → IsDirAt files.tree from.dir → IsDirAt files.tree dir → Loses files.tree ino change → Tells files.tree.inodes (moving files from dir name (change ∷ []) now)
 moving_tells files from dir name ino change now above is (inl spares) = moving_spares files from dir name (change ∷ []) now above is (spares, tt)
@@ -154,7 +168,14 @@ moving_tells files from dir name ino change now above is (inr it) = inr (record 
   left = ino;
   named = it.named;
   any = rw it.orphaned refl;
-  all = (tt, (tt, dirs_all (Leaves files.tree.inodes ino) files.tree from.dir dir now (change ∷ []) (it.leaves, tt) (touching_leaves files.tree from.dir now ino above it.plain) (touching_leaves files.tree dir now ino is it.plain)));
+  all = (
+    tt,
+    (
+      tt,
+      dirs_all (Leaves files.tree.inodes ino) files from dir no_share now (change ∷ []) (it.leaves, tt) (λ c. touching_leaves files.tree from.dir now ino c (share_of from) above it.plain)
+          (touching_leaves files.tree dir now ino no_share no_share is it.plain),
+    ),
+  );
 })
 
 -- a plan whose group tells so

@@ -31,7 +31,7 @@ use Rattle.vfs_ops.specs.Operations.{is_of_names}
 use Rattle.vfs_ops.specs.Steps.{IsDone, IsRefusedFor, IsLast, IsTurnedDown, IsUnsynced, allowed_on, asked, is_write, no_space_in}
 
 pub alike_self : (files : Files) → IsAlike files files
-alike_self files = record { inodes = refl; blocks = refl; entries = refl; highest = refl; handles = refl; sizes = λ ino inode found. refl }
+alike_self files = record { inodes = refl; blocks = refl; entries = refl; highest = refl; handles = refl; sizes = λ ino inode found plain. refl }
 
 -- an operation that isn't of names is the plain one
 plainly : (s : BackingState) (files : Files) (caller now : ℕ) (op : Op) → is_of_names op ≡ false → allowed_on s files caller now op ≡ outcome_of files caller now op

@@ -54,7 +54,7 @@ none_done files caller now op reply (change ∷ group) is found none =
 
 -- files under the same tree are alike
 pub alike_on : (t tree : Tree) (kept : Kept) → t ≡ tree → IsAlike (present tree kept) (present t kept)
-alike_on t tree kept same = subst (λ s. IsAlike (present s kept) (present t kept)) same (record { inodes = refl; blocks = refl; entries = refl; highest = refl; handles = refl; sizes = λ ino inode found. refl })
+alike_on t tree kept same = subst (λ s. IsAlike (present s kept) (present t kept)) same (record { inodes = refl; blocks = refl; entries = refl; highest = refl; handles = refl; sizes = λ ino inode found plain. refl })
 
 -- what was reckoned is what the operation asks for
 pub need_whole : (t tree : Tree) (kept : Kept) (caller now : ℕ) (op : Op) (group : List Change) (class : Class) (need : Need) → is_of_names op ≡ true → t ≡ tree → group_of (present tree kept) caller now op ≡ group → class ≡ class_of op

@@ -1,5 +1,5 @@
 -- Chains of refusals, walked to their ends.
-use Rattle.std.proofs.Common.{◌≡◌, ℕ, true, false, List, [], ◌∷◌, Some, sym, ap, subst, ◌∙◌}
+use Rattle.std.proofs.Common.{◌≡◌, ℕ, true, false, List, [], ◌∷◌, Some, refl, sym, ap, subst, ◌∙◌}
 use Rattle.std.specs.Prelude.{Option, None, Ok, nat_le, ◌&&◌, ◌||◌, ◌==◌, not, ◌+◌}
 use Rattle.fs_model.specs.declared.change.Change.{Change}
 use Rattle.fs_model.specs.declared.inode.Inode.{Inode}
@@ -55,4 +55,4 @@ pub linked_is : (files : Files) (now : ℕ) (old new : List ℕ) (from : Entry) 
     → inode_at files.tree from.ino ≡ Some inode → is_linked_out inode.nlink ≡ false → parent_of files.tree new ≡ Ok parent
     → entry_at files.tree parent.ino (last_of (components new)) ≡ None → group ≡ linking files.tree from inode parent.ino (last_of (components new)) now
     → linked files now old new ≡ Ok (Done, group)
-linked_is files now old new from inode parent group names short there plain found room at free is = rw (names, short, there, plain, found, room, at, free) (ap (λ g. Ok (Done, g)) (sym is))
+linked_is files now old new from inode parent group names short there plain found room at free is = subst (λ g. linked files now old new ≡ Ok (Done, g)) (sym is) (rw (names, short, there, plain, found, room, at, free) refl)

@@ -1,7 +1,7 @@
 use Rattle.std.proofs.Common.{◌*◌, length}
 use Rattle.cached_files.specs.Present.{present}
 use Rattle.vfs_ops.proofs.Admitted.{paid_then}
-use Rattle.vfs_ops.proofs.Buffering.{goes_returned, goes_seen, written_seen}
+use Rattle.vfs_ops.proofs.Buffering.{goes_returned, goes_seen, plain_file, written_seen}
 use Rattle.vfs_ops.proofs.writes.write_some.Goals as goal
 
 pub returns-in-Ok-clause-written : goal.returns-in-Ok-clause-written
@@ -9,7 +9,7 @@ returns-in-Ok-clause-written g c inode found =
     let before = present (g.B.Backing.state c.args.backing.now).tree c.args.kept.now in
     let covered = present (g.B.Backing.state c.cover.new.backing).tree c.cover.new.kept in
     written_seen before covered (present (g.B.Backing.state c.write_covered.new.backing).tree c.write_covered.new.kept) c.args.ino inode c.args.now c.args.offs c.args.len c.args.byte c.in_ok-have.ensures.same found (λ there. c.in-Ok.ensures.written inode there)
-    (c.written_files_stay_alike.ensures before covered c.args.ino inode c.args.now c.args.offs c.args.len c.args.byte c.requires.some found c.in_ok-have.ensures.same)
+    (c.written_files_stay_alike.ensures before covered c.args.ino inode c.args.now c.args.offs c.args.len c.args.byte c.requires.some found (plain_file before c.args.ino inode c.requires.file found) c.in_ok-have.ensures.same)
 
 pub returns-in-Ok-clause-goes : goal.returns-in-Ok-clause-goes
 returns-in-Ok-clause-goes g c =
