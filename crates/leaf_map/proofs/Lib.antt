@@ -12,6 +12,7 @@ mod Keyed
 mod Lasts
 mod Maps
 mod Names
+mod Originals
 mod Ranks
 mod Recovers
 mod Replays

@@ -10,10 +10,10 @@ use Rattle.fs_model.specs.Files.{Tree, inode_at, name_cmp, pair_cmp}
 use Rattle.fs_model.specs.Orphan.{is_nameless}
 use Rattle.fs_model.specs.Recovery.{Numbered, as_replayed, by_number}
 use Rattle.change_nodes.specs.Nodes.{change_of}
-use Rattle.leaf_map.specs.Kept.{Placed}
+use Rattle.leaf_map.specs.Kept.{Kept, Placed}
 use Rattle.leaf_map.specs.LastChange.{IsSorted, Made, last_made, makes_block, makes_entry, makes_inode}
 use Rattle.leaf_map.specs.LeafMap.{IsLeafMap}
-use Rattle.leaf_map.specs.Parts.{Parts}
+use Rattle.leaf_map.specs.Parts.{Committed, Named, Parts, own_node}
 use Rattle.leaf_map.specs.Recovered.{committed_highest, leaves_found}
 use Rattle.leaf_map.specs.Shown.{tree_of}
 
@@ -47,3 +47,11 @@ pub record FitsTree (parts : Parts) (committed : Tree) (changes : Numbered) : Ty
   pub sorted : IsSorted committed
   pub shows : AgreeBut (in_turn changes) (tree_of (leaves_found parts) (committed_highest parts)) committed
   pub listed : (q : ℕ) → is_nameless (apply committed (in_turn changes)) q ≡ true → list_any (λ ino. q == ino) parts.listed ≡ true
+
+-- each committed leaf has its own node, and with it is one of these
+abbrev pub AreOriginals : List Named → List Kept → List Committed → Type 0
+AreOriginals named [] [] = Unit {0}
+AreOriginals named [] (c ∷ committed) = ⊥
+AreOriginals named (x ∷ kept) [] = ⊥
+AreOriginals named (x ∷ kept) (c ∷ committed) =
+    (found : Placed) × (own_node named c ≡ Some found) × (record { leaf = c.leaf; sqnum = found.sqnum; node = found.node } ≡ x) × AreOriginals named kept committed

@@ -95,6 +95,14 @@ place_in_bud = parts
     (at 30 0 2 (SetEntry (name am 65)) ∷ [])
     []
 
+-- At the place of a listed inode's leaf stands another inode's node. Its copy has links.
+abbrev pub another_key : Parts
+another_key = parts
+    (record { leaf = (kept_at (at 20 0 1 (SetInode 65 (file 1)))).leaf; found = Some (at 20 0 9 (SetInode 66 (file 0))) } ∷ [])
+    []
+    (at 30 0 1 (SetInode 65 (file 1)) ∷ [])
+    (65 ∷ [])
+
 -- Of two names of one hash one's original is gone. The copies of both stand in the journal.
 abbrev pub one_is_gone : Parts
 one_is_gone = parts

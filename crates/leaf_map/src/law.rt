@@ -11,13 +11,13 @@ ghost use Rattle.fs_model.specs.Change.{applied, apply, key_number};
 ghost use Rattle.fs_model.specs.Files.{Tree, inode_at, name_cmp, pair_cmp};
 ghost use Rattle.change_nodes.specs.Nodes.{change_of};
 ghost use Rattle.fs_model.specs.Recovery.{Head, IsRecovered, KeepsSynced, Numbered, recovered, taken};
-ghost use Rattle.leaf_map.specs.Allowed.{FitsTree};
+ghost use Rattle.leaf_map.specs.Allowed.{AreOriginals, FitsTree};
 ghost use Rattle.leaf_map.specs.After.{Carries, come_by, gone_by, kept_after, kept_by, used_by};
 ghost use Rattle.leaf_map.specs.Kept.{Kept, Placed, kept_at};
 ghost use Rattle.leaf_map.specs.LastChange.{IsSorted, last_made, makes_block, makes_entry, makes_inode, there};
 ghost use Rattle.leaf_map.specs.LeafMap.{IsLeafMap};
 ghost use Rattle.leaf_map.specs.Parts.{Parts};
-ghost use Rattle.leaf_map.specs.Recovered.{moved, tree_found};
+ghost use Rattle.leaf_map.specs.Recovered.{leaves_found, moved, tree_found};
 ghost use Rattle.leaf_map.specs.Shown.{tree_of};
 
 /// The tree of the leaves after a change is the change applied to their tree; they are leaves as an index has them again.
@@ -71,4 +71,9 @@ pub fn a_mount_finds_what_a_cut_may_leave()
     ensures found { (parts : Parts) (committed : Tree) (changes : Numbered) → FitsTree parts committed changes → tree_found parts ≡ recovered committed changes }
     ensures allowed { (parts : Parts) (committed : Tree) (heads : List Head) (counts : List ℕ) → KeepsSynced heads counts → FitsTree parts committed (taken heads counts)
         → IsRecovered committed heads (tree_found parts) }
+{}
+
+/// Where each committed leaf has its own node, the leaves that a mount finds are those, whatever copies there are.
+pub fn originals_are_found()
+    ensures { (parts : Parts) (kept : List Kept) → AreOriginals parts.named kept parts.committed → leaves_found parts ≡ kept }
 {}

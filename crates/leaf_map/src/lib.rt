@@ -13,6 +13,6 @@ mod worked;
 pub use crate::law::{
     a_change_of_leaves_is_one_of_the_tree, a_copy_changes_no_tree,
     a_mount_finds_what_a_cut_may_leave, bytes_of_leaves_add_up, leaves_stay_distinct,
-    the_last_change_wins,
+    originals_are_found, the_last_change_wins,
 };
 pub use crate::worked::{collections_are_told, leaves_are_told, recovery_of_leaves_is_told};

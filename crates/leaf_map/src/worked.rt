@@ -5,7 +5,7 @@ ghost use Rattle.fs_model.specs.declared.change.Change.TheVariants.{CutBlocks, D
 ghost use Rattle.leaf_map.specs.After.{kept_after};
 ghost use Rattle.leaf_map.specs.Recovered.{recovered_of, tree_found};
 ghost use Rattle.leaf_map.specs.Shown.{blocks_of, entries_of};
-ghost use Rattle.leaf_map.specs.Worked.{am, at, bb, block_copy, collected, deleted, file, inode_copy, linked_again, name, one_is_gone, place_in_bud, places, still_orphan, three_blocks, two_heads, two_names};
+ghost use Rattle.leaf_map.specs.Worked.{am, another_key, at, bb, block_copy, collected, deleted, file, inode_copy, linked_again, name, one_is_gone, place_in_bud, places, still_orphan, three_blocks, two_heads, two_names};
 
 /// Of two names of one hash one goes, or is set again at its own place; a truncation to 4,096 bytes leaves the first block.
 pub fn leaves_are_told()
@@ -16,13 +16,14 @@ pub fn leaves_are_told()
 
 /// A listed orphan goes with its blocks, unless it got its link again. What was deleted isn't brought back by its copies.
 /// Nodes of two heads are applied in order of number, and the highest number is also one of theirs. A place in a bud is no
-/// original; and a name whose original is gone stands at its copy, and not at that of another name of its hash.
+/// original, and no node of another key is one; and a name whose original is gone stands at its copy, and not at that of another name of its hash.
 pub fn recovery_of_leaves_is_told()
     ensures orphan { tree_found still_orphan ≡ record { inodes = []; blocks = []; entries = []; highest = 65 } }
     ensures linked { tree_found linked_again ≡ record { inodes = (65, file 1) ∷ []; blocks = ((65, 0), 97 ∷ []) ∷ []; entries = []; highest = 65 } }
     ensures deleted { tree_found deleted ≡ record { inodes = []; blocks = []; entries = []; highest = 65 } }
     ensures heads { tree_found two_heads ≡ record { inodes = (66, file 1) ∷ []; blocks = []; entries = []; highest = 66 } }
     ensures bud { tree_found place_in_bud ≡ record { inodes = []; blocks = []; entries = ((1, am), name am 65) ∷ []; highest = 64 } }
+    ensures another { tree_found another_key ≡ record { inodes = (65, file 1) ∷ []; blocks = []; entries = []; highest = 65 } }
     ensures names { entries_of (recovered_of one_is_gone).kept ≡ ((1, am), name am 65) ∷ ((1, bb), name bb 66) ∷ [] }
 {}
 

@@ -28,3 +28,7 @@ returns-clause-names c = refl
 pub returns-clause-heads : goal.returns-clause-heads
 unfolding key_rank r5_of same_leaf
 returns-clause-heads c = refl
+
+pub returns-clause-another : goal.returns-clause-another
+unfolding key_rank r5_of same_leaf
+returns-clause-another c = refl
