@@ -1,2 +1,3 @@
+pub mod CutsTold
 pub mod GivenBytes
 pub mod SampleFits

@@ -85,7 +85,7 @@ fn what_is_made_is_looked_up(rt: HostRuntime) -> Result<(), Fail> {
 }
 
 // The group that makes the file `f` on a fresh volume.
-fn file_group(alloc: Global) -> Result<Group, Memory>
+pub(crate) fn file_group(alloc: Global) -> Result<Group, Memory>
     ensures { IfOk result (λ group. group ≡ sample_group) }
 {
     let mut group = Group::new(alloc);

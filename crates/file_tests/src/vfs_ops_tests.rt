@@ -10,7 +10,7 @@ ghost use Rattle.vfs_plans.specs.Operations.{is_truncate};
 ghost use Rattle.vfs_ops.specs.Steps.{IsReady};
 
 use fs_laws::a_fresh_volume_is_sound;
-use fs_model::{Backing, Change, Group, Inode, Kind, Op, Reply, Space};
+use fs_model::{Backing, Change, Group, Inode, Kind, Mode, Op, Reply, Space};
 use plain_backing::{PlainBacking, Tree};
 use std::alloc::Global;
 use std::test::Fail;
@@ -68,7 +68,7 @@ pub(crate) fn fresh_backing(alloc: Global) -> Result<PlainBacking, Fail>
         weight: 1,
         main: geo.main_lebs(),
     };
-    Ok(PlainBacking::new(alloc, geo, tree, space, 1)?)
+    Ok(PlainBacking::new(alloc, geo, tree, space, 1, Mode::ReadWrite)?)
 }
 
 // A file system over a fresh volume.

@@ -61,9 +61,9 @@ faulted mode count = mode
 abbrev pub failed : Numbers → Numbers
 failed n = let count = min (n.faults + 1) 18446744073709551615 in record n { strike = 0; faults = count; mode = faulted n.mode count }
 
--- what there is to say of a new one: no credit is covered, no commit runs and nothing was put
-abbrev pub new_state : RawGeometry → Tree → Space → ℕ → BackingState
-new_state geo tree space orphan_room = record {
+-- what there is to say of a new one in this mode: no credit is covered, no commit runs and nothing was put
+abbrev pub new_state : RawGeometry → Tree → Space → ℕ → Mode → BackingState
+new_state geo tree space orphan_room mode = record {
   geometry = geo;
   orphan_limit = orphan_room;
   closed = 0;
@@ -73,7 +73,7 @@ new_state geo tree space orphan_room = record {
   journal = record { running = None; left = 0; nodes = 0; later = 0; medium = Some (medium_of (opened tree)) };
   victim = false;
   contents = None;
-  mode = ReadWrite;
+  mode = mode;
   faults = 0;
 }
 

@@ -50,29 +50,32 @@ pub struct PlainBacking {
 }
 
 impl PlainBacking {
-    ghost use Rattle.std.specs.Prelude.{◌≡◌, ◌<◌, ◌^◌, IfOk, []};
+    ghost use Rattle.std.specs.Prelude.{◌≡◌, false, IfOk};
     ghost use Rattle.ubifs_base.specs.Areas.{main_lebs};
     ghost use Rattle.ubifs_base.specs.RawOf.{raw_of};
     ghost use Rattle.fs_model.specs.Backing.{IsSmall};
-    ghost use Rattle.fs_model.specs.Cover.{tree_bytes};
+    ghost use Rattle.plain_backing.specs.Spending.{is_spent};
     ghost use Rattle.plain_backing.specs.PlainBacking.{state_of, outlook_of, new_state};
 
-    /// A backing of this tree, whose LEBs and weight are those of the space. `orphan_room` is how many orphans it takes.
+    /// A backing of this tree, whose LEBs and weight are those of the space. `orphan_room` is how many orphans it takes. It
+    /// is read-only from the start if the mode says so, but not for a number that is used up.
     pub fn new(
         alloc: Global,
         geo: Geometry,
         tree: Tree,
         space: Space,
         orphan_room: u64,
+        mode: Mode,
     ) -> Result<PlainBacking, Memory>
         requires small { IsSmall space }
         requires main { space.main ≡ main_lebs (raw_of geo) }
         requires credits { space.credits ≡ 0 }
-        requires bytes { tree_bytes tree < 2 ^ 40 }
-        ensures state { IfOk result (λ backing. state_of backing ≡ new_state (raw_of geo) tree space orphan_room) }
+        requires unspent { is_spent mode ≡ false }
+        ensures state { IfOk result (λ backing. state_of backing ≡ new_state (raw_of geo) tree space orphan_room mode) }
         ensures strike { IfOk result (λ backing. (outlook_of backing).strike ≡ Some 0) }
     {
         tree.show_order();
+        let _bytes = tree.bytes();
         let story = open_story(&tree);
         Ok(PlainBacking {
             alloc,
@@ -91,7 +94,7 @@ impl PlainBacking {
                 ended: 0,
                 nodes: 0,
                 later: 0,
-                mode: Mode::ReadWrite,
+                mode,
                 faults: 0,
                 strike: 0,
             },

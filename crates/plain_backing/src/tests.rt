@@ -42,7 +42,7 @@ fn fresh(alloc: Global) -> Result<PlainBacking, Fail> {
         weight: 1,
         main: geo.main_lebs(),
     };
-    Ok(PlainBacking::new(alloc, geo, tree, space, 2)?)
+    Ok(PlainBacking::new(alloc, geo, tree, space, 2, Mode::ReadWrite)?)
 }
 
 // A commit goes from its start to its end.

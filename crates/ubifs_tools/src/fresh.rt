@@ -8,7 +8,7 @@ ghost use Rattle.fs_model.specs.Worked.{fresh};
 ghost use Rattle.plain_backing.specs.PlainBacking.{outlook_of, state_of};
 ghost use Rattle.fs_model.specs.declared.backing_answers.Mode.TheVariants.{ReadWrite};
 
-use fs_model::{Change, Group, Inode, Kind, Space};
+use fs_model::{Change, Group, Inode, Kind, Mode, Space};
 use plain_backing::{PlainBacking, Tree};
 use std::alloc::Global;
 use ubifs_base::{Bytes, Geometry, Memory};
@@ -35,7 +35,7 @@ pub(crate) fn fresh_backing(alloc: Global, geometry: Geometry) -> Result<PlainBa
         weight: 1,
         main,
     };
-    PlainBacking::new(alloc, geometry, tree, space, 0)
+    PlainBacking::new(alloc, geometry, tree, space, 0, Mode::ReadWrite)
 }
 
 // A tree of the root alone.
