@@ -2,8 +2,7 @@
 use Rattle.std.specs.Prelude.{◌≡◌, ◌⊎◌, ℕ, ◌+◌, ◌-◌, ◌*◌, ◌/◌, ◌%◌, ◌^◌, ◌<◌, ◌≤◌, List, ◌++◌, All, length, take, drop}
 use Rattle.ubifs_base.specs.Gap.{gap_of}
 use Rattle.ubifs_base.specs.NodeLaws.{IsBytes}
-use Rattle.ubifs_base.specs.declared.raw_geometry.RawGeometry.{RawGeometry}
-use Rattle.ubi_volume.specs.Volume.{VolumeState, Only, IsWritten, IsChanged, ChangeUnderWay, WriteUnderWay}
+use Rattle.ubi_volume.specs.Volume.{VolumeState, Keeps, Only, IsWritten, IsChanged, ChangeUnderWay, WriteUnderWay}
 use Rattle.ubi_volume.specs.Frame.{Elsewhere}
 use Rattle.media_sys.specs.SystemNode.{IsMaster, master, written}
 use Rattle.media_sys.specs.declared.master.Master.{Master}
@@ -136,6 +135,10 @@ HasMaster leb this = (placed : PlacedMaster) × IsLastMaster leb placed × (plac
 pub record MendUnderWay (state : VolumeState) (room number : ℕ) (latest : PlacedMaster) (left : ℕ → List ℕ) : Type 0 where
   pub elsewhere : Elsewhere state IsMasterLeb left
   pub same : IsStart state number latest → IsMeant (state.holds (other_leb latest.lnum)) room (master_node (number + 1) latest.master) (left (other_leb latest.lnum)) → IsOldOrNew latest latest.master (left 1) (left 2)
+
+-- a sequence number was taken, or none was, and nothing was written
+abbrev pub IsNumbered : VolumeState → VolumeState → ℕ → ℕ → Type 0
+IsNumbered old new before after = ((after ≡ before) × Keeps old new) ⊎ (after ≡ before + 1)
 
 -- Both copies say the latest master, and it is the latest still. Where the next copies go, the LEBs are open.
 pub record IsMended (new : VolumeState) (room number : ℕ) (latest : PlacedMaster) : Type 0 where

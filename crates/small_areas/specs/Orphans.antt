@@ -1,11 +1,13 @@
 -- The list of orphans: which numbers stand in the orphan area, and what is written of a list.
-use Rattle.std.specs.Prelude.{◌≡◌, ◌≢◌, ◌⊎◌, ℕ, zero, suc, ◌+◌, ◌-◌, ◌*◌, ◌/◌, true, List, [], ◌∷◌, ◌++◌, length, take, drop}
+use Rattle.std.specs.Prelude.{◌≡◌, ◌≢◌, ◌⊎◌, ℕ, zero, suc, ◌+◌, ◌-◌, ◌*◌, ◌/◌, true, List, [], ◌∷◌, ◌++◌, length, take, drop, Result, Ok, Err}
 use Rattle.ubifs_base.specs.Areas.{orph_first}
 use Rattle.ubifs_base.specs.Gap.{gap_of}
 use Rattle.ubifs_base.specs.NodeType.{type_number}
 use Rattle.ubifs_base.specs.declared.node_type.NodeType.TheVariants as types
 use Rattle.ubifs_base.specs.declared.raw_geometry.RawGeometry.{RawGeometry}
-use Rattle.ubi_volume.specs.Volume.{VolumeState, Only, filled}
+use Rattle.ubi_volume.specs.Volume.{VolumeState, Keeps, Only, filled}
+use Rattle.ubi_volume.specs.declared.fault.AreaFault.{AreaFault}
+use Rattle.ubi_volume.specs.declared.fault.AreaFault.TheVariants.{Memory, Volume}
 use Rattle.media_sys.specs.Orphans.{Orphans}
 use Rattle.media_sys.specs.SystemNode.{IsSystemNode, orphans, written}
 use Rattle.leb_scan.specs.Text.{IsText, nodes_of}
@@ -83,6 +85,12 @@ pub record IsListWritten (geo : RawGeometry) (list : OrphanList) (new : VolumeSt
   pub leb : IsListLeb geo list (new.holds (orph_first geo))
   pub written : new.written (orph_first geo) ≡ list_size geo.min_io list.inos
   pub left : Only (new.holds (orph_first geo)) (new.left_now (orph_first geo))
+
+-- the list was written; where there was no memory for it, the volume is as it was
+abbrev pub IsListAnswered : {T : Type 0} → RawGeometry → OrphanList → VolumeState → VolumeState → Result T AreaFault → Type 0
+IsListAnswered geo list old new (Ok x) = IsListWritten geo list new
+IsListAnswered geo list old new (Err Memory) = Keeps old new
+IsListAnswered geo list old new (Err (Volume count)) = Unit {0}
 
 -- while a list is written, a cut leaves what it might have left of the LEB before, or the new list
 abbrev pub ListUnderWay : RawGeometry → VolumeState → OrphanList → List ℕ → Type 0

@@ -10,7 +10,7 @@ ghost use Rattle.media_sys.specs.Orphans.{orphans_of};
 ghost use Rattle.media_sys.specs.SystemNode.{IsSystemNode, orphans, written};
 ghost use Rattle.leb_scan.specs.Text.{AnyNode, StandsAt};
 ghost use Rattle.ubi_volume.specs.Geometry.{IsGeometryOf};
-ghost use Rattle.small_areas.specs.Orphans.{orphan_limit, AreListed, HasOrphans, AreOrphans, list_len, list_nodes, list_units, list_size, list_bytes, IsListWritten, ListUnderWay};
+ghost use Rattle.small_areas.specs.Orphans.{orphan_limit, AreListed, HasOrphans, AreOrphans, list_len, list_nodes, list_units, list_size, list_bytes, IsListAnswered, ListUnderWay};
 
 use leb_scan::{Found, Scanner};
 use media_sys::OrphNode;
@@ -35,7 +35,7 @@ pub fn write_orphans<V: Volume>(
     requires commit { cmt_no < 2 ^ 63 }
     requires fits { length inos.now ≤ orphan_limit geometry.now.leb_size }
     requires number { sqnum.old < 2 ^ 63 + 2 ^ 56 }
-    ensures done { OnOk result (IsListWritten (raw_of geometry.now) (record { cmt_no = cmt_no; sqnum = sqnum.new; inos = inos.now }) (V.state volume.new)) }
+    ensures answer { IsListAnswered (raw_of geometry.now) (record { cmt_no = cmt_no; sqnum = sqnum.new; inos = inos.now }) (V.state volume.old) (V.state volume.new) result }
     ensures works { WorksOn (V.state volume.old) (V.state volume.new) (orph_first (raw_of geometry.now)) (ListUnderWay (raw_of geometry.now) (V.state volume.old) (record { cmt_no = cmt_no; sqnum = sqnum.new; inos = inos.now })) }
     ensures raised { sqnum.new ≡ sqnum.old + list_nodes inos.now }
     ensures shape { SameShape (V.state volume.old) (V.state volume.new) }

@@ -30,8 +30,8 @@ returns-clause-works g c =
     list_works (raw_of c.args.geometry.now) (g.V.Volume.state c.args.volume.now) (g.V.Volume.state c.change.new.self) c.orph_first.result c.deref.result.now list c.orph_first.ensures c.requires.geometry.leb_size
     (same ∙ c.in_ok-lay_list.ensures.bytes ∙ ap B (wide ∙ c.list_size-size.ensures.size)) (subst H (sym same) c.in_ok-lay_list.ensures.has) c.change.ensures.works
 
-pub returns-clause-done : goal.returns-clause-done
-returns-clause-done g c =
+pub returns-clause-answer : goal.returns-clause-answer
+returns-clause-answer g c =
     let inos = c.args.inos.now in
     let number = c.args.sqnum.now + c.node_count.result in
     let list : OrphanList = record { cmt_no = c.args.cmt_no; sqnum = number; inos = inos } in
