@@ -14,7 +14,7 @@ use Rattle.leaf_map.specs.After.{is_gone, is_idle, is_set, kept_by, put_leaf}
 use Rattle.leaf_map.specs.Kept.{Kept}
 use Rattle.leaf_map.proofs.Ranks.{leaves}
 
-abbrev Apart : Leaf → List Leaf → Type 0
+abbrev pub Apart : Leaf → List Leaf → Type 0
 Apart x xs = AllByRecursion (λ y. same_leaf x y ≡ false) xs
 
 same_number : (m n : ℕ) → (m == n) ≡ (n == m)

@@ -2,10 +2,12 @@ mod Agrees
 mod Apart
 mod Blocks
 mod Bytes
+mod Carried
 mod Changes
 mod Copies
 mod Distinct
 mod Drops
+mod Follows
 mod Forgets
 mod Inodes
 mod Keyed

@@ -1,5 +1,6 @@
 pub mod After
 pub mod Allowed
+pub mod Follows
 pub mod Kept
 pub mod LastChange
 pub mod LeafMap

@@ -1,18 +1,22 @@
 // Laws of the definitions: of leaves, and of the trees that they show.
 
-ghost use Rattle.std.specs.Prelude.{◌≡◌, ◌+◌, ℕ, List, Some, false, map, max};
+ghost use Rattle.std.specs.Prelude.{◌≡◌, ◌+◌, ℕ, IsTrue, List, Some, false, map, max, true};
 ghost use Rattle.std.specs.BTreeMap.{is_at};
+ghost use Rattle.std.specs.List.{find};
 ghost use Rattle.std.specs.Map.{lookup};
 ghost use Rattle.media_leaf.specs.LeafNode.{IsLeaf};
 ghost use Rattle.index_tree.specs.Distinct.{AreDistinct};
 ghost use Rattle.index_tree.specs.Removal.{holds};
 ghost use Rattle.fs_model.specs.declared.change.Change.{Change as AnyChange};
+ghost use Rattle.fs_model.specs.declared.change.Change.TheVariants.{DropEntry};
+ghost use Rattle.fs_model.specs.Backing.{is_node};
 ghost use Rattle.fs_model.specs.Change.{applied, apply, key_number};
 ghost use Rattle.fs_model.specs.Files.{Tree, inode_at, name_cmp, pair_cmp};
-ghost use Rattle.change_nodes.specs.Nodes.{change_of};
+ghost use Rattle.change_nodes.specs.Nodes.{change_of, node_of};
 ghost use Rattle.fs_model.specs.Recovery.{Head, IsRecovered, KeepsSynced, Numbered, recovered, taken};
 ghost use Rattle.leaf_map.specs.Allowed.{AreOriginals, FitsTree};
-ghost use Rattle.leaf_map.specs.After.{Carries, come_by, gone_by, kept_after, kept_by, used_by};
+ghost use Rattle.leaf_map.specs.After.{Carries, come_by, gone_by, is_gone, is_idle, is_set, kept_after, kept_by, used_by};
+ghost use Rattle.leaf_map.specs.Follows.{with_leaf, without_old};
 ghost use Rattle.leaf_map.specs.Kept.{Kept, Placed, kept_at};
 ghost use Rattle.leaf_map.specs.LastChange.{IsSorted, last_made, makes_block, makes_entry, makes_inode, there};
 ghost use Rattle.leaf_map.specs.LeafMap.{IsLeafMap};
@@ -76,4 +80,19 @@ pub fn a_mount_finds_what_a_cut_may_leave()
 /// Where each committed leaf has its own node, the leaves that a mount finds are those, whatever copies there are.
 pub fn originals_are_found()
     ensures { (parts : Parts) (kept : List Kept) → AreOriginals parts.named kept parts.committed → leaves_found parts ≡ kept }
+{}
+
+/// The node that a change makes carries it, also one that sets an inode without links.
+pub fn nodes_of_changes_carry_them()
+    ensures { (change : AnyChange) → IsTrue (is_node change) → Carries change (node_of change) }
+{}
+
+/// An index follows leaf by leaf: a leaf that is set takes the place of the one that goes, or goes behind all of no greater
+/// key; a name that goes takes its leaf.
+pub fn indexes_follow()
+    ensures set { (change : AnyChange) (new : Placed) (kept : List Kept) → is_set change ≡ true → is_idle kept change ≡ false → IsLeaf new.node → Carries change new.node
+        → IsLeafMap kept → AreDistinct (map (λ x. x.leaf) kept)
+        → map (λ x. x.leaf) (kept_by change (kept_at new) kept) ≡ with_leaf (find (is_gone change) kept) (kept_at new).leaf (map (λ x. x.leaf) kept) }
+    ensures dropped { (dir : ℕ) (name : List ℕ) (new : Kept) (kept : List Kept) → IsLeafMap kept → AreDistinct (map (λ x. x.leaf) kept)
+        → map (λ x. x.leaf) (kept_by (DropEntry dir name) new kept) ≡ without_old (find (is_gone (DropEntry dir name)) kept) (map (λ x. x.leaf) kept) }
 {}

@@ -1,0 +1,17 @@
+-- What a change makes of an index's leaves, told of the leaves alone.
+use Rattle.std.specs.Prelude.{List, Option, Some, None}
+use Rattle.index_tree.specs.declared.leaf.Leaf.{Leaf}
+use Rattle.index_tree.specs.Order.{placed}
+use Rattle.index_tree.specs.Removal.{without}
+use Rattle.index_tree.specs.Replacement.{swapped}
+use Rattle.leaf_map.specs.Kept.{Kept}
+
+-- a leaf in the place of an old one, if there is one, and else behind all of no greater key
+abbrev pub with_leaf : Option Kept → Leaf → List Leaf → List Leaf
+with_leaf None new xs = placed new xs
+with_leaf (Some old) new xs = swapped old.leaf new xs
+
+-- the leaves without an old one, if there is one
+abbrev pub without_old : Option Kept → List Leaf → List Leaf
+without_old None xs = xs
+without_old (Some old) xs = without old.leaf xs
