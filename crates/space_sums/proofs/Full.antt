@@ -13,56 +13,62 @@ use Rattle.fs_model.specs.declared.space.Class.{Class}
 use Rattle.fs_model.specs.declared.space.Class.TheVariants.{Ordinary, Removal}
 use Rattle.fs_model.specs.Cover.{index_lebs, index_room, reserve}
 use Rattle.fs_model.specs.Settled.{IsCovered, IsSettled, nothing}
-use Rattle.space_sums.specs.MainLebs.{Role, Empty, Index, Head, Leaves, MainLeb, is_empty, is_index, is_head, empty_count, index_count, head_count, IsPacked}
+use Rattle.media_lpt.specs.declared.leb_kind.LebKind.{LebKind}
+use Rattle.media_lpt.specs.declared.leb_kind.LebKind.TheVariants.{Free, Leaf, Index, Bud, Taken}
+use Rattle.space_sums.specs.MainLebs.{MainLeb, is_free, is_index, is_bud, is_taken, empty_count, index_count, bud_count, taken_count, IsPacked}
 use Rattle.space_sums.specs.Spaces.{HasRoom, with_heads}
 use Rattle.space_sums.proofs.Index.{index_lebs-grows, index_room-grows}
 
-has_leaves : Role → Bool
-has_leaves Empty = false
+has_leaves : LebKind → Bool
+has_leaves Free = false
+has_leaves Leaf = true
 has_leaves Index = false
-has_leaves Head = false
-has_leaves Leaves = true
+has_leaves Bud = false
+has_leaves Taken = false
 
 leaves_count : List MainLeb → ℕ
-leaves_count lebs = count_by (λ leb. has_leaves leb.role) lebs
+leaves_count lebs = count_by (λ leb. has_leaves leb.kind) lebs
 
-one_of_four : (role : Role) → cond (is_empty role) 1 0 + cond (is_index role) 1 0 + cond (is_head role) 1 0 + cond (has_leaves role) 1 0 ≡ 1
+one_of_five : (kind : LebKind) → cond (is_free kind) 1 0 + cond (is_index kind) 1 0 + cond (is_bud kind) 1 0 + cond (is_taken kind) 1 0 + cond (has_leaves kind) 1 0 ≡ 1
 unfolding has_leaves
-one_of_four Empty = refl
-one_of_four Index = refl
-one_of_four Head = refl
-one_of_four Leaves = refl
+one_of_five Free = refl
+one_of_five Leaf = refl
+one_of_five Index = refl
+one_of_five Bud = refl
+one_of_five Taken = refl
 
-parts : (lebs : List MainLeb) → empty_count lebs + index_count lebs + head_count lebs + leaves_count lebs ≡ length lebs
+parts : (lebs : List MainLeb) → empty_count lebs + index_count lebs + bud_count lebs + taken_count lebs + leaves_count lebs ≡ length lebs
 unfolding leaves_count
 parts [] = refl
 parts (leb ∷ rest) = omega (
   arith,
   parts rest,
-  one_of_four leb.role,
-  sum_by-cons (λ x. cond (is_empty x.role) 1 0) leb rest,
-  sum_by-cons (λ x. cond (is_index x.role) 1 0) leb rest,
-  sum_by-cons (λ x. cond (is_head x.role) 1 0) leb rest,
-  sum_by-cons (λ x. cond (has_leaves x.role) 1 0) leb rest,
+  one_of_five leb.kind,
+  sum_by-cons (λ x. cond (is_free x.kind) 1 0) leb rest,
+  sum_by-cons (λ x. cond (is_index x.kind) 1 0) leb rest,
+  sum_by-cons (λ x. cond (is_bud x.kind) 1 0) leb rest,
+  sum_by-cons (λ x. cond (is_taken x.kind) 1 0) leb rest,
+  sum_by-cons (λ x. cond (has_leaves x.kind) 1 0) leb rest,
 )
 
 -- one LEB
-full_one : (least used : ℕ) (role : Role) → (role ≡ Leaves → least < used) → cond (has_leaves role) 1 0 * (least + 1) ≤ used
+full_one : (least used : ℕ) (kind : LebKind) → (kind ≡ Leaf → least < used) → cond (has_leaves kind) 1 0 * (least + 1) ≤ used
 unfolding has_leaves
-full_one least used Empty h = omega arith
+full_one least used Free h = omega arith
+full_one least used Leaf h = let more : least < used = h refl in omega arith
 full_one least used Index h = omega arith
-full_one least used Head h = omega arith
-full_one least used Leaves h = let more : least < used = h refl in omega arith
+full_one least used Bud h = omega arith
+full_one least used Taken h = omega arith
 
-full_all : (least : ℕ) (lebs : List MainLeb) → All (λ leb. leb.role ≡ Leaves → least < leb.used) lebs →
+full_all : (least : ℕ) (lebs : List MainLeb) → All (λ leb. leb.kind ≡ Leaf → least < leb.used) lebs →
     leaves_count lebs * (least + 1) ≤ sum_by (λ leb. leb.used) lebs
 unfolding leaves_count
 full_all least [] h = omega arith
 full_all least (leb ∷ rest) h =
-    rw (sum_by-cons (λ x. cond (has_leaves x.role) 1 0) leb rest, sum_by-cons (λ x. x.used) leb rest)
-    (both (cond (has_leaves leb.role) 1 0) (leaves_count rest) (least + 1) leb.used (sum_by (λ x. x.used) rest)
-    (full_one least leb.used leb.role (All-head (λ x. x.role ≡ Leaves → least < x.used) leb rest h))
-    (full_all least rest (All-tail (λ x. x.role ≡ Leaves → least < x.used) leb rest h)))
+    rw (sum_by-cons (λ x. cond (has_leaves x.kind) 1 0) leb rest, sum_by-cons (λ x. x.used) leb rest)
+    (both (cond (has_leaves leb.kind) 1 0) (leaves_count rest) (least + 1) leb.used (sum_by (λ x. x.used) rest)
+    (full_one least leb.used leb.kind (All-head (λ x. x.kind ≡ Leaf → least < x.used) leb rest h))
+    (full_all least rest (All-tail (λ x. x.kind ≡ Leaf → least < x.used) leb rest h)))
   where
     both : (a b size x y : ℕ) → a * size ≤ x → b * size ≤ y → (a + b) * size ≤ x + y
     both a b size x y p q = grind (arith, p, q)
@@ -89,8 +95,8 @@ some_room used zero size p h = absurd (none (zero-mul size))
 some_room used (suc room) size p h = omega arith
 
 -- the LEBs that are left for the index
-left_over : (main room leaves heads spare : ℕ) → leaves < main - room - 6 → heads ≤ 3 → spare + heads + leaves ≡ main → room + 4 ≤ spare
-left_over main room leaves heads spare p q e = omega arith
+left_over : (main room leaves buds spare : ℕ) → leaves < main - room - 6 → buds ≤ 3 → spare + buds + leaves ≡ main → room + 4 ≤ spare
+left_over main room leaves buds spare p q e = omega arith
 
 least_reserve : (class : Class) → 6 ≤ reserve class
 least_reserve Ordinary = omega arith
@@ -108,8 +114,8 @@ spare_for geo space need lebs p h packed =
     let few : leaves_count lebs < space.main - kept - 6 =
     few_full (leaves_count lebs) (space.main - kept - 6) size (omega (arith, full_all size lebs packed.full, packed.used, fits))
     (some_room (space.used + space.held) (space.main - kept - 6) size (omega (arith, p)) fits) in
-    let all : empty_count lebs + index_count lebs + head_count lebs + leaves_count lebs ≡ space.main = parts lebs ∙ packed.all in
-    omega (arith, left_over space.main kept (leaves_count lebs) (head_count lebs) (empty_count lebs + index_count lebs) few packed.heads all)
+    let all : empty_count lebs + index_count lebs + bud_count lebs + taken_count lebs + leaves_count lebs ≡ space.main = parts lebs ∙ packed.all in
+    omega (arith, left_over space.main kept (leaves_count lebs) (bud_count lebs) (empty_count lebs + index_count lebs) few packed.buds (omega (arith, all, packed.none_taken)))
 
 pub spare_lebs : (geo : RawGeometry) (space : Space) (lebs : List MainLeb) →
     0 < space.used → IsCovered geo space → IsPacked geo space lebs →

@@ -7,8 +7,8 @@ ghost use Rattle.fs_model.specs.Cover.{index_lebs, index_room};
 ghost use Rattle.fs_model.specs.Settled.{IsCovered};
 ghost use Rattle.space_sums.specs.MainLebs.{MainLeb, IsPacked, empty_count, index_count};
 
-/// Where no collection gains, four LEBs more than are kept for the index of a covered store are empty or the index's. So there
-/// are three empty LEBs more than a settled store needs.
+/// Where no collection gains and no commit runs, four LEBs more than are kept for the index of a covered store are empty or the
+/// index's. So there are three empty LEBs more than a settled store needs.
 ///
 /// That some bytes are used is a premise, and always holds: the root directory's inode is a live leaf of every store. A store
 /// that used none could be covered with no LEB at all.

@@ -5,3 +5,5 @@
 
 #[cfg(test)]
 mod lprops_tree_tests;
+#[cfg(test)]
+mod space_budget_tests;
