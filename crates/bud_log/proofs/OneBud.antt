@@ -5,7 +5,7 @@ use Rattle.ubifs_base.specs.Areas.{main_first}
 use Rattle.ubifs_base.specs.declared.raw_geometry.RawGeometry.{RawGeometry}
 use Rattle.ubi_volume.specs.Volume.{VolumeState, UnderWay, WorksOn, Leaves, ChangeUnderWay}
 use Rattle.ubi_volume.specs.VolumeLaws.{Leaves-more}
-use Rattle.ubi_volume.specs.Frame.{Works}
+use Rattle.ubi_volume.specs.Frame.{IsSameLeb, Works}
 use Rattle.media_sys.specs.SystemNode.{SystemNode, reference}
 use Rattle.media_sys.specs.declared.ref_node.RefNode.{RefNode}
 use Rattle.bud_log.specs.Log.{IsLogLeb, next_leb}
@@ -53,6 +53,14 @@ pub first_works : (here : Bool) (a b : VolumeState) (at : LogAt) (bud n : ℕ) �
 first_works here a b at bud n h e main ab =
     let H : Bool → Type 0 = λ r. Works a b (λ k. (k ≡ bud) ⊎ (k ≡ lnum_at r at)) (OpenUnderWay r a at bud n) in
     subst H e (emptied_works here a b at bud n (there_other here at bud h.here main) ab)
+
+-- and the log is as it was
+pub log_same : (here : Bool) (a b : VolumeState) (at : LogAt) (bud : ℕ) (D : List ℕ → Type 0) → IsAt a at → here ≡ has_room at → main_first at.geo ≤ bud → WorksOn a b bud D → IsSameLeb a b (next_lnum at)
+log_same here a b at bud D h e main w =
+    let P : Bool → Type 0 = λ r. IsSameLeb a b (lnum_at r at) in
+    let there = lnum_at here at in
+    let ne = there_other here at bud h.here main in
+    subst P e (record { holds = w.others there ne; written = w.others_written there ne; left = λ c. w.others_left there c ne; mapped = λ c. w.others_mapped there c ne })
 
 -- what both calls do
 pub both_works : (here : Bool) (a b c : VolumeState) (at : LogAt) (bud n : ℕ) → IsAt a at → here ≡ has_room at → main_first at.geo ≤ bud → b.leb_size ≡ a.leb_size → IsEmptied a b bud → WorksOn a b bud (ChangeUnderWay a bud []) → WorksOn b c (lnum_at here at) (AddDuring here b at n)

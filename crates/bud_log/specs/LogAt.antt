@@ -123,11 +123,11 @@ IsFullExactly old new at (Ok x) = IsFull at → ⊥
 IsFullExactly old new at (Err (Volume count)) = IsFull at → ⊥
 IsFullExactly old new at (Err (Full used limit)) = IsFull at × (used ≡ used_lebs at) × (limit ≡ most_lebs at) × Keeps old new
 
--- a number rises by one where the node is written, and not where the log is full; where the volume failed it may have risen
-abbrev pub IsRaised : {T : Type 0} → ℕ → ℕ → Result T LogFault → Type 0
-IsRaised old new (Ok x) = new ≡ old + 1
-IsRaised old new (Err (Full used limit)) = new ≡ old
-IsRaised old new (Err (Volume count)) = (new ≡ old) ⊎ (new ≡ old + 1)
+-- a number rises by one where the node is written, and not where the log is full; where the volume failed, it stays only if the log is as it was
+abbrev pub IsRaised : {T : Type 0} → ℕ → ℕ → Type 0 → Result T LogFault → Type 0
+IsRaised old new Unwritten (Ok x) = new ≡ old + 1
+IsRaised old new Unwritten (Err (Full used limit)) = new ≡ old
+IsRaised old new Unwritten (Err (Volume count)) = ((new ≡ old) × Unwritten) ⊎ (new ≡ old + 1)
 
 -- a fault of the volume comes only where its count of faults rose
 abbrev pub HasLogCause : {T : Type 0} → ℕ → ℕ → Result T LogFault → Type 0

@@ -4,7 +4,7 @@ ghost use Rattle.std.specs.Prelude.{◌≡◌, ◌≢◌, ◌⊎◌, ◌<◌, �
 ghost use Rattle.ubifs_base.specs.Areas.{lpt_first, main_first};
 ghost use Rattle.ubifs_base.specs.RawOf.{raw_of};
 ghost use Rattle.ubi_volume.specs.Volume.{Each, AreUnits, filled, Leaves, WorksOn, SameShape, ChangeUnderWay};
-ghost use Rattle.ubi_volume.specs.Frame.{Works};
+ghost use Rattle.ubi_volume.specs.Frame.{IsSameLeb, Works};
 ghost use Rattle.ubi_volume.specs.Faults.{HasCause, StaysSure};
 ghost use Rattle.media_sys.specs.SystemNode.{reference};
 ghost use Rattle.bud_log.specs.Buds.{named, buds_of};
@@ -98,7 +98,7 @@ impl Log {
         ensures works { Works (V.state volume.old) (V.state volume.new) (λ k. (k ≡ lnum) ⊎ (k ≡ next_lnum self.old))
             (OpenUnderWay (has_room_at self.old) (V.state volume.old) self.old lnum (room_of self.old.geo.min_io 64)) }
         ensures opened { OnOk result (IsOpened (V.state volume.old) (V.state volume.new) self.old self.new lnum) }
-        ensures raised { IsRaised sqnum.old sqnum.new result }
+        ensures raised { IsRaised sqnum.old sqnum.new (IsSameLeb (V.state volume.old) (V.state volume.new) (next_lnum self.old)) result }
         ensures answered { IsLogAnswered (V.state volume.old) (V.state volume.new) self.old self.new result }
     {
         one_node();

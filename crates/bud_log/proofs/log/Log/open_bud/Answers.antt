@@ -1,4 +1,4 @@
-use Rattle.std.proofs.Common.{◌≡◌, ◌+◌, Bool, [], ◌∷◌, sym, subst}
+use Rattle.std.proofs.Common.{◌≡◌, ◌+◌, rules, Bool, [], ◌∷◌, sym, subst}
 use Rattle.ubi_volume.specs.Volume.{ChangeUnderWay}
 use Rattle.media_sys.specs.SystemNode.{reference}
 use Rattle.media_sys.specs.declared.ref_node.RefNode.{RefNode}
@@ -6,7 +6,7 @@ use Rattle.bud_log.specs.Buds.{named}
 use Rattle.bud_log.specs.LogAt.{LogAt, IsWithin, ending, lnum_at, room_of, offs_at, next_lnum, next_offs}
 use Rattle.bud_log.specs.LogCalls.{AddDuring}
 use Rattle.bud_log.specs.Writing.{IsReady, IsOldOrMeant}
-use Rattle.bud_log.proofs.OneBud.{main_out, start_in, free_of, bud_moment, first_works, both_works, both_moment, emptied_still}
+use Rattle.bud_log.proofs.OneBud.{main_out, start_in, free_of, bud_moment, first_works, log_same, both_works, both_moment, emptied_still}
 use Rattle.bud_log.proofs.Opened.{bud_ready}
 use Rattle.bud_log.proofs.Steps.{within_opened}
 use Rattle.bud_log.proofs.log.Log.open_bud.Goals as goal
@@ -23,6 +23,11 @@ pub returns-in_err-clear_bud-clause-works : goal.returns-in_err-clear_bud-clause
 returns-in_err-clear_bud-clause-works g c =
     let at = c.args.self.now in
     first_works c.has_room-here.result (g.V.Volume.state c.args.volume.now) (g.V.Volume.state c.clear_bud.new.volume) at c.args.lnum (room_of at.geo.min_io 64) c.requires.at c.has_room-here.ensures c.requires.main c.clear_bud.ensures.works
+
+pub returns-in_err-clear_bud-clause-raised : goal.returns-in_err-clear_bud-clause-raised
+returns-in_err-clear_bud-clause-raised g c =
+    let same = log_same c.has_room-here.result (g.V.Volume.state c.args.volume.now) (g.V.Volume.state c.clear_bud.new.volume) c.args.self.now c.args.lnum (ChangeUnderWay (g.V.Volume.state c.args.volume.now) c.args.lnum []) c.requires.at c.has_room-here.ensures c.requires.main c.clear_bud.ensures.works in
+    search rules
 
 pub returns-in_err-write_reference-clause-any_moment : goal.returns-in_err-write_reference-clause-any_moment
 returns-in_err-write_reference-clause-any_moment g c = λ from buds start h.
