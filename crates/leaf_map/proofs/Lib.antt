@@ -9,6 +9,9 @@ mod Distinct
 mod Drops
 mod Follows
 mod Forgets
+mod FoundApart
+mod FoundKeys
+mod FoundLeaves
 mod Inodes
 mod Keyed
 mod Lasts
@@ -21,3 +24,5 @@ mod Replays
 mod Same
 mod Sorted
 mod Steps
+mod Things
+mod Walk

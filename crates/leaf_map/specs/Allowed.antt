@@ -1,9 +1,9 @@
 -- What is asked of what a mount has read, so that it finds a tree that a cut may leave.
 use Rattle.std.specs.Prelude.{◌≡◌, ◌⊎◌, ℕ, ◌==◌, true, is_some, List, [], ◌∷◌, map, Some}
 use Rattle.std.specs.BTreeMap.{is_at}
-use Rattle.std.specs.List.{list_any}
+use Rattle.std.specs.List.{AllByRecursion, list_any}
 use Rattle.std.specs.Map.{lookup}
-use Rattle.media_leaf.specs.LeafNode.{IsLeaf}
+use Rattle.media_leaf.specs.LeafNode.{IsLeaf, LeafNode}
 use Rattle.fs_model.specs.declared.change.Change.{Change}
 use Rattle.fs_model.specs.Change.{apply}
 use Rattle.fs_model.specs.Files.{Tree, inode_at, name_cmp, pair_cmp}
@@ -55,3 +55,26 @@ AreOriginals named [] (c ∷ committed) = ⊥
 AreOriginals named (x ∷ kept) [] = ⊥
 AreOriginals named (x ∷ kept) (c ∷ committed) =
     (found : Placed) × (own_node named c ≡ Some found) × (record { leaf = c.leaf; sqnum = found.sqnum; node = found.node } ≡ x) × AreOriginals named kept committed
+
+-- a node is that of one of these leaves
+abbrev pub IsNodeOf : List Kept → LeafNode → Type 0
+IsNodeOf [] node = ⊥
+IsNodeOf (x ∷ kept) node = (node ≡ x.node) ⊎ IsNodeOf kept node
+
+-- a leaf as it was read: where it has an own node, that is the leaf's node
+pub record IsReadLeaf (parts : Parts) (x : Kept) (c : Committed) : Type 0 where
+  pub leaf : c.leaf ≡ x.leaf
+  pub own : (found : Placed) → own_node parts.named c ≡ Some found → found.node ≡ x.node
+
+-- each of these leaves
+abbrev pub AreReadLeaves : Parts → List Kept → List Committed → Type 0
+AreReadLeaves parts [] [] = Unit {0}
+AreReadLeaves parts [] (c ∷ committed) = ⊥
+AreReadLeaves parts (x ∷ kept) [] = ⊥
+AreReadLeaves parts (x ∷ kept) (c ∷ committed) = IsReadLeaf parts x c × AreReadLeaves parts kept committed
+
+-- What was read fits the leaves that were committed, with their nodes: own nodes are theirs, and each copy is one of a leaf's node. Any of the originals may be gone.
+pub record FitsLeaves (parts : Parts) (kept : List Kept) : Type 0 where
+  pub leaves : IsLeafMap kept
+  pub read : AreReadLeaves parts kept parts.committed
+  pub copies : AllByRecursion (λ d. IsLeaf d.node × IsNodeOf kept d.node) parts.copies

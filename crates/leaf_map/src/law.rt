@@ -14,7 +14,7 @@ ghost use Rattle.fs_model.specs.Change.{applied, apply, key_number};
 ghost use Rattle.fs_model.specs.Files.{Tree, inode_at, name_cmp, pair_cmp};
 ghost use Rattle.change_nodes.specs.Nodes.{change_of, node_of};
 ghost use Rattle.fs_model.specs.Recovery.{Head, IsRecovered, KeepsSynced, Numbered, recovered, taken};
-ghost use Rattle.leaf_map.specs.Allowed.{AreOriginals, FitsTree};
+ghost use Rattle.leaf_map.specs.Allowed.{AreOriginals, FitsLeaves, FitsTree};
 ghost use Rattle.leaf_map.specs.After.{Carries, come_by, gone_by, is_gone, is_idle, is_set, kept_after, kept_by, used_by};
 ghost use Rattle.leaf_map.specs.Follows.{with_leaf, without_old};
 ghost use Rattle.leaf_map.specs.Kept.{Kept, Placed, kept_at};
@@ -95,4 +95,10 @@ pub fn indexes_follow()
         → map (λ x. x.leaf) (kept_by change (kept_at new) kept) ≡ with_leaf (find (is_gone change) kept) (kept_at new).leaf (map (λ x. x.leaf) kept) }
     ensures dropped { (dir : ℕ) (name : List ℕ) (new : Kept) (kept : List Kept) → IsLeafMap kept → AreDistinct (map (λ x. x.leaf) kept)
         → map (λ x. x.leaf) (kept_by (DropEntry dir name) new kept) ≡ without_old (find (is_gone (DropEntry dir name)) kept) (map (λ x. x.leaf) kept) }
+{}
+
+/// Whichever originals are gone, the leaves that a mount finds are those of an index: each has its own key, and no two show
+/// one inode, block or name.
+pub fn found_leaves_are_of_an_index()
+    ensures { (parts : Parts) (kept : List Kept) → FitsLeaves parts kept → IsLeafMap (leaves_found parts) }
 {}

@@ -1,0 +1,115 @@
+-- What is shown at one place of the order: the same inode or block, or names of one hash.
+use Rattle.std.proofs.Common.{◌≡◌, ◌⊎◌, ℕ, ◌+◌, ◌^◌, ◌<◌, ◌%◌, Bool, true, false, cond, not, List, [], ◌∷◌, refl, sym, subst, ◌∙◌, arith, inl, inr, Option, Some, None}
+use Rattle.std.specs.Prelude.{◌==◌, nat_le}
+use Rattle.std.specs.List.{AllByRecursion, list_all}
+use Rattle.std.proofs.lemmas.Bool.{false≢true, and_parts, and_from, eq-eqb, leb-true}
+use Rattle.ubifs_base.specs.R5.{r5_of, r5_from}
+use Rattle.media_leaf.specs.LeafNode.{LeafNode}
+use Rattle.index_tree.specs.declared.leaf.Leaf.{Leaf}
+use Rattle.fs_model.specs.declared.change.Change.{Change}
+use Rattle.fs_model.specs.declared.change.Change.TheVariants.{SetInode, SetEntry, SetBlock}
+use Rattle.leaf_map.specs.After.{is_set}
+use Rattle.leaf_map.specs.Allowed.{IsNodeOf}
+use Rattle.leaf_map.specs.Kept.{Kept, shown, shown_by}
+use Rattle.leaf_map.specs.LeafMap.{HasKeyOf, IsKeyed, are_apart, shows_same}
+use Rattle.leaf_map.specs.Parts.{is_shown}
+use Rattle.leaf_map.proofs.Apart.{through, turned}
+use Rattle.leaf_map.proofs.Ranks.{rank_shown, same_rank}
+
+-- whether a name is shown
+abbrev pub is_entry : Option Change → Bool
+is_entry (Some (SetEntry e)) = true
+is_entry s = false
+
+r5_small : (name : List ℕ) → r5_of name < 2 ^ 29
+unfolding r5_of
+r5_small name = by (r5_from 0 name % 2 ^ 29) (omega arith)
+  where
+    by : (m : ℕ) → m < 2 ^ 29 → cond (nat_le m 2) (m + 3) m < 2 ^ 29
+    by m h = test (nat_le m 2) refl
+      where
+        test : (b : Bool) → nat_le m 2 ≡ b → cond b (m + 3) m < 2 ^ 29
+        test true e = let l = leb-true m 2 e in omega (arith, l)
+        test false e = h
+
+-- at one place stands the same, or names do
+pub same_thing : (l m : Leaf) (s t : Option Change) → HasKeyOf l s → HasKeyOf m t → rank_shown s ≡ rank_shown t → (shows_same s t ≡ true) ⊎ ((is_entry s ≡ true) × (is_entry t ≡ true))
+same_thing l m (Some (SetInode a x)) (Some (SetInode b y)) h g r = inl (eq-eqb b a (omega (arith, r)))
+same_thing l m (Some (SetInode a x)) (Some (SetBlock b n y)) h g r = let small = g.1 in absurd (omega (arith, r, small))
+same_thing l m (Some (SetInode a x)) (Some (SetEntry e)) h g r = let small = r5_small e.name in absurd (omega (arith, r, small))
+same_thing l m (Some (SetBlock a n x)) (Some (SetInode b y)) h g r = let small = h.1 in absurd (omega (arith, r, small))
+same_thing l m (Some (SetBlock a n x)) (Some (SetBlock b k y)) h g r =
+    let p = h.1 in
+    let q = g.1 in
+    inl (and_from (b == a) (k == n) (eq-eqb b a (omega (arith, r, p, q))) (eq-eqb k n (omega (arith, r, p, q))))
+same_thing l m (Some (SetBlock a n x)) (Some (SetEntry e)) h g r = let p = h.1 in let small = r5_small e.name in absurd (omega (arith, r, p, small))
+same_thing l m (Some (SetEntry e)) (Some (SetInode b y)) h g r = let small = r5_small e.name in absurd (omega (arith, r, small))
+same_thing l m (Some (SetEntry e)) (Some (SetBlock b n y)) h g r = let q = g.1 in let small = r5_small e.name in absurd (omega (arith, r, q, small))
+same_thing l m (Some (SetEntry e)) (Some (SetEntry f)) h g r = inr (refl, refl)
+same_thing l m (Some (SetInode a x)) t h g r = absurd g
+same_thing l m (Some (SetBlock a n x)) t h g r = absurd g
+same_thing l m (Some (SetEntry e)) t h g r = absurd g
+same_thing l m s t h g r = absurd h
+
+-- what is set
+pub shown_set : (s : Option Change) → is_shown s ≡ true → (c : Change) → s ≡ Some c → is_set c ≡ true
+shown_set s h c e = subst (λ z. is_shown z ≡ true) e h
+
+pub same_turned : (s t : Option Change) → is_shown s ≡ true → is_shown t ≡ true → shows_same s t ≡ true → shows_same t s ≡ true
+same_turned s None h g e = absurd (false≢true g)
+same_turned s (Some change) h g e = turned change s g (shown_set s h) e
+
+pub same_through : (a s t : Option Change) → is_shown a ≡ true → shows_same a s ≡ true → shows_same a t ≡ true → shows_same s t ≡ true
+same_through None s t h e f = absurd (false≢true h)
+same_through (Some change) s t h e f = through change s t h e f
+
+pub same_place : (s t : Option Change) → is_shown s ≡ true → shows_same s t ≡ true → rank_shown s ≡ rank_shown t
+same_place None t h e = absurd (false≢true h)
+same_place (Some change) t h e = sym (same_rank change t h e)
+
+pub same_kind : (s t : Option Change) → is_shown s ≡ true → shows_same s t ≡ true → is_entry s ≡ is_entry t
+same_kind (Some (SetInode a x)) (Some (SetInode b y)) h e = refl
+same_kind (Some (SetBlock a n x)) (Some (SetBlock b m y)) h e = refl
+same_kind (Some (SetEntry a)) (Some (SetEntry b)) h e = refl
+same_kind (Some (SetInode a x)) t h e = absurd (false≢true e)
+same_kind (Some (SetBlock a n x)) t h e = absurd (false≢true e)
+same_kind (Some (SetEntry a)) t h e = absurd (false≢true e)
+same_kind s t h e = absurd (false≢true h)
+
+pub keyed_shown : (l : Leaf) (s : Option Change) → HasKeyOf l s → is_shown s ≡ true
+keyed_shown l (Some (SetInode a x)) h = refl
+keyed_shown l (Some (SetBlock a n x)) h = refl
+keyed_shown l (Some (SetEntry e)) h = refl
+keyed_shown l s h = absurd h
+
+-- what all leaves pass their nodes pass
+pub at_node : (p : Option Change → Bool) (kept : List Kept) (n : LeafNode) → list_all (λ y. p (shown_by y)) kept ≡ true → IsNodeOf kept n → p (shown n) ≡ true
+at_node p [] n h i = absurd i
+at_node p (x ∷ kept) n h (inl e) = subst (λ z. p (shown z) ≡ true) (sym e) (and_parts (p (shown_by x)) (list_all (λ y. p (shown_by y)) kept) h).0
+at_node p (x ∷ kept) n h (inr i) = at_node p kept n (and_parts (p (shown_by x)) (list_all (λ y. p (shown_by y)) kept) h).1 i
+
+pub node_shown : (kept : List Kept) (n : LeafNode) → AllByRecursion IsKeyed kept → IsNodeOf kept n → is_shown (shown n) ≡ true
+node_shown [] n k i = absurd i
+node_shown (x ∷ kept) n k (inl e) = subst (λ z. is_shown (shown z) ≡ true) (sym e) (keyed_shown x.leaf (shown_by x) k.0)
+node_shown (x ∷ kept) n k (inr i) = node_shown kept n k.1 i
+
+pub not_true : (b : Bool) → not b ≡ true → b ≡ false
+not_true true h = absurd (false≢true h)
+not_true false h = refl
+
+-- of leaves of which none shows what another does one node alone shows it
+pub one_node : (kept : List Kept) (m n : LeafNode) → AllByRecursion IsKeyed kept → are_apart kept ≡ true → IsNodeOf kept m → IsNodeOf kept n → shows_same (shown m) (shown n) ≡ true → m ≡ n
+one_node [] m n k a i j e = absurd i
+one_node (x ∷ kept) m n k a (inl i) (inl j) e = i ∙ sym j
+one_node (x ∷ kept) m n k a (inl i) (inr j) e =
+    let p = and_parts (list_all (λ y. not (shows_same (shown_by x) (shown_by y))) kept) (are_apart kept) a in
+    let no = not_true (shows_same (shown_by x) (shown n)) (at_node (λ t. not (shows_same (shown_by x) t)) kept n p.0 j) in
+    absurd (false≢true (sym no ∙ subst (λ (z : LeafNode). shows_same (shown z) (shown n) ≡ true) i e))
+one_node (x ∷ kept) m n k a (inr i) (inl j) e =
+    let p = and_parts (list_all (λ y. not (shows_same (shown_by x) (shown_by y))) kept) (are_apart kept) a in
+    let no = not_true (shows_same (shown_by x) (shown m)) (at_node (λ t. not (shows_same (shown_by x) t)) kept m p.0 i) in
+    let back = same_turned (shown m) (shown n) (node_shown kept m k.1 i) (subst (λ z. is_shown (shown z) ≡ true) (sym j) (keyed_shown x.leaf (shown_by x) k.0)) e in
+    absurd (false≢true (sym no ∙ subst (λ (z : LeafNode). shows_same (shown z) (shown m) ≡ true) j back))
+one_node (x ∷ kept) m n k a (inr i) (inr j) e =
+    let p = and_parts (list_all (λ y. not (shows_same (shown_by x) (shown_by y))) kept) (are_apart kept) a in
+    one_node kept m n k.1 p.1 i j e
