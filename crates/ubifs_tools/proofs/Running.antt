@@ -48,7 +48,7 @@ put_alike files tree later kept bare alike clean none same is =
       entries = alike.entries ∙ ap (λ (t : Tree). t.entries) whole;
       highest = alike.highest ∙ ap (λ (t : Tree). t.highest) whole;
       handles = sym is.handles;
-      sizes = λ ino inode found. alike.sizes ino inode found ∙ ap (λ (t : Tree). size_of t ino inode) whole;
+      sizes = λ ino inode found plain. alike.sizes ino inode found plain ∙ ap (λ (t : Tree). size_of t ino inode) whole;
     }
 
 -- a line of the grammar is a call that a run makes
