@@ -19,6 +19,3 @@ pub use crate::laws::{a_group_is_read_back, changes_are_carried, texts_have_leng
 pub use crate::node::{text_len, write_text};
 pub use crate::read::read_change;
 pub use crate::write::{group_len, write_group};
-
-#[cfg(test)]
-mod tests;

@@ -47,6 +47,3 @@ pub use crate::trace::TraceLine;
 pub use crate::worked::{
     groups_and_trees_are_told, names_are_answered, open_files_are_answered, recovery_is_told,
 };
-
-#[cfg(test)]
-mod tests;
