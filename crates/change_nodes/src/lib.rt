@@ -21,6 +21,3 @@ pub use crate::laws::{
 pub use crate::node::{key_of, node_len, text_len, write_text};
 pub use crate::read::read_change;
 pub use crate::write::{group_len, write_group};
-
-#[cfg(test)]
-mod tests;

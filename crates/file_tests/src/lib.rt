@@ -1,19 +1,19 @@
-//! Tests of files: the model, its sums, plans, pages, credits, and operations over a backing in memory.
+//! Tests of files: the model, its sums, its changes as nodes, files in memory, pages and credits.
 //!
 //! They stand above the crates whose public calls they make, since a crate that has tests is proved twice: by itself, and with its tests.
 #![tactic(auto)]
 
 #[cfg(test)]
+mod change_nodes_tests;
+#[cfg(test)]
 mod credit_pool_tests;
 #[cfg(test)]
-mod op_plans_tests;
+mod fs_model_tests;
 #[cfg(test)]
 mod page_cache_tests;
 #[cfg(test)]
-mod plain_backing_cut_tests;
+mod plain_backing_tests;
 #[cfg(test)]
-mod vfs_ops_fs_tests;
+mod plain_backing_tree_tests;
 #[cfg(test)]
-mod vfs_ops_page_tests;
-#[cfg(test)]
-mod vfs_ops_tests;
+mod space_sums_tests;

@@ -50,6 +50,3 @@ pub use crate::worked::{
     a_trace_is_judged, directories_are_counted, groups_and_trees_are_told, names_are_answered,
     open_files_are_answered, recovery_is_told,
 };
-
-#[cfg(test)]
-mod tests;

@@ -23,8 +23,3 @@ pub use crate::backing::PlainBacking;
 pub use crate::tree::Tree;
 pub use crate::tree_law::last_blocks_are_greatest;
 pub use crate::tree_rows::{BlockRows, InodeRows};
-
-#[cfg(test)]
-mod tests;
-#[cfg(test)]
-mod tree_tests;

@@ -1,6 +1,6 @@
 // A tree of files in memory.
 
-ghost use Rattle.std.specs.Prelude.{◌≡◌, ◌<◌, ◌^◌, ◌==◌, IfOk, OnOk, OnErr, filter, length, []};
+ghost use Rattle.std.specs.Prelude.{◌≡◌, ◌<◌, ◌≤◌, ◌^◌, ◌==◌, IfOk, OnOk, OnErr, filter, length, []};
 ghost use Rattle.std.specs.Option.{option_copied, option_map};
 ghost use Rattle.fs_model.specs.Change.{apply, without_inode};
 ghost use Rattle.fs_model.specs.Orphan.{nameless};
@@ -181,12 +181,13 @@ impl Tree {
     {
         self.cells.bytes
     }
-}
 
-#[cfg(test)]
-impl Tree {
-    /// The numbers of cells of inodes, blocks and entries, empty ones among them.
-    pub(crate) fn count_cells(&self) -> (usize, usize, usize) {
+    /// How many cells are kept of inodes, blocks and entries, empty ones among them.
+    pub fn count_cells(&self) -> (usize, usize, usize)
+        ensures inodes { length self.now.inodes ≤ result.0 }
+        ensures blocks { length self.now.blocks ≤ result.1 }
+        ensures entries { length self.now.entries ≤ result.2 }
+    {
         let cells = &self.cells;
         (cells.inodes.len(), cells.blocks.len(), cells.entries.len())
     }

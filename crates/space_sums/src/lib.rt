@@ -25,6 +25,3 @@ pub use crate::pigeonhole::a_packed_store_has_spare_lebs;
 pub use crate::settling::settled;
 pub use crate::sides::Room;
 pub use fs_model::{Cause, Scarce, Space};
-
-#[cfg(test)]
-mod tests;

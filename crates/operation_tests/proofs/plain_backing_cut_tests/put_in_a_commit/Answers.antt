@@ -6,8 +6,8 @@ use Rattle.fs_model.specs.declared.space.Grant.{Grant}
 use Rattle.fs_model.specs.Files.{Tree}
 use Rattle.fs_model.specs.Journal.{Journal, MightLeave, base_head}
 use Rattle.fs_model.specs.Orphan.{all_revive_none}
-use Rattle.file_tests.proofs.CutsTold.{orphans_still}
-use Rattle.file_tests.proofs.plain_backing_cut_tests.put_in_a_commit.Goals as goal
+use Rattle.operation_tests.proofs.CutsTold.{orphans_still}
+use Rattle.operation_tests.proofs.plain_backing_cut_tests.put_in_a_commit.Goals as goal
 
 pub put_group-requires : goal.put_group-requires
 put_group-requires g c =

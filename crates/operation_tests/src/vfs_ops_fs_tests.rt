@@ -3,7 +3,7 @@
 ghost use Rattle.std.specs.Prelude.{◌≡◌, ◌≤◌, ◌+◌, length, IfOk};
 ghost use Rattle.fs_model.specs.Making.{new_file};
 ghost use Rattle.plain_backing.specs.PlainBacking.{state_of};
-ghost use Rattle.file_tests.specs.Sample.{sample_group, sample_page};
+ghost use Rattle.operation_tests.specs.Sample.{sample_group, sample_page};
 ghost use Rattle.vfs_ops.specs.Steps.{IsReady};
 
 use crate::vfs_ops_tests::{answered, fresh_backing, fresh_files, path, root};

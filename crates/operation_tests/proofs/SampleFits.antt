@@ -7,7 +7,7 @@ use Rattle.fs_model.specs.Change.{apply}
 use Rattle.fs_model.specs.Files.{Tree}
 use Rattle.fs_model.specs.Proper.{IsProper}
 use Rattle.fs_model.specs.Worked.{fresh}
-use Rattle.file_tests.specs.Sample.{sample_group, sample_page}
+use Rattle.operation_tests.specs.Sample.{sample_group, sample_page}
 
 fresh_proper : IsProper fresh.tree
 fresh_proper = record { inodes_ascend = refl; blocks_ascend = refl; entries_ascend = refl; inode_nodes = refl; block_nodes = refl; entry_nodes = refl; root = refl; entries = refl; inodes = refl; linked = refl; numbers = refl }

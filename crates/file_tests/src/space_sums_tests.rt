@@ -2,8 +2,8 @@
 
 ghost use Rattle.space_sums.specs.Sums.{IsSmall, IsModest};
 
-use crate::{Cause, Room, Scarce, Space, room, settled};
 use fs_model::{Class, Need};
+use space_sums::{Cause, Room, Scarce, Space, room, settled};
 use std::test::Fail;
 use ubifs_base::{Geometry, RawGeometry};
 

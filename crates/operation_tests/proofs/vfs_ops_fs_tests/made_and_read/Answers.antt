@@ -1,5 +1,5 @@
-use Rattle.file_tests.proofs.SampleFits.{fits_on_fresh, orphans_on_fresh, page_on_fresh, proper_on}
-use Rattle.file_tests.proofs.vfs_ops_fs_tests.made_and_read.Goals as goal
+use Rattle.operation_tests.proofs.SampleFits.{fits_on_fresh, orphans_on_fresh, page_on_fresh, proper_on}
+use Rattle.operation_tests.proofs.vfs_ops_fs_tests.made_and_read.Goals as goal
 
 pub make_and_read-requires-clause-proper : goal.make_and_read-requires-clause-proper
 make_and_read-requires-clause-proper c = proper_on _ c.in_ok-backing.ensures.tree

@@ -9,7 +9,7 @@ ghost use Rattle.fs_model.specs.Orphan.{without_nameless};
 ghost use Rattle.fs_model.specs.Proper.{IsProper};
 ghost use Rattle.fs_model.specs.Worked.{fresh};
 ghost use Rattle.fs_model.specs.declared.space.Class.TheVariants.{Ordinary};
-ghost use Rattle.file_tests.specs.Sample.{sample_group};
+ghost use Rattle.operation_tests.specs.Sample.{sample_group};
 ghost use Rattle.plain_backing.specs.PlainBacking.{state_of};
 
 use crate::vfs_ops_fs_tests::file_group;

@@ -1,6 +1,6 @@
 // Blocks of a file and lists of changes and entries, by hand.
 
-use crate::{Blocks, Change, Entry, Group, Kind, Rows};
+use fs_model::{Blocks, Change, Entry, Group, Kind, Rows};
 use std::test::Fail;
 use ubifs_base::{Bytes, Name};
 

@@ -1,7 +1,7 @@
 use Rattle.std.proofs.Common.{arith, sym, subst, IsTrue, List, ℕ}
 use Rattle.fs_model.specs.Proper.{are_bytes}
-use Rattle.file_tests.proofs.GivenBytes.{given_bytes}
-use Rattle.file_tests.proofs.vfs_ops_tests.path.Goals as goal
+use Rattle.operation_tests.proofs.GivenBytes.{given_bytes}
+use Rattle.operation_tests.proofs.vfs_ops_tests.path.Goals as goal
 
 pub returns : goal.returns
 returns c =

@@ -1,7 +1,7 @@
 // A tree that groups make, and a group that is refused memory.
 
-use crate::Tree;
 use fs_model::{Change, Entry, Group, Inode, Kind};
+use plain_backing::Tree;
 use std::alloc::Global;
 use std::test::Fail;
 use ubifs_base::{Bytes, Memory, Name};

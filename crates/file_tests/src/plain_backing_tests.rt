@@ -1,10 +1,10 @@
 // The steps of a commit, and the call that fails, on a backing in memory.
 
-use crate::{PlainBacking, Tree};
 use fs_model::{
     Backing, Cause, Change, Collected, Ended, Group, Inode, Kind, Mode, Space, Started, Stepped,
     StoreFault,
 };
+use plain_backing::{PlainBacking, Tree};
 use std::alloc::Global;
 use std::test::Fail;
 use ubifs_base::{Arm, Bytes, Geometry, RawGeometry};

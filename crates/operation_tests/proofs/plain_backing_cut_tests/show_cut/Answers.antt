@@ -1,5 +1,5 @@
-use Rattle.file_tests.proofs.CutsTold.{tree_left}
-use Rattle.file_tests.proofs.plain_backing_cut_tests.show_cut.Goals as goal
+use Rattle.operation_tests.proofs.CutsTold.{tree_left}
+use Rattle.operation_tests.proofs.plain_backing_cut_tests.show_cut.Goals as goal
 
 pub returns : goal.returns
 returns g c =

@@ -4,8 +4,8 @@ use Rattle.fs_model.specs.Change.{apply}
 use Rattle.fs_model.specs.Files.{Tree}
 use Rattle.fs_model.specs.Orphan.{without_nameless}
 use Rattle.fs_model.specs.Worked.{fresh}
-use Rattle.file_tests.proofs.SampleFits.{proper_on}
-use Rattle.file_tests.proofs.plain_backing_cut_tests.file_synced.Goals as goal
+use Rattle.operation_tests.proofs.SampleFits.{proper_on}
+use Rattle.operation_tests.proofs.plain_backing_cut_tests.file_synced.Goals as goal
 
 pub put_and_sync-requires-clause-proper : goal.put_and_sync-requires-clause-proper
 put_and_sync-requires-clause-proper c = proper_on _ c.in_ok-backing.ensures.tree

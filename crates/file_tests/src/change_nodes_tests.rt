@@ -5,11 +5,11 @@ ghost use Rattle.std.specs.List.{list_all};
 ghost use Rattle.fs_model.specs.Backing.{is_node};
 ghost use Rattle.media_leaf.specs.Inode.{IsInoNode};
 
-use super::*;
+use change_nodes::{group_len, read_change, write_group};
 use fs_model::{Change, Entry, Inode, Kind};
 use media_leaf::{DentNode, InoNode};
 use std::alloc::Global;
-use std::test::*;
+use std::test::Fail;
 use ubifs_base::{Bytes, Memory, Name};
 
 // Inode 65, a symbolic link to `target`: sequence number 8, alone.

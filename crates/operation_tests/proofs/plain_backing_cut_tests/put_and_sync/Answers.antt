@@ -5,7 +5,7 @@ use Rattle.fs_model.specs.declared.space.Grant.{Grant}
 use Rattle.fs_model.specs.Change.{apply}
 use Rattle.fs_model.specs.Files.{Tree}
 use Rattle.fs_model.specs.Orphan.{all_revive_none, without_nameless}
-use Rattle.file_tests.proofs.plain_backing_cut_tests.put_and_sync.Goals as goal
+use Rattle.operation_tests.proofs.plain_backing_cut_tests.put_and_sync.Goals as goal
 
 pub put_group-requires : goal.put_group-requires
 put_group-requires g c =
