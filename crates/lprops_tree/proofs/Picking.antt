@@ -11,7 +11,7 @@ use Rattle.media_lpt.specs.declared.leb_kind.LebKind.TheVariants.{Free, Leaf, In
 use Rattle.lprops_tree.specs.declared.candidate.Candidate.{Candidate}
 use Rattle.lprops_tree.specs.declared.totals.Totals.{Totals}
 use Rattle.lprops_tree.specs.Candidates.{free_candidate, leaf_candidate, picked}
-use Rattle.lprops_tree.specs.Kept.{IsKept}
+use Rattle.lprops_tree.specs.PropsTree.{IsPropsTree}
 use Rattle.lprops_tree.specs.MainArea.{MainArea, IsMainLeb, used_bytes, unknown}
 use Rattle.lprops_tree.specs.Picks.{IsFreeLeb, IsLowestFree, IsCollectable, IsVictim}
 use Rattle.lprops_tree.specs.Tournament.{IsWinner, nobody, rank}
@@ -143,22 +143,22 @@ low_numbers geo h =
     less : (a b : ℕ) → 1 ≤ b → a * b ≤ 2 ^ 30 → a ≤ 2 ^ 30
     less a b p q = let m : a * 1 ≤ a * b = mul-le-mul_left a p in omega arith
 
-free_stands : (area : MainArea) (free leaves : List Candidate) (totals : Totals) → IsKept area free leaves totals → Stands (free_choice area) free
+free_stands : (area : MainArea) (free leaves : List Candidate) (totals : Totals) → IsPropsTree area free leaves totals → Stands (free_choice area) free
 free_stands area free leaves totals h = record {
-  all = h.frees.all;
+  all = h.free_ones.all;
   each = λ k few. let P : Candidate → Type 0 = λ v. Stand ((get_or area.lebs k unknown).1 ≡ Free) 0 (main_first area.geo + k) v in
-      subst P (sym (h.frees.each k few)) (free_stand (main_first area.geo + k) (get_or area.lebs k unknown).1);
+      subst P (sym (h.free_ones.each k few)) (free_stand (main_first area.geo + k) (get_or area.lebs k unknown).1);
   numbers = omega (arith, low_numbers area.geo h.geometry, h.count);
   bytes = λ k few. omega arith;
 }
 
-leaf_stands : (area : MainArea) (free leaves : List Candidate) (totals : Totals) (most : ℕ) → IsKept area free leaves totals → Stands (leaf_choice area most) leaves
+leaf_stands : (area : MainArea) (free leaves : List Candidate) (totals : Totals) (most : ℕ) → IsPropsTree area free leaves totals → Stands (leaf_choice area most) leaves
 leaf_stands area free leaves totals most h = record {
-  all = h.leafs.all;
+  all = h.leaf_ones.all;
   each = λ k few.
       let used : ℕ = used_bytes area.geo (get_or area.lebs k unknown).0 in
       let P : Candidate → Type 0 = λ v. Stand ((get_or area.lebs k unknown).1 ≡ Leaf) used (main_first area.geo + k) v in
-      subst P (sym (h.leafs.each k few)) (leaf_stand used (main_first area.geo + k) (get_or area.lebs k unknown).1);
+      subst P (sym (h.leaf_ones.each k few)) (leaf_stand used (main_first area.geo + k) (get_or area.lebs k unknown).1);
   numbers = omega (arith, low_numbers area.geo h.geometry, h.count);
   bytes = λ k few. omega (arith, h.geometry.leb_size.1);
 }
@@ -170,7 +170,7 @@ place_of area lnum count main = omega (arith, main.low, main.high)
 main_at : (area : MainArea) (lnum : ℕ) → length area.lebs ≡ main_lebs area.geo → main_first area.geo ≤ lnum → lnum - main_first area.geo < length area.lebs → IsMainLeb area.geo lnum
 main_at area lnum count low few = record { low = low; high = omega arith }
 
-pub lowest_free : (area : MainArea) (free leaves : List Candidate) (totals : Totals) (best : Candidate) → IsKept area free leaves totals → IsWinner free best →
+pub lowest_free : (area : MainArea) (free leaves : List Candidate) (totals : Totals) (best : Candidate) → IsPropsTree area free leaves totals → IsWinner free best →
     IfSome (picked best 0) (λ lnum. IsLowestFree area lnum)
 lowest_free area free leaves totals best h w =
     found (free_choice area) free best (λ lnum. IsLowestFree area lnum) (free_stands area free leaves totals h) w (λ lnum low pick. record {
@@ -178,12 +178,12 @@ lowest_free area free leaves totals best h w =
       lowest = λ other is. let a = pick.lowest (other - main_first area.geo) (place_of area other h.count is.main) is.free refl in omega (arith, is.main.low);
     })
 
-pub no_free : (area : MainArea) (free leaves : List Candidate) (totals : Totals) (best : Candidate) → IsKept area free leaves totals → IsWinner free best →
+pub no_free : (area : MainArea) (free leaves : List Candidate) (totals : Totals) (best : Candidate) → IsPropsTree area free leaves totals → IsWinner free best →
     IsNone (picked best 0) → (lnum : ℕ) → IsFreeLeb area lnum → ⊥
 no_free area free leaves totals best h w n lnum is =
     none (free_choice area) free best (free_stands area free leaves totals h) w n (lnum - main_first area.geo) (place_of area lnum h.count is.main) is.free (omega arith)
 
-pub victim : (area : MainArea) (free leaves : List Candidate) (totals : Totals) (best : Candidate) (most : ℕ) → IsKept area free leaves totals → IsWinner leaves best →
+pub victim : (area : MainArea) (free leaves : List Candidate) (totals : Totals) (best : Candidate) (most : ℕ) → IsPropsTree area free leaves totals → IsWinner leaves best →
     IfSome (picked best most) (λ lnum. IsVictim area most lnum)
 victim area free leaves totals best most h w =
     found (leaf_choice area most) leaves best (λ lnum. IsVictim area most lnum) (leaf_stands area free leaves totals most h) w (λ lnum low pick. record {
@@ -193,7 +193,7 @@ victim area free leaves totals best most h w =
           let a = pick.lowest (other - main_first area.geo) (place_of area other h.count is.main) is.leaf same in omega (arith, is.main.low);
     })
 
-pub no_victim : (area : MainArea) (free leaves : List Candidate) (totals : Totals) (best : Candidate) (most : ℕ) → IsKept area free leaves totals → IsWinner leaves best →
+pub no_victim : (area : MainArea) (free leaves : List Candidate) (totals : Totals) (best : Candidate) (most : ℕ) → IsPropsTree area free leaves totals → IsWinner leaves best →
     IsNone (picked best most) → (lnum : ℕ) → IsCollectable area most lnum → ⊥
 no_victim area free leaves totals best most h w n lnum is =
     none (leaf_choice area most) leaves best (leaf_stands area free leaves totals most h) w n (lnum - main_first area.geo) (place_of area lnum h.count is.main) is.leaf is.few

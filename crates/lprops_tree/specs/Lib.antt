@@ -1,6 +1,6 @@
 pub mod Candidates
-pub mod Kept
 pub mod MainArea
 pub mod Picks
+pub mod PropsTree
 pub mod Totals
 pub mod Tournament

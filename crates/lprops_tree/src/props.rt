@@ -22,13 +22,13 @@ pub struct Props {
 impl Model for Props {
     ghost use Rattle.ubifs_base.specs.RawOf.{raw_of};
     ghost use Rattle.lprops_tree.specs.MainArea.{MainArea};
-    ghost use Rattle.lprops_tree.specs.Kept.{IsKept};
+    ghost use Rattle.lprops_tree.specs.PropsTree.{IsPropsTree};
 
     ghost Value = { MainArea };
 
     ghost view = { λ p. record { geo = raw_of p.geo; lebs = p.lebs.items } };
 
-    ghost invariant = { λ p. IsKept (record { geo = raw_of p.geo; lebs = p.lebs.items }) p.free p.leaves p.totals };
+    ghost invariant = { λ p. IsPropsTree (record { geo = raw_of p.geo; lebs = p.lebs.items }) p.free p.leaves p.totals };
 }
 
 // What is said of a LEB of which nothing is known yet: it adds nothing to the totals, and may not be picked.

@@ -3,7 +3,7 @@ use Rattle.std.proofs.lemmas.List.{get_or_read}
 use Rattle.ubifs_base.specs.RawOf.{raw_of}
 use Rattle.lprops_tree.specs.declared.totals.Totals.{Totals}
 use Rattle.lprops_tree.specs.Candidates.{leaf_candidate}
-use Rattle.lprops_tree.specs.Kept.{IsKept}
+use Rattle.lprops_tree.specs.PropsTree.{IsPropsTree}
 use Rattle.lprops_tree.specs.MainArea.{MainArea, IsMainLeb, IsWithinLeb, unknown}
 use Rattle.lprops_tree.specs.Totals.{IsFew, IsPart, exchanged, leb_totals, totals_of}
 use Rattle.lprops_tree.proofs.Keeping.{kept-put}
@@ -16,7 +16,7 @@ exchange-self-inside-requires-clause-old c =
     let M : MainArea → Type 0 = λ v. IsMainLeb v.geo c.args.lnum in
     let main : IsMainLeb area.geo c.args.lnum = subst M (sym c.self.view_is) c.requires.main in
     let k : ℕ = c.args.lnum - c.main_first.result in
-    let h : IsKept area c.self.inside.free c.self.inside.leaves c.self.inside.totals = c.self.invariant in
+    let h : IsPropsTree area c.self.inside.free c.self.inside.leaves c.self.inside.totals = c.self.invariant in
     let place : k < length area.lebs = omega (arith, main.low, main.high, h.count, c.main_first.ensures) in
     let read = get_or_read area.lebs k c.index-old.result.now place c.index-old.ensures unknown in
     let T : Totals → Type 0 = λ v. IsPart c.totals_of_leb-less.result v in
@@ -26,7 +26,7 @@ exchange-self-inside-requires-clause-old c =
 pub exchange-self-inside-requires-clause-all : goal.exchange-self-inside-requires-clause-all
 exchange-self-inside-requires-clause-all c =
     let area : MainArea = record { geo = raw_of c.self.inside.geo; lebs = c.self.inside.lebs.items } in
-    let h : IsKept area c.self.inside.free c.self.inside.leaves c.self.inside.totals = c.self.invariant in
+    let h : IsPropsTree area c.self.inside.free c.self.inside.leaves c.self.inside.totals = c.self.invariant in
     let T : Totals → Type 0 = λ v. IsFew v in
     subst T (sym h.sums) (sums_are_few area h.geometry h.count h.within)
 
@@ -38,7 +38,7 @@ invariant_of-self c =
     let main : IsMainLeb area.geo c.args.lnum = subst M (sym c.self.view_is) c.requires.main in
     let within : IsWithinLeb area.geo c.args.prop = subst W (sym c.self.view_is) c.requires.within in
     let k : ℕ = c.args.lnum - c.main_first.result in
-    let h : IsKept area c.self.inside.free c.self.inside.leaves c.self.inside.totals = c.self.invariant in
+    let h : IsPropsTree area c.self.inside.free c.self.inside.leaves c.self.inside.totals = c.self.invariant in
     let place : k < length area.lebs = omega (arith, main.low, main.high, h.count, c.main_first.ensures) in
     let read = get_or_read area.lebs k c.index-old.result.now place c.index-old.ensures unknown in
     let less : Totals = leb_totals area.geo (get_or area.lebs k unknown) in

@@ -23,10 +23,10 @@ pub record AreThese (count : ℕ) (one_at : ℕ → Candidate) (candidates : Lis
   pub each : (k : ℕ) → k < count → get_or candidates k nobody ≡ one_at k
 
 -- each main LEB is there, and the tournaments and the totals are those of the list
-pub record IsKept (area : MainArea) (free leaves : List Candidate) (totals : Totals) : Type 0 where
+pub record IsPropsTree (area : MainArea) (free leaves : List Candidate) (totals : Totals) : Type 0 where
   pub geometry : IsGeometry area.geo
   pub count : length area.lebs ≡ main_lebs area.geo
   pub within : All (λ leb. IsWithinLeb area.geo leb.0) area.lebs
-  pub frees : AreThese (length area.lebs) (free_at area) free
-  pub leafs : AreThese (length area.lebs) (leaf_at area) leaves
+  pub free_ones : AreThese (length area.lebs) (free_at area) free
+  pub leaf_ones : AreThese (length area.lebs) (leaf_at area) leaves
   pub sums : totals ≡ totals_of area
