@@ -76,7 +76,7 @@ texts_from-append n i sqnum (change ∷ before) after =
 pub node_in_group : (sqnum : ℕ) (before after : List Change) (change : Change) →
     let n = length (before ++ change ∷ after) in
     group_text sqnum (before ++ change ∷ after)
-        ≡ texts_from n 0 sqnum before ++ (leaf_text (sqnum + length before + 1) (group_type n (length before)) (node_of change) ++ texts_from n (suc (length before)) (sqnum + length before + 1) after)
+    ≡ texts_from n 0 sqnum before ++ (leaf_text (sqnum + length before + 1) (group_type n (length before)) (node_of change) ++ texts_from n (suc (length before)) (sqnum + length before + 1) after)
 node_in_group sqnum before after change =
     subst (λ i. texts_from n 0 sqnum (before ++ change ∷ after) ≡ texts_from n 0 sqnum before ++ texts_from n i (sqnum + length before) (change ∷ after)) first
     (texts_from-append n 0 sqnum before (change ∷ after))

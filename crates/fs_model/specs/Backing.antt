@@ -313,18 +313,19 @@ pub record IsBegun (tree : Tree) (medium : Medium) : Type 0 where
   pub started : medium.started ≡ without_nameless tree
   pub begun : medium.begun ≡ map (λ head. length head.groups) medium.heads
 
--- a commit runs, begun on the tree as it is, or the one that ran before
+-- a commit runs, begun on the tree as it is, since when no orphan was closed; or the one that ran before goes on
 abbrev pub IsStarted : BackingState → BackingState → Started → Type 0
 IsStarted old new Began =
     (old.journal.running ≡ None) × ((cmt_no : ℕ) × (new.journal.running ≡ Some cmt_no)) × (new.journal.later ≡ 0)
-    × IfTold new.journal (IsBegun old.tree) × IsSynced new
-IsStarted old new (Running cmt_no) = (old.journal.running ≡ Some cmt_no) × (new.journal.running ≡ Some cmt_no)
+    × (new.closed ≡ 0) × IfTold new.journal (IsBegun old.tree) × IsSynced new
+IsStarted old new (Running cmt_no) = (old.journal.running ≡ Some cmt_no) × KeepsCommit old.journal new.journal
 
 -- a LEB of the index is written where one is left
 pub record IsStepped (old new : BackingState) (stepped : Stepped) : Type 0 where
   pub answer : stepped ≡ stepped_of old.journal.running new.journal.left
   pub left : new.journal.left ≡ old.journal.left - 1
   pub running : new.journal.running ≡ old.journal.running
+  pub nodes : new.journal.nodes ≡ old.journal.nodes
   pub later : new.journal.later ≡ old.journal.later
   pub start : KeepsStart old.journal new.journal
 

@@ -1,5 +1,5 @@
 -- Which lines of calls and answers are legal, from how a file system was to how it is: one history of all callers.
-use Rattle.std.specs.Prelude.{◌≡◌, ℕ, ◌+◌, ◌-◌, ◌*◌, ◌^◌, ◌<◌, ◌≤◌, ◌⊎◌, ◌==◌, ◌&&◌, IsTrue, Bool, true, false, nat_le, if◌then◌else◌, max, Option, Some, None, Ok, List, [], ◌∷◌, ◌++◌, count_by, length, map, sum_by}
+use Rattle.std.specs.Prelude.{◌≡◌, ◌≢◌, ℕ, ◌+◌, ◌-◌, ◌*◌, ◌^◌, ◌<◌, ◌≤◌, ◌⊎◌, ◌==◌, ◌&&◌, IsTrue, Bool, true, false, nat_le, if◌then◌else◌, max, Option, Some, None, Ok, List, [], ◌∷◌, ◌++◌, count_by, length, map, sum_by}
 use Rattle.std.specs.List.{flat_map, list_all}
 use Rattle.std.specs.Map.{values_of}
 use Rattle.std.specs.Ordering.{nat_cmp}
@@ -125,11 +125,11 @@ pub record AreSides (opening : Opening) (place : Place) (line : TraceLine) (side
   pub need : sides.need ≤ most_needed place.files.tree (most_asked opening place line)
   pub room : least_room opening (most_weight opening (place.before ++ line ∷ [])) (most_asked opening place line) ≤ sides.room
 
--- Why a line is refused for what the plain operation knows nothing of. Want of room, and a list of orphans that is full, come only where nothing else refuses; the list is full only where as many lines took a last name as it had room for.
+-- Why a line is refused for what the plain operation knows nothing of. Want of room, and a list of orphans that is full, come only where nothing else refuses; the list is full only where as many lines took a last name as it had room for. A store whose volume failed is read-only from that line on.
 abbrev pub IsRefusal : Opening → Place → Mode → TraceLine → Refusal → Type 0
 IsRefusal opening place mode line (Enospc sides) = IsAllowed place line × AreSides opening place line sides
 IsRefusal opening place mode line (Erofs cause) = read_only_cause mode line.op ≡ Some cause
-IsRefusal opening place mode line (Eio count) = Unit {0}
+IsRefusal opening place mode line (Eio count) = mode ≢ ReadWrite
 IsRefusal opening place mode line Enomem = Unit {0}
 IsRefusal opening place mode line (Enfile Orphans limit) =
     IsAllowed place line × IsTrue (leaves_orphan place.files (files_in place.files (plain place line)))
@@ -184,7 +184,7 @@ abbrev pub IsModeSince : Opening → Present → Type 0
 IsModeSince opening present =
     (present.mode ≡ opening.mode)
     ⊎ ((opening.mode ≡ ReadWrite)
-    × (((count : ℕ) × (present.mode ≡ ReadOnly (Faulted count)) × (opening.faults < count))
+    × (((count : ℕ) × (present.mode ≡ ReadOnly (Faulted count)) × (opening.faults < count) × (count ≤ present.faults))
     ⊎ ((sqnum : ℕ) × (cmt_no : ℕ) × (present.mode ≡ ReadOnly (Spent sqnum cmt_no)) × ((2 ^ 63 ≤ sqnum) ⊎ (2 ^ 63 ≤ cmt_no)))))
 
 -- Lines are legal that lead from the opening to the present. Each has its caller's next number, and is answered by the plain operation, or refused for a reason. The mode changes once at most: some lines are answered in the opening one, and the rest in the present one.

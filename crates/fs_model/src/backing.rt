@@ -153,6 +153,7 @@ pub trait Backing {
     fn commit_start(&mut self) -> Result<Started, StoreFault>
         ensures answer { IfOk result (λ started. started ≡ started_of (state self.old).journal.running) }
         ensures ok { IfOk result (λ started. IsStarted (state self.old) (state self.new) started) }
+        ensures err { OnErr result (KeepsCommit (state self.old).journal (state self.new).journal) }
         ensures files { KeepsFiles (state self.old) (state self.new) }
         ensures cut { Leaves (state self.old).journal (state self.new).journal [] }
         ensures goes { Goes 0 (state self.old) (state self.new) }

@@ -99,9 +99,9 @@ has_room_after_commit geo old new need end h = record {
         (index_room geo new.index (new.weight + 2 * (new.credits + need.credits) + need.nodes))
         (reserve need.class) (reserve need.class) (omega (arith, end.main))
         (index_room-anew geo old.index old.weight new.index
-            (new.weight + 2 * (new.credits + need.credits) + need.nodes)
-            (old.weight + 2 * (old.credits + need.credits) + need.nodes)
-            end.index (omega arith) (omega (arith, end.weight, end.credits)))
+        (new.weight + 2 * (new.credits + need.credits) + need.nodes)
+        (old.weight + 2 * (old.credits + need.credits) + need.nodes)
+        end.index (omega arith) (omega (arith, end.weight, end.credits)))
         (omega arith),
   );
 }

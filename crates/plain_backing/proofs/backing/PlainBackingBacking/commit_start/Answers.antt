@@ -11,6 +11,7 @@ returns-clause-ok c =
       none,
       (_, ap (λ (n : Numbers). n.running) c.start.ensures),
       ap (λ (n : Numbers). n.later) c.start.ensures,
+      ap (λ (n : Numbers). n.closed) c.start.ensures,
       begin_began self.tree self.story.value told c.begin_story.ensures,
       record { held = refl; heads = begin_heads self.tree self.story.value told c.begin_story.ensures },
     )
