@@ -1,0 +1,4 @@
+mod Drops
+mod LegalPut
+mod Puts
+mod Syncs
