@@ -26,9 +26,10 @@ pub fn a_sync_keeps_the_files()
     ensures tree { (m : AnyStore) (outside : Outside) → (backing_of (after Sync m) outside).tree ≡ (backing_of m outside).tree }
 {}
 
-/// A LEB that is opened at a head keeps the files.
+/// A LEB that is opened at a head keeps the files and the numbers.
 pub fn an_opened_leb_keeps_the_files()
-    ensures { (m : AnyStore) (head lnum : ℕ) → IsLegal m (Open head lnum) → HasFiles m → HasFiles (after (Open head lnum) m) }
+    ensures numbers { (m : AnyStore) (head lnum : ℕ) → IsLegal m (Open head lnum) → HasNumbers m → HasNumbers (after (Open head lnum) m) }
+    ensures files { (m : AnyStore) (head lnum : ℕ) → IsLegal m (Open head lnum) → HasFiles m → HasFiles (after (Open head lnum) m) }
 {}
 
 /// An inode without a name that is dropped is gone with its blocks, from the leaves as from the files.
