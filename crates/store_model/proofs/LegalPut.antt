@@ -1,0 +1,43 @@
+-- The events of a worked put meet their conditions.
+use Rattle.std.proofs.Common.{arith, refl, inl, [], ◌∷◌}
+use Rattle.ubifs_base.specs.R5.{r5_of}
+use Rattle.index_tree.specs.Order.{key_rank}
+use Rattle.index_tree.specs.Removal.{same_leaf}
+use Rattle.store_model.specs.Events.{after, Open, put}
+use Rattle.store_model.specs.Legal.{AreLegal, CanOpen, CanPut, IsPart, IsIndexAfter}
+use Rattle.store_model.specs.Store.{Store}
+use Rattle.store_model.specs.Worked.{am_entry, am_inode, am_leaves, changed_index, put_am, putting_am, rooted}
+
+opened : CanOpen rooted 1 22
+opened = record { head_is = omega arith; empty = refl; log = refl; settled = record { empty = omega arith; index = omega arith } }
+
+abbrev before : Store
+before = after (Open 1 22) rooted
+
+part : IsPart before (record { head = 1; group = am_entry ∷ am_inode ∷ [] })
+part = record {
+  head = inl refl;
+  group = (refl, refl);
+  numbers = record { ascending = refl; above = refl };
+  carried = (
+    record { node = record { inum_fits = omega arith; kind_known = omega arith; some = omega arith; most = omega arith; plain = refl }; carries = refl },
+    (record { node = record { numbered = omega arith; most = omega arith; plain = λ _. refl }; carries = refl }, tt),
+  );
+  fits = ((refl, refl, refl, (refl, refl, refl, tt)), omega arith);
+  revives_none = refl;
+}
+
+index : IsIndexAfter before 2 (put putting_am before).live (changed_index am_leaves)
+unfolding key_rank r5_of same_leaf
+index = record { contents_are = refl; weight = omega arith; places = tt }
+
+can : CanPut before putting_am
+can = record {
+  parts = (part, tt);
+  paid = (record { bytes = 4096; nodes = 8 }, refl, omega arith, omega arith);
+  index = index;
+  settled = record { empty = omega arith; index = omega arith };
+}
+
+pub legal : AreLegal rooted put_am
+legal = (opened, (can, tt))

@@ -1,0 +1,5 @@
+mod Drops
+mod LegalPut
+mod Opens
+mod Puts
+mod Syncs

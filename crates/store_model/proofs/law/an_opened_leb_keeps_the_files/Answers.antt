@@ -1,0 +1,5 @@
+use Rattle.store_model.proofs.Opens.{opened_numbers}
+use Rattle.store_model.proofs.law.an_opened_leb_keeps_the_files.Goals as goal
+
+pub returns-clause-numbers : goal.returns-clause-numbers
+returns-clause-numbers c = λ m head lnum can has. opened_numbers m head lnum has

@@ -1,0 +1,69 @@
+-- What the buds of a view say of the journal's heads.
+use Rattle.std.specs.Prelude.{ℕ, ◌-◌, ◌==◌, ◌&&◌, not, Bool, if◌then◌else◌, List, [], ◌∷◌, ◌++◌, filter, map, length, get_or}
+use Rattle.std.specs.List.{flat_map, list_any}
+use Rattle.fs_model.specs.declared.change.Change.{Change}
+use Rattle.fs_model.specs.Recovery.{Head, Numbered}
+use Rattle.leaf_map.specs.Kept.{Placed}
+use Rattle.store_model.specs.Store.{Store, Next, Bud, Carried}
+
+-- the buds of a head
+abbrev pub buds_of : ℕ → List Bud → List Bud
+buds_of head buds = filter (λ bud. bud.head == head) buds
+
+-- the groups that a head got, oldest first, and the collector's copies
+abbrev pub groups_of : ℕ → List Bud → List (List Carried)
+groups_of head buds = flat_map (λ bud. bud.groups) (buds_of head buds)
+
+abbrev pub copies_of : List Bud → List Placed
+copies_of buds = flat_map (λ bud. bud.copies) (buds_of 0 buds)
+
+-- how many groups, or copies, each head got
+abbrev pub counts_of : List Bud → List ℕ
+counts_of buds = length (copies_of buds) ∷ length (groups_of 1 buds) ∷ length (groups_of 2 buds) ∷ []
+
+-- changes with the sequence numbers of their nodes
+abbrev pub numbered : List Carried → Numbered
+numbered group = map (λ c. (c.placed.sqnum, c.change)) group
+
+-- the changes of a group
+abbrev pub changes_of : List Carried → List Change
+changes_of group = map (λ c. c.change) group
+
+-- a head's groups, of which so many are synced
+abbrev pub head_of : List Bud → List ℕ → ℕ → Head
+head_of buds synced head = record { groups = map numbered (groups_of head buds); synced = get_or synced head 0 }
+
+-- the three heads; copies change no tree, so the collector's has no groups
+abbrev pub heads_of : List Bud → List ℕ → List Head
+heads_of buds synced = (record { groups = []; synced = 0 }) ∷ head_of buds synced 1 ∷ head_of buds synced 2 ∷ []
+
+-- one list less another, number by number
+abbrev pub less : List ℕ → List ℕ → List ℕ
+less [] gone = []
+less (n ∷ numbers) [] = n ∷ numbers
+less (n ∷ numbers) (k ∷ gone) = (n - k) ∷ less numbers gone
+
+-- how many groups, or copies, each head had when the running commit began
+abbrev pub begun_of : Store → Next → List ℕ
+begun_of m next = less (counts_of m.now.buds) (counts_of next.view.buds)
+
+-- how many of those that came since are synced
+abbrev pub synced_since : Store → Next → List ℕ
+synced_since m next = less m.synced (begun_of m next)
+
+-- whether a head has a bud among these
+abbrev pub has_bud : ℕ → List Bud → Bool
+has_bud head buds = list_any (λ bud. bud.head == head) buds
+
+-- the buds, with this done to the last one of a head
+abbrev pub changed_last : ℕ → (Bud → Bud) → List Bud → List Bud
+changed_last head change [] = []
+changed_last head change (bud ∷ buds) =
+    if (bud.head == head) && not (has_bud head buds) then change bud ∷ buds else bud ∷ changed_last head change buds
+
+-- a group, or a copy, stands last at its head
+abbrev pub with_group : ℕ → List Carried → List Bud → List Bud
+with_group head group buds = changed_last head (λ bud. record bud { groups = bud.groups ++ group ∷ [] }) buds
+
+abbrev pub with_copy : Placed → List Bud → List Bud
+with_copy copy buds = changed_last 0 (λ bud. record bud { copies = bud.copies ++ copy ∷ [] }) buds

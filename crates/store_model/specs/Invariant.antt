@@ -1,0 +1,189 @@
+-- What is always so of a store.
+use Rattle.std.specs.Prelude.{◌≡◌, ◌⊎◌, ℕ, ◌+◌, ◌≤◌, ◌==◌, ◌&&◌, ◌||◌, nat_le, IsTrue, not, Bool, true, false, if◌then◌else◌, List, [], ◌∷◌, length, map, Option, Some, None, is_some}
+use Rattle.std.specs.List.{flat_map, list_all, list_any, AllByRecursion}
+use Rattle.std.specs.Ordering.{nat_cmp}
+use Rattle.media_lpt.specs.declared.leb_kind.LebKind.{LebKind}
+use Rattle.media_lpt.specs.declared.leb_kind.LebKind.TheVariants as kind
+use Rattle.index_tree.specs.Distinct.{AreDistinct}
+use Rattle.index_tree.specs.Shape.{contents, node_count, shape_weight}
+use Rattle.fs_model.specs.declared.change.Change.{Change}
+use Rattle.fs_model.specs.declared.change.Change.TheVariants.{SetInode}
+use Rattle.fs_model.specs.Files.{Tree}
+use Rattle.fs_model.specs.Orphan.{nameless, without_nameless}
+use Rattle.fs_model.specs.Proper.{IsProper, ascends}
+use Rattle.fs_model.specs.Recovery.{IsRecovered, Numbered, recovered, taken}
+use Rattle.fs_model.specs.Settled.{IsCovered}
+use Rattle.leaf_map.specs.Kept.{Kept, kept_at, shown_by}
+use Rattle.leaf_map.specs.LeafMap.{IsLeafMap}
+use Rattle.leaf_map.specs.Parts.{in_bud}
+use Rattle.leaf_map.specs.Shown.{tree_of}
+use Rattle.store_model.specs.Fits.{AreLeft, Faced, faced_now, named_by}
+use Rattle.store_model.specs.Heads.{counts_of, groups_of, heads_of, numbered, synced_since}
+use Rattle.store_model.specs.Legal.{are_distinct}
+use Rattle.store_model.specs.Lebs.{has_leaf, has_role, is_among, is_victim_of, IsStoreSettled, space_of, weight_of}
+use Rattle.store_model.specs.Store.{At, Bud, Item, leaf, branching, gap, Leb, Next, Store, View}
+
+-- ---- both views
+-- what a running commit's master will lead to, whose list is the one that the medium has then
+abbrev pub faced_later : Store → Next → Faced
+faced_later m next = record { view = next.view; synced = synced_since m next; lists = next.listed ∷ [] }
+
+-- this is so of what either master leads to
+abbrev pub OfNext : Store → Option Next → (Faced → Type 0) → Type 0
+OfNext m None P = Unit {0}
+OfNext m (Some next) P = P (faced_later m next)
+
+abbrev pub OfBoth : Store → (Faced → Type 0) → Type 0
+OfBoth m P = P (faced_now m) × OfNext m m.next P
+
+-- ---- leaves stand
+-- a leaf's node is meant to stand at its place, among these items of its LEB
+abbrev pub IsMeantIn : Kept → List Item → Type 0
+IsMeantIn x [] = ⊥
+IsMeantIn x (leaf placed ∷ items) = (kept_at placed ≡ x) ⊎ IsMeantIn x items
+IsMeantIn x (branching b ∷ items) = IsMeantIn x items
+IsMeantIn x (gap n ∷ items) = IsMeantIn x items
+
+abbrev pub Stands : List Leb → Kept → Type 0
+Stands [] x = ⊥
+Stands (leb ∷ lebs) x = ((leb.lnum ≡ x.leaf.lnum) × IsMeantIn x leb.text) ⊎ Stands lebs x
+
+-- each leaf of a LEB stands, at a place that is none of the journal's
+abbrev pub AreWhole : Store → View → ℕ → List Kept → Type 0
+AreWhole m view lnum [] = Unit {0}
+AreWhole m view lnum (x ∷ kept) =
+    (x.leaf.lnum ≡ lnum → Stands m.lebs x × IsTrue (not (in_bud (map named_by view.buds) x.leaf))) × AreWhole m view lnum kept
+
+-- Of a LEB all committed leaves stand, or none needs to
+abbrev pub AreWholeOrLeft : Store → Faced → Type 0
+AreWholeOrLeft m f = (lnum : ℕ) → AreWhole m f.view lnum f.view.kept ⊎ AreLeft f lnum f.view.kept
+
+-- ---- trees
+-- each tree that a cut may leave is proper
+abbrev pub AreProper : Faced → Type 0
+AreProper f = (tree : Tree) → IsRecovered f.view.tree (heads_of f.view.buds f.synced) tree → IsProper tree
+
+-- all groups of a view
+abbrev pub all_changes : Faced → Numbered
+all_changes f = taken (heads_of f.view.buds f.synced) (map (λ head. length head.groups) (heads_of f.view.buds f.synced))
+
+-- what all groups lead to is the tree, but for inodes without a name
+abbrev pub LeadsTo : Tree → Faced → Type 0
+LeadsTo tree f = without_nameless (recovered f.view.tree (all_changes f)) ≡ without_nameless tree
+
+-- ---- numbers
+-- the numbers of a head's groups ascend, up to the greatest one that was given
+abbrev pub are_given : ℕ → Numbered → Bool
+are_given sqnum changes = ascends nat_cmp (map (λ c. c.0) changes) && list_all (λ c. nat_le c.0 sqnum) changes
+
+abbrev pub head_numbers : List Bud → ℕ → Numbered
+head_numbers buds head = flat_map numbered (groups_of head buds)
+
+-- the groups and leaves of a view have numbers that were given
+pub record AreNumbered (m : Store) (f : Faced) : Type 0 where
+  pub base : IsTrue (are_given m.sqnum (head_numbers f.view.buds 1))
+  pub data_nodes : IsTrue (are_given m.sqnum (head_numbers f.view.buds 2))
+  pub kept : IsTrue (list_all (λ x. nat_le x.sqnum m.sqnum) f.view.kept)
+
+-- no number is above another at the same place
+abbrev pub are_within : List ℕ → List ℕ → Bool
+are_within [] counts = true
+are_within (n ∷ numbers) [] = false
+are_within (n ∷ numbers) (count ∷ counts) = nat_le n count && are_within numbers counts
+
+-- ---- orphans
+-- an inode leaf without links is listed
+abbrev pub is_listed : List ℕ → Option Change → Bool
+is_listed list (Some (SetInode ino inode)) = not (inode.nlink == 0) || is_among list ino
+is_listed list shown = true
+
+-- each list that may be there has the orphans among a view's leaves
+abbrev pub HaveOrphans : Faced → List (List ℕ) → Type 0
+HaveOrphans f [] = Unit {0}
+HaveOrphans f (list ∷ lists) = IsTrue (list_all (λ x. is_listed list (shown_by x)) f.view.kept) × HaveOrphans f lists
+
+-- ---- what LEBs are for
+-- a leaf LEB has a leaf or is a victim; an empty one, one of the index and one that a commit took have none
+abbrev pub is_used_as : Store → Leb → Bool
+is_used_as m leb = by leb.role
+  where
+    by : LebKind → Bool
+    by kind.Free = not (has_leaf m leb.lnum)
+    by kind.Leaf = has_leaf m leb.lnum || is_victim_of m.moving leb.lnum
+    by kind.Index = not (has_leaf m leb.lnum)
+    by kind.Bud = list_any (λ bud. bud.lnum == leb.lnum) m.now.buds
+    by kind.Taken = not (has_leaf m leb.lnum) && is_some m.next
+
+-- a head stands in its last bud, or has none
+abbrev pub last_bud : List Bud → ℕ → Option ℕ
+last_bud [] head = None
+last_bud (bud ∷ buds) head = by (last_bud buds head)
+  where
+    by : Option ℕ → Option ℕ
+    by (Some lnum) = Some lnum
+    by None = if bud.head == head then Some bud.lnum else None
+
+-- a head is open in its last bud
+abbrev pub AreAtBuds : List Bud → ℕ → List (Option At) → Type 0
+AreAtBuds buds head [] = Unit {0}
+AreAtBuds buds head (None ∷ ends) = AreAtBuds buds (head + 1) ends
+AreAtBuds buds head (Some at ∷ ends) = (last_bud buds head ≡ Some at.lnum) × AreAtBuds buds (head + 1) ends
+
+-- what each LEB is for
+pub record AreApart (m : Store) : Type 0 where
+  pub numbers : IsTrue (are_distinct (map (λ leb. leb.lnum) m.lebs))
+  pub used : IsTrue (list_all (is_used_as m) m.lebs)
+  pub buds : IsTrue (list_all (λ bud. has_role kind.Bud m.lebs bud.lnum) m.now.buds)
+  pub ends : AreAtBuds m.now.buds 0 m.ends
+  pub index : IsTrue (list_all (λ place. has_role kind.Index m.lebs place.lnum) m.now.places)
+  pub leaves : IsTrue (list_all (λ x. has_role kind.Leaf m.lebs x.leaf.lnum || has_role kind.Bud m.lebs x.leaf.lnum) m.live)
+
+-- the LEBs that a running commit took, and where its index is to stand
+abbrev pub IsTaking : Store → Option Next → Type 0
+IsTaking m None = Unit {0}
+IsTaking m (Some next) =
+    IsTrue (list_all (has_role kind.Taken m.lebs) next.taken)
+    × IsTrue (list_all (λ place. has_role kind.Index m.lebs place.lnum || is_among next.taken place.lnum) next.view.places)
+    × (next.written ≤ length next.taken)
+
+-- ---- the weight
+abbrev pub IsLight : Store → Faced → Type 0
+IsLight m f = shape_weight m.geo.fanout m.index.shape ≤ weight_of m.geo f.view
+
+-- ---- the invariant
+-- The live leaves are leaves of an index and show the files, and the index has them in order.
+pub record HasFiles (m : Store) : Type 0 where
+  pub leaves : IsLeafMap m.live
+  pub tree : tree_of m.live m.tree.highest ≡ m.tree
+  pub index : contents m.index.shape ≡ map (λ x. x.leaf) m.live
+
+-- Numbers ascend and were given; no more is synced than was put.
+pub record HasNumbers (m : Store) : Type 0 where
+  pub both : OfBoth m (AreNumbered m)
+  pub synced : IsTrue (are_within m.synced (counts_of m.now.buds))
+
+pub record IsStore (m : Store) : Type 0 where
+  pub files : HasFiles m
+  -- no two leaves stand at one place, and each node of the index has a place or is dirty
+  pub distinct : AreDistinct (map (λ x. x.leaf) m.live)
+  pub places : length m.index.places ≡ node_count m.index.shape
+  -- each live leaf's node is meant at its place
+  pub stands : AllByRecursion (Stands m.lebs) m.live
+  -- each tree that a cut may leave is proper
+  pub proper : OfBoth m AreProper
+  -- what all groups lead to is the tree
+  pub history : OfBoth m (LeadsTo m.tree)
+  pub numbers : HasNumbers m
+  -- of each LEB all committed leaves stand, or none needs to
+  pub whole_or_left : OfBoth m (AreWholeOrLeft m)
+  -- committed inodes without links are listed
+  pub orphans : OfBoth m (λ f. HaveOrphans f f.lists)
+  pub nameless_are : map (λ orphan. orphan.ino) m.orphans ≡ nameless m.tree
+  -- what each LEB is for
+  pub apart : AreApart m
+  pub taking : IsTaking m m.next
+  -- the index weighs no more than the views allow
+  pub weight : OfBoth m (IsLight m)
+  -- what was granted is covered, and a commit has LEBs
+  pub covered : IsCovered m.geo (space_of m)
+  pub settled : IsStoreSettled m

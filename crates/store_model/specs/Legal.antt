@@ -1,0 +1,207 @@
+-- When a store may do what: the condition of each event.
+use Rattle.std.specs.Prelude.{◌≡◌, ◌⊎◌, ℕ, ◌+◌, ◌<◌, ◌≤◌, zero, suc, IsTrue, true, false, not, Bool, List, [], ◌∷◌, ◌++◌, length, map, Option, Some, None, is_some, nat_le, nat_lt, ◌==◌, ◌&&◌, ◌-◌, ◌%◌, if◌then◌else◌}
+use Rattle.std.specs.List.{flat_map, list_all, list_any, AllByRecursion}
+use Rattle.media_leaf.specs.LeafNode.{IsLeaf}
+use Rattle.media_lpt.specs.declared.leb_kind.LebKind.TheVariants as kind
+use Rattle.index_tree.specs.Removal.{same_leaf}
+use Rattle.index_tree.specs.Shape.{Shape, done, leaf, node, contents, node_count, shape_weight}
+use Rattle.index_tree.specs.Listing.{height}
+use Rattle.fs_model.specs.declared.space.Grant.{Grant}
+use Rattle.fs_model.specs.Journal.{AreNext}
+use Rattle.fs_model.specs.Orphan.{all_revive_none}
+use Rattle.change_nodes.specs.Texts.{leaf_len}
+use Rattle.leaf_map.specs.After.{Carries}
+use Rattle.leaf_map.specs.Kept.{Kept, Placed}
+use Rattle.space_sums.specs.Spaces.{taken_lebs}
+use Rattle.store_model.specs.Events.{after, after_part, Copying, credit, dirty_count, drop_inode, end_at, Event, Put, Open, Sync, Begin, Move, Free, Start, Write, Offer, End, Drop, granted, move, nodes_len, Part, Payment, put, Putting, reference_len}
+use Rattle.store_model.specs.Heads.{changes_of, counts_of, numbered}
+use Rattle.store_model.specs.Lebs.{has_role, IsStoreSettled, role_count, space_of, stands_in}
+use Rattle.store_model.specs.Store.{At, Carried, Index, Moving, Next, Place, Store}
+
+-- ---- the index
+-- what is below each node of a level, in a row that has so many levels
+abbrev pub level_rows : ℕ → ℕ → Shape → List Shape
+level_rows level high done = []
+level_rows level high (leaf x rest) = []
+level_rows level high (node children rest) =
+    (if high - 1 == level then children ∷ [] else level_rows level (high - 1) children) ++ level_rows level high rest
+
+abbrev pub rows_below : ℕ → Shape → List Shape
+rows_below zero shape = []
+rows_below (suc n) shape = rows_below n shape ++ level_rows n (height shape) shape
+
+-- what is below each node, in the order in which the nodes are listed
+abbrev pub rows_of : Shape → List Shape
+rows_of shape = rows_below (height shape) shape
+
+-- this row stands at this place, among rows and their places
+abbrev pub StandsBelow : Shape → Place → List Shape → List (Option Place) → Type 0
+StandsBelow row place [] places = ⊥
+StandsBelow row place (first ∷ rows) [] = ⊥
+StandsBelow row place (first ∷ rows) (at ∷ places) = ((first ≡ row) × (at ≡ Some place)) ⊎ StandsBelow row place rows places
+
+-- each node that has a place had it before, with all that is below it
+abbrev pub KeepPlaces : Index → List Shape → List (Option Place) → Type 0
+KeepPlaces old [] [] = Unit {0}
+KeepPlaces old [] (at ∷ places) = ⊥
+KeepPlaces old (row ∷ rows) [] = ⊥
+KeepPlaces old (row ∷ rows) (None ∷ places) = KeepPlaces old rows places
+KeepPlaces old (row ∷ rows) (Some place ∷ places) = StandsBelow row place (rows_of old.shape) old.places × KeepPlaces old rows places
+
+-- The index of these leaves, after so many nodes were put: it weighs at most so much more, and a node that changed has lost its place.
+pub record IsIndexAfter (m : Store) (nodes : ℕ) (live : List Kept) (index : Index) : Type 0 where
+  pub contents_are : contents index.shape ≡ map (λ x. x.leaf) live
+  pub weight : shape_weight m.geo.fanout index.shape ≤ shape_weight m.geo.fanout m.index.shape + nodes
+  pub places : KeepPlaces m.index (rows_of index.shape) index.places
+
+-- ---- puts and copies
+-- nodes stand one behind another
+abbrev pub StandFrom : ℕ → ℕ → List Placed → Type 0
+StandFrom lnum offs [] = Unit {0}
+StandFrom lnum offs (placed ∷ nodes) =
+    (placed.lnum ≡ lnum) × (placed.offs ≡ offs) × (placed.len ≡ leaf_len placed.node) × StandFrom lnum (offs + nodes_len (placed ∷ [])) nodes
+
+-- they stand at the end of a head, which has room for them
+abbrev pub FitHead : Store → Option At → List Placed → Type 0
+FitHead m None nodes = ⊥
+FitHead m (Some at) nodes = StandFrom at.lnum at.offs nodes × (at.offs + nodes_len nodes ≤ m.geo.leb_size)
+
+-- The group types of the nodes that are left of a group: of none, of one alone, of those in its midst and of its last (`UBIFS_NO_NODE_GROUP`, `UBIFS_IN_NODE_GROUP`, `UBIFS_LAST_OF_NODE_GROUP` of ubifs-media.h).
+abbrev pub AreInGroup : List Carried → Type 0
+AreInGroup [] = ⊥
+AreInGroup (c ∷ []) = c.placed.group ≡ 2
+AreInGroup (c ∷ next ∷ group) = (c.placed.group ≡ 1) × AreInGroup (next ∷ group)
+
+abbrev pub AreGroup : List Carried → Type 0
+AreGroup [] = ⊥
+AreGroup (c ∷ []) = c.placed.group ≡ 0
+AreGroup (c ∷ next ∷ group) = AreInGroup (c ∷ next ∷ group)
+
+-- a node of the grammar that carries its change
+pub record IsCarried (c : Carried) : Type 0 where
+  pub node : IsLeaf c.placed.node
+  pub carries : Carries c.change c.placed.node
+
+-- A group that can be put: at the end of its head, with the next numbers, and it brings back no inode.
+pub record IsPart (m : Store) (part : Part) : Type 0 where
+  pub head : (part.head ≡ 1) ⊎ (part.head ≡ 2)
+  pub group : AreGroup part.group
+  pub numbers : AreNext m.sqnum (numbered part.group)
+  pub carried : AllByRecursion IsCarried part.group
+  pub fits : FitHead m (end_at m.ends part.head) (map (λ c. c.placed) part.group)
+  pub revives_none : IsTrue (all_revive_none m.tree (changes_of part.group))
+
+abbrev pub AreParts : Store → List Part → Type 0
+AreParts m [] = Unit {0}
+AreParts m (part ∷ parts) = IsPart m part × AreParts (after_part m part) parts
+
+-- the nodes of a put
+abbrev pub nodes_of : List Part → List Placed
+nodes_of parts = flat_map (λ part. map (λ c. c.placed) part.group) parts
+
+-- two nodes are paid by a credit, others by what was granted
+abbrev pub IsPaid : Store → Payment → List Placed → Type 0
+IsPaid m credit nodes = (1 ≤ m.credits) × (length nodes ≤ 2) × (nodes_len nodes ≤ 4304)
+IsPaid m granted nodes = (grant : Grant) × (m.grant ≡ Some grant) × (length nodes ≤ grant.nodes) × (nodes_len nodes ≤ grant.bytes)
+
+pub record CanPut (m : Store) (p : Putting) : Type 0 where
+  pub parts : AreParts m p.parts
+  pub paid : IsPaid m p.payment (nodes_of p.parts)
+  pub index : IsIndexAfter m (length (nodes_of p.parts)) (put p m).live p.index
+  pub settled : IsStoreSettled (put p m)
+
+-- ---- other events
+-- how many LEBs of the log its sections have
+abbrev pub log_count : Store → ℕ
+log_count m = (m.log.leb + m.geo.log_lebs - m.now.section) % m.geo.log_lebs + 1
+
+-- The log has room for a reference: in its last LEB, or in a further one that isn't kept for the next section and for a mount's.
+abbrev pub has_log_room : Store → Bool
+has_log_room m = if nat_le (m.log.offs + reference_len m.geo) m.geo.leb_size then true else nat_lt (log_count m + (if is_some m.next then 1 else 2)) m.geo.log_lebs
+
+pub record CanOpen (m : Store) (head lnum : ℕ) : Type 0 where
+  pub head_is : head < 3
+  pub empty : IsTrue (has_role kind.Free m.lebs lnum)
+  pub log : IsTrue (has_log_room m)
+  pub settled : IsStoreSettled (after (Open head lnum) m)
+
+pub record CanBegin (m : Store) (victim : ℕ) : Type 0 where
+  pub idle : m.moving ≡ None
+  pub leaf_leb : IsTrue (has_role kind.Leaf m.lebs victim)
+
+-- a collection is under way, of a LEB with this
+abbrev pub IfMoving : Store → (Moving → Type 0) → Type 0
+IfMoving m P = by m.moving
+  where
+    by : Option Moving → Type 0
+    by None = ⊥
+    by (Some moving) = P moving
+
+-- The leaf is live and stands in the victim, and the copy is its node with its number, at the end of head 0.
+pub record CanMove (m : Store) (c : Copying) : Type 0 where
+  pub live : IsTrue (list_any (λ x. same_leaf x.leaf c.leaf.leaf) m.live)
+  pub victim : IfMoving m (λ moving. c.leaf.leaf.lnum ≡ moving.victim)
+  pub node_is : c.copy.node ≡ c.leaf.node
+  pub sqnum : c.copy.sqnum ≡ c.leaf.sqnum
+  pub fits : FitHead m (end_at m.ends 0) (c.copy ∷ [])
+  pub index : IsIndexAfter m 0 (move c m).live c.index
+
+-- all groups and copies are synced, and nothing is held
+pub record IsAllSynced (m : Store) : Type 0 where
+  pub counts : m.synced ≡ counts_of m.now.buds
+  pub none_held : m.held ≡ []
+  pub orphans : IsTrue (list_all (λ orphan. orphan.synced) m.orphans)
+
+pub record CanFree (m : Store) : Type 0 where
+  pub synced : IsAllSynced m
+  pub empty : IfMoving m (λ moving. IsTrue (not (list_any (stands_in moving.victim) m.live)))
+
+-- a number stands once at most
+abbrev pub are_distinct : List ℕ → Bool
+are_distinct [] = true
+are_distinct (n ∷ numbers) = not (list_any (λ k. k == n) numbers) && are_distinct numbers
+
+-- All is synced. It takes as many empty LEBs as the index asks for, one more is there, and the log has one for a section.
+pub record CanStart (m : Store) (taken : List ℕ) : Type 0 where
+  pub idle : m.next ≡ None
+  pub synced : IsAllSynced m
+  pub empty : IsTrue (list_all (has_role kind.Free m.lebs) taken)
+  pub distinct : IsTrue (are_distinct taken)
+  pub count : length taken ≡ taken_lebs m.geo (space_of m) (node_count m.index.shape) (dirty_count m.index.places)
+  pub spare : length taken < role_count kind.Free m.lebs
+  pub log : log_count m < m.geo.log_lebs
+
+-- a commit runs, and this is so of it
+abbrev pub IfRunning : Store → (Next → Type 0) → Type 0
+IfRunning m P = by m.next
+  where
+    by : Option Next → Type 0
+    by None = ⊥
+    by (Some next) = P next
+
+-- an open inode without a name
+abbrev pub is_orphan : Store → ℕ → Bool
+is_orphan m ino = list_any (λ orphan. orphan.ino == ino) m.orphans
+
+pub record CanDrop (m : Store) (ino : ℕ) (index : Index) : Type 0 where
+  pub orphan : IsTrue (is_orphan m ino)
+  pub number : 1 ≤ ino
+  pub index_is : IsIndexAfter m 0 (drop_inode ino index m).live index
+
+abbrev pub IsLegal : Store → Event → Type 0
+IsLegal m (Put p) = CanPut m p
+IsLegal m (Open head lnum) = CanOpen m head lnum
+IsLegal m Sync = Unit {0}
+IsLegal m (Begin victim) = CanBegin m victim
+IsLegal m (Move c) = CanMove m c
+IsLegal m Free = CanFree m
+IsLegal m (Start taken) = CanStart m taken
+IsLegal m Write = IfRunning m (λ next. next.written < length next.taken)
+IsLegal m Offer = IfRunning m (λ next. (next.written ≡ length next.taken) × (next.offered ≡ false))
+IsLegal m End = IfRunning m (λ next. next.offered ≡ true)
+IsLegal m (Drop ino index) = CanDrop m ino index
+
+-- each event may come where it does
+abbrev pub AreLegal : Store → List Event → Type 0
+AreLegal m [] = Unit {0}
+AreLegal m (event ∷ events) = IsLegal m event × AreLegal (after event m) events

@@ -1,0 +1,9 @@
+pub mod Backing
+pub mod Events
+pub mod Fits
+pub mod Heads
+pub mod Invariant
+pub mod Lebs
+pub mod Legal
+pub mod Store
+pub mod Worked

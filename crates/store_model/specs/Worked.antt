@@ -1,0 +1,221 @@
+-- Stores worked by hand: a put, a sync, a commit with a put inside, a collection, and an orphan that is closed while a commit runs.
+use Rattle.std.specs.Prelude.{ℕ, false, List, [], ◌∷◌, length, map, take, Some, None}
+use Rattle.ubifs_base.specs.declared.raw_geometry.RawGeometry.{RawGeometry}
+use Rattle.media_lpt.specs.declared.leb_kind.LebKind.{LebKind}
+use Rattle.media_lpt.specs.declared.leb_kind.LebKind.TheVariants as kind
+use Rattle.index_tree.specs.Shape.{Shape, done, node}
+use Rattle.index_tree.specs.Tree.{leaves_before}
+use Rattle.fs_model.specs.declared.change.Change.{Change}
+use Rattle.fs_model.specs.declared.change.Change.TheVariants.{SetInode, SetEntry, DropEntry}
+use Rattle.fs_model.specs.Files.{Tree}
+use Rattle.fs_model.specs.Making.{new_dir}
+use Rattle.fs_model.specs.Recovery.{recovered, taken}
+use Rattle.leaf_map.specs.Kept.{Kept, Placed, kept_at}
+use Rattle.leaf_map.specs.Parts.{Committed, Parts}
+use Rattle.leaf_map.specs.Recovered.{recovered_of}
+use Rattle.leaf_map.specs.Worked.{am, at, bb, file, name, root}
+use Rattle.store_model.specs.Events.{Begin, Drop, End, Event, Free, granted, Move, Offer, Open, Put, Start, Sync, Write, Putting}
+use Rattle.store_model.specs.Fits.{named_by, read_nodes}
+use Rattle.store_model.specs.Heads.{copies_of, heads_of}
+use Rattle.store_model.specs.Store.{Bud, Carried, Index, Item, leaf, Leb, Store, View}
+
+-- 174 index nodes go into a LEB
+abbrev pub geo : RawGeometry
+geo = record { leb_size = 15360; min_io = 8; log_lebs = 3; lpt_lebs = 2; orph_lebs = 1; leb_cnt = 32; max_leb_cnt = 32; fanout = 3; lsave_cnt = 0; big = false }
+
+-- an index of one node, above these leaves
+abbrev pub shape_of : List Kept → Shape
+shape_of kept = node (leaves_before (map (λ x. x.leaf) kept) done) done
+
+abbrev pub changed_index : List Kept → Index
+changed_index kept = record { shape = shape_of kept; places = None ∷ [] }
+
+-- a LEB with these items
+abbrev pub leb : ℕ → LebKind → List Item → Leb
+leb lnum role text = record { lnum = lnum; role = role; text = text }
+
+-- the root's leaf, in LEB 20
+abbrev pub root_node : Placed
+root_node = at 20 0 1 root
+
+abbrev pub root_tree : Tree
+root_tree = record { inodes = (1, new_dir 493 0) ∷ []; blocks = []; entries = []; highest = 64 }
+
+-- what a view has where these leaves were committed at the start of a store
+abbrev pub view_of : List Kept → Tree → View
+view_of kept tree = record {
+  cmt_no = 0;
+  highest = tree.highest;
+  section = 0;
+  shape = shape_of kept;
+  places = (record { lnum = 21; offs = 0 }) ∷ [];
+  kept = kept;
+  tree = tree;
+  buds = [];
+  put = 0;
+}
+
+-- a store to which nothing was put: its leaves stand in LEB 20, its index in LEB 21, and six LEBs are empty
+abbrev pub opened : List Placed → Tree → Store
+opened nodes tree = record {
+  geo = geo;
+  now = view_of (map kept_at nodes) tree;
+  next = None;
+  tree = tree;
+  index = record { shape = shape_of (map kept_at nodes); places = Some (record { lnum = 21; offs = 0 }) ∷ [] };
+  live = map kept_at nodes;
+  held = [];
+  ends = None ∷ None ∷ None ∷ [];
+  synced = 0 ∷ 0 ∷ 0 ∷ [];
+  lebs = leb 20 kind.Leaf (map leaf nodes) ∷ leb 21 kind.Index [] ∷ map (λ lnum. leb lnum kind.Free []) (22 ∷ 23 ∷ 24 ∷ 25 ∷ 26 ∷ 27 ∷ []);
+  moving = None;
+  orphans = [];
+  listed = [];
+  closed = [];
+  log = record { leb = 0; offs = 32 };
+  sqnum = 10;
+  credits = 0;
+  grant = Some (record { bytes = 4096; nodes = 8 });
+}
+
+abbrev pub rooted : Store
+rooted = opened (root_node ∷ []) root_tree
+
+-- a change with its node, at a place
+abbrev pub carry : ℕ → ℕ → ℕ → Change → Carried
+carry lnum offs sqnum change = record { change = change; placed = at lnum offs sqnum change }
+
+-- with this group type
+abbrev pub in_group : ℕ → Carried → Carried
+in_group group c = record c { placed = record c.placed { group = group } }
+
+-- a group is put to the base, and these are the leaves then
+abbrev pub put_of : List Carried → List Kept → Putting
+put_of group live = record { parts = (record { head = 1; group = group }) ∷ []; payment = granted; index = changed_index live }
+
+abbrev pub putting : List Carried → List Kept → Event
+putting group live = Put (put_of group live)
+
+-- ---- a put and a sync
+-- a file `am` is made, at the start of LEB 22
+abbrev pub am_entry : Carried
+am_entry = in_group 1 (carry 22 0 12 (SetEntry (name am 65)))
+
+abbrev pub am_inode : Carried
+am_inode = in_group 2 (carry 22 64 13 (SetInode 65 (file 1)))
+
+abbrev pub am_leaves : List Kept
+am_leaves = map kept_at (root_node ∷ am_entry.placed ∷ am_inode.placed ∷ [])
+
+abbrev pub putting_am : Putting
+putting_am = put_of (am_entry ∷ am_inode ∷ []) am_leaves
+
+abbrev pub put_am : List Event
+put_am = Open 1 22 ∷ Put putting_am ∷ []
+
+abbrev pub am_tree : Tree
+am_tree = record { inodes = (1, new_dir 493 0) ∷ (65, file 1) ∷ []; blocks = []; entries = ((1, am), name am 65) ∷ []; highest = 65 }
+
+-- the name goes, and the inode stays without links, since somebody has it open
+abbrev pub unlinking : List Carried
+unlinking = carry 22 224 14 (DropEntry 1 am) ∷ carry 22 288 15 (SetInode 65 (file 0)) ∷ []
+
+abbrev pub unlinked_leaves : List Kept
+unlinked_leaves = map kept_at (root_node ∷ at 22 288 15 (SetInode 65 (file 0)) ∷ [])
+
+-- the root's inode is put anew, so that no live leaf is left in LEB 20
+abbrev pub put_root : List Event
+put_root = Open 1 22 ∷ putting (carry 22 0 12 root ∷ []) (map kept_at (at 22 0 12 root ∷ [])) ∷ []
+
+-- ---- what a mount reads
+-- the committed leaves, each with its own node, but for those whose place is one of the journal's
+abbrev pub read_leaf : List Bud → Kept → Committed
+read_leaf buds x = record { leaf = x.leaf; found = Some (record { node = x.node; sqnum = x.sqnum; group = 0; lnum = x.leaf.lnum; offs = x.leaf.offs; len = x.leaf.len }) }
+
+-- What is read where so many groups of the base, and so many copies, are left of a view.
+abbrev pub left_parts : View → ℕ → ℕ → List ℕ → Parts
+left_parts view base copies listed = record {
+  highest = view.highest;
+  committed = map (read_leaf view.buds) view.kept;
+  named = map named_by view.buds;
+  nodes = read_nodes view.buds base 0;
+  copies = take copies (copies_of view.buds);
+  listed = listed;
+}
+
+-- the places of leaves that a mount finds
+abbrev pub places_found : Parts → List (ℕ × ℕ)
+places_found parts = map (λ x. (x.leaf.lnum, x.leaf.offs)) (recovered_of parts).kept
+
+-- the tree that is allowed where so many groups of the base are left
+abbrev pub allowed : View → ℕ → Tree
+allowed view base = recovered view.tree (taken (heads_of view.buds (0 ∷ 0 ∷ 0 ∷ [])) (0 ∷ base ∷ 0 ∷ []))
+
+-- ---- a commit with a put inside
+-- a file `bb` is made while a commit runs, behind `am`
+abbrev pub bb_entry : Carried
+bb_entry = carry 22 224 30 (SetEntry (name bb 66))
+
+abbrev pub bb_inode : Carried
+bb_inode = carry 22 288 31 (SetInode 66 (file 1))
+
+abbrev pub bb_leaves : List Kept
+bb_leaves = map kept_at (root_node ∷ am_entry.placed ∷ bb_entry.placed ∷ am_inode.placed ∷ bb_inode.placed ∷ [])
+
+abbrev pub bb_tree : Tree
+bb_tree = record {
+  inodes = (1, new_dir 493 0) ∷ (65, file 1) ∷ (66, file 1) ∷ [];
+  blocks = [];
+  entries = ((1, am), name am 65) ∷ ((1, bb), name bb 66) ∷ [];
+  highest = 66;
+}
+
+abbrev pub until_offer : List Event
+until_offer = Open 1 22 ∷ putting (am_entry ∷ am_inode ∷ []) am_leaves ∷ Sync ∷ Start (23 ∷ []) ∷ putting (bb_entry ∷ bb_inode ∷ []) bb_leaves ∷ Write ∷ Offer ∷ []
+
+abbrev pub whole_commit : List Event
+whole_commit = Open 1 22 ∷ putting (am_entry ∷ am_inode ∷ []) am_leaves ∷ Sync ∷ Start (23 ∷ []) ∷ putting (bb_entry ∷ bb_inode ∷ []) bb_leaves ∷ Write ∷ Offer ∷ End ∷ []
+
+-- the buds of a view: head, LEB and offset, with how many groups
+abbrev pub bud_rows : List Bud → List (ℕ × ℕ × ℕ × ℕ)
+bud_rows buds = map (λ bud. (bud.head, bud.lnum, bud.from, length bud.groups)) buds
+
+-- what LEBs are for
+abbrev pub roles : Store → List LebKind
+roles m = map (λ leb. leb.role) m.lebs
+
+-- ---- a collection
+-- LEB 20 holds the root and a file of 2 links, which are copied to LEB 24
+abbrev pub file_node : Placed
+file_node = at 20 160 2 (SetInode 65 (file 2))
+
+abbrev pub two_leaves : Store
+two_leaves = opened (root_node ∷ file_node ∷ []) (record { inodes = (1, new_dir 493 0) ∷ (65, file 2) ∷ []; blocks = []; entries = []; highest = 65 })
+
+abbrev pub root_copy : Placed
+root_copy = at 24 0 1 root
+
+abbrev pub file_copy : Placed
+file_copy = at 24 160 2 (SetInode 65 (file 2))
+
+abbrev pub move_root : Event
+move_root = Move (record { leaf = kept_at root_node; copy = root_copy; index = changed_index (map kept_at (root_copy ∷ file_node ∷ [])) })
+
+abbrev pub move_file : Event
+move_file = Move (record { leaf = kept_at file_node; copy = file_copy; index = changed_index (map kept_at (root_copy ∷ file_copy ∷ [])) })
+
+abbrev pub half_collected : List Event
+half_collected = Begin 20 ∷ Open 0 24 ∷ move_root ∷ Sync ∷ []
+
+abbrev pub all_copied : List Event
+all_copied = Begin 20 ∷ Open 0 24 ∷ move_root ∷ move_file ∷ Sync ∷ []
+
+abbrev pub collected : List Event
+collected = Begin 20 ∷ Open 0 24 ∷ move_root ∷ move_file ∷ Sync ∷ Free ∷ []
+
+-- ---- an orphan that is closed while a commit runs
+-- file 65 loses its name and is synced, a commit starts whose list has it, and the file is closed before the commit ends
+abbrev pub closed_in_commit : List Event
+closed_in_commit =
+    Open 1 22 ∷ putting (am_entry ∷ am_inode ∷ []) am_leaves ∷ putting unlinking unlinked_leaves ∷ Sync
+    ∷ Start (23 ∷ []) ∷ Drop 65 (changed_index (map kept_at (root_node ∷ []))) ∷ Write ∷ Offer ∷ End ∷ []

@@ -1,0 +1,52 @@
+// Laws of the events: what each keeps of the invariant.
+
+ghost use Rattle.std.specs.Prelude.{◌≡◌, ℕ, List};
+ghost use Rattle.store_model.specs.Backing.{Outside, backing_of};
+ghost use Rattle.store_model.specs.Events.{after, Drop, Free, Open, Put, Putting, Start, Sync};
+ghost use Rattle.store_model.specs.Invariant.{HasFiles, HasNumbers};
+ghost use Rattle.store_model.specs.Lebs.{IsStoreSettled};
+ghost use Rattle.store_model.specs.Legal.{IsAllSynced, IsLegal};
+ghost use Rattle.store_model.specs.Store.{Index as AnyIndex, Store as AnyStore};
+
+use leaf_map::a_change_of_leaves_is_one_of_the_tree;
+
+/// A put keeps the files: its leaves show the tree after its changes, and the index has them.
+pub fn a_put_keeps_the_files()
+    ensures { (m : AnyStore) (p : Putting) → IsLegal m (Put p) → HasFiles m → HasFiles (after (Put p) m) }
+{
+    a_change_of_leaves_is_one_of_the_tree();
+}
+
+/// A sync keeps the files and the numbers, and all that was put is synced afterwards. As a backing the store has the tree that
+/// it had.
+pub fn a_sync_keeps_the_files()
+    ensures files { (m : AnyStore) → HasFiles m → HasFiles (after Sync m) }
+    ensures numbers { (m : AnyStore) → HasNumbers m → HasNumbers (after Sync m) }
+    ensures synced { (m : AnyStore) → IsAllSynced (after Sync m) }
+    ensures tree { (m : AnyStore) (outside : Outside) → (backing_of (after Sync m) outside).tree ≡ (backing_of m outside).tree }
+{}
+
+/// A LEB that is opened at a head keeps the files and the numbers.
+pub fn an_opened_leb_keeps_the_files()
+    ensures numbers { (m : AnyStore) (head lnum : ℕ) → IsLegal m (Open head lnum) → HasNumbers m → HasNumbers (after (Open head lnum) m) }
+    ensures files { (m : AnyStore) (head lnum : ℕ) → IsLegal m (Open head lnum) → HasFiles m → HasFiles (after (Open head lnum) m) }
+{}
+
+/// An inode without a name that is dropped is gone with its blocks, from the leaves as from the files.
+pub fn a_drop_keeps_the_files()
+    ensures { (m : AnyStore) (ino : ℕ) (index : AnyIndex) → IsLegal m (Drop ino index) → HasFiles m → HasFiles (after (Drop ino index) m) }
+{
+    a_change_of_leaves_is_one_of_the_tree();
+}
+
+/// A put and a LEB that is opened leave a store from which a commit can start and end.
+pub fn a_put_leaves_room_for_a_commit()
+    ensures put { (m : AnyStore) (p : Putting) → IsLegal m (Put p) → IsStoreSettled (after (Put p) m) }
+    ensures open { (m : AnyStore) (head lnum : ℕ) → IsLegal m (Open head lnum) → IsStoreSettled (after (Open head lnum) m) }
+{}
+
+/// Only what is synced is built on: a victim is freed, and a commit starts, where all groups and copies are synced.
+pub fn a_sync_comes_first()
+    ensures free { (m : AnyStore) → IsLegal m Free → IsAllSynced m }
+    ensures start { (m : AnyStore) (taken : List ℕ) → IsLegal m (Start taken) → IsAllSynced m }
+{}

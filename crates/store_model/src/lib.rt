@@ -1,0 +1,19 @@
+//! What is a store, what does it do, and what may a cut leave of it?
+//!
+//! A store is one plain value over lists and whole numbers (`specs/Store.antt`): the files, the index and its leaves, what
+//! each master leads to, what the heads got, and what each main LEB is for. What it does are eleven events
+//! (`specs/Events.antt`), each with a condition (`specs/Legal.antt`), and each keeps an invariant (`specs/Invariant.antt`).
+//! The idea: a commit that runs is a second view beside the first, so what a mount finds is one question of one view.
+#![tactic(auto)]
+
+mod law;
+mod worked;
+
+pub use crate::law::{
+    a_drop_keeps_the_files, a_put_keeps_the_files, a_put_leaves_room_for_a_commit,
+    a_sync_comes_first, a_sync_keeps_the_files, an_opened_leb_keeps_the_files,
+};
+pub use crate::worked::{
+    a_collection_is_told, a_commit_is_told, a_put_is_legal, a_put_is_told, a_sync_is_told,
+    an_orphan_closed_in_a_commit_is_told,
+};
