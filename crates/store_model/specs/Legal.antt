@@ -188,20 +188,20 @@ pub record CanDrop (m : Store) (ino : ℕ) (index : Index) : Type 0 where
   pub number : 1 ≤ ino
   pub index_is : IsIndexAfter m 0 (drop_inode ino index m).live index
 
-abbrev pub IsLegal : Store → Event → Type 0
-IsLegal m (Put p) = CanPut m p
-IsLegal m (Open head lnum) = CanOpen m head lnum
-IsLegal m Sync = Unit {0}
-IsLegal m (Begin victim) = CanBegin m victim
-IsLegal m (Move c) = CanMove m c
-IsLegal m Free = CanFree m
-IsLegal m (Start taken) = CanStart m taken
-IsLegal m Write = IfRunning m (λ next. next.written < length next.taken)
-IsLegal m Offer = IfRunning m (λ next. (next.written ≡ length next.taken) × (next.offered ≡ false))
-IsLegal m End = IfRunning m (λ next. next.offered ≡ true)
-IsLegal m (Drop ino index) = CanDrop m ino index
+abbrev pub IsLegalEvent : Store → Event → Type 0
+IsLegalEvent m (Put p) = CanPut m p
+IsLegalEvent m (Open head lnum) = CanOpen m head lnum
+IsLegalEvent m Sync = Unit {0}
+IsLegalEvent m (Begin victim) = CanBegin m victim
+IsLegalEvent m (Move c) = CanMove m c
+IsLegalEvent m Free = CanFree m
+IsLegalEvent m (Start taken) = CanStart m taken
+IsLegalEvent m Write = IfRunning m (λ next. next.written < length next.taken)
+IsLegalEvent m Offer = IfRunning m (λ next. (next.written ≡ length next.taken) × (next.offered ≡ false))
+IsLegalEvent m End = IfRunning m (λ next. next.offered ≡ true)
+IsLegalEvent m (Drop ino index) = CanDrop m ino index
 
 -- each event may come where it does
 abbrev pub AreLegal : Store → List Event → Type 0
 AreLegal m [] = Unit {0}
-AreLegal m (event ∷ events) = IsLegal m event × AreLegal (after event m) events
+AreLegal m (event ∷ events) = IsLegalEvent m event × AreLegal (after event m) events

@@ -5,14 +5,14 @@ ghost use Rattle.store_model.specs.Backing.{Outside, backing_of};
 ghost use Rattle.store_model.specs.Events.{after, Drop, Free, Open, Put, Putting, Start, Sync};
 ghost use Rattle.store_model.specs.Invariant.{HasFiles, HasNumbers};
 ghost use Rattle.store_model.specs.Lebs.{IsStoreSettled};
-ghost use Rattle.store_model.specs.Legal.{IsAllSynced, IsLegal};
+ghost use Rattle.store_model.specs.Legal.{IsAllSynced, IsLegalEvent};
 ghost use Rattle.store_model.specs.Store.{Index as AnyIndex, Store as AnyStore};
 
 use leaf_map::a_change_of_leaves_is_one_of_the_tree;
 
 /// A put keeps the files: its leaves show the tree after its changes, and the index has them.
 pub fn a_put_keeps_the_files()
-    ensures { (m : AnyStore) (p : Putting) → IsLegal m (Put p) → HasFiles m → HasFiles (after (Put p) m) }
+    ensures { (m : AnyStore) (p : Putting) → IsLegalEvent m (Put p) → HasFiles m → HasFiles (after (Put p) m) }
 {
     a_change_of_leaves_is_one_of_the_tree();
 }
@@ -28,25 +28,25 @@ pub fn a_sync_keeps_the_files()
 
 /// A LEB that is opened at a head keeps the files and the numbers.
 pub fn an_opened_leb_keeps_the_files()
-    ensures numbers { (m : AnyStore) (head lnum : ℕ) → IsLegal m (Open head lnum) → HasNumbers m → HasNumbers (after (Open head lnum) m) }
-    ensures files { (m : AnyStore) (head lnum : ℕ) → IsLegal m (Open head lnum) → HasFiles m → HasFiles (after (Open head lnum) m) }
+    ensures numbers { (m : AnyStore) (head lnum : ℕ) → IsLegalEvent m (Open head lnum) → HasNumbers m → HasNumbers (after (Open head lnum) m) }
+    ensures files { (m : AnyStore) (head lnum : ℕ) → IsLegalEvent m (Open head lnum) → HasFiles m → HasFiles (after (Open head lnum) m) }
 {}
 
 /// An inode without a name that is dropped is gone with its blocks, from the leaves as from the files.
 pub fn a_drop_keeps_the_files()
-    ensures { (m : AnyStore) (ino : ℕ) (index : AnyIndex) → IsLegal m (Drop ino index) → HasFiles m → HasFiles (after (Drop ino index) m) }
+    ensures { (m : AnyStore) (ino : ℕ) (index : AnyIndex) → IsLegalEvent m (Drop ino index) → HasFiles m → HasFiles (after (Drop ino index) m) }
 {
     a_change_of_leaves_is_one_of_the_tree();
 }
 
 /// A put and a LEB that is opened leave a store from which a commit can start and end.
 pub fn a_put_leaves_room_for_a_commit()
-    ensures put { (m : AnyStore) (p : Putting) → IsLegal m (Put p) → IsStoreSettled (after (Put p) m) }
-    ensures open { (m : AnyStore) (head lnum : ℕ) → IsLegal m (Open head lnum) → IsStoreSettled (after (Open head lnum) m) }
+    ensures put { (m : AnyStore) (p : Putting) → IsLegalEvent m (Put p) → IsStoreSettled (after (Put p) m) }
+    ensures open { (m : AnyStore) (head lnum : ℕ) → IsLegalEvent m (Open head lnum) → IsStoreSettled (after (Open head lnum) m) }
 {}
 
 /// Only what is synced is built on: a victim is freed, and a commit starts, where all groups and copies are synced.
 pub fn a_sync_comes_first()
-    ensures free { (m : AnyStore) → IsLegal m Free → IsAllSynced m }
-    ensures start { (m : AnyStore) (taken : List ℕ) → IsLegal m (Start taken) → IsAllSynced m }
+    ensures free { (m : AnyStore) → IsLegalEvent m Free → IsAllSynced m }
+    ensures start { (m : AnyStore) (taken : List ℕ) → IsLegalEvent m (Start taken) → IsAllSynced m }
 {}
