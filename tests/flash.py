@@ -9,8 +9,8 @@ Words: a description, whose first line is `size BYTES`; the image is erased (0xF
     OFFS bytes COUNTxHH,..            bytes
 
 OFFS is the number of a LEB of 16,384 bytes, a colon, and a place in it. NODE is `sb` or `mst`, whose fields are those of
-ubifs-media.h, or one of `ref`, `cs`, `orph`, `idx`, `trun`, `data`, which are filled by the number SQNUM alone. It is written
-from the public format and shares nothing with the program.
+ubifs-media.h, or one of `ref`, `cs`, `orph`, `idx`, `trun`, `data`, which are filled alone; `data` takes the fields ino, block and
+len, the number of its bytes. It is written from the public format and shares nothing with the program.
 """
 
 import struct
@@ -84,7 +84,8 @@ def made(kind, sqnum, named):
     if kind == "trun":
         return node(4, sqnum, struct.pack("<I12xQQ", 65, 5000, 4096), 2)
     if kind == "data":
-        return node(1, sqnum, key(65, 1, 3) + bytes(8) + struct.pack("<IHH", 5, 0, 0) + b"bytes")
+        ino, block, length = (int(named.get(name, value)) for name, value in (("ino", 65), ("block", 3), ("len", 5)))
+        return node(1, sqnum, key(ino, 1, block) + bytes(8) + struct.pack("<IHH", length, 0, 0) + (b"bytes" * length)[:length])
     if kind == "ref":
         return node(8, sqnum, struct.pack("<III28x", 11, 0, 2))
     if kind == "cs":
