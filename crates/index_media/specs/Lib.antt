@@ -1,0 +1,4 @@
+pub mod PlacedRow
+pub mod Keys
+pub mod Stored
+pub mod StoredList
