@@ -5,3 +5,4 @@ pub mod Ordered
 pub mod Depths
 pub mod Lists
 pub mod Taken
+pub mod Inserting

@@ -2,3 +2,5 @@ pub mod PlacedRow
 pub mod Keys
 pub mod Stored
 pub mod StoredList
+pub mod KeyedRow
+pub mod Insertion

@@ -5,9 +5,12 @@ ghost use Rattle.ubifs_base.specs.NodeLaws.{IsBytes};
 ghost use Rattle.index_tree.specs.Listing.{listed};
 ghost use Rattle.index_tree.specs.Rebuild.{IsIndex};
 ghost use Rattle.media_sys.specs.Index.{Index as AnIndexNode};
-ghost use Rattle.index_tree.specs.Shape.{node_count};
+ghost use Rattle.index_tree.specs.Shape.{node_count, with_leaf};
+ghost use Rattle.index_tree.specs.declared.leaf.Leaf.{Leaf as ALeaf};
 ghost use Rattle.media_sys.specs.SystemNode.{IsSystemNode, index};
 ghost use Rattle.media_sys.specs.declared.branch.Branch.{Branch as ABranch};
+ghost use Rattle.index_media.specs.Insertion.{with_leaf_by_keys};
+ghost use Rattle.index_media.specs.KeyedRow.{KeyedRow, bare, all_clean, HaveFirstKeys};
 ghost use Rattle.index_media.specs.PlacedRow.{PlacedRow, ended, node_at, plain, branches_of, all_nodes, lebs_of, node_end, bytes_taken, is_apart_from, are_disjoint};
 ghost use Rattle.index_media.specs.Stored.{IsIndexNodeAt, AreStored, IsStoredIndex, AreChangedAt};
 ghost use Rattle.index_media.specs.StoredList.{StoredNode, as_listed, stored_list};
@@ -67,4 +70,12 @@ pub fn a_stored_index_is_an_index()
         → map (λ one. as_listed one.said) (stored_list placed) ≡ listed (plain placed) }
     ensures there { (contents : ℕ → List ℕ) (fanout : ℕ) (root : ABranch) (placed : PlacedRow) → IsStoredIndex contents fanout root placed
         → All (λ one. IsIndexNodeAt contents one.branch one.said) (stored_list placed) }
+{}
+
+/// Where each branch's key is its first leaf's, an insertion by the keys of branches makes the shape that one by first leaves
+/// makes. A row that stands on a medium is the same without its places, whichever way it is kept.
+pub fn an_insertion_goes_by_the_keys_of_branches()
+    ensures same { (fanout : ℕ) (new : ALeaf) (row : KeyedRow) → HaveFirstKeys row
+        → bare (with_leaf_by_keys fanout new row) ≡ with_leaf fanout new (bare row) }
+    ensures clean { (placed : PlacedRow) → bare (all_clean placed) ≡ plain placed }
 {}

@@ -1,0 +1,5 @@
+use Rattle.index_media.proofs.Inserting.{with_leaf_bare, clean_bare}
+use Rattle.index_media.proofs.law.an_insertion_goes_by_the_keys_of_branches.Goals as goal
+
+pub returns : goal.returns
+returns c = record { same = with_leaf_bare; clean = clean_bare }
