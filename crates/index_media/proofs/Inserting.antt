@@ -37,7 +37,7 @@ back_bare n (node_in key place children rest) = elim (cases_Bool (n == 0)) [
   | inr e ↦ rw e (back_bare (n - 1) rest)
 ]
 
-parted_bare : (fanout : ℕ) (key : Key) (children rest : KeyedRow) → bare (keyed_parted fanout key children rest) ≡ parted fanout (bare children) (bare rest)
+pub parted_bare : (fanout : ℕ) (key : Key) (children rest : KeyedRow) → bare (keyed_parted fanout key children rest) ≡ parted fanout (bare children) (bare rest)
 unfolding keyed_parted parted
 parted_bare fanout key children rest = elim (cases_Bool (nat_le (fanout + 1) (count (bare children)))) [
   | inl e ↦ rw e (rw (front_bare (left_half fanout) children, back_bare (left_half fanout) children) refl)

@@ -6,3 +6,4 @@ pub mod Depths
 pub mod Lists
 pub mod Taken
 pub mod Inserting
+pub mod InsertedContents

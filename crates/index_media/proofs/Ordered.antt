@@ -13,15 +13,15 @@ abbrev pub AreAtMost : Option ℕ → List Leaf → Type 0
 AreAtMost most [] = ⊤
 AreAtMost most (x ∷ xs) = IsAtMost (leaf_rank x) most × AreAtMost most xs
 
-most_append : (most : Option ℕ) (xs ys : List Leaf) → AreAtMost most xs → AreAtMost most ys → AreAtMost most (xs ++ ys)
+pub most_append : (most : Option ℕ) (xs ys : List Leaf) → AreAtMost most xs → AreAtMost most ys → AreAtMost most (xs ++ ys)
 most_append most [] ys hx hy = hy
 most_append most (x ∷ xs) ys hx hy = (hx.0, most_append most xs ys hx.1 hy)
 
-most_weaken : (m most : Option ℕ) (xs : List Leaf) → ((n : ℕ) → IsAtMost n m → IsAtMost n most) → AreAtMost m xs → AreAtMost most xs
+pub most_weaken : (m most : Option ℕ) (xs : List Leaf) → ((n : ℕ) → IsAtMost n m → IsAtMost n most) → AreAtMost m xs → AreAtMost most xs
 most_weaken m most [] w h = tt
 most_weaken m most (x ∷ xs) w h = (w (leaf_rank x) h.0, most_weaken m most xs w h.1)
 
-lower_at_most : (n rank : ℕ) (most : Option ℕ) → n ≤ rank → IsAtMost rank most → IsAtMost n most
+pub lower_at_most : (n rank : ℕ) (most : Option ℕ) → n ≤ rank → IsAtMost rank most → IsAtMost n most
 lower_at_most n rank None l h = tt
 lower_at_most n rank (Some m) l h = omega (arith, l, h)
 

@@ -4,3 +4,4 @@ pub mod Stored
 pub mod StoredList
 pub mod KeyedRow
 pub mod Insertion
+pub mod KeyedKeys

@@ -1,15 +1,18 @@
 // Laws of the definitions: what makes a stored index, what keeps it, and what it is without its places.
 
-ghost use Rattle.std.specs.Prelude.{◌≡◌, ◌≤◌, ◌+◌, ◌*◌, ℕ, All, IsTrue, List, map, length, take, drop};
+ghost use Rattle.std.specs.Prelude.{◌≡◌, ◌≤◌, ◌+◌, ◌*◌, ℕ, All, IsTrue, List, Option, map, length, take, drop};
 ghost use Rattle.ubifs_base.specs.NodeLaws.{IsBytes};
 ghost use Rattle.index_tree.specs.Listing.{listed};
+ghost use Rattle.index_tree.specs.Order.{placed};
 ghost use Rattle.index_tree.specs.Rebuild.{IsIndex};
 ghost use Rattle.media_sys.specs.Index.{Index as AnIndexNode};
-ghost use Rattle.index_tree.specs.Shape.{node_count, with_leaf};
+ghost use Rattle.index_tree.specs.Shape.{contents, node_count, with_leaf};
 ghost use Rattle.index_tree.specs.declared.leaf.Leaf.{Leaf as ALeaf};
 ghost use Rattle.media_sys.specs.SystemNode.{IsSystemNode, index};
 ghost use Rattle.media_sys.specs.declared.branch.Branch.{Branch as ABranch};
 ghost use Rattle.index_media.specs.Insertion.{with_leaf_by_keys};
+ghost use Rattle.index_media.specs.KeyedKeys.{AreKeysBounded};
+ghost use Rattle.index_media.specs.Keys.{AreBounded};
 ghost use Rattle.index_media.specs.KeyedRow.{KeyedRow, bare, all_clean, HaveFirstKeys};
 ghost use Rattle.index_media.specs.PlacedRow.{PlacedRow, ended, node_at, plain, branches_of, all_nodes, lebs_of, node_end, bytes_taken, is_apart_from, are_disjoint};
 ghost use Rattle.index_media.specs.Stored.{IsIndexNodeAt, AreStored, IsStoredIndex, AreChangedAt};
@@ -73,9 +76,12 @@ pub fn a_stored_index_is_an_index()
 {}
 
 /// Where each branch's key is its first leaf's, an insertion by the keys of branches makes the shape that one by first leaves
-/// makes. A row that stands on a medium is the same without its places, whichever way it is kept.
+/// makes. Where keys lie between those of branches, it puts the leaf behind all whose key isn't greater. A row that stands on a medium is the same without its places, whichever way it is kept.
 pub fn an_insertion_goes_by_the_keys_of_branches()
     ensures same { (fanout : ℕ) (new : ALeaf) (row : KeyedRow) → HaveFirstKeys row
         → bare (with_leaf_by_keys fanout new row) ≡ with_leaf fanout new (bare row) }
-    ensures clean { (placed : PlacedRow) → bare (all_clean placed) ≡ plain placed }
+    ensures contents { (fanout : ℕ) (new : ALeaf) (least : ℕ) (most : Option ℕ) (row : KeyedRow) → AreKeysBounded least most row
+        → contents (bare (with_leaf_by_keys fanout new row)) ≡ placed new (contents (bare row)) }
+    ensures bounded { (least : ℕ) (most : Option ℕ) (row : PlacedRow) → AreBounded least most row → AreKeysBounded least most (all_clean row) }
+    ensures clean { (row : PlacedRow) → bare (all_clean row) ≡ plain row }
 {}
