@@ -27,7 +27,7 @@ clean_bounded least most (node_at b c rest) h =
     let P : Option ℕ → Type 0 = λ m. AreKeysBounded (branch_rank b) m (all_clean c) in
     (h.0, h.1, subst P (sym (clean_before most rest)) (clean_bounded (branch_rank b) (bound_before rest most) c h.2), clean_bounded (branch_rank b) most rest h.3)
 
-before_within : (least : ℕ) (most : Option ℕ) (rest : KeyedRow) → AreKeysBounded least most rest → (n : ℕ) → IsAtMost n (key_before rest most) → IsAtMost n most
+pub before_within : (least : ℕ) (most : Option ℕ) (rest : KeyedRow) → AreKeysBounded least most rest → (n : ℕ) → IsAtMost n (key_before rest most) → IsAtMost n most
 before_within least most no_more h n l = l
 before_within least most (leaf_in x rest) h n l = lower_at_most n (leaf_rank x) most l h.1
 before_within least most (node_in key place c rest) h n l = lower_at_most n (key_rank key) most l h.1

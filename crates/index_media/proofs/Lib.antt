@@ -7,3 +7,4 @@ pub mod Lists
 pub mod Taken
 pub mod Inserting
 pub mod InsertedContents
+pub mod InsertedKeys

@@ -1,6 +1,6 @@
 // Laws of the definitions: what makes a stored index, what keeps it, and what it is without its places.
 
-ghost use Rattle.std.specs.Prelude.{◌≡◌, ◌≤◌, ◌+◌, ◌*◌, ℕ, All, IsTrue, List, Option, map, length, take, drop};
+ghost use Rattle.std.specs.Prelude.{◌≡◌, ◌≤◌, ◌+◌, ◌*◌, ℕ, All, IsTrue, List, Option, None, map, length, take, drop};
 ghost use Rattle.ubifs_base.specs.NodeLaws.{IsBytes};
 ghost use Rattle.index_tree.specs.Listing.{listed};
 ghost use Rattle.index_tree.specs.Order.{placed};
@@ -76,12 +76,14 @@ pub fn a_stored_index_is_an_index()
 {}
 
 /// Where each branch's key is its first leaf's, an insertion by the keys of branches makes the shape that one by first leaves
-/// makes. Where keys lie between those of branches, it puts the leaf behind all whose key isn't greater. A row that stands on a medium is the same without its places, whichever way it is kept.
+/// makes. Where keys lie between those of branches, it puts the leaf behind all whose key isn't
+/// greater, and keys lie so again. A row that stands on a medium is the same without its places, whichever way it is kept.
 pub fn an_insertion_goes_by_the_keys_of_branches()
     ensures same { (fanout : ℕ) (new : ALeaf) (row : KeyedRow) → HaveFirstKeys row
         → bare (with_leaf_by_keys fanout new row) ≡ with_leaf fanout new (bare row) }
     ensures contents { (fanout : ℕ) (new : ALeaf) (least : ℕ) (most : Option ℕ) (row : KeyedRow) → AreKeysBounded least most row
         → contents (bare (with_leaf_by_keys fanout new row)) ≡ placed new (contents (bare row)) }
+    ensures keys { (fanout : ℕ) (new : ALeaf) (row : KeyedRow) → 1 ≤ fanout → AreKeysBounded 0 None row → AreKeysBounded 0 None (with_leaf_by_keys fanout new row) }
     ensures bounded { (least : ℕ) (most : Option ℕ) (row : PlacedRow) → AreBounded least most row → AreKeysBounded least most (all_clean row) }
     ensures clean { (row : PlacedRow) → bare (all_clean row) ≡ plain row }
 {}
