@@ -1,0 +1,89 @@
+// Laws of the definitions: what makes a stored index, what keeps it, and what it is without its places.
+
+ghost use Rattle.std.specs.Prelude.{◌≡◌, ◌≤◌, ◌+◌, ◌*◌, ℕ, All, IsTrue, List, Option, None, map, length, take, drop};
+ghost use Rattle.ubifs_base.specs.NodeLaws.{IsBytes};
+ghost use Rattle.index_tree.specs.Listing.{listed};
+ghost use Rattle.index_tree.specs.Order.{placed};
+ghost use Rattle.index_tree.specs.Rebuild.{IsIndex};
+ghost use Rattle.media_sys.specs.Index.{Index as AnIndexNode};
+ghost use Rattle.index_tree.specs.Shape.{contents, node_count, with_leaf};
+ghost use Rattle.index_tree.specs.declared.leaf.Leaf.{Leaf as ALeaf};
+ghost use Rattle.media_sys.specs.SystemNode.{IsSystemNode, index};
+ghost use Rattle.media_sys.specs.declared.branch.Branch.{Branch as ABranch};
+ghost use Rattle.index_media.specs.Insertion.{with_leaf_by_keys};
+ghost use Rattle.index_media.specs.KeyedKeys.{AreKeysBounded};
+ghost use Rattle.index_media.specs.Keys.{AreBounded};
+ghost use Rattle.index_media.specs.KeyedRow.{KeyedRow, bare, all_clean, HaveFirstKeys};
+ghost use Rattle.index_media.specs.PlacedRow.{PlacedRow, ended, node_at, plain, branches_of, all_nodes, lebs_of, node_end, bytes_taken, is_apart_from, are_disjoint};
+ghost use Rattle.index_media.specs.Stored.{IsIndexNodeAt, AreStored, IsStoredIndex, AreChangedAt};
+ghost use Rattle.index_media.specs.StoredList.{StoredNode, as_listed, stored_list};
+
+use media_sys::one_node;
+
+/// Contents that agree on the LEBs of an index hold the same index.
+pub fn an_index_depends_on_its_lebs_alone()
+    ensures { (old new : ℕ → List ℕ) (fanout : ℕ) (root : ABranch) (placed : PlacedRow) → All (λ k. new k ≡ old k) (lebs_of placed)
+        → IsStoredIndex old fanout root placed → IsStoredIndex new fanout root placed }
+{}
+
+/// Contents hold one index at most where a root's branch leads.
+pub fn a_root_leads_to_one_index()
+    ensures { (contents : ℕ → List ℕ) (fanout other : ℕ) (root : ABranch) (a b : PlacedRow) → ((k : ℕ) → IsBytes (contents k))
+        → IsStoredIndex contents fanout root a → IsStoredIndex contents other root b → a ≡ b }
+{
+    one_node();
+}
+
+/// What is written at a free place leaves each index and each row that stands. An index node whose bytes are written stands
+/// where a branch of their length leads. Behind its children, and with the branches that lead to them, it stands above them,
+/// and rows of one level stand beside each other.
+pub fn a_node_behind_its_children_stands()
+    ensures stays { (old new : ℕ → List ℕ) (place root : ABranch) (fanout : ℕ) (placed : PlacedRow) → AreChangedAt old new place
+        → IsTrue (is_apart_from place placed) → IsStoredIndex old fanout root placed → IsStoredIndex new fanout root placed }
+    ensures row_stays { (old new : ℕ → List ℕ) (place : ABranch) (levels : ℕ) (row : PlacedRow) → AreChangedAt old new place
+        → IsTrue (is_apart_from place row) → AreStored old levels row → AreStored new levels row }
+    ensures written { (contents : ℕ → List ℕ) (place : ABranch) (said : AnIndexNode) (sqnum group : ℕ) (bytes : List ℕ)
+        → IsSystemNode bytes sqnum group (index said) → place.len ≡ length bytes
+        → take place.len (drop place.offs (contents place.lnum)) ≡ bytes → IsIndexNodeAt contents place said }
+    ensures parent { (old new : ℕ → List ℕ) (place : ABranch) (levels : ℕ) (row : PlacedRow) → AreChangedAt old new place
+        → IsTrue (is_apart_from place row) → AreStored old levels row
+        → IsIndexNodeAt new place (record { level = levels; branches = branches_of row })
+        → AreStored new (levels + 1) (node_at place row ended) }
+    ensures beside { (contents : ℕ → List ℕ) (levels : ℕ) (branch : ABranch) (row rest : PlacedRow) → AreStored contents levels (node_at branch row ended)
+        → AreStored contents levels rest → AreStored contents levels (node_at branch row rest) }
+    ensures disjoint { (place : ABranch) (row : PlacedRow) → IsTrue (is_apart_from place row) → IsTrue (are_disjoint (all_nodes row))
+        → IsTrue (are_disjoint (all_nodes (node_at place row ended))) }
+{}
+
+/// A stored index has as many nodes as without its places, each as long as its branches ask, and takes at most as many bytes
+/// as that many full nodes.
+pub fn an_index_takes_the_bytes_of_its_nodes()
+    ensures len { (contents : ℕ → List ℕ) (branch : ABranch) (said : AnIndexNode) → IsIndexNodeAt contents branch said
+        → branch.len ≡ 28 + 20 * length said.branches }
+    ensures number { (placed : PlacedRow) → length (all_nodes placed) ≡ node_count (plain placed) }
+    ensures most { (contents : ℕ → List ℕ) (fanout : ℕ) (root : ABranch) (placed : PlacedRow) → IsStoredIndex contents fanout root placed
+        → bytes_taken (all_nodes placed) ≤ node_count (plain placed) * node_end (28 + 20 * fanout) }
+{}
+
+/// Without its places a stored index is an index, and its nodes, in the order of their list, say the list of its nodes.
+pub fn a_stored_index_is_an_index()
+    ensures index { (contents : ℕ → List ℕ) (fanout : ℕ) (root : ABranch) (placed : PlacedRow) → IsStoredIndex contents fanout root placed
+        → IsIndex fanout (plain placed) }
+    ensures listed { (contents : ℕ → List ℕ) (fanout : ℕ) (root : ABranch) (placed : PlacedRow) → IsStoredIndex contents fanout root placed
+        → map (λ one. as_listed one.said) (stored_list placed) ≡ listed (plain placed) }
+    ensures there { (contents : ℕ → List ℕ) (fanout : ℕ) (root : ABranch) (placed : PlacedRow) → IsStoredIndex contents fanout root placed
+        → All (λ one. IsIndexNodeAt contents one.branch one.said) (stored_list placed) }
+{}
+
+/// Where each branch's key is its first leaf's, an insertion by the keys of branches makes the shape that one by first leaves
+/// makes. Where keys lie between those of branches, it puts the leaf behind all whose key isn't
+/// greater, and keys lie so again. A row that stands on a medium is the same without its places, whichever way it is kept.
+pub fn an_insertion_goes_by_the_keys_of_branches()
+    ensures same { (fanout : ℕ) (new : ALeaf) (row : KeyedRow) → HaveFirstKeys row
+        → bare (with_leaf_by_keys fanout new row) ≡ with_leaf fanout new (bare row) }
+    ensures contents { (fanout : ℕ) (new : ALeaf) (least : ℕ) (most : Option ℕ) (row : KeyedRow) → AreKeysBounded least most row
+        → contents (bare (with_leaf_by_keys fanout new row)) ≡ placed new (contents (bare row)) }
+    ensures keys { (fanout : ℕ) (new : ALeaf) (row : KeyedRow) → 1 ≤ fanout → AreKeysBounded 0 None row → AreKeysBounded 0 None (with_leaf_by_keys fanout new row) }
+    ensures bounded { (least : ℕ) (most : Option ℕ) (row : PlacedRow) → AreBounded least most row → AreKeysBounded least most (all_clean row) }
+    ensures clean { (row : PlacedRow) → bare (all_clean row) ≡ plain row }
+{}
