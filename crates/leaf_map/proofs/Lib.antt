@@ -18,6 +18,7 @@ mod Lasts
 mod Maps
 mod Names
 mod Originals
+mod Ranges
 mod Ranks
 mod Recovers
 mod Replays
