@@ -12,6 +12,7 @@ mod Forgets
 mod FoundApart
 mod FoundKeys
 mod FoundLeaves
+mod FoundNodes
 mod Inodes
 mod Keyed
 mod Lasts

@@ -3,6 +3,7 @@ use Rattle.std.specs.Prelude.{◌≡◌, ◌⊎◌, ℕ, ◌==◌, true, is_some
 use Rattle.std.specs.BTreeMap.{is_at}
 use Rattle.std.specs.List.{AllByRecursion, list_any}
 use Rattle.std.specs.Map.{lookup}
+use Rattle.std.specs.Option.{option_map}
 use Rattle.media_leaf.specs.LeafNode.{IsLeaf, LeafNode}
 use Rattle.fs_model.specs.declared.change.Change.{Change}
 use Rattle.fs_model.specs.Change.{apply}
@@ -78,3 +79,13 @@ pub record FitsLeaves (parts : Parts) (kept : List Kept) : Type 0 where
   pub leaves : IsLeafMap kept
   pub read : AreReadLeaves parts kept parts.committed
   pub copies : AllByRecursion (λ d. IsLeaf d.node × IsNodeOf kept d.node) parts.copies
+
+-- a node is the own node of one of these committed leaves
+abbrev pub IsOwnNode : List Named → List Committed → LeafNode → Type 0
+IsOwnNode named [] node = ⊥
+IsOwnNode named (c ∷ committed) node = (option_map (λ (found : Placed). found.node) (own_node named c) ≡ Some node) ⊎ IsOwnNode named committed node
+
+-- a node is one of these copies
+abbrev pub IsCopied : List Placed → LeafNode → Type 0
+IsCopied [] node = ⊥
+IsCopied (d ∷ copies) node = (node ≡ d.node) ⊎ IsCopied copies node

@@ -1,11 +1,11 @@
 // Laws of the definitions: of leaves, and of the trees that they show.
 
-ghost use Rattle.std.specs.Prelude.{◌≡◌, ◌+◌, ℕ, IsTrue, List, Some, false, if◌then◌else◌, map, max, true};
+ghost use Rattle.std.specs.Prelude.{◌≡◌, ◌⊎◌, ◌+◌, ℕ, IsTrue, List, Some, false, if◌then◌else◌, map, max, true};
 ghost use Rattle.std.specs.BTreeMap.{is_at};
 ghost use Rattle.std.specs.List.{find, list_any};
 ghost use Rattle.std.specs.Map.{lookup};
 ghost use Rattle.ubifs_base.specs.declared.key.Key.TheVariants.{Ino};
-ghost use Rattle.media_leaf.specs.LeafNode.{IsLeaf};
+ghost use Rattle.media_leaf.specs.LeafNode.{IsLeaf, LeafNode};
 ghost use Rattle.index_tree.specs.Distinct.{AreDistinct};
 ghost use Rattle.index_tree.specs.Order.{key_rank};
 ghost use Rattle.index_tree.specs.RangeRemoval.{outside_range};
@@ -17,7 +17,7 @@ ghost use Rattle.fs_model.specs.Change.{applied, apply, key_number};
 ghost use Rattle.fs_model.specs.Files.{Tree, inode_at, name_cmp, pair_cmp};
 ghost use Rattle.change_nodes.specs.Nodes.{change_of, node_of};
 ghost use Rattle.fs_model.specs.Recovery.{Head, IsRecovered, KeepsSynced, Numbered, recovered, taken};
-ghost use Rattle.leaf_map.specs.Allowed.{AreOriginals, FitsLeaves, FitsTree};
+ghost use Rattle.leaf_map.specs.Allowed.{AreOriginals, FitsLeaves, FitsTree, IsCopied, IsNodeOf, IsOwnNode};
 ghost use Rattle.leaf_map.specs.After.{Carries, come_by, gone_by, is_gone, is_idle, is_set, kept_after, kept_by, used_by};
 ghost use Rattle.leaf_map.specs.Follows.{block_key_from, last_block_key, with_leaf, without_old};
 ghost use Rattle.leaf_map.specs.Kept.{Kept, Placed, kept_at, shown_by};
@@ -113,4 +113,10 @@ pub fn indexes_follow()
 /// one inode, block or name.
 pub fn found_leaves_are_of_an_index()
     ensures { (parts : Parts) (kept : List Kept) → FitsLeaves parts kept → IsLeafMap (leaves_found parts) }
+{}
+
+/// Whichever originals are gone, each committed node is found that stands at its own place still, or that has a copy.
+pub fn copied_leaves_are_found()
+    ensures { (parts : Parts) (kept : List Kept) → FitsLeaves parts kept → (node : LeafNode) → IsOwnNode parts.named parts.committed node ⊎ IsCopied parts.copies node
+        → IsNodeOf (leaves_found parts) node }
 {}
