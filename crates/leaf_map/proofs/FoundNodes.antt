@@ -35,7 +35,7 @@ copied_shown [] n g i = absurd i
 copied_shown (d ∷ ds) n g (inl e) = subst (λ (z : LeafNode). is_shown (shown z) ≡ true) (sym e) g.0.1
 copied_shown (d ∷ ds) n g (inr i) = copied_shown ds n g.1 i
 
-find_copied : (p : Placed → Bool) (ds : List Placed) (d : Placed) → find p ds ≡ Some d → IsCopied ds d.node
+pub find_copied : (p : Placed → Bool) (ds : List Placed) (d : Placed) → find p ds ≡ Some d → IsCopied ds d.node
 find_copied p [] d f = absurd cc
 find_copied p (e ∷ ds) d f = by (find_copied p ds d) (p e) f
   where
@@ -54,7 +54,7 @@ none_of_key l (d ∷ ds) n g f i r = by (λ f i. none_of_key l ds n g.1 f i r) (
         false≢true (sym e ∙ eq-eqb (leaf_rank (kept_at d).leaf) (leaf_rank l) (rank_is (kept_at d).leaf (shown d.node) (copy_keyed d g.0) ∙ ap (λ (z : LeafNode). rank_shown (shown z)) (sym same) ∙ sym r))
     by more false e f (inr j) = more f j
 
-filter_copied : (p : Placed → Bool) (ds : List Placed) (n : LeafNode) → IsCopied (filter p ds) n → IsCopied ds n
+pub filter_copied : (p : Placed → Bool) (ds : List Placed) (n : LeafNode) → IsCopied (filter p ds) n → IsCopied ds n
 filter_copied p [] n i = i
 filter_copied p (e ∷ ds) n i = by (filter_copied p ds n) (p e) i
   where
@@ -381,6 +381,13 @@ spare_or_own named cs (d ∷ ds) n i = by (spare_or_own named cs ds n) (list_any
     by more false e (inl same) = inl (inl same)
     by more false e (inr j) = push (more j)
 
+-- the copies that are needed
+pub spare_known : (parts : Parts) (kept : List Kept) → FitsLeaves parts kept → (n : LeafNode) → IsCopied (spare_copies parts) n → IsNodeOf kept n
+spare_known parts kept fits n i = copy_of_kept kept parts.copies n fits.copies (filter_copied (λ c. not (list_any (is_original parts.named c) parts.committed)) parts.copies n i)
+
+pub spare_good : (parts : Parts) (kept : List Kept) → FitsLeaves parts kept → AllByRecursion IsGood (spare_copies parts)
+spare_good parts kept fits = filter_all IsGood (λ c. not (list_any (is_original parts.named c) parts.committed)) parts.copies (goods kept parts.copies fits.leaves.keyed fits.copies)
+
 pub found_nodes : (parts : Parts) (kept : List Kept) → FitsLeaves parts kept → (n : LeafNode) → IsOwnNode parts.named parts.committed n ⊎ IsCopied parts.copies n → IsNodeOf (leaves_found parts) n
 found_nodes parts kept fits n has = walk (finds parts kept one) (spare_copies parts) kept parts.committed pairs kept reads n (elim has [
   | inl o ↦ inl o
@@ -396,21 +403,15 @@ found_nodes parts kept fits n has = walk (finds parts kept one) (spare_copies pa
     pairs : Pairs (IsReadLeaf parts) kept parts.committed
     pairs = pairs_of parts kept parts.committed fits.read
 
-    test : Placed → Bool
-    test = λ c. not (list_any (is_original parts.named c) parts.committed)
-
-    known : (k : LeafNode) → IsCopied (spare_copies parts) k → IsNodeOf kept k
-    known k i = copy_of_kept kept parts.copies k fits.copies (filter_copied test parts.copies k i)
-
     own : (k : LeafNode) → IsCopied parts.copies k → (m : LeafNode) × IsOwnNode parts.named parts.committed m × (shows_same (shown m) (shown k) ≡ true) → IsOwnNode parts.named parts.committed k
     own k i (m, o, s) = subst (λ (z : LeafNode). IsOwnNode parts.named parts.committed z) (one m k (own_of_kept parts kept parts.committed m pairs o) (copy_of_kept kept parts.copies k fits.copies i) s) o
 
     reads : Reading parts kept (spare_copies parts) kept parts.committed
     reads = record {
-      good = filter_all IsGood test parts.copies (goods kept parts.copies fits.leaves.keyed fits.copies);
+      good = spare_good parts kept fits;
       keyed = fits.leaves.keyed;
       pairs = stand_all parts kept parts.committed pairs;
-      cover = known;
-      known = known;
+      cover = spare_known parts kept fits;
+      known = spare_known parts kept fits;
       spare = λ a b o i. spare_apart parts.named parts.committed parts.copies a b o i;
     }

@@ -13,6 +13,7 @@ mod FoundApart
 mod FoundKeys
 mod FoundLeaves
 mod FoundNodes
+mod FoundTrees
 mod Inodes
 mod Keyed
 mod Lasts
