@@ -17,4 +17,6 @@ pub use crate::law::{
     nodes_of_changes_carry_them, originals_are_found, the_last_change_wins,
     what_loses_nothing_fits,
 };
-pub use crate::worked::{collections_are_told, leaves_are_told, recovery_of_leaves_is_told};
+pub use crate::worked::{
+    collections_are_told, leaves_are_told, recovered_space_is_told, recovery_of_leaves_is_told,
+};
