@@ -207,7 +207,7 @@ orphan_tree kept ino highest is = by (list_any (λ x. is_unlinked ino (shown_by 
     by false true e = absurd cc
     by false false e = refl
 
-orphan_map : (kept : List Kept) (ino : ℕ) → IsLeafMap kept → IsLeafMap (without_orphan kept ino)
+pub orphan_map : (kept : List Kept) (ino : ℕ) → IsLeafMap kept → IsLeafMap (without_orphan kept ino)
 orphan_map kept ino is = by (list_any (λ x. is_unlinked ino (shown_by x)) kept)
   where
     by : (b : Bool) → IsLeafMap (cond b (filter (λ x. not (is_gone (DropInode ino) x)) kept) kept)

@@ -12,13 +12,13 @@ use Rattle.leaf_map.proofs.FoundKeys.{IsGood, filter_all, keyed_walk, ordered_wa
 use Rattle.leaf_map.proofs.Things.{node_shown}
 use Rattle.leaf_map.proofs.Walk.{Pairs, walk}
 
-pairs_of : (parts : Parts) (ks : List Kept) (cs : List Committed) → AreReadLeaves parts ks cs → Pairs (IsReadLeaf parts) ks cs
+pub pairs_of : (parts : Parts) (ks : List Kept) (cs : List Committed) → AreReadLeaves parts ks cs → Pairs (IsReadLeaf parts) ks cs
 pairs_of parts [] [] h = tt
 pairs_of parts [] (c ∷ cs) h = absurd h
 pairs_of parts (x ∷ ks) [] h = absurd h
 pairs_of parts (x ∷ ks) (c ∷ cs) (pair, more) = (pair, pairs_of parts ks cs more)
 
-goods : (kept : List Kept) (copies : List Placed) → AllByRecursion IsKeyed kept → AllByRecursion (λ d. IsLeaf d.node × IsNodeOf kept d.node) copies → AllByRecursion IsGood copies
+pub goods : (kept : List Kept) (copies : List Placed) → AllByRecursion IsKeyed kept → AllByRecursion (λ d. IsLeaf d.node × IsNodeOf kept d.node) copies → AllByRecursion IsGood copies
 goods kept [] k h = tt
 goods kept (d ∷ copies) k (one, more) = ((one.0, node_shown kept d.node k one.1), goods kept copies k more)
 

@@ -12,12 +12,15 @@ mod Forgets
 mod FoundApart
 mod FoundKeys
 mod FoundLeaves
+mod FoundNodes
+mod FoundTrees
 mod Inodes
 mod Keyed
 mod Lasts
 mod Maps
 mod Names
 mod Originals
+mod Ranges
 mod Ranks
 mod Recovers
 mod Replays

@@ -21,7 +21,7 @@ abbrev pub is_entry : Option Change → Bool
 is_entry (Some (SetEntry e)) = true
 is_entry s = false
 
-r5_small : (name : List ℕ) → r5_of name < 2 ^ 29
+pub r5_small : (name : List ℕ) → r5_of name < 2 ^ 29
 unfolding r5_of
 r5_small name = by (r5_from 0 name % 2 ^ 29) (omega arith)
   where

@@ -1,16 +1,18 @@
 -- What is asked of what a mount has read, so that it finds a tree that a cut may leave.
-use Rattle.std.specs.Prelude.{◌≡◌, ◌⊎◌, ℕ, ◌==◌, true, is_some, List, [], ◌∷◌, map, Some}
+use Rattle.std.specs.Prelude.{◌≡◌, ◌⊎◌, ℕ, ◌==◌, true, is_some, List, [], ◌∷◌, map, Option, Some}
 use Rattle.std.specs.BTreeMap.{is_at}
 use Rattle.std.specs.List.{AllByRecursion, list_any}
 use Rattle.std.specs.Map.{lookup}
+use Rattle.std.specs.Option.{option_map}
 use Rattle.media_leaf.specs.LeafNode.{IsLeaf, LeafNode}
 use Rattle.fs_model.specs.declared.change.Change.{Change}
+use Rattle.fs_model.specs.declared.change.Change.TheVariants.{SetBlock, SetEntry, SetInode}
 use Rattle.fs_model.specs.Change.{apply}
 use Rattle.fs_model.specs.Files.{Tree, inode_at, name_cmp, pair_cmp}
 use Rattle.fs_model.specs.Orphan.{is_nameless}
 use Rattle.fs_model.specs.Recovery.{Numbered, as_replayed, by_number}
 use Rattle.change_nodes.specs.Nodes.{change_of}
-use Rattle.leaf_map.specs.Kept.{Kept, Placed}
+use Rattle.leaf_map.specs.Kept.{Kept, Placed, shown_by}
 use Rattle.leaf_map.specs.LastChange.{IsSorted, Made, last_made, makes_block, makes_entry, makes_inode}
 use Rattle.leaf_map.specs.LeafMap.{IsLeafMap}
 use Rattle.leaf_map.specs.Parts.{Committed, Named, Parts, own_node}
@@ -78,3 +80,31 @@ pub record FitsLeaves (parts : Parts) (kept : List Kept) : Type 0 where
   pub leaves : IsLeafMap kept
   pub read : AreReadLeaves parts kept parts.committed
   pub copies : AllByRecursion (λ d. IsLeaf d.node × IsNodeOf kept d.node) parts.copies
+
+-- a node is the own node of one of these committed leaves
+abbrev pub IsOwnNode : List Named → List Committed → LeafNode → Type 0
+IsOwnNode named [] node = ⊥
+IsOwnNode named (c ∷ committed) node = (option_map (λ (found : Placed). found.node) (own_node named c) ≡ Some node) ⊎ IsOwnNode named committed node
+
+-- a node is one of these copies
+abbrev pub IsCopied : List Placed → LeafNode → Type 0
+IsCopied [] node = ⊥
+IsCopied (d ∷ copies) node = (node ≡ d.node) ⊎ IsCopied copies node
+
+-- these changes of a tree touch what a leaf shows
+abbrev pub IsTouchedIn : Tree → List Change → Option Change → Type 0
+IsTouchedIn tree changes (Some (SetInode ino inode)) = IsTouched (last_made (makes_inode ino) tree changes)
+IsTouchedIn tree changes (Some (SetBlock ino number bytes)) = IsTouched (last_made (makes_block (ino, number)) tree changes)
+IsTouchedIn tree changes (Some (SetEntry e)) = IsTouched (last_made (makes_entry (e.dir, e.name)) tree changes)
+IsTouchedIn tree changes shown = ⊥
+
+-- A committed leaf isn't missed: its node stands at its place still, or a copy of it was read, or changes touch what it shows.
+abbrev pub IsSafe : Parts → Tree → List Change → Kept → Type 0
+IsSafe parts tree changes x = (IsOwnNode parts.named parts.committed x.node ⊎ IsCopied parts.copies x.node) ⊎ IsTouchedIn tree changes (shown_by x)
+
+-- What was read of committed leaves and of changes loses nothing: no leaf is missed, the nodes carry the changes, and what has no name at last is listed.
+pub record LosesNothing (parts : Parts) (kept : List Kept) (changes : Numbered) : Type 0 where
+  pub read : FitsLeaves parts kept
+  pub nodes : AreRead parts.nodes changes
+  pub safe : AllByRecursion (IsSafe parts (tree_of kept (committed_highest parts)) (in_turn changes)) kept
+  pub listed : (q : ℕ) → is_nameless (apply (tree_of kept (committed_highest parts)) (in_turn changes)) q ≡ true → list_any (λ ino. q == ino) parts.listed ≡ true

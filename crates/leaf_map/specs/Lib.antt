@@ -7,4 +7,5 @@ pub mod LeafMap
 pub mod Parts
 pub mod Recovered
 pub mod Shown
+pub mod SpaceFound
 pub mod Worked

@@ -9,7 +9,8 @@ use Rattle.fs_model.specs.Making.{new_dir, new_file}
 use Rattle.change_nodes.specs.Nodes.{node_of}
 use Rattle.change_nodes.specs.Texts.{leaf_len}
 use Rattle.leaf_map.specs.Kept.{Kept, Placed, kept_at}
-use Rattle.leaf_map.specs.Parts.{Committed, Parts}
+use Rattle.leaf_map.specs.Parts.{Committed, Named, Parts}
+use Rattle.leaf_map.specs.SpaceFound.{MainArea}
 
 -- the node of a change with this number, at a place of a LEB
 abbrev pub at : ℕ → ℕ → ℕ → Change → Placed
@@ -120,3 +121,23 @@ inode_copy = at 30 0 1 (SetInode 65 (file 1))
 
 abbrev pub block_copy : Placed
 block_copy = at 30 160 2 (SetBlock 65 0 (97 ∷ []))
+
+-- the main area: LEBs 20, 21, 25, 30, 31 and 32, of which LEB 25 has the index
+abbrev pub area : MainArea
+area = record { lebs = 20 ∷ 21 ∷ 25 ∷ 30 ∷ 31 ∷ 32 ∷ []; indexed = 25 ∷ 25 ∷ []; weight = 2 }
+
+-- a file whose one leaf a bud's node replaces
+abbrev pub replaced : Parts
+replaced = parts (own (at 20 0 1 (SetInode 65 (file 1))) ∷ []) (at 31 0 5 (SetInode 65 (file 1)) ∷ []) [] []
+
+-- a LEB that the log names for a head
+abbrev pub opened : ℕ → ℕ → Named
+opened head lnum = record { head = head; lnum = lnum; from = 0 }
+
+-- two LEBs that the collector opened, the lower one last
+abbrev pub two_opened : Parts
+two_opened = record (collected []) { named = opened 0 32 ∷ opened 0 30 ∷ [] }
+
+-- a LEB that the log names for head 0 and for head 1
+abbrev pub two_owners : Parts
+two_owners = record (collected []) { named = opened 0 30 ∷ opened 1 30 ∷ [] }

@@ -1,27 +1,30 @@
 // Laws of the definitions: of leaves, and of the trees that they show.
 
-ghost use Rattle.std.specs.Prelude.{◌≡◌, ◌+◌, ℕ, IsTrue, List, Some, false, map, max, true};
+ghost use Rattle.std.specs.Prelude.{◌≡◌, ◌⊎◌, ◌+◌, ℕ, IsTrue, List, Some, false, if◌then◌else◌, map, max, true};
 ghost use Rattle.std.specs.BTreeMap.{is_at};
-ghost use Rattle.std.specs.List.{find};
+ghost use Rattle.std.specs.List.{find, list_any};
 ghost use Rattle.std.specs.Map.{lookup};
-ghost use Rattle.media_leaf.specs.LeafNode.{IsLeaf};
+ghost use Rattle.ubifs_base.specs.declared.key.Key.TheVariants.{Ino};
+ghost use Rattle.media_leaf.specs.LeafNode.{IsLeaf, LeafNode};
 ghost use Rattle.index_tree.specs.Distinct.{AreDistinct};
+ghost use Rattle.index_tree.specs.Order.{key_rank};
+ghost use Rattle.index_tree.specs.RangeRemoval.{outside_range};
 ghost use Rattle.index_tree.specs.Removal.{holds};
 ghost use Rattle.fs_model.specs.declared.change.Change.{Change as AnyChange};
-ghost use Rattle.fs_model.specs.declared.change.Change.TheVariants.{DropEntry};
+ghost use Rattle.fs_model.specs.declared.change.Change.TheVariants.{CutBlocks, DropEntry, DropInode};
 ghost use Rattle.fs_model.specs.Backing.{is_node};
 ghost use Rattle.fs_model.specs.Change.{applied, apply, key_number};
 ghost use Rattle.fs_model.specs.Files.{Tree, inode_at, name_cmp, pair_cmp};
 ghost use Rattle.change_nodes.specs.Nodes.{change_of, node_of};
 ghost use Rattle.fs_model.specs.Recovery.{Head, IsRecovered, KeepsSynced, Numbered, recovered, taken};
-ghost use Rattle.leaf_map.specs.Allowed.{AreOriginals, FitsLeaves, FitsTree};
+ghost use Rattle.leaf_map.specs.Allowed.{AreOriginals, FitsLeaves, FitsTree, IsCopied, IsNodeOf, IsOwnNode, LosesNothing};
 ghost use Rattle.leaf_map.specs.After.{Carries, come_by, gone_by, is_gone, is_idle, is_set, kept_after, kept_by, used_by};
-ghost use Rattle.leaf_map.specs.Follows.{with_leaf, without_old};
-ghost use Rattle.leaf_map.specs.Kept.{Kept, Placed, kept_at};
+ghost use Rattle.leaf_map.specs.Follows.{block_key_from, last_block_key, with_leaf, without_old};
+ghost use Rattle.leaf_map.specs.Kept.{Kept, Placed, kept_at, shown_by};
 ghost use Rattle.leaf_map.specs.LastChange.{IsSorted, last_made, makes_block, makes_entry, makes_inode, there};
 ghost use Rattle.leaf_map.specs.LeafMap.{IsLeafMap};
 ghost use Rattle.leaf_map.specs.Parts.{Parts};
-ghost use Rattle.leaf_map.specs.Recovered.{leaves_found, moved, tree_found};
+ghost use Rattle.leaf_map.specs.Recovered.{committed_highest, is_unlinked, leaves_found, moved, tree_found, without_orphan};
 ghost use Rattle.leaf_map.specs.Shown.{tree_of};
 
 /// The tree of the leaves after a change is the change applied to their tree; they are leaves as an index has them again.
@@ -87,18 +90,39 @@ pub fn nodes_of_changes_carry_them()
     ensures { (change : AnyChange) → IsTrue (is_node change) → Carries change (node_of change) }
 {}
 
-/// An index follows leaf by leaf: a leaf that is set takes the place of the one that goes, or goes behind all of no greater
-/// key; a name that goes takes its leaf.
+/// An index follows: a leaf that is set takes the place of the one that goes, or goes behind all of no greater key; a name
+/// that goes takes its leaf. A truncation is the removal of a range of keys, and so is an inode that goes with its blocks.
+/// Of a listed orphan that same range goes if the inode has no links.
 pub fn indexes_follow()
     ensures set { (change : AnyChange) (new : Placed) (kept : List Kept) → is_set change ≡ true → is_idle kept change ≡ false → IsLeaf new.node → Carries change new.node
         → IsLeafMap kept → AreDistinct (map (λ x. x.leaf) kept)
         → map (λ x. x.leaf) (kept_by change (kept_at new) kept) ≡ with_leaf (find (is_gone change) kept) (kept_at new).leaf (map (λ x. x.leaf) kept) }
     ensures dropped { (dir : ℕ) (name : List ℕ) (new : Kept) (kept : List Kept) → IsLeafMap kept → AreDistinct (map (λ x. x.leaf) kept)
         → map (λ x. x.leaf) (kept_by (DropEntry dir name) new kept) ≡ without_old (find (is_gone (DropEntry dir name)) kept) (map (λ x. x.leaf) kept) }
+    ensures cut { (ino old_size new_size : ℕ) (new : Kept) (kept : List Kept) → IsLeafMap kept
+        → map (λ x. x.leaf) (kept_by (CutBlocks ino old_size new_size) new kept) ≡ outside_range (key_rank (block_key_from ino new_size)) (key_rank (last_block_key ino)) (map (λ x. x.leaf) kept) }
+    ensures inode { (ino : ℕ) (new : Kept) (kept : List Kept) → IsLeafMap kept
+        → map (λ x. x.leaf) (kept_by (DropInode ino) new kept) ≡ outside_range (key_rank (Ino ino)) (key_rank (last_block_key ino)) (map (λ x. x.leaf) kept) }
+    ensures orphan { (ino : ℕ) (kept : List Kept) → IsLeafMap kept
+        → map (λ x. x.leaf) (without_orphan kept ino) ≡ (if list_any (λ x. is_unlinked ino (shown_by x)) kept
+        then outside_range (key_rank (Ino ino)) (key_rank (last_block_key ino)) (map (λ x. x.leaf) kept) else map (λ x. x.leaf) kept) }
+    ensures left { (ino : ℕ) (kept : List Kept) → IsLeafMap kept → IsLeafMap (without_orphan kept ino) }
 {}
 
 /// Whichever originals are gone, the leaves that a mount finds are those of an index: each has its own key, and no two show
 /// one inode, block or name.
 pub fn found_leaves_are_of_an_index()
     ensures { (parts : Parts) (kept : List Kept) → FitsLeaves parts kept → IsLeafMap (leaves_found parts) }
+{}
+
+/// Whichever originals are gone, each committed node is found that stands at its own place still, or that has a copy.
+pub fn copied_leaves_are_found()
+    ensures { (parts : Parts) (kept : List Kept) → FitsLeaves parts kept → (node : LeafNode) → IsOwnNode parts.named parts.committed node ⊎ IsCopied parts.copies node
+        → IsNodeOf (leaves_found parts) node }
+{}
+
+/// What was read that loses nothing of committed leaves fits the tree that they show, so that a mount finds what a cut may leave of
+/// it. A name's copy may be given to another leaf of its hash.
+pub fn what_loses_nothing_fits()
+    ensures { (parts : Parts) (kept : List Kept) (changes : Numbered) → LosesNothing parts kept changes → FitsTree parts (tree_of kept (committed_highest parts)) changes }
 {}

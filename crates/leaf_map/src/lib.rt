@@ -12,8 +12,11 @@ mod worked;
 
 pub use crate::law::{
     a_change_of_leaves_is_one_of_the_tree, a_copy_changes_no_tree,
-    a_mount_finds_what_a_cut_may_leave, bytes_of_leaves_add_up, found_leaves_are_of_an_index,
-    indexes_follow, leaves_stay_distinct, nodes_of_changes_carry_them, originals_are_found,
-    the_last_change_wins,
+    a_mount_finds_what_a_cut_may_leave, bytes_of_leaves_add_up, copied_leaves_are_found,
+    found_leaves_are_of_an_index, indexes_follow, leaves_stay_distinct,
+    nodes_of_changes_carry_them, originals_are_found, the_last_change_wins,
+    what_loses_nothing_fits,
 };
-pub use crate::worked::{collections_are_told, leaves_are_told, recovery_of_leaves_is_told};
+pub use crate::worked::{
+    collections_are_told, leaves_are_told, recovered_space_is_told, recovery_of_leaves_is_told,
+};

@@ -5,7 +5,8 @@ ghost use Rattle.fs_model.specs.declared.change.Change.TheVariants.{CutBlocks, D
 ghost use Rattle.leaf_map.specs.After.{kept_after};
 ghost use Rattle.leaf_map.specs.Recovered.{recovered_of, tree_found};
 ghost use Rattle.leaf_map.specs.Shown.{blocks_of, entries_of};
-ghost use Rattle.leaf_map.specs.Worked.{am, another_key, at, bb, block_copy, collected, deleted, file, inode_copy, linked_again, name, one_is_gone, place_in_bud, places, still_orphan, three_blocks, two_heads, two_names};
+ghost use Rattle.leaf_map.specs.SpaceFound.{empty_lebs, space_found};
+ghost use Rattle.leaf_map.specs.Worked.{am, another_key, area, at, bb, block_copy, collected, deleted, file, inode_copy, linked_again, name, one_is_gone, place_in_bud, places, replaced, still_orphan, three_blocks, two_heads, two_names, two_opened, two_owners};
 
 /// Of two names of one hash one goes, or is set again at its own place; a truncation to 4,096 bytes leaves the first block.
 pub fn leaves_are_told()
@@ -31,4 +32,15 @@ pub fn recovery_of_leaves_is_told()
 pub fn collections_are_told()
     ensures whole { places (recovered_of (collected (inode_copy ∷ block_copy ∷ []))).kept ≡ (30, 0) ∷ (30, 160) ∷ [] }
     ensures half { places (recovered_of (collected (inode_copy ∷ []))).kept ≡ (20, 0) ∷ (20, 160) ∷ [] }
+{}
+
+/// A LEB whose leaves were all copied is empty; where one wasn't, the LEB opened for the copies counts instead, and of two such
+/// the lower one alone. One whose leaves a bud's nodes replace is empty too, and those nodes count in the weight.
+pub fn recovered_space_is_told()
+    ensures whole { empty_lebs area (collected (inode_copy ∷ block_copy ∷ [])) ≡ 20 ∷ 21 ∷ 32 ∷ [] }
+    ensures half { empty_lebs area (collected (inode_copy ∷ [])) ≡ 21 ∷ 30 ∷ 32 ∷ [] }
+    ensures lowest { empty_lebs area two_opened ≡ 21 ∷ 30 ∷ 31 ∷ [] }
+    ensures two_heads { empty_lebs area two_owners ≡ 21 ∷ 31 ∷ 32 ∷ [] }
+    ensures replaced { empty_lebs area replaced ≡ 20 ∷ 21 ∷ 30 ∷ 32 ∷ [] }
+    ensures numbers { space_found area replaced ≡ record { used = 160; held = 0; credits = 0; empty = 4; index = 1; weight = 3; main = 6 } }
 {}
