@@ -12,7 +12,8 @@ use Rattle.small_areas.specs.Masters.{IsLatest, HasNoMaster}
 use Rattle.image_dump.specs.Sound.{IsSound, IsFaulty, shape_of, lebs_of}
 use Rattle.image_dump.specs.declared.fault.ImageFault.{ImageFault}
 use Rattle.image_dump.specs.declared.fault.ImageFault.TheVariants as fault
-use Rattle.image_dump.proofs.OneImage.{OneNode, OneText, one_super, one_geometry, none_out, one_latest, latest_or_none, leb_bytes}
+use Rattle.small_areas.specs.MasterLaws.{OneNode, OneText, latest_or_none, one_latest}
+use Rattle.image_dump.proofs.OneImage.{one_super, one_geometry, none_out, leb_bytes}
 
 some_none : {X : Type 0} (o : Option X) (x : X) → o ≡ Some x → o ≡ None → ⊥
 some_none o x a b = absurd cc

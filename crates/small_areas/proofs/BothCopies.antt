@@ -8,8 +8,7 @@ use Rattle.media_sys.specs.declared.master.Master.{Master}
 use Rattle.small_areas.specs.Copies.{copy_of, master_node, IsNodeOf, IsRoom, IsCopied, AreCopied, CopyUnderWay, IsMasterLeb, MasterUnderWay}
 use Rattle.small_areas.proofs.CopyRuns.{copied_then, copied_from, first_moment, second_moment, new_second, open_after, settled}
 use Rattle.small_areas.proofs.LaidCopy.{standing_at, HasCopy}
-use Rattle.small_areas.proofs.LastMaster.{OneNode}
-use Rattle.small_areas.proofs.Places.{OneText}
+use Rattle.small_areas.specs.MasterLaws.{OneNode, OneText}
 use Rattle.small_areas.proofs.TornCopy.{copied}
 
 -- what a cut may leave where no unmapping is undone is among all that it may leave

@@ -13,8 +13,8 @@ use Rattle.small_areas.specs.Masters.{IsLastMaster, HasNoMaster, IsLatest}
 use Rattle.small_areas.specs.Puts.{IsPut, PutUnderWay}
 use Rattle.small_areas.specs.declared.placed_master.PlacedMaster.{PlacedMaster}
 use Rattle.small_areas.proofs.LaidCopy.{standing_at, HasCopy}
-use Rattle.small_areas.proofs.LastMaster.{OneNode}
-use Rattle.small_areas.proofs.Places.{OneText, place_ends}
+use Rattle.small_areas.specs.MasterLaws.{OneNode, OneText}
+use Rattle.small_areas.proofs.Places.{place_ends}
 use Rattle.small_areas.proofs.TornCopy.{copied, left_of}
 use Rattle.small_areas.proofs.TwoMasters.{later_found}
 

@@ -17,7 +17,8 @@ use Rattle.small_areas.specs.Later.{IsReadOf}
 use Rattle.small_areas.specs.MeantCopies.{master_at, copy_stands}
 use Rattle.small_areas.specs.Masters.{HasNone, IsLastOf, IsLastFound, IsLastMaster}
 use Rattle.small_areas.specs.declared.placed_master.PlacedMaster.{PlacedMaster}
-use Rattle.small_areas.proofs.LastMaster.{OneNode, found_there, master_same}
+use Rattle.small_areas.specs.MasterLaws.{OneNode}
+use Rattle.small_areas.proofs.LastMaster.{found_there, master_same}
 use Rattle.small_areas.proofs.LastNode.{last_behind}
 
 -- it stands here

@@ -9,6 +9,7 @@ use Rattle.media_sys.specs.declared.master.Master.{Master}
 use Rattle.leb_scan.specs.Text.{IsLast, tail_at}
 use Rattle.leb_scan.specs.Gathered.{IsGathered, gathered_end}
 use Rattle.small_areas.specs.Masters.{HasNone, IsLastOf, IsLastFound, IsLastMaster, HasNoMaster}
+use Rattle.small_areas.specs.MasterLaws.{OneNode}
 use Rattle.small_areas.proofs.Standing.{stands_in, master_there}
 
 -- what was seen last among these nodes
@@ -77,10 +78,6 @@ none_there leb bytes found e h none =
     let there = (found_there leb found h).1 in
     let P : List ℕ → Type 0 = λ b. IsMaster b found.sqnum found.group there.0 in
     none found.sqnum found.group there.0 (subst P (sym e) there.1)
-
--- bytes are at most one system node
-abbrev pub OneNode : Type 0
-OneNode = (bytes : List ℕ) (s1 g1 s2 g2 : ℕ) (n1 n2 : SystemNode) → IsBytes bytes → IsSystemNode bytes s1 g1 n1 → IsSystemNode bytes s2 g2 n2 → (s1 ≡ s2) × (g1 ≡ g2) × (n1 ≡ n2)
 
 pub master_same : (m n : Master) → master m ≡ master n → m ≡ n
 master_same m n h = cc

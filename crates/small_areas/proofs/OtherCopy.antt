@@ -1,18 +1,18 @@
 -- The copy that isn't the latest is mended.
-use Rattle.std.proofs.Common.{◌≡◌, ◌≢◌, ◌⊎◌, ℕ, ◌+◌, ◌<◌, ◌≤◌, List, Option, Some, refl, sym, ◌∙◌, subst, inl, inr, arith}
+use Rattle.std.proofs.Common.{◌≡◌, ◌≢◌, ◌⊎◌, ℕ, ◌+◌, ◌<◌, ◌≤◌, List, Option, Some, None, refl, sym, ◌∙◌, subst, inl, inr, arith}
 use Rattle.ubifs_base.specs.NodeLaws.{IsBytes}
+use Rattle.media_sys.specs.declared.master.Master.{Master}
 use Rattle.ubi_volume.specs.Volume.{VolumeState, Keeps, UnderWay, WorksOn}
 use Rattle.ubi_volume.specs.Frame.{Works}
 use Rattle.ubi_volume.specs.FrameLaws.{Works-keeps, Works-on, Works-then}
-use Rattle.small_areas.specs.Copies.{copy_of, master_node, other_leb, HasMaster, IsCopied, IsMasterLeb, IsMeant, IsMended, IsNodeOf, IsOldOrNew, IsOpen, IsPlace, IsRoom, IsStart, CopyUnderWay, MendUnderWay}
+use Rattle.small_areas.specs.Copies.{copy_of, master_node, other_leb, HasMaster, IsCopied, IsMasterLeb, IsMeant, IsMended, IsMendNumbered, IsNodeOf, IsOldOrNew, IsOpen, IsPlace, IsRoom, IsStart, CopyUnderWay, MendUnderWay}
 use Rattle.small_areas.specs.Later.{IsReadOf}
 use Rattle.small_areas.specs.Masters.{IsLastMaster, IsLatest}
 use Rattle.small_areas.specs.declared.placed_master.PlacedMaster.{PlacedMaster}
 use Rattle.small_areas.proofs.BothCopies.{HasMapped, IsCall, spelled}
 use Rattle.small_areas.proofs.CopyRuns.{first_stage, new_first, new_second, old_reads, open_after, open_still, read_as}
 use Rattle.small_areas.proofs.LaidCopy.{standing_at}
-use Rattle.small_areas.proofs.LastMaster.{OneNode}
-use Rattle.small_areas.proofs.Places.{OneText}
+use Rattle.small_areas.specs.MasterLaws.{OneNode, OneText, last_or_none, one_last}
 use Rattle.small_areas.proofs.TornCopy.{copied, left_of}
 
 -- a moment while LEB 1 is mended
@@ -231,3 +231,22 @@ mended_found a c room number lnum old found keeps latest at read (placed, is, sa
     let P : Option PlacedMaster → Type 0 = λ o. IsReadOf lnum (a.holds lnum) o in
     let Q : ℕ → Type 0 = λ n. IsLastMaster (a.holds n) placed in
     mended_idle a c room number old placed keeps latest (subst Q at (subst P is read).some.0) same one two
+
+-- nothing was written where reading failed or the copies agree
+pub numbered_idle : (a c : VolumeState) (number : ℕ) (latest : PlacedMaster) → Keeps a c → IsMendNumbered a c number number latest
+numbered_idle a c number latest keeps = record { numbered = inl (refl, keeps); agreed = λ same. (refl, keeps) }
+
+-- what was read says the same where the LEB does
+told : OneNode → OneText → (leb : List ℕ) (lnum : ℕ) (m : Master) (found : Option PlacedMaster) → IsBytes leb → IsReadOf lnum leb found → HasMaster leb m → (placed : PlacedMaster) × (found ≡ Some placed) × (placed.master ≡ m)
+told node text leb lnum m None bytes read (placed, last, same) = absurd (last_or_none text leb placed bytes last read.none)
+told node text leb lnum m (Some found) bytes read (placed, last, same) = (found, refl, (one_last node text leb found placed bytes read.some.0 last).1 ∙ same)
+
+-- a number was taken where the copies don't agree
+pub numbered_mend : OneNode → OneText → (a e : VolumeState) (number lnum : ℕ) (latest : PlacedMaster) (found : Option PlacedMaster) → lnum ≡ other_leb latest.lnum → IsBytes (a.holds lnum) → IsReadOf lnum (a.holds lnum) found
+    → ((placed : PlacedMaster) × (found ≡ Some placed) × (placed.master ≡ latest.master) → ⊥) → IsMendNumbered a e number (number + 1) latest
+numbered_mend node text a e number lnum latest found at bytes read unlike =
+    let P : ℕ → Type 0 = λ n. HasMaster (a.holds n) latest.master in
+    record {
+      numbered = inr refl;
+      agreed = λ same. absurd (unlike (told node text (a.holds lnum) lnum latest.master found bytes read (subst P (sym at) same)));
+    }

@@ -6,11 +6,7 @@ use Rattle.leb_scan.specs.declared.item.Item.{Item}
 use Rattle.leb_scan.specs.declared.tail.Tail.{Tail}
 use Rattle.leb_scan.specs.declared.tail.Tail.TheVariants.{Clean}
 use Rattle.small_areas.specs.Copies.{IsPlace}
-
--- bytes have at most one text
-abbrev pub OneText : Type 0
-OneText = (leb : List ℕ) (from end1 end2 : ℕ) (items1 items2 : List Item) (tail1 tail2 : Tail) → IsBytes leb
-    → IsText leb from items1 end1 tail1 → IsText leb from items2 end2 tail2 → (items1 ≡ items2) × (end1 ≡ end2) × (tail1 ≡ tail2)
+use Rattle.small_areas.specs.MasterLaws.{OneText}
 
 pub place_ends : OneText → (leb : List ℕ) (room place end : ℕ) (tail : Tail) → IsBytes leb → ((items : List Item) × IsText leb 0 items end tail) → IsPlace leb room place → (place ≡ end) × (Clean ≡ tail)
 place_ends one leb room place end tail fits text h =

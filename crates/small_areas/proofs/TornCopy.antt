@@ -21,9 +21,8 @@ use Rattle.small_areas.specs.Later.{IsReadOf}
 use Rattle.small_areas.specs.Masters.{HasNone, IsLastOf, IsLastFound, IsLastMaster, HasNoMaster}
 use Rattle.small_areas.specs.declared.placed_master.PlacedMaster.{PlacedMaster}
 use Rattle.small_areas.proofs.LaidCopy.{standing_at, read_new, HasCopy, laid, laid_there, laid_unmended}
-use Rattle.small_areas.proofs.LastMaster.{OneNode}
+use Rattle.small_areas.specs.MasterLaws.{OneNode, OneText}
 use Rattle.small_areas.proofs.LastNode.{none_of_both, last_behind, last_before, last_of, of_last}
-use Rattle.small_areas.proofs.Places.{OneText}
 use Rattle.small_areas.proofs.Rooms.{mod_through}
 
 -- the text of a LEB that was clean goes on behind its end

@@ -140,6 +140,11 @@ pub record MendUnderWay (state : VolumeState) (room number : ℕ) (latest : Plac
 abbrev pub IsNumbered : VolumeState → VolumeState → ℕ → ℕ → Type 0
 IsNumbered old new before after = ((after ≡ before) × Keeps old new) ⊎ (after ≡ before + 1)
 
+-- Of a mend: where the copy that isn't the latest says the same already, no number was taken, and nothing was written.
+pub record IsMendNumbered (old new : VolumeState) (before after : ℕ) (latest : PlacedMaster) : Type 0 where
+  pub numbered : IsNumbered old new before after
+  pub agreed : HasMaster (old.holds (other_leb latest.lnum)) latest.master → (after ≡ before) × Keeps old new
+
 -- Both copies say the latest master, and it is the latest still. Where the next copies go, the LEBs are open.
 pub record IsMended (new : VolumeState) (room number : ℕ) (latest : PlacedMaster) : Type 0 where
   pub first : HasMaster (new.holds 1) latest.master

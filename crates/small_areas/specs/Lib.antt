@@ -6,3 +6,4 @@ pub mod Addresses
 pub mod Orphans
 pub mod MeantCopies
 pub mod FoundAreas
+pub mod MasterLaws

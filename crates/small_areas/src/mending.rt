@@ -1,12 +1,12 @@
 // The copy of the master that isn't the latest is mended.
 
-ghost use Rattle.std.specs.Prelude.{◌≡◌, ◌<◌, ◌≤◌, ◌+◌, ◌-◌, ◌%◌, ◌^◌, ℕ, length, IsTrue, OnOk, Some};
+ghost use Rattle.std.specs.Prelude.{◌≡◌, ◌↔◌, ◌<◌, ◌≤◌, ◌+◌, ◌-◌, ◌%◌, ◌^◌, ℕ, length, IsTrue, OnOk, Some};
 ghost use Rattle.ubifs_base.specs.RawOf.{raw_of};
 ghost use Rattle.ubi_volume.specs.Volume.{SameShape};
 ghost use Rattle.ubi_volume.specs.Faults.{HasCause, StaysSure};
 ghost use Rattle.ubi_volume.specs.Frame.{Works};
 ghost use Rattle.ubi_volume.specs.Geometry.{IsGeometryOf};
-ghost use Rattle.small_areas.specs.Copies.{room_of, IsOpen, IsRoom, IsMasterLeb, IsMended, IsNumbered, MendUnderWay, other_leb};
+ghost use Rattle.small_areas.specs.Copies.{room_of, IsOpen, IsRoom, IsMasterLeb, IsMended, IsMendNumbered, MendUnderWay, other_leb};
 ghost use Rattle.small_areas.specs.Masters.{IsLatest};
 ghost use Rattle.small_areas.specs.declared.placed_master.PlacedMaster.{PlacedMaster as APlacedMaster};
 
@@ -40,7 +40,7 @@ pub fn mend_master<V: Volume>(
     requires second { IsOpen (V.state volume.old) 2 (room_of geometry.now.min_io) }
     ensures done { OnOk result (IsMended (V.state volume.new) (room_of geometry.now.min_io) sqnum.old latest.now) }
     ensures works { Works (V.state volume.old) (V.state volume.new) IsMasterLeb (MendUnderWay (V.state volume.old) (room_of geometry.now.min_io) sqnum.old latest.now) }
-    ensures raised { IsNumbered (V.state volume.old) (V.state volume.new) sqnum.old sqnum.new × (length leb.new ≡ length leb.old) }
+    ensures raised { IsMendNumbered (V.state volume.old) (V.state volume.new) sqnum.old sqnum.new latest.now × (length leb.new ≡ length leb.old) }
     ensures shape { SameShape (V.state volume.old) (V.state volume.new) }
     ensures cause { HasCause (V.state volume.old).faults (V.state volume.new).faults result }
     ensures sure { StaysSure (V.state volume.old) (V.state volume.new) result }
@@ -70,7 +70,7 @@ fn mend_in<V: Volume>(
     requires second { IsOpen (V.state volume.old) 2 room }
     ensures done { OnOk result (IsMended (V.state volume.new) room sqnum.old latest.now) }
     ensures works { Works (V.state volume.old) (V.state volume.new) IsMasterLeb (MendUnderWay (V.state volume.old) room sqnum.old latest.now) }
-    ensures raised { IsNumbered (V.state volume.old) (V.state volume.new) sqnum.old sqnum.new }
+    ensures raised { IsMendNumbered (V.state volume.old) (V.state volume.new) sqnum.old sqnum.new latest.now }
     ensures len { length leb.new ≡ length leb.old }
     ensures shape { SameShape (V.state volume.old) (V.state volume.new) }
     ensures cause { HasCause (V.state volume.old).faults (V.state volume.new).faults result }
@@ -100,7 +100,7 @@ fn other_of(latest: &PlacedMaster) -> u32
 
 // Whether a master was found that says the same.
 fn says(found: Option<PlacedMaster>, master: &Master) -> bool
-    ensures { IsTrue result → (placed : APlacedMaster) × (found ≡ Some placed) × (placed.master ≡ master.now) }
+    ensures { IsTrue result ↔ (placed : APlacedMaster) × (found ≡ Some placed) × (placed.master ≡ master.now) }
 {
     let Some(placed) = found else {
         return false;

@@ -3,7 +3,7 @@ use Rattle.ubifs_base.specs.NodeLaws.{IsBytes}
 use Rattle.small_areas.specs.Copies.{copy_of, other_leb, IsCopied, IsMasterLeb, IsMended}
 use Rattle.small_areas.proofs.BothCopies.{IsCall}
 use Rattle.small_areas.proofs.CopyRuns.{on_two}
-use Rattle.small_areas.proofs.OtherCopy.{below_three, lnum_low, mended, mended_found, open_other, other_is, works_idle, works_mend}
+use Rattle.small_areas.proofs.OtherCopy.{below_three, lnum_low, mended, mended_found, numbered_idle, numbered_mend, open_other, other_is, works_idle, works_mend}
 use Rattle.small_areas.proofs.mending.mend_in.Goals as goal
 
 pub other_of-other-requires : goal.other_of-other-requires
@@ -23,7 +23,7 @@ returns-in_err-found-clause-works g c = works_idle (g.V.Volume.state c.args.volu
 pub returns-then-says-clause-done : goal.returns-then-says-clause-done
 returns-then-says-clause-done g c =
     mended_found (g.V.Volume.state c.args.volume.now) (g.V.Volume.state c.master_in.new.volume) c.args.room c.args.sqnum.now c.other_of-other.result c.args.latest.now c.in_ok-found.found c.master_in.ensures.keeps c.requires.latest
-    c.other_of-other.ensures c.in_ok-found.ensures.read (c.says.ensures c.if-says.true) c.requires.first c.requires.second
+    c.other_of-other.ensures c.in_ok-found.ensures.read (c.says.ensures.0 c.if-says.true) c.requires.first c.requires.second
 
 pub returns-then-says-clause-works : goal.returns-then-says-clause-works
 returns-then-says-clause-works g c = works_idle (g.V.Volume.state c.args.volume.now) (g.V.Volume.state c.master_in.new.volume) c.args.room c.args.sqnum.now c.args.latest.now c.master_in.ensures.keeps
@@ -65,3 +65,19 @@ returns-clause-done g c =
     on_two c.write_copy.result (IsCopied b e lnum c.args.room (copy_of c.args.room c.spell.new.node)) (IsBytes (e.holds lnum)) (IsMended e c.args.room c.args.sqnum.now latest)
     (λ done bytes. mended c.one_text.ensures c.one_node.ensures a b e c.spell.new.node c.args.room c.args.sqnum.now lnum latest c.requires.room c.master_in.ensures.keeps c.requires.latest c.other_of-other.ensures c.requires.first c.requires.second call done bytes)
     c.write_copy.ensures.done c.write_copy.ensures.bytes
+
+pub returns-in_err-found-clause-raised : goal.returns-in_err-found-clause-raised
+returns-in_err-found-clause-raised g c = numbered_idle (g.V.Volume.state c.args.volume.now) (g.V.Volume.state c.master_in.new.volume) c.args.sqnum.now c.args.latest.now c.master_in.ensures.keeps
+
+pub returns-then-says-clause-raised : goal.returns-then-says-clause-raised
+returns-then-says-clause-raised g c = numbered_idle (g.V.Volume.state c.args.volume.now) (g.V.Volume.state c.master_in.new.volume) c.args.sqnum.now c.args.latest.now c.master_in.ensures.keeps
+
+pub returns-clause-raised : goal.returns-clause-raised
+returns-clause-raised g c =
+    let a = g.V.Volume.state c.args.volume.now in
+    let lnum = c.other_of-other.result in
+    let latest = c.args.latest.now in
+    let P : ℕ → Type 0 = λ n. n < a.leb_cnt in
+    let below = subst P (sym c.other_of-other.ensures) (below_three (other_leb latest.lnum) a.leb_cnt (other_is (a.holds 1) (a.holds 2) latest c.requires.latest) c.requires.lebs) in
+    numbered_mend c.one_node.ensures c.one_text.ensures a (g.V.Volume.state c.write_copy.new.volume) c.args.sqnum.now lnum latest c.in_ok-found.found c.other_of-other.ensures (g.met.V.Volume.leb_bytes c.args.volume.now lnum below) c.in_ok-found.ensures.read
+    (λ same. let yes = c.says.ensures.1 same in let no = c.if-says.false in absurd cc)
