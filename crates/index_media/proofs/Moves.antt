@@ -1,6 +1,6 @@
 -- What keeps an index where it stands.
-use Rattle.std.proofs.Common.{◌≡◌, ℕ, ◌+◌, ◌-◌, ◌<◌, ◌≤◌, true, List, [], ◌∷◌, ◌++◌, length, take, drop, ap, sym, ◌∙◌, subst, arith, inl, inr, length-drop, length-take, drop-drop}
-use Rattle.std.specs.Prelude.{All, map, ◌==◌, ◌||◌, nat_le}
+use Rattle.std.proofs.Common.{refl, ◌≡◌, ℕ, ◌+◌, ◌-◌, ◌<◌, ◌≤◌, true, List, [], ◌∷◌, ◌++◌, length, take, drop, ap, sym, ◌∙◌, subst, arith, inl, inr, length-drop, length-take, drop-drop}
+use Rattle.std.specs.Prelude.{None, All, map, ◌==◌, ◌||◌, nat_le}
 use Rattle.std.specs.List.{AllByRecursion, list_all}
 use Rattle.std.proofs.lemmas.Bool.{cases_eq, or_cases, and_parts, leb-true, eq-eqb}
 use Rattle.std.proofs.lemmas.List.{drop-take, take-take}
@@ -8,7 +8,9 @@ use Rattle.std.proofs.lemmas.List.Elements.{recursion_from_All}
 use Rattle.media_sys.specs.Index.{Index}
 use Rattle.media_sys.specs.SystemNode.{index, IsSystemNode}
 use Rattle.media_sys.specs.declared.branch.Branch.{Branch}
-use Rattle.index_media.specs.PlacedRow.{PlacedRow, ended, leaf_at, node_at, branches_of, all_nodes, lebs_of, node_end, is_apart, is_apart_from}
+use Rattle.index_media.specs.Keys.{AreBounded}
+use Rattle.index_tree.specs.Shape.{fits}
+use Rattle.index_media.specs.PlacedRow.{PlacedRow, ended, leaf_at, node_at, branches_of, all_nodes, lebs_of, node_end, is_apart, is_apart_from, plain, Stretch}
 use Rattle.index_media.specs.Stored.{IsIndexNodeAt, AreStored, IsStoredIndex, AreChangedAt}
 use Rattle.index_media.proofs.Lens.{node_len, index_length}
 
@@ -85,7 +87,7 @@ same_rest a b start place n same after =
     subst P e (ap (take n) (sym (drop-drop (place - start) start a) ∙ ap (drop (place - start)) same ∙ drop-drop (place - start) start b))
 
 -- a node in a LEB that is changed elsewhere
-kept_beside : (old new : ℕ → List ℕ) (place branch : Branch) → AreChangedAt old new place → branch.lnum ≡ place.lnum
+kept_beside : (old new : ℕ → List ℕ) (place : Stretch) (branch : Branch) → AreChangedAt old new place → branch.lnum ≡ place.lnum
     → (nat_le (node_end (place.offs + place.len)) branch.offs || nat_le (node_end (branch.offs + branch.len)) place.offs) ≡ true → Keeps old new branch
 kept_beside old new place branch c e apart =
     let P : ℕ → Type 0 = λ k. take branch.len (drop branch.offs (new k)) ≡ take branch.len (drop branch.offs (old k)) in
@@ -96,7 +98,7 @@ kept_beside old new place branch c e apart =
           same_part (new place.lnum) (old place.lnum) place.offs branch.offs branch.len c.before (omega (arith, ends))
     ]))
 
-kept_apart : (old new : ℕ → List ℕ) (place branch : Branch) → AreChangedAt old new place → is_apart place branch ≡ true → Keeps old new branch
+kept_apart : (old new : ℕ → List ℕ) (place : Stretch) (branch : Branch) → AreChangedAt old new place → is_apart place branch ≡ true → Keeps old new branch
 kept_apart old new place branch c apart = elim (cases_eq branch.lnum place.lnum) [
   | inr other ↦ same_leb old new branch (c.others branch.lnum other)
   | inl e ↦
@@ -104,28 +106,41 @@ kept_apart old new place branch c apart = elim (cases_eq branch.lnum place.lnum)
       kept_beside old new place branch c e (rw same at apart)
 ]
 
-keep_apart : (old new : ℕ → List ℕ) (place : Branch) (nodes : List Branch) → AreChangedAt old new place → list_all (λ branch. is_apart place branch) nodes ≡ true → AllByRecursion (λ branch. Keeps old new branch) nodes
+keep_apart : (old new : ℕ → List ℕ) (place : Stretch) (nodes : List Branch) → AreChangedAt old new place → list_all (λ branch. is_apart place branch) nodes ≡ true → AllByRecursion (λ branch. Keeps old new branch) nodes
 keep_apart old new place [] c apart = tt
 keep_apart old new place (branch ∷ nodes) c apart =
     let both = and_parts (is_apart place branch) (list_all (λ one. is_apart place one) nodes) apart in
     (kept_apart old new place branch c both.0, keep_apart old new place nodes c both.1)
 
-pub row_stays : (old new : ℕ → List ℕ) (place : Branch) (levels : ℕ) (row : PlacedRow) → AreChangedAt old new place → is_apart_from place row ≡ true → AreStored old levels row → AreStored new levels row
+pub row_stays : (old new : ℕ → List ℕ) (place : Stretch) (levels : ℕ) (row : PlacedRow) → AreChangedAt old new place → is_apart_from place row ≡ true → AreStored old levels row → AreStored new levels row
 row_stays old new place levels row c apart h = stored_moves old new levels row (keep_apart old new place (all_nodes row) c apart) h
 
-pub index_stays : (old new : ℕ → List ℕ) (place root : Branch) (fanout : ℕ) (placed : PlacedRow) → AreChangedAt old new place → is_apart_from place placed ≡ true
+pub index_stays : (old new : ℕ → List ℕ) (place : Stretch) (root : Branch) (fanout : ℕ) (placed : PlacedRow) → AreChangedAt old new place → is_apart_from place placed ≡ true
     → IsStoredIndex old fanout root placed → IsStoredIndex new fanout root placed
 index_stays old new place root fanout placed c apart h = index_moves old new fanout root placed (keep_apart old new place (all_nodes placed) c apart) h
 
 -- a node above children that stand
-pub parent_stands : (old new : ℕ → List ℕ) (place : Branch) (levels : ℕ) (row : PlacedRow) → AreChangedAt old new place → is_apart_from place row ≡ true → AreStored old levels row
+pub parent_stands : (old new : ℕ → List ℕ) (changed : Stretch) (place : Branch) (levels : ℕ) (row : PlacedRow) → AreChangedAt old new changed → is_apart_from changed row ≡ true → AreStored old levels row
     → IsIndexNodeAt new place (record { level = levels; branches = branches_of row }) → AreStored new (levels + 1) (node_at place row ended)
 unfolding AreStored
-parent_stands old new place levels row c apart h node =
+parent_stands old new changed place levels row c apart h node =
     let e : levels + 1 - 1 ≡ levels = omega arith in
     let P : ℕ → Type 0 = λ n. IsIndexNodeAt new place (record { level = n; branches = branches_of row }) in
     let Q : ℕ → Type 0 = λ n. AreStored new n row in
-    (omega arith, subst P (sym e) node, subst Q (sym e) (row_stays old new place levels row c apart h), tt)
+    (omega arith, subst P (sym e) node, subst Q (sym e) (row_stays old new changed levels row c apart h), tt)
+
+-- a root above children that stand
+pub root_stands : (old new : ℕ → List ℕ) (changed : Stretch) (place : Branch) (fanout levels : ℕ) (row : PlacedRow) → AreChangedAt old new changed → is_apart_from changed row ≡ true → AreStored old levels row
+    → IsIndexNodeAt new place (record { level = levels; branches = branches_of row }) → fits fanout (plain (node_at place row ended)) ≡ true → AreBounded 0 None (node_at place row ended)
+    → IsStoredIndex new fanout place (node_at place row ended)
+root_stands old new changed place fanout levels row c apart h node full bounded = record {
+  children = row;
+  whole = refl;
+  levels = levels + 1;
+  stored = parent_stands old new changed place levels row c apart h node;
+  fits = full;
+  bounded = bounded;
+}
 
 -- nodes of one level beside each other
 pub beside : (media : ℕ → List ℕ) (levels : ℕ) (branch : Branch) (row rest : PlacedRow) → AreStored media levels (node_at branch row ended) → AreStored media levels rest → AreStored media levels (node_at branch row rest)

@@ -7,16 +7,16 @@ use Rattle.std.proofs.Math.Nat.{add-mul}
 use Rattle.std.proofs.lemmas.List.{length-append}
 use Rattle.index_tree.specs.Shape.{Shape, count, node_count, fits}
 use Rattle.media_sys.specs.declared.branch.Branch.{Branch}
-use Rattle.index_media.specs.PlacedRow.{PlacedRow, ended, leaf_at, node_at, plain, branches_of, all_nodes, node_end, bytes_taken, is_apart, is_apart_from, are_disjoint}
+use Rattle.index_media.specs.PlacedRow.{PlacedRow, ended, leaf_at, node_at, plain, branches_of, all_nodes, node_end, bytes_taken, is_apart, is_apart_from, are_disjoint, stretch_of}
 use Rattle.index_media.specs.Stored.{AreStored, IsStoredIndex}
 use Rattle.index_media.proofs.Depths.{length_branches}
 use Rattle.index_media.proofs.Lens.{node_len}
 
 -- a node that overlaps none of those below it
-pub with_place_disjoint : (place : Branch) (row : PlacedRow) → is_apart_from place row ≡ true → are_disjoint (all_nodes row) ≡ true → are_disjoint (all_nodes (node_at place row ended)) ≡ true
+pub with_place_disjoint : (place : Branch) (row : PlacedRow) → is_apart_from (stretch_of place) row ≡ true → are_disjoint (all_nodes row) ≡ true → are_disjoint (all_nodes (node_at place row ended)) ≡ true
 with_place_disjoint place row apart others =
     let P : List Branch → Type 0 = λ nodes. are_disjoint (place ∷ nodes) ≡ true in
-    subst P (sym (append-nil (all_nodes row))) (and_from (list_all (λ other. is_apart place other) (all_nodes row)) (are_disjoint (all_nodes row)) apart others)
+    subst P (sym (append-nil (all_nodes row))) (and_from (list_all (λ other. is_apart (stretch_of place) other) (all_nodes row)) (are_disjoint (all_nodes row)) apart others)
 
 pub node_number : (row : PlacedRow) → length (all_nodes row) ≡ node_count (plain row)
 node_number ended = refl

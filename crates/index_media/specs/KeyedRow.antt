@@ -1,22 +1,16 @@
 -- The shape of an index as it is kept while it is changed: nodes have their branches' keys, and places where they are clean.
-use Rattle.std.specs.Prelude.{◌≡◌, ℕ, ◌<◌, Option, Some, ⊤}
+use Rattle.std.specs.Prelude.{◌≡◌, ◌<◌, Option, Some, ⊤}
 use Rattle.ubifs_base.specs.declared.key.Key.{Key}
 use Rattle.index_tree.specs.Order.{key_rank}
 use Rattle.index_tree.specs.Shape.{Shape, done, leaf, node, count, first_rank}
 use Rattle.index_tree.specs.declared.leaf.Leaf.{Leaf}
-use Rattle.index_media.specs.PlacedRow.{PlacedRow, ended, leaf_at, node_at}
-
--- where a node stands: the LEB, the offset and the length
-pub record NodePlace : Type 0 where
-  pub lnum : ℕ
-  pub offs : ℕ
-  pub len : ℕ
+use Rattle.index_media.specs.PlacedRow.{PlacedRow, ended, leaf_at, node_at, Stretch, stretch_of}
 
 -- a row of siblings: leaves, or nodes, each with its branch's key, its place (none: it is dirty) and the row of its children
 pub data KeyedRow : Type 0 where
   no_more : KeyedRow
   leaf_in : Leaf → KeyedRow → KeyedRow
-  node_in : Key → Option NodePlace → KeyedRow → KeyedRow → KeyedRow
+  node_in : Key → Option Stretch → KeyedRow → KeyedRow → KeyedRow
 
 -- the same row without keys of branches and places
 abbrev pub bare : KeyedRow → Shape
@@ -29,7 +23,7 @@ abbrev pub all_clean : PlacedRow → KeyedRow
 all_clean ended = no_more
 all_clean (leaf_at x rest) = leaf_in x (all_clean rest)
 all_clean (node_at branch children rest) =
-    node_in branch.key (Some (record { lnum = branch.lnum; offs = branch.offs; len = branch.len })) (all_clean children) (all_clean rest)
+    node_in branch.key (Some (stretch_of branch)) (all_clean children) (all_clean rest)
 
 -- each node has a child, and its branch's key is its first leaf's
 abbrev pub HaveFirstKeys : KeyedRow → Type 0

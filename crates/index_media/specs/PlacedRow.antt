@@ -51,15 +51,25 @@ abbrev pub bytes_taken : List Branch → ℕ
 bytes_taken [] = 0
 bytes_taken (branch ∷ rest) = node_end branch.len + bytes_taken rest
 
--- whether two nodes don't overlap: their LEBs differ, or one ends, rounded up to 8, before the other begins
-abbrev pub is_apart : Branch → Branch → Bool
+-- a stretch of a LEB: from an offset on, so many bytes
+pub record Stretch : Type 0 where
+  pub lnum : ℕ
+  pub offs : ℕ
+  pub len : ℕ
+
+-- where a branch leads
+abbrev pub stretch_of : Branch → Stretch
+stretch_of branch = record { lnum = branch.lnum; offs = branch.offs; len = branch.len }
+
+-- whether a node doesn't overlap a stretch: their LEBs differ, or one ends, rounded up to 8, before the other begins
+abbrev pub is_apart : Stretch → Branch → Bool
 is_apart a b = not (a.lnum == b.lnum) || (nat_le (node_end (a.offs + a.len)) b.offs || nat_le (node_end (b.offs + b.len)) a.offs)
 
--- whether a node overlaps none of a row
-abbrev pub is_apart_from : Branch → PlacedRow → Bool
+-- whether no node of a row overlaps a stretch
+abbrev pub is_apart_from : Stretch → PlacedRow → Bool
 is_apart_from place row = list_all (λ branch. is_apart place branch) (all_nodes row)
 
 -- whether no two of these nodes overlap
 abbrev pub are_disjoint : List Branch → Bool
 are_disjoint [] = true
-are_disjoint (branch ∷ rest) = list_all (λ other. is_apart branch other) rest && are_disjoint rest
+are_disjoint (branch ∷ rest) = list_all (λ other. is_apart (stretch_of branch) other) rest && are_disjoint rest

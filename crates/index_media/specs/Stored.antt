@@ -5,7 +5,7 @@ use Rattle.media_sys.specs.Index.{Index}
 use Rattle.media_sys.specs.SystemNode.{index, IsSystemNode}
 use Rattle.media_sys.specs.declared.branch.Branch.{Branch}
 use Rattle.index_media.specs.Keys.{AreBounded}
-use Rattle.index_media.specs.PlacedRow.{PlacedRow, ended, leaf_at, node_at, plain, branches_of, node_end}
+use Rattle.index_media.specs.PlacedRow.{PlacedRow, ended, leaf_at, node_at, plain, branches_of, node_end, Stretch}
 
 -- where a branch leads, an intact index node of its length stands, which says this
 pub record IsIndexNodeAt (contents : ℕ → List ℕ) (branch : Branch) (said : Index) : Type 0 where
@@ -33,8 +33,8 @@ pub record IsStoredIndex (contents : ℕ → List ℕ) (fanout : ℕ) (root : Br
   pub fits : IsTrue (fits fanout (plain placed))
   pub bounded : AreBounded 0 None placed
 
--- Contents changed where a branch leads, and up to the next multiple of 8 behind it, and nowhere else.
-pub record AreChangedAt (old new : ℕ → List ℕ) (branch : Branch) : Type 0 where
-  pub others : (k : ℕ) → (k ≡ branch.lnum → ⊥) → new k ≡ old k
-  pub before : take branch.offs (new branch.lnum) ≡ take branch.offs (old branch.lnum)
-  pub behind : drop (node_end (branch.offs + branch.len)) (new branch.lnum) ≡ drop (node_end (branch.offs + branch.len)) (old branch.lnum)
+-- Contents changed in a stretch of a LEB, and up to the next multiple of 8 behind it, and nowhere else.
+pub record AreChangedAt (old new : ℕ → List ℕ) (place : Stretch) : Type 0 where
+  pub others : (k : ℕ) → (k ≡ place.lnum → ⊥) → new k ≡ old k
+  pub before : take place.offs (new place.lnum) ≡ take place.offs (old place.lnum)
+  pub behind : drop (node_end (place.offs + place.len)) (new place.lnum) ≡ drop (node_end (place.offs + place.len)) (old place.lnum)

@@ -6,7 +6,7 @@ ghost use Rattle.index_tree.specs.Listing.{listed};
 ghost use Rattle.index_tree.specs.Order.{placed};
 ghost use Rattle.index_tree.specs.Rebuild.{IsIndex};
 ghost use Rattle.media_sys.specs.Index.{Index as AnIndexNode};
-ghost use Rattle.index_tree.specs.Shape.{contents, node_count, with_leaf};
+ghost use Rattle.index_tree.specs.Shape.{contents, fits, node_count, with_leaf};
 ghost use Rattle.index_tree.specs.declared.leaf.Leaf.{Leaf as ALeaf};
 ghost use Rattle.media_sys.specs.SystemNode.{IsSystemNode, index};
 ghost use Rattle.media_sys.specs.declared.branch.Branch.{Branch as ABranch};
@@ -14,7 +14,7 @@ ghost use Rattle.index_media.specs.Insertion.{with_leaf_by_keys};
 ghost use Rattle.index_media.specs.KeyedKeys.{AreKeysBounded};
 ghost use Rattle.index_media.specs.Keys.{AreBounded};
 ghost use Rattle.index_media.specs.KeyedRow.{KeyedRow, bare, all_clean, HaveFirstKeys};
-ghost use Rattle.index_media.specs.PlacedRow.{PlacedRow, ended, node_at, plain, branches_of, all_nodes, lebs_of, node_end, bytes_taken, is_apart_from, are_disjoint};
+ghost use Rattle.index_media.specs.PlacedRow.{Stretch, stretch_of, PlacedRow, ended, node_at, plain, branches_of, all_nodes, lebs_of, node_end, bytes_taken, is_apart_from, are_disjoint};
 ghost use Rattle.index_media.specs.Stored.{IsIndexNodeAt, AreStored, IsStoredIndex, AreChangedAt};
 ghost use Rattle.index_media.specs.StoredList.{StoredNode, as_listed, stored_list};
 
@@ -38,21 +38,30 @@ pub fn a_root_leads_to_one_index()
 /// where a branch of their length leads. Behind its children, and with the branches that lead to them, it stands above them,
 /// and rows of one level stand beside each other.
 pub fn a_node_behind_its_children_stands()
-    ensures stays { (old new : ℕ → List ℕ) (place root : ABranch) (fanout : ℕ) (placed : PlacedRow) → AreChangedAt old new place
+    ensures stays { (old new : ℕ → List ℕ) (place : Stretch) (root : ABranch) (fanout : ℕ) (placed : PlacedRow) → AreChangedAt old new place
         → IsTrue (is_apart_from place placed) → IsStoredIndex old fanout root placed → IsStoredIndex new fanout root placed }
-    ensures row_stays { (old new : ℕ → List ℕ) (place : ABranch) (levels : ℕ) (row : PlacedRow) → AreChangedAt old new place
+    ensures row_stays { (old new : ℕ → List ℕ) (place : Stretch) (levels : ℕ) (row : PlacedRow) → AreChangedAt old new place
         → IsTrue (is_apart_from place row) → AreStored old levels row → AreStored new levels row }
     ensures written { (contents : ℕ → List ℕ) (place : ABranch) (said : AnIndexNode) (sqnum group : ℕ) (bytes : List ℕ)
         → IsSystemNode bytes sqnum group (index said) → place.len ≡ length bytes
         → take place.len (drop place.offs (contents place.lnum)) ≡ bytes → IsIndexNodeAt contents place said }
-    ensures parent { (old new : ℕ → List ℕ) (place : ABranch) (levels : ℕ) (row : PlacedRow) → AreChangedAt old new place
-        → IsTrue (is_apart_from place row) → AreStored old levels row
+    ensures parent { (old new : ℕ → List ℕ) (changed : Stretch) (place : ABranch) (levels : ℕ) (row : PlacedRow) → AreChangedAt old new changed
+        → IsTrue (is_apart_from changed row) → AreStored old levels row
         → IsIndexNodeAt new place (record { level = levels; branches = branches_of row })
         → AreStored new (levels + 1) (node_at place row ended) }
     ensures beside { (contents : ℕ → List ℕ) (levels : ℕ) (branch : ABranch) (row rest : PlacedRow) → AreStored contents levels (node_at branch row ended)
         → AreStored contents levels rest → AreStored contents levels (node_at branch row rest) }
-    ensures disjoint { (place : ABranch) (row : PlacedRow) → IsTrue (is_apart_from place row) → IsTrue (are_disjoint (all_nodes row))
+    ensures disjoint { (place : ABranch) (row : PlacedRow) → IsTrue (is_apart_from (stretch_of place) row) → IsTrue (are_disjoint (all_nodes row))
         → IsTrue (are_disjoint (all_nodes (node_at place row ended))) }
+{}
+
+/// So is an index made: its root is written behind its children, whose keys lie between those of branches.
+pub fn a_root_behind_its_children_makes_an_index()
+    ensures { (old new : ℕ → List ℕ) (changed : Stretch) (root : ABranch) (fanout levels : ℕ) (row : PlacedRow) → AreChangedAt old new changed
+        → IsTrue (is_apart_from changed row) → AreStored old levels row
+        → IsIndexNodeAt new root (record { level = levels; branches = branches_of row })
+        → IsTrue (fits fanout (plain (node_at root row ended))) → AreBounded 0 None (node_at root row ended)
+        → IsStoredIndex new fanout root (node_at root row ended) }
 {}
 
 /// A stored index has as many nodes as without its places, each as long as its branches ask, and takes at most as many bytes
