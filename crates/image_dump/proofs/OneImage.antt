@@ -11,6 +11,7 @@ use Rattle.media_sys.specs.Features.{geometry_of}
 use Rattle.media_sys.specs.SystemNode.{SystemNode, superblock, master, IsSystemNode, IsMaster}
 use Rattle.media_sys.specs.declared.master.Master.{Master}
 use Rattle.media_sys.specs.declared.super_node.Super.{Super}
+use Rattle.ubifs_base.specs.declared.node_type.NodeType.TheVariants as types
 use Rattle.leb_scan.specs.Text.{IsText, nodes_of}
 use Rattle.leb_scan.specs.declared.found.Found.{Found}
 use Rattle.leb_scan.specs.declared.item.Item.{Item}
@@ -76,15 +77,15 @@ none_out geo out h (inr (_, inr (_, inr (_, inr (_, inr (_, inr (_, inr (_, inl 
 none_out geo out h (inr (_, inr (_, inr (_, inr (_, inr (_, inr (_, inr (_, inr (_, never))))))))) = never
 
 -- where there is a master there isn't none
-pub none_has : (before behind : List Found) (found : Found) → HasNone (before ++ found ∷ behind) → found.kind ≡ 7 → ⊥
-none_has [] behind found none kind = let P : Found → Type 0 = λ f. f.kind ≢ 7 in All-head P found behind none kind
-none_has (b ∷ before) behind found none kind = let P : Found → Type 0 = λ f. f.kind ≢ 7 in none_has before behind found (All-tail P b (before ++ found ∷ behind) none) kind
+pub none_has : (before behind : List Found) (found : Found) → HasNone (before ++ found ∷ behind) → found.kind ≡ types.Master → ⊥
+none_has [] behind found none kind = let P : Found → Type 0 = λ f. f.kind ≢ types.Master in All-head P found behind none kind
+none_has (b ∷ before) behind found none kind = let P : Found → Type 0 = λ f. f.kind ≢ types.Master in none_has before behind found (All-tail P b (before ++ found ∷ behind) none) kind
 
 head_same : {X : Type 0} (x y : X) (xs ys : List X) → x ∷ xs ≡ y ∷ ys → (x ≡ y) × (xs ≡ ys)
 head_same x y xs ys h = (cc, cc)
 
 -- the last master of a list is one
-last_same : (b1 c1 b2 c2 : List Found) (f1 f2 : Found) → b1 ++ f1 ∷ c1 ≡ b2 ++ f2 ∷ c2 → f1.kind ≡ 7 → f2.kind ≡ 7 → HasNone c1 → HasNone c2 → f1 ≡ f2
+last_same : (b1 c1 b2 c2 : List Found) (f1 f2 : Found) → b1 ++ f1 ∷ c1 ≡ b2 ++ f2 ∷ c2 → f1.kind ≡ types.Master → f2.kind ≡ types.Master → HasNone c1 → HasNone c2 → f1 ≡ f2
 last_same [] c1 [] c2 f1 f2 e k1 k2 n1 n2 = (head_same f1 f2 c1 c2 e).0
 last_same [] c1 (b ∷ b2) c2 f1 f2 e k1 k2 n1 n2 =
     let P : List Found → Type 0 = λ c. HasNone c in
