@@ -1,14 +1,15 @@
 -- Nodes that were laid one behind another, and a gap behind them.
 use Rattle.std.proofs.Common.{◌≡◌, inl, inr, ℕ, ◌+◌, ◌%◌, ◌^◌, ◌<◌, ◌≤◌, true, List, [], ◌∷◌, ◌++◌, length, take, drop, Some, refl, ap, sym, ◌∙◌, subst, arith, append_assoc, length-append}
 use Rattle.std.specs.Prelude.{⊤, All}
-use Rattle.std.proofs.lemmas.Bool.{cases_eq}
 use Rattle.std.proofs.lemmas.List.{drop-drop, drop_at}
 use Rattle.std.proofs.lemmas.List.Elements.{All-head, All-tail}
 use Rattle.ubifs_base.specs.Gap.{gap_of}
-use Rattle.media_sys.specs.SystemNode.{SystemNode, type_of, written, IsSystemNode}
+use Rattle.ubifs_base.specs.declared.node_type.NodeType.TheVariants as types
+use Rattle.media_sys.specs.SystemNode.{SystemNode, node_type, written, IsSystemNode}
 use Rattle.media_sys.specs.declared.ref_node.RefNode.{RefNode}
 use Rattle.leb_scan.specs.Gaps.{IsPadding, gap_items, gap_length, gap_padding_alone}
 use Rattle.leb_scan.specs.Text.{is_blank, IsText, nodes_of}
+use Rattle.leb_scan.specs.TypeLaws.{cases_type}
 use Rattle.leb_scan.specs.declared.found.Found.{Found}
 use Rattle.leb_scan.specs.declared.item.Item.{Item}
 use Rattle.leb_scan.specs.declared.tail.Tail.TheVariants.{Clean}
@@ -20,7 +21,7 @@ use Rattle.bud_log.proofs.Parts.{none_in, one_in}
 -- the first of the nodes found, if any were laid
 abbrev pub FirstIs : ℕ → ℕ → List SystemNode → List Found → Type 0
 FirstIs place number [] found = ⊤
-FirstIs place number (node ∷ nodes) found = (first : Found) × (first_of found ≡ Some first) × (first.offs ≡ place) × (first.sqnum ≡ number + 1) × (first.kind ≡ type_of node)
+FirstIs place number (node ∷ nodes) found = (first : Found) × (first_of found ≡ Some first) × (first.offs ≡ place) × (first.sqnum ≡ number + 1) × (first.kind ≡ node_type node)
 
 -- and it stands there
 abbrev pub FirstStands : List ℕ → List SystemNode → List Found → Type 0
@@ -35,9 +36,9 @@ pub record AreLaid (leb : List ℕ) (place end number : ℕ) (nodes : List Syste
   pub first : FirstIs place number nodes (nodes_of items)
   pub stands : FirstStands leb nodes (nodes_of items)
 
-refer_more : (leb : List ℕ) (found : Found) (node : SystemNode) (nodes : List Found) (references : List RefNode) → found.kind ≡ type_of node → IsSystemNode (take found.len (drop found.offs leb)) found.sqnum found.group node → Refer leb nodes references
+refer_more : (leb : List ℕ) (found : Found) (node : SystemNode) (nodes : List Found) (references : List RefNode) → found.kind ≡ node_type node → IsSystemNode (take found.len (drop found.offs leb)) found.sqnum found.group node → Refer leb nodes references
     → Refer leb (found ∷ nodes) (reference_in node ++ references)
-refer_more leb found node nodes references kind is h = elim (cases_eq (type_of node) 8) [
+refer_more leb found node nodes references kind is h = elim (cases_type (node_type node) types.Reference) [
   | inl eight ↦
       let that = one_in node eight in
       let P : SystemNode → Type 0 = λ n. IsSystemNode (take found.len (drop found.offs leb)) found.sqnum found.group n in
@@ -52,7 +53,7 @@ padding_refer : (leb : List ℕ) (found : List Found) → All IsPadding found �
 padding_refer leb [] paddings = refl
 padding_refer leb (found ∷ others) paddings =
     let padding = All-head IsPadding found others paddings in
-    inl ((λ eight. absurd (omega (arith, padding, eight))), padding_refer leb others (All-tail IsPadding found others paddings))
+    inl ((λ eight. absurd cc), padding_refer leb others (All-tail IsPadding found others paddings))
 
 laid_refer : (leb : List ℕ) (place number : ℕ) (nodes : List SystemNode) (g : ℕ) (back : List ℕ) → AreSpelled number nodes → drop place leb ≡ laid number nodes ++ (gap_of g ++ back) → place ≤ length leb → place % 8 ≡ 0
     → Refer leb (nodes_of (laid_items place number nodes g)) (references_in nodes)

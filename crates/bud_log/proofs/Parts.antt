@@ -1,7 +1,8 @@
 -- What was found is a first part of what was written.
 use Rattle.std.proofs.Common.{◌≡◌, inl, inr, ℕ, suc, ◌+◌, List, [], ◌∷◌, ◌++◌, take, drop, refl, ap, sym, ◌∙◌, subst, arith}
 use Rattle.std.specs.Prelude.{◌≢◌}
-use Rattle.media_sys.specs.SystemNode.{SystemNode, padding, superblock, master, reference, index, commit_start, orphans, type_of, written, IsRef}
+use Rattle.ubifs_base.specs.declared.node_type.NodeType.TheVariants as types
+use Rattle.media_sys.specs.SystemNode.{SystemNode, padding, superblock, master, reference, index, commit_start, orphans, node_type, written, IsRef}
 use Rattle.media_sys.specs.declared.ref_node.RefNode.{RefNode}
 use Rattle.leb_scan.specs.declared.found.Found.{Found}
 use Rattle.bud_log.specs.LogText.{Refer}
@@ -9,7 +10,7 @@ use Rattle.bud_log.specs.Writing.{reference_in, references_in, AreSpelled, ArePa
 use Rattle.bud_log.proofs.References.{OneNode, reference_same}
 
 -- a node of another type is no reference
-pub none_in : (node : SystemNode) → type_of node ≢ 8 → reference_in node ≡ []
+pub none_in : (node : SystemNode) → node_type node ≢ types.Reference → reference_in node ≡ []
 none_in (padding node) ne = refl
 none_in (superblock node) ne = refl
 none_in (master node) ne = refl
@@ -18,15 +19,15 @@ none_in (index node) ne = refl
 none_in (commit_start node) ne = refl
 none_in (orphans node) ne = refl
 
--- and one of the type 8 is
-pub one_in : (node : SystemNode) → type_of node ≡ 8 → (r : RefNode) × (node ≡ reference r)
-one_in (padding node) e = absurd (omega (arith, e))
-one_in (superblock node) e = absurd (omega (arith, e))
-one_in (master node) e = absurd (omega (arith, e))
+-- and one of the type of references is
+pub one_in : (node : SystemNode) → node_type node ≡ types.Reference → (r : RefNode) × (node ≡ reference r)
+one_in (padding node) e = absurd cc
+one_in (superblock node) e = absurd cc
+one_in (master node) e = absurd cc
 one_in (reference node) e = (node, refl)
-one_in (index node) e = absurd (omega (arith, e))
-one_in (commit_start node) e = absurd (omega (arith, e))
-one_in (orphans node) e = absurd (omega (arith, e))
+one_in (index node) e = absurd cc
+one_in (commit_start node) e = absurd cc
+one_in (orphans node) e = absurd cc
 
 -- the references found are the first of those written
 abbrev pub FirstOf : List RefNode → List RefNode → Type 0
@@ -39,7 +40,7 @@ pub part_references : OneNode → (left : List ℕ) (found : List Found) (place 
     → FirstOf references (references_in nodes)
 part_references one left [] place number nodes references spelled part h = (0, h)
 part_references one left (f ∷ found) place number nodes references spelled (inl (kind, part)) (inl (other, h)) = part_references one left found place number nodes references spelled part h
-part_references one left (f ∷ found) place number nodes references spelled (inl (kind, part)) (inr (eight, r, others, is, e2, h)) = absurd (omega (arith, kind, eight))
+part_references one left (f ∷ found) place number nodes references spelled (inl (kind, part)) (inr (eight, r, others, is, e2, h)) = absurd cc
 part_references one left (f ∷ found) place number nodes references spelled (inr (node, more, e, whole, part)) (inl (other, h)) =
     let P : List SystemNode → Type 0 = λ ns. AreSpelled number ns in
     let Q : List SystemNode → Type 0 = λ ns. FirstOf references (references_in ns) in

@@ -6,6 +6,7 @@ use Rattle.ubifs_base.specs.declared.raw_geometry.RawGeometry.{RawGeometry}
 use Rattle.ubi_volume.specs.Volume.{VolumeState, put, WorksOn, IsWritten, WriteUnderWay}
 use Rattle.media_sys.specs.SystemNode.{SystemNode, commit_start}
 use Rattle.media_sys.specs.declared.commit_start.CommitStart.{CommitStart}
+use Rattle.ubifs_base.specs.declared.node_type.NodeType.TheVariants as types
 use Rattle.leb_scan.specs.Text.{nodes_of, IsText}
 use Rattle.leb_scan.specs.declared.found.Found.{Found}
 use Rattle.leb_scan.specs.declared.tail.Tail.TheVariants.{Clean}
@@ -105,7 +106,7 @@ starts_there number nodes start (f ∷ found) (g, e, offs, sqnum, kind) =
     let same : f ≡ g = cc in
     let o : f.offs ≡ 0 = ap (λ (x : Found). x.offs) same ∙ offs in
     let s : f.sqnum ≡ number + 1 = ap (λ (x : Found). x.sqnum) same ∙ sqnum in
-    let k : f.kind ≡ 10 = ap (λ (x : Found). x.kind) same ∙ kind in
+    let k : f.kind ≡ types.CommitStart = ap (λ (x : Found). x.kind) same ∙ kind in
     rw (o, k, s) refl
 
 -- and the commit is told by it
@@ -116,7 +117,7 @@ begins_commit leb number nodes start (f ∷ found) (g, e, offs, sqnum, kind) (j,
     let same : f ≡ g = cc in
     let again : f ≡ j = cc in
     let o : f.offs ≡ 0 = ap (λ (x : Found). x.offs) same ∙ offs in
-    let k : f.kind ≡ 10 = ap (λ (x : Found). x.kind) same ∙ kind in
+    let k : f.kind ≡ types.CommitStart = ap (λ (x : Found). x.kind) same ∙ kind in
     let P : Found → Type 0 = λ x. IsStartAt leb x start in
     let at : at_start (Some f) ≡ Some f = rw o refl in
     let Q : Option Found → Type 0 = λ x. BeginsCommit leb x (Some start.cmt_no) in

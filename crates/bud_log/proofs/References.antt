@@ -1,14 +1,16 @@
 -- The references among the nodes of a text.
 use Rattle.std.proofs.Common.{◌≡◌, inl, inr, ℕ, ◌+◌, ◌≤◌, Bool, true, false, List, [], ◌∷◌, ◌++◌, length, take, drop, Option, Some, None, IfSome, IfNone, refl, ap, sym, ◌∙◌, subst, arith, append-nil}
 use Rattle.std.specs.Prelude.{◌≢◌, ◌==◌, if◌then◌else◌, fold, IsSome}
-use Rattle.std.proofs.lemmas.Bool.{cases_eq, cases_Bool, eqb-true}
+use Rattle.std.proofs.lemmas.Bool.{cases_Bool, eqb-true}
 use Rattle.std.proofs.lemmas.List.Sums.{fold-append}
 use Rattle.ubifs_base.specs.NodeLaws.{IsBytes}
-use Rattle.media_leaf.specs.LeafNode.{LeafNode, inode, block, entry, truncation, leaf_form}
+use Rattle.ubifs_base.specs.NodeType.{type_number}
+use Rattle.ubifs_base.specs.declared.node_type.NodeType.TheVariants as types
 use Rattle.media_sys.specs.SystemNode.{SystemNode, padding, superblock, master, reference, index, commit_start, orphans, IsRef, IsCommitStart, IsSystemNode}
 use Rattle.media_sys.specs.declared.commit_start.CommitStart.{CommitStart}
 use Rattle.media_sys.specs.declared.ref_node.RefNode.{RefNode}
 use Rattle.leb_scan.specs.Text.{AnyNode, leaf, system, StandsAt, Stand, behind, nodes_of, IsNext, IsLast, tail_at}
+use Rattle.leb_scan.specs.TypeLaws.{type_same, cases_type, leaf_low}
 use Rattle.leb_scan.specs.Gathered.{IsGathered, gathered_end}
 use Rattle.leb_scan.specs.declared.found.Found.{Found}
 use Rattle.leb_scan.specs.declared.item.Item.{Item}
@@ -44,37 +46,27 @@ stands_first leb (Padding first pad_len ∷ items) place end found nodes h e = p
 pub next_stands : (leb : List ℕ) (from to : ℕ) (found : Found) → IsNext leb from to found → Stands leb found
 next_stands leb from to found h = stands_first leb h.items from to found [] h.stand h.node
 
-below_four : (attribute : Bool) → let kind : ℕ = if attribute then 3 else 2 in kind ≤ 4
-below_four true = omega arith
-below_four false = omega arith
-
-leaf_kind : (node : LeafNode) → leaf_form.type_of node ≤ 4
-leaf_kind (inode node) = omega arith
-leaf_kind (block node) = omega arith
-leaf_kind (entry node) = below_four node.attribute
-leaf_kind (truncation node) = omega arith
-
--- a node of the type 8 is a reference
-pub reference_there : (leb : List ℕ) (found : Found) → found.kind ≡ 8 → Stands leb found → (node : RefNode) × IsReferenceAt leb found node
-reference_there leb found kind (leaf node, h) = let k = h.kind in let l = leaf_kind node in absurd (omega (arith, k, kind, l))
+-- a node of the type of references is a reference
+pub reference_there : (leb : List ℕ) (found : Found) → found.kind ≡ types.Reference → Stands leb found → (node : RefNode) × IsReferenceAt leb found node
+reference_there leb found kind (leaf node, h) = let k = ap type_number (sym h.kind ∙ kind) in let l = leaf_low node in absurd (omega (arith, k, l))
 reference_there leb found kind (system (reference node), h) = (node, h.is)
-reference_there leb found kind (system (padding node), h) = let k = h.kind in absurd (omega (arith, k, kind))
-reference_there leb found kind (system (superblock node), h) = let k = h.kind in absurd (omega (arith, k, kind))
-reference_there leb found kind (system (master node), h) = let k = h.kind in absurd (omega (arith, k, kind))
-reference_there leb found kind (system (index node), h) = let k = h.kind in absurd (omega (arith, k, kind))
-reference_there leb found kind (system (commit_start node), h) = let k = h.kind in absurd (omega (arith, k, kind))
-reference_there leb found kind (system (orphans node), h) = let k = h.kind in absurd (omega (arith, k, kind))
+reference_there leb found kind (system (padding node), h) = let k = h.kind in absurd cc
+reference_there leb found kind (system (superblock node), h) = let k = h.kind in absurd cc
+reference_there leb found kind (system (master node), h) = let k = h.kind in absurd cc
+reference_there leb found kind (system (index node), h) = let k = h.kind in absurd cc
+reference_there leb found kind (system (commit_start node), h) = let k = h.kind in absurd cc
+reference_there leb found kind (system (orphans node), h) = let k = h.kind in absurd cc
 
--- and one of the type 10 a commit start
-commit_there : (leb : List ℕ) (found : Found) → Stands leb found → found.kind ≡ 10 → (node : CommitStart) × IsStartAt leb found node
-commit_there leb found (leaf node, h) kind = let k = h.kind in let l = leaf_kind node in absurd (omega (arith, k, kind, l))
+-- and one of the type of commit starts a commit start
+commit_there : (leb : List ℕ) (found : Found) → Stands leb found → found.kind ≡ types.CommitStart → (node : CommitStart) × IsStartAt leb found node
+commit_there leb found (leaf node, h) kind = let k = ap type_number (sym h.kind ∙ kind) in let l = leaf_low node in absurd (omega (arith, k, l))
 commit_there leb found (system (commit_start node), h) kind = (node, h.is)
-commit_there leb found (system (padding node), h) kind = let k = h.kind in absurd (omega (arith, k, kind))
-commit_there leb found (system (superblock node), h) kind = let k = h.kind in absurd (omega (arith, k, kind))
-commit_there leb found (system (master node), h) kind = let k = h.kind in absurd (omega (arith, k, kind))
-commit_there leb found (system (index node), h) kind = let k = h.kind in absurd (omega (arith, k, kind))
-commit_there leb found (system (reference node), h) kind = let k = h.kind in absurd (omega (arith, k, kind))
-commit_there leb found (system (orphans node), h) kind = let k = h.kind in absurd (omega (arith, k, kind))
+commit_there leb found (system (padding node), h) kind = let k = h.kind in absurd cc
+commit_there leb found (system (superblock node), h) kind = let k = h.kind in absurd cc
+commit_there leb found (system (master node), h) kind = let k = h.kind in absurd cc
+commit_there leb found (system (index node), h) kind = let k = h.kind in absurd cc
+commit_there leb found (system (reference node), h) kind = let k = h.kind in absurd cc
+commit_there leb found (system (orphans node), h) kind = let k = h.kind in absurd cc
 
 begins_there : (leb : List ℕ) (nodes : List Found) → ((found : Found) (more : List Found) → nodes ≡ found ∷ more → Stands leb found) → HasBeginning leb (begins_with nodes)
 begins_there leb [] stands = tt
@@ -97,7 +89,7 @@ seen_begins leb seen h =
 -- and the commit that it starts
 pub some_commit : (leb : List ℕ) (begins : Option Found) → HasBeginning leb begins → (commit : Option ℕ) × BeginsCommit leb begins commit
 some_commit leb None h = (None, refl)
-some_commit leb (Some found) h = elim (cases_eq found.kind 10) [ inl kind ↦ let node = h.1 kind in (Some node.0.cmt_no, inr (kind, node.0, node.1, refl)) | inr other ↦ (None, inl (other, refl)) ]
+some_commit leb (Some found) h = elim (cases_type found.kind types.CommitStart) [ inl kind ↦ let node = h.1 kind in (Some node.0.cmt_no, inr (kind, node.0, node.1, refl)) | inr other ↦ (None, inl (other, refl)) ]
 
 pub room_of : (leb : List ℕ) (found : Found) → Stands leb found → found.offs + found.len ≤ length leb
 room_of leb found h = h.1.room
@@ -147,7 +139,7 @@ pub record IsNamedSoFar (leb : List ℕ) (nodes : List Found) (old new : List He
 pub named_none : (leb : List ℕ) (old : List HeadAt) → IsNamedSoFar leb [] old old
 named_none leb old = record { references = []; refer = refl; named_are = refl }
 
-pub named_other : (leb : List ℕ) (nodes : List Found) (old new : List HeadAt) (found : Found) → found.kind ≢ 8 → IsNamedSoFar leb nodes old new → IsNamedSoFar leb (nodes ++ found ∷ []) old new
+pub named_other : (leb : List ℕ) (nodes : List Found) (old new : List HeadAt) (found : Found) → found.kind ≢ types.Reference → IsNamedSoFar leb nodes old new → IsNamedSoFar leb (nodes ++ found ∷ []) old new
 named_other leb nodes old new found other h =
     let P : List RefNode → Type 0 = λ x. Refer leb (nodes ++ found ∷ []) x in
     record {
@@ -156,7 +148,7 @@ named_other leb nodes old new found other h =
       named_are = h.named_are ∙ ap (fold named old) (sym (append-nil h.references));
     }
 
-pub named_more : (leb : List ℕ) (nodes : List Found) (old now new : List HeadAt) (found : Found) (node : RefNode) → found.kind ≡ 8 → IsReferenceAt leb found node → IsNamedSoFar leb nodes old now → new ≡ named now node
+pub named_more : (leb : List ℕ) (nodes : List Found) (old now new : List HeadAt) (found : Found) (node : RefNode) → found.kind ≡ types.Reference → IsReferenceAt leb found node → IsNamedSoFar leb nodes old now → new ≡ named now node
     → IsNamedSoFar leb (nodes ++ found ∷ []) old new
 named_more leb nodes old now new found node kind is h e = record {
   references = h.references ++ node ∷ [];
@@ -172,7 +164,7 @@ named_all leb place end nodes old new gathered h last =
     record { items = text.0; offs = end; tail = tail_at leb end; is_text = text.1; references = h.references; refer = subst P text.2 h.refer; named_are = h.named_are }
 
 more_references : (leb : List ℕ) (found : Found) (nodes : List Found) → Stands leb found → (references : List RefNode) × Refer leb nodes references → (references : List RefNode) × Refer leb (found ∷ nodes) references
-more_references leb found nodes stands (rest, h) = elim (cases_eq found.kind 8) [
+more_references leb found nodes stands (rest, h) = elim (cases_type found.kind types.Reference) [
   | inl kind ↦ let node = reference_there leb found kind stands in (node.0 ∷ rest, inr (kind, node.0, rest, node.1, refl, h))
   | inr other ↦ (rest, inl (other, h))
 ]
@@ -186,39 +178,39 @@ some_references leb (Node found ∷ items) place end h =
 some_references leb (Padding found pad_len ∷ items) place end h =
     more_references leb found (nodes_of items) (placed leb place found found _ refl h.0.stands) (some_references leb items (behind leb place (Padding found pad_len)) end h.1)
 
-others_skip : (found : Found) (nodes : List Found) → (found.kind == 5) ≡ true → others (found ∷ nodes) ≡ others nodes
+others_skip : (found : Found) (nodes : List Found) → (type_number found.kind == 5) ≡ true → others (found ∷ nodes) ≡ others nodes
 others_skip found nodes is = rw is refl
 
-others_keep : (found : Found) (nodes : List Found) → (found.kind == 5) ≡ false → others (found ∷ nodes) ≡ found ∷ others nodes
+others_keep : (found : Found) (nodes : List Found) → (type_number found.kind == 5) ≡ false → others (found ∷ nodes) ≡ found ∷ others nodes
 others_keep found nodes is = rw is refl
 
 -- where padding alone stands there are no references
 padding_references : (leb : List ℕ) (nodes : List Found) (references : List RefNode) → Refer leb nodes references → others nodes ≡ [] → references ≡ []
 padding_references leb [] references h none = h
-padding_references leb (found ∷ nodes) references h none = elim (cases_Bool (found.kind == 5)) [
+padding_references leb (found ∷ nodes) references h none = elim (cases_Bool (type_number found.kind == 5)) [
   | inl is_gap ↦
-      let five = eqb-true found.kind 5 is_gap in
+      let five = type_same found.kind types.Padding (eqb-true (type_number found.kind) 5 is_gap) in
       let rest : others nodes ≡ [] = sym (others_skip found nodes is_gap) ∙ none in
-      elim h [ inl (other, more) ↦ padding_references leb nodes references more rest | inr (eight, node, more, is, e, k) ↦ absurd (omega (arith, five, eight)) ]
+      elim h [ inl (other, more) ↦ padding_references leb nodes references more rest | inr (eight, node, more, is, e, k) ↦ absurd cc ]
   | inr node ↦ let cons : found ∷ others nodes ≡ [] = sym (others_keep found nodes node) ∙ none in absurd cc
 ]
 
-one_parts : (found : Found) (rest : List Found) → is_one_start (found ∷ rest) ≡ true → (rest ≡ []) × (found.kind ≡ 10)
-one_parts found [] h = (refl, eqb-true found.kind 10 h)
+one_parts : (found : Found) (rest : List Found) → is_one_start (found ∷ rest) ≡ true → (rest ≡ []) × (found.kind ≡ types.CommitStart)
+one_parts found [] h = (refl, type_same found.kind types.CommitStart (eqb-true (type_number found.kind) 10 h))
 one_parts found (other ∷ rest) h = absurd cc
 
 -- nor where a commit start stands alone
 pub lone_references : (leb : List ℕ) (nodes : List Found) (references : List RefNode) → Refer leb nodes references → is_start_alone nodes ≡ true → references ≡ []
 lone_references leb [] references h alone = absurd cc
-lone_references leb (found ∷ nodes) references h alone = elim (cases_Bool (found.kind == 5)) [
+lone_references leb (found ∷ nodes) references h alone = elim (cases_Bool (type_number found.kind == 5)) [
   | inl is_gap ↦
-      let five = eqb-true found.kind 5 is_gap in
+      let five = type_same found.kind types.Padding (eqb-true (type_number found.kind) 5 is_gap) in
       let rest : is_start_alone nodes ≡ true = ap is_one_start (sym (others_skip found nodes is_gap)) ∙ alone in
-      elim h [ inl (other, more) ↦ lone_references leb nodes references more rest | inr (eight, node, more, is, e, k) ↦ absurd (omega (arith, five, eight)) ]
+      elim h [ inl (other, more) ↦ lone_references leb nodes references more rest | inr (eight, node, more, is, e, k) ↦ absurd cc ]
   | inr node ↦
       let parts = one_parts found (others nodes) (ap is_one_start (sym (others_keep found nodes node)) ∙ alone) in
       let ten = parts.1 in
-      elim h [ inl (other, more) ↦ padding_references leb nodes references more parts.0 | inr (eight, n, more, is, e, k) ↦ absurd (omega (arith, ten, eight)) ]
+      elim h [ inl (other, more) ↦ padding_references leb nodes references more parts.0 | inr (eight, n, more, is, e, k) ↦ absurd cc ]
 ]
 
 -- where bytes are a commit start, it is found, and no other

@@ -24,8 +24,8 @@ IsReferenceAt leb found node = IsRef (take found.len (drop found.offs leb)) foun
 abbrev pub Refer : List ℕ → List Found → List RefNode → Type 0
 Refer leb [] references = references ≡ []
 Refer leb (found ∷ nodes) references =
-    ((found.kind ≢ type_number types.Reference) × Refer leb nodes references)
-    ⊎ ((found.kind ≡ type_number types.Reference) × (node : RefNode) × (others : List RefNode) × IsReferenceAt leb found node × (references ≡ node ∷ others) × Refer leb nodes others)
+    ((found.kind ≢ types.Reference) × Refer leb nodes references)
+    ⊎ ((found.kind ≡ types.Reference) × (node : RefNode) × (others : List RefNode) × IsReferenceAt leb found node × (references ≡ node ∷ others) × Refer leb nodes others)
 
 -- the LEB of this number has this text
 pub record IsTextOf (leb : List ℕ) (lnum : ℕ) (text : LogText) : Type 0 where
@@ -56,14 +56,14 @@ begins_with nodes = at_start (first_of nodes)
 -- the number of the commit start with which a LEB begins
 abbrev pub start_of : Option Found → Option ℕ
 start_of None = None
-start_of (Some found) = if found.kind == type_number types.CommitStart then Some found.sqnum else None
+start_of (Some found) = if type_number found.kind == type_number types.CommitStart then Some found.sqnum else None
 
 -- the number of the commit with whose start a LEB begins, which begins with this node; none if it begins with no commit start
 abbrev pub BeginsCommit : List ℕ → Option Found → Option ℕ → Type 0
 BeginsCommit leb None commit = commit ≡ None
 BeginsCommit leb (Some found) commit =
-    ((found.kind ≢ type_number types.CommitStart) × (commit ≡ None))
-    ⊎ ((found.kind ≡ type_number types.CommitStart) × (node : CommitStart) × IsStartAt leb found node × (commit ≡ Some node.cmt_no))
+    ((found.kind ≢ types.CommitStart) × (commit ≡ None))
+    ⊎ ((found.kind ≡ types.CommitStart) × (node : CommitStart) × IsStartAt leb found node × (commit ≡ Some node.cmt_no))
 
 -- the LEB begins with the start of the commit of this number
 abbrev pub StartsCommit : List ℕ → ℕ → ℕ → Type 0
@@ -76,12 +76,12 @@ is_later number (Some found) = nat_lt number found.sqnum
 
 -- the nodes that are no padding
 abbrev pub others : List Found → List Found
-others nodes = filter (λ (found : Found). not (found.kind == type_number types.Padding)) nodes
+others nodes = filter (λ (found : Found). not (type_number found.kind == type_number types.Padding)) nodes
 
 -- whether these nodes are one commit start
 abbrev pub is_one_start : List Found → Bool
 is_one_start [] = false
-is_one_start (found ∷ []) = found.kind == type_number types.CommitStart
+is_one_start (found ∷ []) = type_number found.kind == type_number types.CommitStart
 is_one_start (found ∷ (other ∷ more)) = false
 
 -- whether a text, padding aside, is a commit start alone

@@ -5,7 +5,7 @@ use Rattle.std.proofs.lemmas.List.{drop-drop, take_at, drop_at, length-take-le}
 use Rattle.std.proofs.lemmas.List.Elements.{All-head, All-tail}
 use Rattle.ubifs_base.specs.Gap.{gap_of}
 use Rattle.ubi_volume.specs.Volume.{put}
-use Rattle.media_sys.specs.SystemNode.{SystemNode, type_of, written, IsSystemNode}
+use Rattle.media_sys.specs.SystemNode.{SystemNode, node_type, written, IsSystemNode}
 use Rattle.leb_scan.specs.Gaps.{IsPadding, gap_items, gap_length, gap_stands, gap_part_alone}
 use Rattle.leb_scan.specs.Meant.{AreUntorn, IsMeant as AreMeant}
 use Rattle.leb_scan.specs.MeantLaws.{first_items}
@@ -19,7 +19,7 @@ use Rattle.bud_log.specs.Writing.{IsSpelled, AreSpelled, laid, AreNodes, ArePart
 
 -- a node of this number at this place
 abbrev pub node_at : ℕ → ℕ → SystemNode → Found
-node_at place number node = record { offs = place; len = length (written number 0 node); kind = type_of node; group = 0; sqnum = number }
+node_at place number node = record { offs = place; len = length (written number 0 node); kind = node_type node; group = 0; sqnum = number }
 
 -- the items of nodes with the numbers behind this one, laid from a place on, and of a gap behind them
 abbrev pub laid_items : ℕ → ℕ → List SystemNode → ℕ → List Item

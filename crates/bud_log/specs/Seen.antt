@@ -1,6 +1,5 @@
 -- What is seen of a log LEB while the log is read.
 use Rattle.std.specs.Prelude.{◌≡◌, ⊤, ◌+◌, ◌≤◌, length, ℕ, IsFalse, Option, Some, None, List, fold}
-use Rattle.ubifs_base.specs.NodeType.{type_number}
 use Rattle.ubifs_base.specs.declared.node_type.NodeType.TheVariants as types
 use Rattle.media_sys.specs.declared.commit_start.CommitStart.{CommitStart}
 use Rattle.media_sys.specs.declared.ref_node.RefNode.{RefNode}
@@ -24,7 +23,7 @@ earlier_of (Some first) found = Some first
 -- the node with which a LEB begins is inside of it, and is a commit start if its type says so
 abbrev pub HasBeginning : List ℕ → Option Found → Type 0
 HasBeginning leb None = ⊤
-HasBeginning leb (Some found) = (found.offs + found.len ≤ length leb) × (found.kind ≡ type_number types.CommitStart → (node : CommitStart) × IsStartAt leb found node)
+HasBeginning leb (Some found) = (found.offs + found.len ≤ length leb) × (found.kind ≡ types.CommitStart → (node : CommitStart) × IsStartAt leb found node)
 
 -- with what a text begins, whether it is a commit start alone, and how it ends
 pub record IsSeen (leb : List ℕ) (seen : Seen) : Type 0 where

@@ -2,11 +2,10 @@
 use Rattle.std.specs.Prelude.{◌≡◌, ◌≢◌, ◌⊎◌, ⊤, ℕ, ◌+◌, ◌%◌, ◌^◌, ◌<◌, ◌≤◌, nat_le, IsTrue, IsFalse, Some, List, [], ◌∷◌, ◌++◌, take, drop, length, fold}
 use Rattle.ubifs_base.specs.Gap.{gap_of}
 use Rattle.ubifs_base.specs.NodeLaws.{IsBytes}
-use Rattle.ubifs_base.specs.NodeType.{type_number}
 use Rattle.ubifs_base.specs.declared.node_type.NodeType.TheVariants as types
 use Rattle.ubifs_base.specs.declared.raw_geometry.RawGeometry.{RawGeometry}
 use Rattle.ubi_volume.specs.Volume.{VolumeState, Only}
-use Rattle.media_sys.specs.SystemNode.{SystemNode, padding, superblock, master, reference, index, commit_start, orphans, type_of, written, IsSystemNode}
+use Rattle.media_sys.specs.SystemNode.{SystemNode, padding, superblock, master, reference, index, commit_start, orphans, node_type, written, IsSystemNode}
 use Rattle.media_sys.specs.declared.ref_node.RefNode.{RefNode}
 use Rattle.leb_scan.specs.Text.{is_blank, IsText, nodes_of}
 use Rattle.leb_scan.specs.declared.found.Found.{Found}
@@ -41,7 +40,7 @@ pub record IsSpelled (number : ℕ) (node : SystemNode) : Type 0 where
   pub is : IsSystemNode (written number 0 node) number 0 node
   pub long : 0 < length (written number 0 node)
   pub even : length (written number 0 node) % 8 ≡ 0
-  pub other : type_of node ≢ type_number types.Padding
+  pub other : node_type node ≢ types.Padding
 
 -- nodes with the numbers behind this one
 abbrev pub AreSpelled : ℕ → List SystemNode → Type 0
@@ -130,14 +129,14 @@ NamesOpened contents geo from buds node = NamesBuds contents geo from buds ⊎ (
 -- this node was found whole, at this place
 pub record IsWhole (left : List ℕ) (place number : ℕ) (node : SystemNode) (found : Found) : Type 0 where
   pub offs : found.offs ≡ place
-  pub kind : found.kind ≡ type_of node
+  pub kind : found.kind ≡ node_type node
   pub bytes : take found.len (drop place left) ≡ written number 0 node
 
 -- what was found from a place on are, padding aside, the first of these nodes, each whole and at its place
 abbrev pub ArePart : List ℕ → ℕ → ℕ → List SystemNode → List Found → Type 0
 ArePart left place number nodes [] = ⊤
 ArePart left place number nodes (found ∷ others) =
-    ((found.kind ≡ type_number types.Padding) × ArePart left place number nodes others)
+    ((found.kind ≡ types.Padding) × ArePart left place number nodes others)
     ⊎ ((node : SystemNode) × (more : List SystemNode) × (nodes ≡ node ∷ more) × IsWhole left place (number + 1) node found × ArePart left (place + found.len) (number + 1) more others)
 
 -- Of what a cut may leave of a LEB while nodes are written from a place on, this is what is meant: no torn node has a

@@ -13,8 +13,6 @@ use media_sys::{RefNode, one_node};
 use std::alloc::{AllocError, Global};
 use ubifs_base::NodeType;
 
-const REFERENCE_NODE: u8 = NodeType::Reference as u8;
-
 /// Names the references of a LEB behind those that were named before. The error is want of memory.
 pub(crate) fn name_buds(alloc: Global, leb: &[u8], buds: &mut Vec<HeadAt>) -> Result<(), AllocError>
     requires { length leb.now < 2 ^ 32 }
@@ -22,7 +20,7 @@ pub(crate) fn name_buds(alloc: Global, leb: &[u8], buds: &mut Vec<HeadAt>) -> Re
 {
     let mut scanner = Scanner::new(0);
     while let Some(found) = scanner.next(leb) {
-        if found.kind == REFERENCE_NODE {
+        if found.kind == NodeType::Reference {
             if let Some(node) = reference_at(alloc, leb, found) {
                 name_bud(buds, node)?;
             }

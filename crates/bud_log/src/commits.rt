@@ -11,8 +11,6 @@ use media_sys::{CommitStart, one_node};
 use std::alloc::Global;
 use ubifs_base::NodeType;
 
-const COMMIT_START_NODE: u8 = NodeType::CommitStart as u8;
-
 /// The number of the commit with whose start a LEB begins, which begins with this node; none if it begins with no commit
 /// start.
 pub(crate) fn commit_of(alloc: Global, leb: &[u8], begins: Option<Found>) -> Option<u64>
@@ -30,7 +28,7 @@ fn commit_at(alloc: Global, leb: &[u8], found: Found) -> Option<u64>
     requires { HasBeginning leb.now (Some found) }
     ensures { BeginsCommit leb.now (Some found) result }
 {
-    if found.kind != COMMIT_START_NODE {
+    if found.kind != NodeType::CommitStart {
         return None;
     }
     let node = start_at(alloc, leb, found)?;

@@ -1,15 +1,12 @@
 // What is seen of a log LEB at one pass.
 
-ghost use Rattle.std.specs.Prelude.{◌≡◌, ◌^◌, ◌<◌, length};
+ghost use Rattle.std.specs.Prelude.{◌≡◌, ◌==◌, ◌^◌, ◌<◌, length};
+ghost use Rattle.ubifs_base.specs.NodeType.{type_number};
 ghost use Rattle.bud_log.specs.LogText.{at_start as at_the_start, start_of as start_number, is_later as is_later_than};
 ghost use Rattle.bud_log.specs.Seen.{IsSeen, earlier_of};
 
 use leb_scan::{Found, Scanner, Tail};
 use ubifs_base::NodeType;
-
-const PADDING_NODE: u8 = NodeType::Padding as u8;
-
-const COMMIT_START_NODE: u8 = NodeType::CommitStart as u8;
 
 /// The node with which the LEB begins, whether its text is a commit start alone, and where and how the text ends.
 #[derive(Clone, Copy, Debug, PartialEq, Eq)]
@@ -31,8 +28,8 @@ pub(crate) fn see(leb: &[u8]) -> Seen
     let mut scanner = Scanner::new(0);
     while let Some(found) = scanner.next(leb) {
         first = earlier(first, found);
-        if found.kind != PADDING_NODE {
-            alone = empty && found.kind == COMMIT_START_NODE;
+        if !is_of(found, NodeType::Padding) {
+            alone = empty && is_of(found, NodeType::CommitStart);
             empty = false;
         }
     }
@@ -42,6 +39,13 @@ pub(crate) fn see(leb: &[u8]) -> Seen
         offs: scanner.place(),
         tail: scanner.tail(leb),
     }
+}
+
+// Whether a node is of this type.
+fn is_of(found: Found, kind: NodeType) -> bool
+    ensures { result ≡ (type_number found.kind == type_number kind) }
+{
+    found.kind == kind
 }
 
 // The first node, once another is found.
@@ -70,7 +74,7 @@ pub(crate) fn start_of(begins: Option<Found>) -> Option<u64>
     ensures { result ≡ start_number begins }
 {
     let found = begins?;
-    if found.kind != COMMIT_START_NODE {
+    if !is_of(found, NodeType::CommitStart) {
         return None;
     }
     Some(found.sqnum)

@@ -5,12 +5,14 @@ use Rattle.std.specs.Bool.{IsTrue}
 use Rattle.std.specs.List.{list_all}
 use Rattle.std.proofs.lemmas.List.{take-take, drop-take}
 use Rattle.std.proofs.Math.Seq.{take-append_seam, drop-append_seam}
+use Rattle.ubifs_base.specs.NodeType.{type_number}
 use Rattle.node_fields.specs.FormLaws.{written_is}
-use Rattle.media_leaf.specs.LeafNode.{LeafNode, inode, block, entry, truncation, leaf_form, type_of, written, IsLeafNode}
+use Rattle.media_leaf.specs.LeafNode.{LeafNode, inode, block, entry, truncation, leaf_form, written, IsLeafNode}
 use Rattle.leb_scan.specs.declared.found.Found.{Found}
 use Rattle.leb_scan.specs.declared.item.Item.{Item}
 use Rattle.leb_scan.specs.declared.item.Item.TheVariants.{Node}
-use Rattle.leb_scan.specs.Text.{leaf, StandsAt, IsNodeAt, Stand, behind, nodes_of}
+use Rattle.leb_scan.specs.TypeLaws.{leaf_low}
+use Rattle.leb_scan.specs.Text.{leaf, leaf_type, StandsAt, IsNodeAt, Stand, behind, nodes_of}
 use Rattle.fs_model.specs.declared.change.Change.{Change}
 use Rattle.fs_model.specs.Backing.{is_node}
 use Rattle.fs_model.specs.Cover.{round_8}
@@ -60,7 +62,7 @@ group_type-known n i = by (n == 1) (suc i == n)
 
 -- what is found of the node of a change
 abbrev found_of : ℕ → ℕ → ℕ → LeafNode → Found
-found_of place sqnum group node = record { offs = place; len = leaf_len node; kind = type_of node; group = group; sqnum = sqnum }
+found_of place sqnum group node = record { offs = place; len = leaf_len node; kind = leaf_type node; group = group; sqnum = sqnum }
 
 least_len : (node : LeafNode) → 48 ≤ leaf_len node
 least_len (inode node) = omega arith
@@ -99,8 +101,8 @@ stands leb place sqnum group change is fits known h =
 node_at : (leb : List ℕ) (place sqnum group : ℕ) (change : Change) → IsTrue (is_node change) → sqnum < 2 ^ 64 → group ≤ 2 → There leb place (leaf_text sqnum group (node_of change))
     → IsNodeAt leb place (found_of place sqnum group (node_of change))
 node_at leb place sqnum group change is fits known h =
-    let type = node_type change in
-    record { node = leaf (node_of change); stands = stands leb place sqnum group change is fits known h; other = λ e. omega (arith, e, type) }
+    let type = leaf_low (node_of change) in
+    record { node = leaf (node_of change); stands = stands leb place sqnum group change is fits known h; other = λ e. let five = ap type_number e in omega (arith, five, type) }
 
 ends_at : (leb : List ℕ) (place sqnum group : ℕ) (node : LeafNode) → place % 8 ≡ 0 → There leb place (leaf_text sqnum group node)
     → behind leb place (Node (found_of place sqnum group node)) ≡ place + length (leaf_text sqnum group node)

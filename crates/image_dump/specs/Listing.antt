@@ -1,7 +1,9 @@
 -- The listing of a volume: for each LEB what stands in it.
-use Rattle.std.specs.Prelude.{◌≡◌, ◌⊎◌, ℕ, ◌<◌, ◌≤◌, ◌==◌, suc, zero, IsTrue, IsFalse, if◌then◌else◌, List, [], ◌∷◌, ◌++◌, codes}
+use Rattle.std.specs.Prelude.{◌≡◌, ◌⊎◌, ℕ, ◌<◌, ◌≤◌, suc, zero, IsTrue, IsFalse, List, [], ◌∷◌, ◌++◌, codes}
 use Rattle.std.specs.Fmt.{decimal}
 use Rattle.ubifs_base.specs.Areas.{lpt_first, orph_first}
+use Rattle.ubifs_base.specs.declared.node_type.NodeType.{NodeType}
+use Rattle.ubifs_base.specs.declared.node_type.NodeType.TheVariants.{Inode, Data, Entry, Attribute, Truncation, Padding, Superblock, Master, Reference, Index, CommitStart, Orphans}
 use Rattle.ubifs_base.specs.declared.raw_geometry.RawGeometry.{RawGeometry}
 use Rattle.text_lines.specs.Lines.{line_of}
 use Rattle.leb_scan.specs.Text.{IsText, nodes_of, is_blank}
@@ -11,20 +13,19 @@ use Rattle.leb_scan.specs.declared.tail.Tail.{Tail}
 use Rattle.leb_scan.specs.declared.tail.Tail.TheVariants.{Clean, Torn}
 
 -- the word for a node type
-abbrev pub kind_word : ℕ → List ℕ
-kind_word kind =
-    if kind == 0 then codes "ino"
-    else if kind == 1 then codes "data"
-    else if kind == 2 then codes "dent"
-    else if kind == 3 then codes "xent"
-    else if kind == 4 then codes "trun"
-    else if kind == 5 then codes "pad"
-    else if kind == 6 then codes "sb"
-    else if kind == 7 then codes "mst"
-    else if kind == 8 then codes "ref"
-    else if kind == 9 then codes "idx"
-    else if kind == 10 then codes "cs"
-    else codes "orph"
+abbrev pub kind_word : NodeType → List ℕ
+kind_word Inode = codes "ino"
+kind_word Data = codes "data"
+kind_word Entry = codes "dent"
+kind_word Attribute = codes "xent"
+kind_word Truncation = codes "trun"
+kind_word Padding = codes "pad"
+kind_word Superblock = codes "sb"
+kind_word Master = codes "mst"
+kind_word Reference = codes "ref"
+kind_word Index = codes "idx"
+kind_word CommitStart = codes "cs"
+kind_word Orphans = codes "orph"
 
 -- a node: its place, its type, its length and its sequence number
 abbrev pub node_line : Found → List ℕ

@@ -7,6 +7,7 @@ ghost use Rattle.leb_scan.specs.Text.{is_blank};
 use leb_scan::{Found, Scanner, Tail};
 use std::alloc::AllocError;
 use text_lines::{push_number, push_number_word, push_word};
+use ubifs_base::NodeType;
 
 // Whether nothing is written.
 pub(crate) fn is_unwritten(leb: &[u8]) -> bool
@@ -16,22 +17,22 @@ pub(crate) fn is_unwritten(leb: &[u8]) -> bool
 }
 
 // The word for a node type.
-fn word_of_kind(kind: u8) -> &'static [u8]
+fn word_of_kind(kind: NodeType) -> &'static [u8]
     ensures { result.now ≡ kind_word kind }
 {
     match kind {
-        0 => b"ino".as_slice(),
-        1 => b"data".as_slice(),
-        2 => b"dent".as_slice(),
-        3 => b"xent".as_slice(),
-        4 => b"trun".as_slice(),
-        5 => b"pad".as_slice(),
-        6 => b"sb".as_slice(),
-        7 => b"mst".as_slice(),
-        8 => b"ref".as_slice(),
-        9 => b"idx".as_slice(),
-        10 => b"cs".as_slice(),
-        _ => b"orph".as_slice(),
+        NodeType::Inode => b"ino".as_slice(),
+        NodeType::Data => b"data".as_slice(),
+        NodeType::Entry => b"dent".as_slice(),
+        NodeType::Attribute => b"xent".as_slice(),
+        NodeType::Truncation => b"trun".as_slice(),
+        NodeType::Padding => b"pad".as_slice(),
+        NodeType::Superblock => b"sb".as_slice(),
+        NodeType::Master => b"mst".as_slice(),
+        NodeType::Reference => b"ref".as_slice(),
+        NodeType::Index => b"idx".as_slice(),
+        NodeType::CommitStart => b"cs".as_slice(),
+        NodeType::Orphans => b"orph".as_slice(),
     }
 }
 

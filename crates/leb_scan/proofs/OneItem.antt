@@ -8,23 +8,26 @@ use Rattle.node_fields.specs.FieldLaws.{reads_back, length-read}
 use Rattle.media_sys.specs.SystemNode.{padding, fields_of}
 use Rattle.leb_scan.specs.Text.{AnyNode, system, StandsAt, Begins, IsWordAt}
 use Rattle.leb_scan.specs.declared.found.Found.{Found}
+use Rattle.ubifs_base.specs.declared.node_type.NodeType.{NodeType}
+use Rattle.ubifs_base.specs.declared.node_type.NodeType.TheVariants as types
 use Rattle.leb_scan.specs.declared.item.Item.{Item}
 use Rattle.leb_scan.specs.declared.item.Item.TheVariants.{Node, Padding, Word}
+use Rattle.leb_scan.specs.TypeLaws.{type_same}
 use Rattle.leb_scan.proofs.Heads.{number_front, standing}
 
-found_same : (o1 o2 l1 l2 k1 k2 g1 g2 s1 s2 : ℕ) → o1 ≡ o2 → l1 ≡ l2 → k1 ≡ k2 → g1 ≡ g2 → s1 ≡ s2
+found_same : (o1 o2 l1 l2 g1 g2 s1 s2 : ℕ) (k1 k2 : NodeType) → o1 ≡ o2 → l1 ≡ l2 → k1 ≡ k2 → g1 ≡ g2 → s1 ≡ s2
     → let a : Found = record { offs = o1; len = l1; kind = k1; group = g1; sqnum = s1 } in
     let b : Found = record { offs = o2; len = l2; kind = k2; group = g2; sqnum = s2 } in
     a ≡ b
-found_same o1 o2 l1 l2 k1 k2 g1 g2 s1 s2 o l k g s = rw (o, l, k, g, s) refl
+found_same o1 o2 l1 l2 g1 g2 s1 s2 k1 k2 o l k g s = rw (o, l, k, g, s) refl
 
 -- at most one node
 pub one_found : (leb : List ℕ) (place : ℕ) (f g : Found) (m n : AnyNode) → IsBytes leb → StandsAt leb place f m → StandsAt leb place g n → f ≡ g
 one_found leb place f g m n fits h1 h2 =
     let a = (standing leb place f m fits h1).head in
     let b = (standing leb place g n fits h2).head in
-    found_same f.offs g.offs f.len g.len f.kind g.kind f.group g.group f.sqnum g.sqnum
-    (h1.here ∙ sym h2.here) (a.len ∙ sym b.len) (a.kind ∙ sym b.kind) (a.group ∙ sym b.group) (a.sqnum ∙ sym b.sqnum)
+    found_same f.offs g.offs f.len g.len f.group g.group f.sqnum g.sqnum f.kind g.kind
+    (h1.here ∙ sym h2.here) (a.len ∙ sym b.len) (type_same f.kind g.kind (a.kind ∙ sym b.kind)) (a.group ∙ sym b.group) (a.sqnum ∙ sym b.sqnum)
 
 -- a header has 24 bytes
 pub long_node : (leb : List ℕ) (place : ℕ) (found : Found) (node : AnyNode) → IsBytes leb → StandsAt leb place found node → 24 ≤ found.len
@@ -33,7 +36,7 @@ long_node leb place found node fits h = (standing leb place found node fits h).h
 -- what a padding node announces stands behind its header
 pub record IsPadded (leb : List ℕ) (place : ℕ) (found : Found) (pad_len : ℕ) : Type 0 where
   pub len : found.len ≡ 28
-  pub kind : found.kind ≡ 5
+  pub kind : found.kind ≡ types.Padding
   pub pad_len_is : little_number 4 (drop 24 (drop place leb)) ≡ pad_len
 
 pub padded : (leb : List ℕ) (place : ℕ) (found : Found) (pad_len : ℕ) → IsBytes leb → StandsAt leb place found (system (padding (record { pad_len = pad_len }))) → IsPadded leb place found pad_len

@@ -4,7 +4,10 @@ use Rattle.std.specs.Prelude.{if◌then◌else◌}
 use Rattle.byteorder.specs.Endian.{little_number}
 use Rattle.ubifs_base.specs.Frame.{HasHead, unframed}
 use Rattle.ubifs_base.specs.NodeLaws.{IsBytes, unframed-has_head, unframed-ok}
+use Rattle.ubifs_base.specs.NodeType.{type_number, type_numbered, type-numbered}
 use Rattle.ubifs_base.specs.declared.header.Head.{Head}
+use Rattle.ubifs_base.specs.declared.node_type.NodeType.{NodeType}
+use Rattle.ubifs_base.specs.declared.node_type.NodeType.TheVariants as types
 use Rattle.ubifs_base.specs.declared.header.FrameFault.{FrameFault}
 use Rattle.node_fields.specs.Form.{IsBody}
 use Rattle.media_leaf.specs.LeafNode.{LeafNode, inode, block, entry, truncation, leaf_form}
@@ -46,40 +49,47 @@ pub same_body : (leb : List ℕ) (place : ℕ) (head : Head) (found : Found) (no
     → IsBodyOf head.kind (drop 24 (take head.len (drop place leb))) node
 same_body leb place head found node fits read h =
     let is = standing leb place found node fits h in
-    let kind : found.kind ≡ head.kind = is.head.kind ∙ sym read.kind in
+    let kind : type_number found.kind ≡ head.kind = is.head.kind ∙ sym read.kind in
     let len : found.len ≡ head.len = is.head.len ∙ sym read.len in
     let P : ℕ → Type 0 = λ k. IsBodyOf k (drop 24 (take found.len (drop place leb))) node in
     let Q : ℕ → Type 0 = λ l. IsBodyOf head.kind (drop 24 (take l (drop place leb))) node in
     subst Q len (subst P kind is.body)
 
+-- where a header has no type that is known no node stands
+pub no_type : (leb : List ℕ) (place : ℕ) (head : Head) (r : Option NodeType) → IsBytes leb → HasHead (drop place leb) head → r ≡ type_numbered head.kind → ((kind : NodeType) → r ≡ Some kind → ⊥)
+    → (found : Found) (node : AnyNode) → StandsAt leb place found node → ⊥
+no_type leb place head r fits read exact none found node h =
+    let is = standing leb place found node fits h in
+    none found.kind (exact ∙ ap type_numbered (read.kind ∙ sym is.head.kind) ∙ type-numbered found.kind)
+
 -- a leaf is no padding node
-entry_type-low : (attribute : Bool) → let kind : ℕ = if attribute then 3 else 2 in kind ≡ 5 → ⊥
-entry_type-low true h = absurd (omega (arith, h))
-entry_type-low false h = absurd (omega (arith, h))
+entry_other : (attribute : Bool) → (if attribute then types.Attribute else types.Entry) ≡ types.Padding → ⊥
+entry_other true h = absurd cc
+entry_other false h = absurd cc
 
-leaf_other : (node : LeafNode) → kind_of (leaf node) ≡ 5 → ⊥
-leaf_other (inode node) h = absurd (omega (arith, h))
-leaf_other (block node) h = absurd (omega (arith, h))
-leaf_other (entry node) h = entry_type-low node.attribute h
-leaf_other (truncation node) h = absurd (omega (arith, h))
+leaf_other : (node : LeafNode) → kind_of (leaf node) ≡ types.Padding → ⊥
+leaf_other (inode node) h = absurd cc
+leaf_other (block node) h = absurd cc
+leaf_other (entry node) h = entry_other node.attribute h
+leaf_other (truncation node) h = absurd cc
 
--- a node of type 5 is a padding node
+-- a node of the type of padding is a padding node
 pub record IsPadAt (leb : List ℕ) (place : ℕ) (found : Found) : Type 0 where
   pub pad_len : ℕ
   pub stands : StandsAt leb place found (system (padding (record { pad_len = pad_len })))
 
-system_five : (leb : List ℕ) (place : ℕ) (found : Found) (node : SystemNode) → StandsAt leb place found (system node) → kind_of (system node) ≡ 5 → IsPadAt leb place found
-system_five leb place found (padding node) h five = record { pad_len = node.pad_len; stands = h }
-system_five leb place found (superblock node) h five = absurd (omega (arith, five))
-system_five leb place found (master node) h five = absurd (omega (arith, five))
-system_five leb place found (reference node) h five = absurd (omega (arith, five))
-system_five leb place found (index node) h five = absurd (omega (arith, five))
-system_five leb place found (commit_start node) h five = absurd (omega (arith, five))
-system_five leb place found (orphans node) h five = absurd (omega (arith, five))
+system_padding : (leb : List ℕ) (place : ℕ) (found : Found) (node : SystemNode) → StandsAt leb place found (system node) → kind_of (system node) ≡ types.Padding → IsPadAt leb place found
+system_padding leb place found (padding node) h is = record { pad_len = node.pad_len; stands = h }
+system_padding leb place found (superblock node) h is = absurd cc
+system_padding leb place found (master node) h is = absurd cc
+system_padding leb place found (reference node) h is = absurd cc
+system_padding leb place found (index node) h is = absurd cc
+system_padding leb place found (commit_start node) h is = absurd cc
+system_padding leb place found (orphans node) h is = absurd cc
 
-pub five : (leb : List ℕ) (place : ℕ) (found : Found) (node : AnyNode) → StandsAt leb place found node → found.kind ≡ 5 → IsPadAt leb place found
-five leb place found (leaf node) h kind = absurd (leaf_other node (sym h.kind ∙ kind))
-five leb place found (system node) h kind = system_five leb place found node h (sym h.kind ∙ kind)
+pub padding_there : (leb : List ℕ) (place : ℕ) (found : Found) (node : AnyNode) → StandsAt leb place found node → found.kind ≡ types.Padding → IsPadAt leb place found
+padding_there leb place found (leaf node) h kind = absurd (leaf_other node (sym h.kind ∙ kind))
+padding_there leb place found (system node) h kind = system_padding leb place found node h (sym h.kind ∙ kind)
 
 -- a padding node has room for its length
 pub pad_room : (leb : List ℕ) (place : ℕ) (found : Found) → IsBytes leb → IsPadAt leb place found → 28 ≤ length (drop place leb)
@@ -106,7 +116,7 @@ no_node leb place word none (Padding found pad_len) h = none found (system (padd
 no_node leb place word none Word h = word h
 
 -- nor is a padding node with no gap
-pub no_padding : (leb : List ℕ) (place : ℕ) (found : Found) (node : AnyNode) → IsBytes leb → (IsWordAt leb place → ⊥) → StandsAt leb place found node → found.kind ≡ 5
+pub no_padding : (leb : List ℕ) (place : ℕ) (found : Found) (node : AnyNode) → IsBytes leb → (IsWordAt leb place → ⊥) → StandsAt leb place found node → found.kind ≡ types.Padding
     → ((pad_len : ℕ) → IsPaddingAt leb place found pad_len → ⊥) → (item : Item) → Begins leb place item → ⊥
 no_padding leb place found node fits word stands kind none (Node other) h =
     let same = one_found leb place other found h.node node fits h.stands stands in
@@ -134,7 +144,7 @@ pub not_word : (leb rest : List ℕ) (place : ℕ) (b : Bool) → rest ≡ drop 
 not_word leb rest place b there test off word = let e : b ≡ true = test (ap (take 8) there ∙ word) in absurd cc
 
 -- none where the gap is none
-pub none_padding : (leb : List ℕ) (place : ℕ) (found : Found) (node : AnyNode) (r : Option Item) → IsBytes leb → (IsWordAt leb place → ⊥) → StandsAt leb place found node → found.kind ≡ 5
+pub none_padding : (leb : List ℕ) (place : ℕ) (found : Found) (node : AnyNode) (r : Option Item) → IsBytes leb → (IsWordAt leb place → ⊥) → StandsAt leb place found node → found.kind ≡ types.Padding
     → IfNone r ((pad_len : ℕ) → IsPaddingAt leb place found pad_len → ⊥) → IfNone r ((item : Item) → Begins leb place item → ⊥)
 none_padding leb place found node (Some item) fits word stands kind none = tt
 none_padding leb place found node None fits word stands kind none = no_padding leb place found node fits word stands kind none

@@ -2,6 +2,8 @@
 use Rattle.std.proofs.Common.{◌≡◌, ℕ, ◌+◌, ◌-◌, ◌≤◌, List, [], ◌∷◌, ◌++◌, length, take, drop, min, refl, ap, sym, ◌∙◌, subst, arith, length-drop}
 use Rattle.std.proofs.lemmas.List.{drop-take, take-take, length-take-le}
 use Rattle.ubifs_base.specs.Node.{node_bytes}
+use Rattle.ubifs_base.specs.NodeType.{type_number}
+use Rattle.ubifs_base.specs.declared.node_type.NodeType.TheVariants as types
 use Rattle.node_fields.specs.FieldLaws.{reads_back, length-read}
 use Rattle.media_sys.specs.SystemNode.{padding, fields_of, IsSystemNode}
 use Rattle.media_sys.specs.declared.pad_node.PadNode.{PadNode}
@@ -29,7 +31,7 @@ node_length sqnum kind group (a ∷ b ∷ x ∷ pad) body two = absurd (omega (a
 padding_length : (bytes : List ℕ) (sqnum group : ℕ) (node : PadNode) → IsSystemNode bytes sqnum group (padding node) → length bytes ≡ 28
 padding_length bytes sqnum group node h =
     let body : length h.body ≡ 4 = length-read (fields_of (padding node)) [] h.body (reads_back 0 (fields_of (padding node)) [] h.body (omega arith) h.spelled) in
-    ap length h.framed.spelled ∙ node_length sqnum 5 group h.framed.padding h.body h.framed.two ∙ ap (λ (n : ℕ). 24 + n) body
+    ap length h.framed.spelled ∙ node_length sqnum (type_number types.Padding) group h.framed.padding h.body h.framed.two ∙ ap (λ (n : ℕ). 24 + n) body
 
 pub short_padding : (leb : List ℕ) (place : ℕ) (found : Found) (pad_len : ℕ) → IsPaddingAt leb place found pad_len → found.len ≡ 28
 short_padding leb place found pad_len h =

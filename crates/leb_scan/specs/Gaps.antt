@@ -7,9 +7,10 @@ use Rattle.std.proofs.lemmas.List.Elements.{All-nil, All-cons, All-take}
 use Rattle.byteorder.specs.Endian.{little_bytes}
 use Rattle.ubifs_base.specs.Gap.{gap_of, padding_node}
 use Rattle.ubifs_base.specs.Node.{node_bytes}
+use Rattle.ubifs_base.specs.declared.node_type.NodeType.TheVariants as types
 use Rattle.node_fields.specs.Fields.{Spells}
 use Rattle.media_sys.specs.SystemNode.{padding, IsSystemNode}
-use Rattle.leb_scan.specs.Text.{system, kind_of, IsPaddingAt, Stand, nodes_of}
+use Rattle.leb_scan.specs.Text.{IsPaddingAt, Stand, nodes_of}
 use Rattle.leb_scan.specs.TextLaws.{nodes_of-append}
 use Rattle.leb_scan.specs.declared.found.Found.{Found}
 use Rattle.leb_scan.specs.declared.item.Item.{Item}
@@ -22,7 +23,7 @@ padding_words (suc n) = Word ∷ padding_words n
 
 -- a padding node at this place
 abbrev pub padding_found : ℕ → ℕ → Found
-padding_found place pad_len = record { offs = place; len = 28; kind = kind_of (system (padding (record { pad_len = pad_len }))); group = 0; sqnum = 0 }
+padding_found place pad_len = record { offs = place; len = 28; kind = types.Padding; group = 0; sqnum = 0 }
 
 abbrev gap_by : ℕ → ℕ → Bool → List Item
 gap_by place n true = padding_words (n / 8)
@@ -34,7 +35,7 @@ gap_items place n = gap_by place n (nat_lt n 28)
 
 -- this is a padding node
 abbrev pub IsPadding : Found → Type 0
-IsPadding found = found.kind ≡ kind_of (system (padding (record { pad_len = 0 })))
+IsPadding found = found.kind ≡ types.Padding
 
 abbrev eights : ℕ → List ℕ
 eights zero = []

@@ -1,6 +1,7 @@
 pub mod Text
 pub mod Known
 pub mod TextLaws
+pub mod TypeLaws
 pub mod Meant
 pub mod Fronts
 pub mod Gaps

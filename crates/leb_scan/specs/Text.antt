@@ -1,8 +1,10 @@
 -- The text of a LEB: nodes and gaps, one behind another from a place on, and what stands behind the last.
 use Rattle.std.specs.Prelude.{◌≡◌, ◌≢◌, ℕ, ◌+◌, ◌*◌, ◌/◌, ◌%◌, ◌≤◌, ◌==◌, min, Bool, IsTrue, IsFalse, if◌then◌else◌, List, [], ◌∷◌, length, take, drop, replicate}
 use Rattle.std.specs.List.{list_all}
-use Rattle.media_leaf.specs.LeafNode.{LeafNode, leaf_form, IsLeafNode}
-use Rattle.media_sys.specs.SystemNode.{SystemNode, padding, system_form, IsSystemNode}
+use Rattle.ubifs_base.specs.declared.node_type.NodeType.{NodeType}
+use Rattle.ubifs_base.specs.declared.node_type.NodeType.TheVariants as types
+use Rattle.media_leaf.specs.LeafNode.{LeafNode, inode, block, entry, truncation, IsLeafNode}
+use Rattle.media_sys.specs.SystemNode.{SystemNode, padding, node_type, IsSystemNode}
 use Rattle.leb_scan.specs.declared.found.Found.{Found}
 use Rattle.leb_scan.specs.declared.item.Item.{Item}
 use Rattle.leb_scan.specs.declared.item.Item.TheVariants.{Node, Padding, Word}
@@ -14,10 +16,17 @@ pub data AnyNode : Type 0 where
   leaf : LeafNode → AnyNode
   system : SystemNode → AnyNode
 
--- the type in its header
-abbrev pub kind_of : AnyNode → ℕ
-kind_of (leaf node) = leaf_form.type_of node
-kind_of (system node) = system_form.type_of node
+-- the type of a leaf
+abbrev pub leaf_type : LeafNode → NodeType
+leaf_type (inode node) = types.Inode
+leaf_type (block node) = types.Data
+leaf_type (entry node) = if node.attribute then types.Attribute else types.Entry
+leaf_type (truncation node) = types.Truncation
+
+-- the type of a node, whose number is in its header
+abbrev pub kind_of : AnyNode → NodeType
+kind_of (leaf node) = leaf_type node
+kind_of (system node) = node_type node
 
 -- these bytes are this node, all of them
 abbrev pub IsAnyNode : List ℕ → ℕ → ℕ → AnyNode → Type 0
@@ -35,7 +44,7 @@ pub record StandsAt (leb : List ℕ) (place : ℕ) (found : Found) (node : AnyNo
 pub record IsNodeAt (leb : List ℕ) (place : ℕ) (found : Found) : Type 0 where
   pub node : AnyNode
   pub stands : StandsAt leb place found node
-  pub other : found.kind ≢ 5
+  pub other : found.kind ≢ types.Padding
 
 -- a padding node, and behind it a gap that stays inside the LEB and ends at a multiple of 8
 pub record IsPaddingAt (leb : List ℕ) (place : ℕ) (found : Found) (pad_len : ℕ) : Type 0 where

@@ -1,6 +1,7 @@
 // Which item begins at a place, and where it ends.
 
 ghost use Rattle.std.specs.Prelude.{◌≡◌, ◌^◌, ◌<◌, ◌≤◌, length, min, IfSome, IfNone};
+ghost use Rattle.ubifs_base.specs.declared.node_type.NodeType.TheVariants as types;
 ghost use Rattle.leb_scan.specs.Text.{AnyNode, StandsAt, Begins, behind as place_behind, up_to_8};
 ghost use Rattle.leb_scan.specs.declared.item.Item.{Item as AnItem};
 
@@ -9,8 +10,7 @@ use crate::found::Found;
 use crate::item::Item;
 use crate::node_at::node_at;
 use node_fields::u32_at;
-
-const PADDING_NODE: u8 = 5;
+use ubifs_base::NodeType;
 
 const PADDING_NODE_LEN: usize = 28;
 
@@ -27,7 +27,7 @@ pub(crate) fn item_at(leb: &[u8], place: u32) -> Option<Item>
     let Some(found) = node_at(leb, place) else {
         return None;
     };
-    if found.kind != PADDING_NODE {
+    if found.kind != NodeType::Padding {
         return Some(Item::Node { found });
     }
     padding_at(leb, place, found)
@@ -36,7 +36,7 @@ pub(crate) fn item_at(leb: &[u8], place: u32) -> Option<Item>
 // A padding node with its gap, where the gap is one.
 fn padding_at(leb: &[u8], place: u32, found: Found) -> Option<Item>
     requires stands { (node : AnyNode) × StandsAt leb.now place found node }
-    requires kind { found.kind ≡ 5 }
+    requires kind { found.kind ≡ types.Padding }
     requires len { length leb.now < 2 ^ 32 }
     ensures found { IfSome result (λ item. Begins leb.now place item) }
     ensures none { IfNone result ((pad_len : _) → Begins leb.now place (Item.Padding found pad_len) → ⊥) }

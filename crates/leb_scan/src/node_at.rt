@@ -7,7 +7,7 @@ ghost use Rattle.leb_scan.specs.Known.{IsBodyOf};
 use crate::found::Found;
 use media_leaf::is_leaf;
 use media_sys::is_system;
-use ubifs_base::unframe;
+use ubifs_base::{NodeType, unframe};
 
 // The node of any kind that stands at a place of the LEB. Its checksum is computed once.
 pub(crate) fn node_at(leb: &[u8], place: u32) -> Option<Found>
@@ -23,6 +23,9 @@ pub(crate) fn node_at(leb: &[u8], place: u32) -> Option<Found>
     if head.group > 2 {
         return None;
     }
+    let Some(kind) = NodeType::of(head.kind) else {
+        return None;
+    };
     let body = rest.split_at(head.len as usize).0.split_at(24).1;
     if !is_known(head.kind, body) {
         return None;
@@ -30,7 +33,7 @@ pub(crate) fn node_at(leb: &[u8], place: u32) -> Option<Found>
     Some(Found {
         offs: place,
         len: head.len,
-        kind: head.kind,
+        kind,
         group: head.group,
         sqnum: head.sqnum,
     })

@@ -4,6 +4,7 @@ use leb_scan::*;
 use std::alloc::{AllocError, Global};
 use std::process::Abort;
 use std::test::*;
+use ubifs_base::NodeType;
 
 // LEB 12 from 4096 on belongs to head 1: sequence number 11.
 const REFERENCE: &[u8; 64] =
@@ -34,7 +35,7 @@ const ODD_PADDING: &[u8; 28] =
     b"\x31\x18\x10\x06\x59\x3a\x06\x86\x00\x00\x00\x00\x00\x00\x00\x00\x1c\x00\x00\x00\
     \x05\x00\x00\x00\x05\x00\x00\x00";
 
-fn found(offs: u32, len: u32, kind: u8, sqnum: u64) -> Found {
+fn found(offs: u32, len: u32, kind: NodeType, sqnum: u64) -> Found {
     Found {
         offs,
         len,
@@ -90,9 +91,9 @@ fn ends(rt: HostRuntime) -> Result<(), Fail> {
 #[test]
 fn nodes(rt: HostRuntime) -> Result<(), Fail> {
     let alloc = rt.alloc();
-    let reference = found(0, 64, 8, 11);
-    let truncation = found(0, 56, 4, 10);
-    let block = found(0, 51, 1, 8);
+    let reference = found(0, 64, NodeType::Reference, 11);
+    let truncation = found(0, 56, NodeType::Truncation, 10);
+    let block = found(0, 51, NodeType::Data, 8);
     // A reference, and nothing behind it.
     is_text(
         &rt,
@@ -138,8 +139,8 @@ fn nodes(rt: HostRuntime) -> Result<(), Fail> {
 #[test]
 fn padding(rt: HostRuntime) -> Result<(), Fail> {
     let alloc = rt.alloc();
-    let truncation = found(0, 56, 4, 10);
-    let padding = found(0, 28, 5, 0);
+    let truncation = found(0, 56, NodeType::Truncation, 10);
+    let padding = found(0, 28, NodeType::Padding, 0);
     // A padding node with its gap, and a node behind it.
     is_text(
         &rt,
@@ -183,7 +184,10 @@ fn one_by_one(rt: HostRuntime) -> Result<(), Fail> {
     )?;
     assert!(rt; leb.len() == 121);
     let mut scanner = Scanner::new(56);
-    assert_eq!(rt; scanner.next(leb.as_slice()), Some(found(64, 56, 4, 10)));
+    assert_eq!(rt;
+        scanner.next(leb.as_slice()),
+        Some(found(64, 56, NodeType::Truncation, 10))
+    );
     assert_eq!(rt; scanner.next(leb.as_slice()), None);
     assert_eq!(rt; scanner.place(), 120);
     assert_eq!(rt; scanner.tail(leb.as_slice()), Tail::Torn);

@@ -5,6 +5,7 @@ use Rattle.std.specs.Prelude.{◌≢◌}
 use Rattle.ubifs_base.specs.Gap.{gap_of}
 use Rattle.media_sys.specs.SystemNode.{master, IsMaster}
 use Rattle.media_sys.specs.declared.master.Master.{Master}
+use Rattle.ubifs_base.specs.declared.node_type.NodeType.TheVariants as types
 use Rattle.leb_scan.specs.Gaps.{IsPadding, gap_items, gap_padding_alone}
 use Rattle.leb_scan.specs.Text.{is_blank, Stand, IsText, nodes_of}
 use Rattle.leb_scan.specs.TextLaws.{Stand-then, nodes_of-append}
@@ -50,7 +51,7 @@ pub record IsLaid (leb node : List ℕ) (place end : ℕ) : Type 0 where
   pub others : List Item
   pub stand : Stand leb place (Node found ∷ others) end
   pub blank : is_blank (drop end leb) ≡ true
-  pub kind : found.kind ≡ 7
+  pub kind : found.kind ≡ types.Master
   pub offs : found.offs ≡ place
   pub bytes : take found.len (drop place leb) ≡ node
   pub none : HasNone (nodes_of others)
@@ -59,7 +60,7 @@ pub laid_there : (leb front node back : List ℕ) (place g sqnum : ℕ) (new : M
     → IsLaid leb node place (place + 512 + g)
 laid_there leb front node back place g sqnum new h at even fits even_gap blank is_node =
     let there = copy_stands leb front node back place g sqnum new h at even fits even_gap is_node in
-    let N : Found → Type 0 = λ found. found.kind ≢ 7 in
+    let N : Found → Type 0 = λ found. found.kind ≢ types.Master in
     let R : List ℕ → Type 0 = λ bytes. is_blank bytes ≡ true in
     record {
       found = master_at place sqnum new;
@@ -69,14 +70,14 @@ laid_there leb front node back place g sqnum new h at even fits even_gap blank i
       kind = refl;
       offs = refl;
       bytes = there.node_there;
-      none = All-weaker IsPadding N (λ found padding kind. absurd (omega (arith, padding, kind))) (nodes_of (gap_items (place + 512) g)) (gap_padding_alone (place + 512) g);
+      none = All-weaker IsPadding N (λ found padding kind. absurd cc) (nodes_of (gap_items (place + 512) g)) (gap_padding_alone (place + 512) g);
     }
 
 -- so nothing was mended there
 pub laid_unmended : (leb node : List ℕ) (place end : ℕ) → IsLaid leb node place end → IsUnmended node place leb
 laid_unmended leb node place end h =
-    let P : Found → Type 0 = λ found. found.kind ≡ 7 → (found.offs ≡ place) × (take found.len (drop place leb) ≡ node) in
-    let N : Found → Type 0 = λ found. found.kind ≢ 7 in
+    let P : Found → Type 0 = λ found. found.kind ≡ types.Master → (found.offs ≡ place) × (take found.len (drop place leb) ≡ node) in
+    let N : Found → Type 0 = λ found. found.kind ≢ types.Master in
     record {
       items = Node h.found ∷ h.others;
       end = end;

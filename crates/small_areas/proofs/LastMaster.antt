@@ -2,6 +2,7 @@
 use Rattle.std.proofs.Common.{◌≡◌, ℕ, List, [], ◌∷◌, ◌++◌, Option, Some, None, IfSome, IfNone, ◌+◌, ◌≤◌, length, take, drop, refl, ap, sym, subst, ◌∙◌, append_assoc, rules}
 use Rattle.std.proofs.lemmas.List.Elements.{All-push}
 use Rattle.std.specs.Prelude.{◌≢◌}
+use Rattle.ubifs_base.specs.declared.node_type.NodeType.TheVariants as types
 use Rattle.leb_scan.specs.declared.found.Found.{Found}
 use Rattle.ubifs_base.specs.NodeLaws.{IsBytes}
 use Rattle.media_sys.specs.SystemNode.{SystemNode, IsSystemNode, IsMaster, master}
@@ -18,10 +19,10 @@ IsSeen nodes None = HasNone nodes
 IsSeen nodes (Some found) = IsLastOf nodes found
 
 -- behind another node
-pub seen_other : (nodes : List Found) (last : Option Found) (found : Found) → (found.kind ≢ 7) → IsSeen nodes last → IsSeen (nodes ++ found ∷ []) last
-seen_other nodes None found other seen = let P : Found → Type 0 = λ node. node.kind ≢ 7 in All-push P nodes found seen other
+pub seen_other : (nodes : List Found) (last : Option Found) (found : Found) → (found.kind ≢ types.Master) → IsSeen nodes last → IsSeen (nodes ++ found ∷ []) last
+seen_other nodes None found other seen = let P : Found → Type 0 = λ node. node.kind ≢ types.Master in All-push P nodes found seen other
 seen_other nodes (Some x) found other seen =
-    let P : Found → Type 0 = λ node. node.kind ≢ 7 in
+    let P : Found → Type 0 = λ node. node.kind ≢ types.Master in
     record {
       before = seen.before;
       behind = seen.behind ++ found ∷ [];
@@ -31,7 +32,7 @@ seen_other nodes (Some x) found other seen =
     }
 
 -- behind a master
-pub seen_master : (nodes : List Found) (found : Found) → found.kind ≡ 7 → IsSeen (nodes ++ found ∷ []) (Some found)
+pub seen_master : (nodes : List Found) (found : Found) → found.kind ≡ types.Master → IsSeen (nodes ++ found ∷ []) (Some found)
 seen_master nodes found kind = record { before = nodes; behind = []; split = refl; kind = kind; none = search rules }
 
 -- the nodes of the whole text

@@ -1,14 +1,15 @@
 -- The last master of several nodes.
 use Rattle.std.proofs.Common.{◌≡◌, ◌⊎◌, inl, inr, List, [], ◌∷◌, ◌++◌, length, refl, ap, sym, ◌∙◌, subst, append_assoc}
-use Rattle.std.proofs.lemmas.Bool.{cases_eq}
 use Rattle.std.proofs.lemmas.List.{drop_at}
 use Rattle.std.proofs.lemmas.List.Elements.{All-nil, All-cons, All-append, All-drop, All-head}
 use Rattle.std.specs.Prelude.{◌≢◌, All}
+use Rattle.ubifs_base.specs.declared.node_type.NodeType.TheVariants as types
+use Rattle.leb_scan.specs.TypeLaws.{cases_type}
 use Rattle.leb_scan.specs.declared.found.Found.{Found}
 use Rattle.small_areas.specs.Masters.{HasNone, IsLastOf}
 
 abbrev IsOther : Found → Type 0
-IsOther found = found.kind ≢ 7
+IsOther found = found.kind ≢ types.Master
 
 pub none_of_none : HasNone []
 none_of_none = All-nil IsOther
@@ -36,12 +37,12 @@ last_before nodes back found h none = record {
   none = All-append IsOther h.behind back h.none none;
 }
 
-first_last : (found : Found) (nodes : List Found) → HasNone nodes → (found.kind ≡ 7) ⊎ (found.kind ≡ 7 → ⊥) → HasNone (found ∷ nodes) ⊎ ((last : Found) × IsLastOf (found ∷ nodes) last)
+first_last : (found : Found) (nodes : List Found) → HasNone nodes → (found.kind ≡ types.Master) ⊎ (found.kind ≡ types.Master → ⊥) → HasNone (found ∷ nodes) ⊎ ((last : Found) × IsLastOf (found ∷ nodes) last)
 first_last found nodes none (inl same) = inr (found, record { before = []; behind = nodes; split = refl; kind = same; none = none })
 first_last found nodes none (inr other) = inl (All-cons IsOther found nodes other none)
 
 some_last : (found : Found) (nodes : List Found) → HasNone nodes ⊎ ((last : Found) × IsLastOf nodes last) → HasNone (found ∷ nodes) ⊎ ((last : Found) × IsLastOf (found ∷ nodes) last)
-some_last found nodes (inl none) = first_last found nodes none (cases_eq found.kind 7)
+some_last found nodes (inl none) = first_last found nodes none (cases_type found.kind types.Master)
 some_last found nodes (inr (last, h)) = inr (last, last_behind (found ∷ []) nodes last h)
 
 -- there is one, or none

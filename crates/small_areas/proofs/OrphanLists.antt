@@ -10,15 +10,18 @@ use Rattle.ubifs_base.specs.Areas.{orph_first}
 use Rattle.ubifs_base.specs.declared.raw_geometry.RawGeometry.{RawGeometry}
 use Rattle.media_sys.specs.Orphans.{Orphans}
 use Rattle.media_sys.specs.SystemNode.{padding, superblock, master, reference, index, commit_start, orphans, IsSystemNode}
+use Rattle.ubifs_base.specs.NodeType.{type_number}
+use Rattle.ubifs_base.specs.declared.node_type.NodeType.TheVariants as types
 use Rattle.leb_scan.specs.Text.{leaf, system, IsNodeAt, IsNext, IsLast, Stand, is_blank, nodes_of, tail_at}
 use Rattle.leb_scan.specs.Gaps.{gap_items, gap_length, gap_padding_alone, gap_stands}
 use Rattle.leb_scan.specs.TextLaws.{blank_replicate}
 use Rattle.leb_scan.specs.Gathered.{IsGathered, gathered_end, gathered_next}
+use Rattle.leb_scan.specs.TypeLaws.{leaf_low}
 use Rattle.leb_scan.specs.declared.found.Found.{Found}
 use Rattle.leb_scan.specs.declared.item.Item.TheVariants.{Node}
 use Rattle.leb_scan.specs.declared.tail.Tail.TheVariants.{Clean}
 use Rattle.small_areas.specs.Orphans.{AreListed, AreOrphans, HasOrphans, IsListLeb, IsListWritten, ListUnderWay, OrphanList, list_bytes, list_size}
-use Rattle.small_areas.proofs.Standing.{Stands, leaf_kind, stands_in}
+use Rattle.small_areas.proofs.Standing.{Stands, stands_in}
 
 -- what some nodes and the nodes behind them have
 pub listed_then : (leb : List ℕ) (nodes more : List Found) (a b : List ℕ) → AreListed leb nodes a → AreListed leb more b → AreListed leb (nodes ++ more) (a ++ b)
@@ -28,26 +31,26 @@ listed_then leb (found ∷ nodes) more a b (inr (node, rest, is, h, e)) k =
     inr (node, rest ++ b, is, listed_then leb nodes more rest b h k, ap (λ (f : List ℕ). f ++ b) e ∙ append_assoc node.inos rest b)
 
 -- padding nodes have none
-pub listed_padding : (leb : List ℕ) (nodes : List Found) → All (λ (found : Found). found.kind ≡ 5) nodes → AreListed leb nodes []
+pub listed_padding : (leb : List ℕ) (nodes : List Found) → All (λ (found : Found). found.kind ≡ types.Padding) nodes → AreListed leb nodes []
 listed_padding leb [] h = refl
 listed_padding leb (found ∷ nodes) h =
-    let P : Found → Type 0 = λ (f : Found). f.kind ≡ 5 in
-    let kind : found.kind ≡ 5 = All-head P found nodes h in
-    inl (omega (arith, kind), listed_padding leb nodes (All-tail P found nodes h))
+    let P : Found → Type 0 = λ (f : Found). f.kind ≡ types.Padding in
+    let kind : found.kind ≡ types.Padding = All-head P found nodes h in
+    inl (λ e. absurd cc, listed_padding leb nodes (All-tail P found nodes h))
 
--- a node of the type 11 is an orphan node
-pub orphans_there : (leb : List ℕ) (found : Found) → found.kind ≡ 11 → Stands leb found → (node : Orphans) × IsSystemNode (take found.len (drop found.offs leb)) found.sqnum found.group (orphans node)
-orphans_there leb found kind (leaf node, h) = let k = h.kind in let l = leaf_kind node in absurd (omega (arith, k, kind, l))
+-- a node of the type of orphan nodes is an orphan node
+pub orphans_there : (leb : List ℕ) (found : Found) → found.kind ≡ types.Orphans → Stands leb found → (node : Orphans) × IsSystemNode (take found.len (drop found.offs leb)) found.sqnum found.group (orphans node)
+orphans_there leb found kind (leaf node, h) = let k = ap type_number (sym h.kind ∙ kind) in let l = leaf_low node in absurd (omega (arith, k, l))
 orphans_there leb found kind (system (orphans node), h) = (node, h.is)
-orphans_there leb found kind (system (padding node), h) = let k = h.kind in absurd (omega (arith, k, kind))
-orphans_there leb found kind (system (superblock node), h) = let k = h.kind in absurd (omega (arith, k, kind))
-orphans_there leb found kind (system (master node), h) = let k = h.kind in absurd (omega (arith, k, kind))
-orphans_there leb found kind (system (reference node), h) = let k = h.kind in absurd (omega (arith, k, kind))
-orphans_there leb found kind (system (index node), h) = let k = h.kind in absurd (omega (arith, k, kind))
-orphans_there leb found kind (system (commit_start node), h) = let k = h.kind in absurd (omega (arith, k, kind))
+orphans_there leb found kind (system (padding node), h) = let k = h.kind in absurd cc
+orphans_there leb found kind (system (superblock node), h) = let k = h.kind in absurd cc
+orphans_there leb found kind (system (master node), h) = let k = h.kind in absurd cc
+orphans_there leb found kind (system (reference node), h) = let k = h.kind in absurd cc
+orphans_there leb found kind (system (index node), h) = let k = h.kind in absurd cc
+orphans_there leb found kind (system (commit_start node), h) = let k = h.kind in absurd cc
 
 -- a node that isn't one has no numbers
-pub listed_other : (leb : List ℕ) (found : Found) (inos : List ℕ) → found.kind ≢ 11 → (here : List ℕ) × AreListed leb (found ∷ []) here × (inos ≡ inos ++ here)
+pub listed_other : (leb : List ℕ) (found : Found) (inos : List ℕ) → found.kind ≢ types.Orphans → (here : List ℕ) × AreListed leb (found ∷ []) here × (inos ≡ inos ++ here)
 listed_other leb found inos other = ([], inl (other, refl), sym (append-nil inos))
 
 -- one that is has its own
@@ -113,9 +116,9 @@ node_listed leb node size g sqnum o is is_node even fits even_gap =
     let behind_it : drop (n + g) leb ≡ back = sym (drop-drop g n leb) ∙ ap (drop g) rest ∙ drop_at (gap_of g) back g (gap_length g) in
     let long : length leb ≡ n + length (gap_of g ++ back) = ap length whole ∙ length-append node (gap_of g ++ back) in
     let stand : Stand leb n (gap_items n g) (n + g) = gap_stands g leb n back fits even_gap rest in
-    let found : Found = record { offs = 0; len = n; kind = 11; group = 0; sqnum = sqnum } in
+    let found : Found = record { offs = 0; len = n; kind = types.Orphans; group = 0; sqnum = sqnum } in
     let P : List ℕ → Type 0 = λ bytes. IsSystemNode bytes sqnum 0 (orphans o) in
-    let there : IsNodeAt leb 0 found = record { node = system (orphans o); stands = record { here = refl; room = omega (arith, long); kind = refl; is = subst P (sym front) is_node }; other = omega arith } in
+    let there : IsNodeAt leb 0 found = record { node = system (orphans o); stands = record { here = refl; room = omega (arith, long); kind = refl; is = subst P (sym front) is_node }; other = λ e. absurd cc } in
     let next : n ≡ min ((0 + n + 7) / 8 * 8) (length leb) = omega (arith, even, long) in
     let Q : ℕ → Type 0 = λ p. Stand leb p (gap_items n g) (n + g) in
     let R : List ℕ → Type 0 = λ bytes. is_blank bytes ≡ true in

@@ -1,10 +1,11 @@
 -- Each node of a text stands in the LEB, and a node of a master's type is a master.
-use Rattle.std.proofs.Common.{◌≡◌, ℕ, ◌≤◌, Bool, true, false, List, [], ◌∷◌, ◌++◌, take, drop, sym, subst, arith}
-use Rattle.std.specs.Prelude.{if◌then◌else◌}
-use Rattle.media_leaf.specs.LeafNode.{LeafNode, inode, block, entry, truncation, leaf_form}
+use Rattle.std.proofs.Common.{◌≡◌, ℕ, List, [], ◌∷◌, ◌++◌, take, drop, ap, sym, ◌∙◌, subst, arith}
 use Rattle.media_sys.specs.SystemNode.{padding, superblock, master, reference, index, commit_start, orphans, IsMaster}
 use Rattle.media_sys.specs.declared.master.Master.{Master}
+use Rattle.ubifs_base.specs.NodeType.{type_number}
+use Rattle.ubifs_base.specs.declared.node_type.NodeType.TheVariants as types
 use Rattle.leb_scan.specs.Text.{AnyNode, leaf, system, StandsAt, Stand, behind, nodes_of}
+use Rattle.leb_scan.specs.TypeLaws.{leaf_low}
 use Rattle.leb_scan.specs.declared.found.Found.{Found}
 use Rattle.leb_scan.specs.declared.item.Item.{Item}
 use Rattle.leb_scan.specs.declared.item.Item.TheVariants.{Node, Padding, Word}
@@ -34,23 +35,13 @@ stands_in leb (Padding first pad_len ∷ items) place end [] rest found h e = pl
 stands_in leb (Padding first pad_len ∷ items) place end (b ∷ before) rest found h e =
     stands_in leb items (behind leb place (Padding first pad_len)) end before rest found h.1 (head_of first b (nodes_of items) (before ++ (found ∷ rest)) e).1
 
-below_four : (attribute : Bool) → let kind : ℕ = if attribute then 3 else 2 in kind ≤ 4
-below_four true = omega arith
-below_four false = omega arith
-
-pub leaf_kind : (node : LeafNode) → leaf_form.type_of node ≤ 4
-leaf_kind (inode node) = omega arith
-leaf_kind (block node) = omega arith
-leaf_kind (entry node) = below_four node.attribute
-leaf_kind (truncation node) = omega arith
-
--- a node of the type 7 is a master
-pub master_there : (leb : List ℕ) (found : Found) → found.kind ≡ 7 → Stands leb found → (node : Master) × IsMaster (take found.len (drop found.offs leb)) found.sqnum found.group node
-master_there leb found kind (leaf node, h) = let k = h.kind in let l = leaf_kind node in absurd (omega (arith, k, kind, l))
+-- a node of the type of masters is a master
+pub master_there : (leb : List ℕ) (found : Found) → found.kind ≡ types.Master → Stands leb found → (node : Master) × IsMaster (take found.len (drop found.offs leb)) found.sqnum found.group node
+master_there leb found kind (leaf node, h) = let k = ap type_number (sym h.kind ∙ kind) in let l = leaf_low node in absurd (omega (arith, k, l))
 master_there leb found kind (system (master node), h) = (node, h.is)
-master_there leb found kind (system (padding node), h) = let k = h.kind in absurd (omega (arith, k, kind))
-master_there leb found kind (system (superblock node), h) = let k = h.kind in absurd (omega (arith, k, kind))
-master_there leb found kind (system (reference node), h) = let k = h.kind in absurd (omega (arith, k, kind))
-master_there leb found kind (system (index node), h) = let k = h.kind in absurd (omega (arith, k, kind))
-master_there leb found kind (system (commit_start node), h) = let k = h.kind in absurd (omega (arith, k, kind))
-master_there leb found kind (system (orphans node), h) = let k = h.kind in absurd (omega (arith, k, kind))
+master_there leb found kind (system (padding node), h) = let k = h.kind in absurd cc
+master_there leb found kind (system (superblock node), h) = let k = h.kind in absurd cc
+master_there leb found kind (system (reference node), h) = let k = h.kind in absurd cc
+master_there leb found kind (system (index node), h) = let k = h.kind in absurd cc
+master_there leb found kind (system (commit_start node), h) = let k = h.kind in absurd cc
+master_there leb found kind (system (orphans node), h) = let k = h.kind in absurd cc

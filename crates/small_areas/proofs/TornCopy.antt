@@ -8,6 +8,7 @@ use Rattle.ubi_volume.specs.Volume.{VolumeState, Only, filled, put}
 use Rattle.ubi_volume.specs.VolumeLaws.{WriteUnderWay-only}
 use Rattle.media_sys.specs.SystemNode.{IsMaster}
 use Rattle.media_sys.specs.declared.master.Master.{Master}
+use Rattle.ubifs_base.specs.declared.node_type.NodeType.TheVariants as types
 use Rattle.leb_scan.specs.Fronts.{same_part, stand_alike, within}
 use Rattle.leb_scan.specs.Gaps.{gap_length}
 use Rattle.leb_scan.specs.Text.{IsText, nodes_of, is_blank}
@@ -74,7 +75,7 @@ read_behind one one_node a left node lnum room place sqnum new o fits is_node is
     elim (last_of (nodes_of u.items)) [
       | inl none ↦ inl (still one a left lnum place k o fits none h)
       | inr (found, last) ↦
-          let P : Found → Type 0 = λ f. f.kind ≡ 7 → (f.offs ≡ place) × (take f.len (drop place left) ≡ node) in
+          let P : Found → Type 0 = λ f. f.kind ≡ types.Master → (f.offs ≡ place) × (take f.len (drop place left) ≡ node) in
           let Q : List Found → Type 0 = λ nodes. IsLastOf nodes found in
           let its = of_last P (nodes_of u.items) found u.masters last last.kind in
           let all : IsLastOf (nodes_of (is_place.items ++ u.items)) found = subst Q (sym (nodes_of-append is_place.items u.items)) (last_behind (nodes_of is_place.items) (nodes_of u.items) found last) in
@@ -146,7 +147,7 @@ appended one a leb node lnum room place sqnum new is_room h is_place is_node =
 -- nothing was mended where nothing was written yet
 pub unmended_before : (leb node : List ℕ) (room place : ℕ) → IsPlace leb room place → IsUnmended node place leb
 unmended_before leb node room place is_place =
-    let P : Found → Type 0 = λ found. found.kind ≡ 7 → (found.offs ≡ place) × (take found.len (drop place leb) ≡ node) in
+    let P : Found → Type 0 = λ found. found.kind ≡ types.Master → (found.offs ≡ place) × (take found.len (drop place leb) ≡ node) in
     record { items = []; end = place; tail = Clean; is_text = record { stand = refl; ends = is_place.is_text.ends }; masters = All-nil P }
 
 -- nor where the whole copy was

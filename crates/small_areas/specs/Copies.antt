@@ -2,6 +2,7 @@
 use Rattle.std.specs.Prelude.{◌≡◌, ◌⊎◌, ℕ, ◌+◌, ◌-◌, ◌*◌, ◌/◌, ◌%◌, ◌^◌, ◌<◌, ◌≤◌, List, ◌++◌, All, length, take, drop}
 use Rattle.ubifs_base.specs.Gap.{gap_of}
 use Rattle.ubifs_base.specs.NodeLaws.{IsBytes}
+use Rattle.ubifs_base.specs.declared.node_type.NodeType.TheVariants as types
 use Rattle.ubi_volume.specs.Volume.{VolumeState, Keeps, Only, IsWritten, IsChanged, ChangeUnderWay, WriteUnderWay}
 use Rattle.ubi_volume.specs.Frame.{Elsewhere}
 use Rattle.media_sys.specs.SystemNode.{IsMaster, master, written}
@@ -80,7 +81,7 @@ pub record IsUnmended (node : List ℕ) (place : ℕ) (left : List ℕ) : Type 0
   pub end : ℕ
   pub tail : Tail
   pub is_text : IsText left place items end tail
-  pub masters : All (λ (found : Found). found.kind ≡ 7 → (found.offs ≡ place) × (take found.len (drop place left) ≡ node)) (nodes_of items)
+  pub masters : All (λ (found : Found). found.kind ≡ types.Master → (found.offs ≡ place) × (take found.len (drop place left) ≡ node)) (nodes_of items)
 
 -- the premise on checksums, of what a cut left of a LEB to which a copy with this node was written, or was to be
 abbrev pub IsMeant : List ℕ → ℕ → List ℕ → List ℕ → Type 0

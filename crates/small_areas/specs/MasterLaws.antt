@@ -3,7 +3,6 @@ use Rattle.std.proofs.Common.{◌≡◌, ℕ, zero, suc, ◌+◌, ◌<◌, ◌�
 use Rattle.std.specs.Prelude.{◌⊎◌, ◌≢◌}
 use Rattle.std.proofs.lemmas.List.Elements.{All-head, All-tail}
 use Rattle.ubifs_base.specs.NodeLaws.{IsBytes}
-use Rattle.ubifs_base.specs.NodeType.{type_number}
 use Rattle.ubifs_base.specs.declared.node_type.NodeType.TheVariants as types
 use Rattle.media_sys.specs.SystemNode.{SystemNode, master, IsSystemNode, IsMaster}
 use Rattle.media_sys.specs.declared.master.Master.{Master}
@@ -34,15 +33,15 @@ take_bytes (suc n) [] fits = fits
 take_bytes (suc n) (x ∷ bytes) fits = cons_bytes x (take n bytes) (fits 0) (take_bytes n bytes (λ i. fits (suc i)))
 
 -- where there is a master there isn't none
-none_has : (before behind : List Found) (found : Found) → HasNone (before ++ found ∷ behind) → found.kind ≡ type_number types.Master → ⊥
-none_has [] behind found none kind = let P : Found → Type 0 = λ f. f.kind ≢ type_number types.Master in All-head P found behind none kind
-none_has (b ∷ before) behind found none kind = let P : Found → Type 0 = λ f. f.kind ≢ type_number types.Master in none_has before behind found (All-tail P b (before ++ found ∷ behind) none) kind
+none_has : (before behind : List Found) (found : Found) → HasNone (before ++ found ∷ behind) → found.kind ≡ types.Master → ⊥
+none_has [] behind found none kind = let P : Found → Type 0 = λ f. f.kind ≢ types.Master in All-head P found behind none kind
+none_has (b ∷ before) behind found none kind = let P : Found → Type 0 = λ f. f.kind ≢ types.Master in none_has before behind found (All-tail P b (before ++ found ∷ behind) none) kind
 
 head_same : {X : Type 0} (x y : X) (xs ys : List X) → x ∷ xs ≡ y ∷ ys → (x ≡ y) × (xs ≡ ys)
 head_same x y xs ys h = (cc, cc)
 
 -- the last master of a list is one
-last_same : (b1 c1 b2 c2 : List Found) (f1 f2 : Found) → b1 ++ f1 ∷ c1 ≡ b2 ++ f2 ∷ c2 → f1.kind ≡ type_number types.Master → f2.kind ≡ type_number types.Master → HasNone c1 → HasNone c2 → f1 ≡ f2
+last_same : (b1 c1 b2 c2 : List Found) (f1 f2 : Found) → b1 ++ f1 ∷ c1 ≡ b2 ++ f2 ∷ c2 → f1.kind ≡ types.Master → f2.kind ≡ types.Master → HasNone c1 → HasNone c2 → f1 ≡ f2
 last_same [] c1 [] c2 f1 f2 e k1 k2 n1 n2 = (head_same f1 f2 c1 c2 e).0
 last_same [] c1 (b ∷ b2) c2 f1 f2 e k1 k2 n1 n2 =
     let P : List Found → Type 0 = λ c. HasNone c in

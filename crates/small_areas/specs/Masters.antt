@@ -1,6 +1,5 @@
 -- The masters of a volume: the last one in the text of each of their two LEBs, and which of the two is the latest.
 use Rattle.std.specs.Prelude.{◌≡◌, ◌≢◌, ◌⊎◌, ℕ, ◌<◌, ◌≤◌, List, ◌∷◌, ◌++◌, All, take, drop}
-use Rattle.ubifs_base.specs.NodeType.{type_number}
 use Rattle.ubifs_base.specs.declared.node_type.NodeType.TheVariants as types
 use Rattle.media_sys.specs.SystemNode.{IsMaster}
 use Rattle.leb_scan.specs.Text.{IsText, nodes_of}
@@ -11,14 +10,14 @@ use Rattle.small_areas.specs.declared.placed_master.PlacedMaster.{PlacedMaster}
 
 -- of these nodes none is a master
 abbrev pub HasNone : List Found → Type 0
-HasNone nodes = All (λ (node : Found). node.kind ≢ type_number types.Master) nodes
+HasNone nodes = All (λ (node : Found). node.kind ≢ types.Master) nodes
 
 -- of these nodes this is the last master
 pub record IsLastOf (nodes : List Found) (found : Found) : Type 0 where
   pub before : List Found
   pub behind : List Found
   pub split : nodes ≡ before ++ (found ∷ behind)
-  pub kind : found.kind ≡ type_number types.Master
+  pub kind : found.kind ≡ types.Master
   pub none : HasNone behind
 
 -- the last master among the nodes of the text of a LEB

@@ -5,13 +5,14 @@ use Rattle.std.proofs.lemmas.Nat.Gcd.{dvd_of_mod-eq-zero, mod-eq-zero_of_dvd, dv
 use Rattle.std.proofs.lemmas.List.{drop-drop, take_at, drop_at, length-take-le}
 use Rattle.std.proofs.lemmas.List.Elements.{All-nil, All-cons, All-weaker}
 use Rattle.ubifs_base.specs.Gap.{gap_of}
+use Rattle.ubifs_base.specs.declared.node_type.NodeType.TheVariants as types
 use Rattle.ubi_volume.specs.Volume.{put}
 use Rattle.media_sys.specs.SystemNode.{IsMaster, master}
 use Rattle.media_sys.specs.declared.master.Master.{Master}
 use Rattle.leb_scan.specs.Gaps.{IsPadding, gap_items, gap_length, gap_stands, gap_part_alone}
 use Rattle.leb_scan.specs.Meant.{AreUntorn, IsMeant as AreMeant}
 use Rattle.leb_scan.specs.MeantLaws.{first_items}
-use Rattle.leb_scan.specs.Text.{system, kind_of, IsNodeAt, Stand, is_blank, IsText, tail_at, nodes_of}
+use Rattle.leb_scan.specs.Text.{system, IsNodeAt, Stand, is_blank, IsText, tail_at, nodes_of}
 use Rattle.leb_scan.specs.TextLaws.{blank_later, same_parts}
 use Rattle.leb_scan.specs.declared.found.Found.{Found}
 use Rattle.leb_scan.specs.declared.item.Item.{Item}
@@ -21,7 +22,7 @@ use Rattle.small_areas.specs.Copies.{copy_of, IsRoom, IsNodeOf, IsPlace, IsUnmen
 
 -- the node of a master at this place
 abbrev pub master_at : ℕ → ℕ → Master → Found
-master_at place sqnum new = record { offs = place; len = 512; kind = kind_of (system (master new)); group = 0; sqnum = sqnum }
+master_at place sqnum new = record { offs = place; len = 512; kind = types.Master; group = 0; sqnum = sqnum }
 
 -- the items of a copy at this place: the node, and a gap of so many bytes
 abbrev pub copy_items : ℕ → ℕ → ℕ → Master → List Item
@@ -45,7 +46,7 @@ copy_stands leb front node back place gap sqnum new h at even fits even_gap is_n
     let size : length (drop place leb) ≡ length leb - place = length-drop place leb in
     let whole : place + 512 ≤ length leb = omega (arith, a, size, long) in
     let P : List ℕ → Type 0 = λ bytes. IsMaster bytes sqnum 0 new in
-    let there : IsNodeAt leb place (master_at place sqnum new) = record { node = system (master new); stands = record { here = refl; room = whole; kind = refl; is = subst P (sym node_there) is_node.is }; other = omega arith } in
+    let there : IsNodeAt leb place (master_at place sqnum new) = record { node = system (master new); stands = record { here = refl; room = whole; kind = refl; is = subst P (sym node_there) is_node.is }; other = λ e. absurd cc } in
     let after : place + 512 ≡ min ((place + 512 + 7) / 8 * 8) (length leb) = omega (arith, even, whole) in
     let Q : ℕ → Type 0 = λ p. Stand leb p (gap_items (place + 512) gap) (place + 512 + gap) in
     record {
@@ -56,10 +57,10 @@ copy_stands leb front node back place gap sqnum new h at even fits even_gap is_n
 
 -- a node is no master, or it stands at the place and has these bytes
 abbrev IsThat : List ℕ → ℕ → List ℕ → Found → Type 0
-IsThat node place left found = found.kind ≡ 7 → (found.offs ≡ place) × (take found.len (drop place left) ≡ node)
+IsThat node place left found = found.kind ≡ types.Master → (found.offs ≡ place) × (take found.len (drop place left) ≡ node)
 
 padding_alone : (node left : List ℕ) (place : ℕ) (nodes : List Found) → All IsPadding nodes → All (IsThat node place left) nodes
-padding_alone node left place = All-weaker IsPadding (IsThat node place left) (λ found padding kind. absurd (omega (arith, padding, kind)))
+padding_alone node left place = All-weaker IsPadding (IsThat node place left) (λ found padding kind. absurd cc)
 
 -- of a first part of the copy's items, each whole, that node alone is a master
 copy_part : (meant node left : List ℕ) (place gap sqnum : ℕ) (new : Master) (first rest : List Item) → take 512 (drop place meant) ≡ node → copy_items gap place sqnum new ≡ first ++ rest → AreUntorn meant place first left

@@ -2,7 +2,6 @@
 use Rattle.std.specs.Prelude.{◌≡◌, ◌≢◌, ◌⊎◌, ℕ, zero, suc, ◌+◌, ◌-◌, ◌*◌, ◌/◌, true, List, [], ◌∷◌, ◌++◌, length, take, drop, Result, Ok, Err}
 use Rattle.ubifs_base.specs.Areas.{orph_first}
 use Rattle.ubifs_base.specs.Gap.{gap_of}
-use Rattle.ubifs_base.specs.NodeType.{type_number}
 use Rattle.ubifs_base.specs.declared.node_type.NodeType.TheVariants as types
 use Rattle.ubifs_base.specs.declared.raw_geometry.RawGeometry.{RawGeometry}
 use Rattle.ubi_volume.specs.Volume.{VolumeState, Keeps, Only, filled}
@@ -29,7 +28,7 @@ pub record IsOrphansAt (leb : List ℕ) (found : Found) (node : Orphans) : Type 
 abbrev pub AreListed : List ℕ → List Found → List ℕ → Type 0
 AreListed leb [] inos = inos ≡ []
 AreListed leb (found ∷ nodes) inos =
-    ((found.kind ≢ type_number types.Orphans) × AreListed leb nodes inos)
+    ((found.kind ≢ types.Orphans) × AreListed leb nodes inos)
     ⊎ ((node : Orphans) × (rest : List ℕ) × IsOrphansAt leb found node × AreListed leb nodes rest × (inos ≡ node.inos ++ rest))
 
 -- the orphan nodes of the text of a LEB have these numbers

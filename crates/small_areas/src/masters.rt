@@ -13,8 +13,7 @@ use leb_scan::{Found, Scanner};
 use media_sys::{Master, one_node};
 use std::alloc::Global;
 use ubi_volume::{AreaFault, VolFault, Volume, read_leb};
-
-const MASTER_NODE: u8 = 7;
+use ubifs_base::NodeType;
 
 /// The latest master of a volume, with its place: of the last ones in LEBs 1 and 2 that with the greater sequence number,
 /// and LEB 1's where both are equal. None exactly where neither LEB has one.
@@ -110,7 +109,7 @@ fn last_found(leb: &[u8]) -> Option<Found>
     let mut last = None;
     let mut scanner = Scanner::new(0);
     while let Some(found) = scanner.next(leb) {
-        if found.kind == MASTER_NODE {
+        if found.kind == NodeType::Master {
             last = Some(found);
         }
     }

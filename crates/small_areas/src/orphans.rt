@@ -18,8 +18,6 @@ use std::alloc::{AllocError, Global};
 use ubi_volume::{AreaFault, Volume, read_leb};
 use ubifs_base::{Geometry, Memory, NodeType, fill_gap};
 
-const KIND: u8 = NodeType::Orphans as u8;
-
 /// Writes the list of orphans of a commit as one orphan node, the last of its commit, or as one padding unit if the list is
 /// empty. It replaces the first LEB of the orphan area as one step, so a power cut at any moment leaves the list that was
 /// there or the new one. The node takes the next sequence number, whatever the answer.
@@ -219,7 +217,7 @@ fn take_numbers(
     requires { (node : AnyNode) × StandsAt leb.now found.offs found node }
     ensures { OnOk result ((here : List ℕ) × AreListed leb.now (found ∷ []) here × (inos.new.items ≡ inos.old.items ++ here)) }
 {
-    if found.kind != KIND {
+    if found.kind != NodeType::Orphans {
         return Ok(());
     }
     let rest = leb.split_at(found.offs as usize).1;

@@ -1,4 +1,4 @@
-use Rattle.std.proofs.Common.{◌++◌, ◌∷◌, [], arith}
+use Rattle.std.proofs.Common.{◌++◌, ◌∷◌, [], arith, rules}
 use Rattle.leb_scan.specs.Gathered.{gathered_next}
 use Rattle.bud_log.proofs.References.{next_stands, room_of, reference_there, named_more, named_other, named_all}
 use Rattle.bud_log.proofs.buds.name_buds.Goals as goal
@@ -8,7 +8,7 @@ reference_at-requires-clause-room c = room_of c.args.leb.now c.in-Some.found (ne
 
 pub reference_at-requires-clause-there : goal.reference_at-requires-clause-there
 reference_at-requires-clause-there c =
-    reference_there c.args.leb.now c.in-Some.found c.if-found-eq-REFERENCE_NODE.true (next_stands c.args.leb.now c.loop-found.scanner.place c.next.new.self.place c.in-Some.found c.in-Some.ensures.some)
+    reference_there c.args.leb.now c.in-Some.found (search rules) (next_stands c.args.leb.now c.loop-found.scanner.place c.next.new.self.place c.in-Some.found c.in-Some.ensures.some)
 
 pub loop-found-preserved-in-Continue-1 : goal.loop-found-preserved-in-Continue-1
 loop-found-preserved-in-Continue-1 c =
@@ -17,7 +17,7 @@ loop-found-preserved-in-Continue-1 c =
       (
         before.0 ++ found ∷ [],
         gathered_next c.args.leb.now 0 c.loop-found.scanner.place c.next.new.self.place before.0 found before.1 c.in-Some.ensures.some,
-        named_more c.args.leb.now before.0 c.args.buds.now.items c.loop-found.buds.items c.name_bud.new.buds.items found c.in-Some-reference_at.node c.if-found-eq-REFERENCE_NODE.true c.in-Some-reference_at.ensures.some before.2 c.in_ok-name_bud.ensures,
+        named_more c.args.leb.now before.0 c.args.buds.now.items c.loop-found.buds.items c.name_bud.new.buds.items found c.in-Some-reference_at.node (search rules) c.in-Some-reference_at.ensures.some before.2 c.in_ok-name_bud.ensures,
       ),
       omega arith,
     )
@@ -29,7 +29,7 @@ loop-found-preserved c =
       (
         before.0 ++ found ∷ [],
         gathered_next c.args.leb.now 0 c.loop-found.scanner.place c.next.new.self.place before.0 found before.1 c.in-Some.ensures.some,
-        named_other c.args.leb.now before.0 c.args.buds.now.items c.loop-found.buds.items found c.if-found-eq-REFERENCE_NODE.false before.2,
+        named_other c.args.leb.now before.0 c.args.buds.now.items c.loop-found.buds.items found (search rules) before.2,
       ),
       omega arith,
     )

@@ -1,5 +1,5 @@
-use Rattle.std.proofs.Common.{◌++◌, ◌∷◌, [], ◌==◌, ◌&&◌, Bool, ap, sym, ◌∙◌, arith}
-use Rattle.std.proofs.lemmas.Bool.{ne_eqb, eq-eqb}
+use Rattle.std.proofs.Common.{◌++◌, ◌∷◌, [], ◌==◌, ◌&&◌, Bool, ap, sym, ◌∙◌, arith, rules}
+use Rattle.ubifs_base.specs.NodeType.{type_number}
 use Rattle.leb_scan.specs.Gathered.{gathered_next}
 use Rattle.bud_log.proofs.NodeLists.{so_far_padding, so_far_more, seen_all}
 use Rattle.bud_log.proofs.seen.see.Goals as goal
@@ -8,11 +8,11 @@ pub loop-found-preserved-then-empty : goal.loop-found-preserved-then-empty
 loop-found-preserved-then-empty c =
     let before = c.loop-found.invariant.0 in
     let found = c.in-Some.found in
-    let last : Bool = found.kind == 10 in (
+    let last : Bool = type_number found.kind == 10 in (
       (
         before.0 ++ found ∷ [],
         gathered_next c.args.leb.now 0 c.loop-found.scanner.place c.next.new.self.place before.0 found before.1 c.in-Some.ensures.some,
-        so_far_more before.0 c.loop-found.first c.earlier-first.result c.loop-found.empty c.loop-found.alone last found before.2 c.earlier-first.ensures (ne_eqb found.kind 5 c.if-found-ne-PADDING_NODE.true) (ap (λ (b : Bool). b && last) (sym c.if-empty.true)),
+        so_far_more before.0 c.loop-found.first c.earlier-first.result c.loop-found.empty c.loop-found.alone c.is_of-alone.result found before.2 c.earlier-first.ensures (search rules) (c.is_of-alone.ensures ∙ ap (λ (b : Bool). b && last) (sym c.if-empty.true)),
       ),
       omega arith,
     )
@@ -21,11 +21,11 @@ pub loop-found-preserved-else-empty : goal.loop-found-preserved-else-empty
 loop-found-preserved-else-empty c =
     let before = c.loop-found.invariant.0 in
     let found = c.in-Some.found in
-    let last : Bool = found.kind == 10 in (
+    let last : Bool = type_number found.kind == 10 in (
       (
         before.0 ++ found ∷ [],
         gathered_next c.args.leb.now 0 c.loop-found.scanner.place c.next.new.self.place before.0 found before.1 c.in-Some.ensures.some,
-        so_far_more before.0 c.loop-found.first c.earlier-first.result c.loop-found.empty c.loop-found.alone c.loop-found.empty found before.2 c.earlier-first.ensures (ne_eqb found.kind 5 c.if-found-ne-PADDING_NODE.true)
+        so_far_more before.0 c.loop-found.first c.earlier-first.result c.loop-found.empty c.loop-found.alone c.loop-found.empty found before.2 c.earlier-first.ensures (search rules)
             (c.if-empty.false ∙ ap (λ (b : Bool). b && last) (sym c.if-empty.false)),
       ),
       omega arith,
@@ -38,7 +38,7 @@ loop-found-preserved c =
       (
         before.0 ++ found ∷ [],
         gathered_next c.args.leb.now 0 c.loop-found.scanner.place c.next.new.self.place before.0 found before.1 c.in-Some.ensures.some,
-        so_far_padding before.0 c.loop-found.first c.earlier-first.result c.loop-found.empty c.loop-found.alone found before.2 c.earlier-first.ensures (eq-eqb found.kind 5 c.if-found-ne-PADDING_NODE.false),
+        so_far_padding before.0 c.loop-found.first c.earlier-first.result c.loop-found.empty c.loop-found.alone found before.2 c.earlier-first.ensures (search rules),
       ),
       omega arith,
     )

@@ -1,7 +1,7 @@
-use Rattle.std.proofs.Common.{ℕ, List, subst, sym, arith}
+use Rattle.std.proofs.Common.{ℕ, List, subst, sym, ◌∙◌, arith}
 use Rattle.leb_scan.specs.Known.{IsBodyOf}
 use Rattle.leb_scan.proofs.Heads.{stands}
-use Rattle.leb_scan.proofs.Places.{head_there, no_head, body_there, same_group, same_body}
+use Rattle.leb_scan.proofs.Places.{head_there, no_head, no_type, body_there, same_group, same_body}
 use Rattle.leb_scan.proofs.node_at.node_at.Goals as goal
 
 pub returns-in_default-clause-none : goal.returns-in_default-clause-none
@@ -32,4 +32,10 @@ returns-clause-found c =
     let there = body_there leb c.split_at.result.1.now c.split_at-2.result.0.now c.split_at-3.result.1.now c.args.place c.in-Ok.head.len c.split_at.ensures.back c.split_at-2.ensures.front c.split_at-3.ensures.back in
     let is = c.is_known.ensures.0 c.if-not-is_known.false in
     let P : List ℕ → Type 0 = λ b. IsBodyOf c.in-Ok.head.kind b is.0 in
-    (is.0, stands leb c.args.place c.in-Ok.head is.0 (λ i. omega (arith, c.type_inv.leb i)) c.requires.place c.requires.len read c.if-head-gt2.false (subst P there is.1))
+    (is.0, stands leb c.args.place c.in-Some.kind c.in-Ok.head is.0 (λ i. omega (arith, c.type_inv.leb i)) c.requires.place c.requires.len read c.if-head-gt2.false (sym c.of.ensures ∙ c.in-Some.is) (subst P there is.1))
+
+pub returns-in_default-of-clause-none : goal.returns-in_default-of-clause-none
+returns-in_default-of-clause-none c =
+    let leb = c.args.leb.now in
+    let read = head_there leb c.split_at.result.1.now c.args.place c.unframe.result c.in-Ok.head c.split_at.ensures.back c.unframe.ensures.exact c.in-Ok.is in
+    no_type leb c.args.place c.in-Ok.head c.of.result (λ i. omega (arith, c.type_inv.leb i)) read c.of.ensures c.in_default-of.not-Some
