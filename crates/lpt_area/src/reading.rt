@@ -32,8 +32,7 @@ pub fn read_tree<V: Volume>(
     ensures found { IfOk result (λ r. IfSome r (λ props. IsTree (raw_of geo.now) (V.state volume.old).holds (root_of at.now) props.items)) }
     ensures none { IfOk result (λ r. IfNone r (HasNone (IsTree (raw_of geo.now) (V.state volume.old).holds (root_of at.now)))) }
     ensures count { IfOk result (λ r. IfSome r (λ props. length props.items ≡ main_lebs (raw_of geo.now))) }
-    ensures keeps { Keeps (V.state volume.old) (V.state volume.new) }
-    ensures shape { SameShape (V.state volume.old) (V.state volume.new) }
+    ensures keeps { Keeps (V.state volume.old) (V.state volume.new) × SameShape (V.state volume.old) (V.state volume.new) }
     ensures cause { HasAreaCause (V.state volume.old).faults (V.state volume.new).faults result }
     ensures sure { StaysSureArea (V.state volume.old) (V.state volume.new) result }
 {

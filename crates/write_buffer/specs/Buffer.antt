@@ -1,5 +1,5 @@
 -- A buffer in front of a LEB: what was appended to the LEB, how much of it is written, and what waits.
-use Rattle.std.specs.Prelude.{◌≡◌, ℕ, ◌+◌, ◌-◌, ◌*◌, ◌/◌, ◌%◌, ◌^◌, ◌<◌, ◌≤◌, Option, Some, None, List, [], ◌∷◌, ◌++◌, length, take}
+use Rattle.std.specs.Prelude.{◌≡◌, ◌⊎◌, ℕ, ◌+◌, ◌-◌, ◌*◌, ◌/◌, ◌%◌, ◌^◌, ◌<◌, ◌≤◌, Option, Some, None, List, [], ◌∷◌, ◌++◌, length, take}
 use Rattle.ubifs_base.specs.Gap.{gap_of}
 use Rattle.ubi_volume.specs.Volume.{VolumeState, Only, filled}
 
@@ -72,6 +72,10 @@ pub record Stands (old new : VolumeState) (before after : Buffered) (lnum : ℕ)
   pub later : before.place ≤ after.place
   pub taken : ℕ
   pub text : text_of new after lnum ≡ text_of old before lnum ++ take taken bytes
+
+-- only bytes of earlier calls wait
+abbrev pub OnlyEarlierWait : Buffered → Buffered → Type 0
+OnlyEarlierWait before after = (after.tail ≡ before.tail) ⊎ (after.tail ≡ [])
 
 -- the text was padded to whole units, nothing waits, and a cut leaves the text and unwritten bytes
 pub record IsSynced (old new : VolumeState) (before after : Buffered) (lnum : ℕ) : Type 0 where

@@ -1,10 +1,10 @@
 // A buffer in front of a LEB.
 
-ghost use Rattle.std.specs.Prelude.{◌≡◌, ◌⊎◌, ◌↔◌, ◌+◌, ◌-◌, ◌<◌, ◌≤◌, ◌^◌, ◌++◌, [], length, IfOk, OnOk, OnErr, IsTrue};
+ghost use Rattle.std.specs.Prelude.{◌≡◌, ◌↔◌, ◌+◌, ◌-◌, ◌<◌, ◌≤◌, ◌^◌, ◌++◌, [], length, IfOk, OnOk, OnErr, IsTrue};
 ghost use Rattle.ubifs_base.specs.Gap.{gap_of};
 ghost use Rattle.ubi_volume.specs.Volume.{SameShape, Torn, WorksOn};
 ghost use Rattle.ubi_volume.specs.Faults.{HasCause, StaysSure};
-ghost use Rattle.write_buffer.specs.Buffer.{IsAppended, IsBuffer, IsOpenFor, IsSynced, Stands, end_of, lnum_of, padding_of, whole_of};
+ghost use Rattle.write_buffer.specs.Buffer.{IsAppended, IsBuffer, IsOpenFor, IsSynced, OnlyEarlierWait, Stands, end_of, lnum_of, padding_of, whole_of};
 ghost use Rattle.write_buffer.specs.Units.{IsFilled};
 
 use crate::units::{pad_behind, put_behind, write_units};
@@ -85,8 +85,7 @@ impl Buffer {
         requires open_there { IsOpenFor (V.state volume.old) self.old (lnum_of self.old) }
         requires fits { end_of self.old + length bytes.now ≤ (V.state volume.old).leb_size }
         ensures done { OnOk result (IsAppended (V.state volume.old) (V.state volume.new) self.old self.new (lnum_of self.old) bytes.now) }
-        ensures stands { Stands (V.state volume.old) (V.state volume.new) self.old self.new (lnum_of self.old) bytes.now }
-        ensures failed { OnErr result ((self.new.tail ≡ self.old.tail) ⊎ (self.new.tail ≡ [])) }
+        ensures stands { Stands (V.state volume.old) (V.state volume.new) self.old self.new (lnum_of self.old) bytes.now × OnErr result (OnlyEarlierWait self.old self.new) }
         ensures works { WorksOn (V.state volume.old) (V.state volume.new) (lnum_of self.old) (Torn self.old.place (whole_of self.old.unit (length self.old.tail + length bytes.now)) ((V.state volume.old).holds (lnum_of self.old))) }
         ensures shape { SameShape (V.state volume.old) (V.state volume.new) }
         ensures cause { HasCause (V.state volume.old).faults (V.state volume.new).faults result }
@@ -102,8 +101,7 @@ impl Buffer {
     pub fn sync<V: Volume>(&mut self, volume: &mut V) -> Result<(), VolFault>
         requires { IsOpenFor (V.state volume.old) self.old (lnum_of self.old) }
         ensures done { OnOk result (IsSynced (V.state volume.old) (V.state volume.new) self.old self.new (lnum_of self.old)) }
-        ensures stands { Stands (V.state volume.old) (V.state volume.new) self.old self.new (lnum_of self.old) (padding_of self.old.unit self.old.tail) }
-        ensures failed { OnErr result (self.new.tail ≡ self.old.tail) }
+        ensures stands { Stands (V.state volume.old) (V.state volume.new) self.old self.new (lnum_of self.old) (padding_of self.old.unit self.old.tail) × OnErr result (self.new.tail ≡ self.old.tail) }
         ensures works { WorksOn (V.state volume.old) (V.state volume.new) (lnum_of self.old) (Torn self.old.place self.old.unit ((V.state volume.old).holds (lnum_of self.old))) }
         ensures shape { SameShape (V.state volume.old) (V.state volume.new) }
         ensures cause { HasCause (V.state volume.old).faults (V.state volume.new).faults result }
@@ -126,7 +124,7 @@ impl Buffer {
         requires fits { end_of self.old + length bytes.now ≤ (V.state volume.old).leb_size }
         ensures done { OnOk result (IsAppended (V.state volume.old) (V.state volume.new) self.old self.new lnum bytes.now) }
         ensures stands { Stands (V.state volume.old) (V.state volume.new) self.old self.new lnum bytes.now }
-        ensures failed { OnErr result ((self.new.tail ≡ self.old.tail) ⊎ (self.new.tail ≡ [])) }
+        ensures failed { OnErr result (OnlyEarlierWait self.old self.new) }
         ensures works { WorksOn (V.state volume.old) (V.state volume.new) lnum (Torn self.old.place (whole_of self.old.unit (length self.old.tail + length bytes.now)) ((V.state volume.old).holds lnum)) }
         ensures shape { SameShape (V.state volume.old) (V.state volume.new) }
         ensures cause { HasCause (V.state volume.old).faults (V.state volume.new).faults result }
