@@ -124,5 +124,7 @@ pub fn copied_leaves_are_found()
 /// What was read that loses nothing of committed leaves fits the tree that they show, so that a mount finds what a cut may leave of
 /// it. A name's copy may be given to another leaf of its hash.
 pub fn what_loses_nothing_fits()
-    ensures { (parts : Parts) (kept : List Kept) (changes : Numbered) → LosesNothing parts kept changes → FitsTree parts (tree_of kept (committed_highest parts)) changes }
+    ensures fits { (parts : Parts) (kept : List Kept) (changes : Numbered) → LosesNothing parts kept changes → FitsTree parts (tree_of kept (committed_highest parts)) changes }
+    ensures allowed { (parts : Parts) (kept : List Kept) (heads : List Head) (counts : List ℕ) → KeepsSynced heads counts → LosesNothing parts kept (taken heads counts)
+        → IsRecovered (tree_of kept (committed_highest parts)) heads (tree_found parts) }
 {}
