@@ -108,7 +108,7 @@ unset_made q (change ∷ changes) tree h =
       | inr e ↦ inr (ap (λ m. later m (makes_inode q tree change)) e)
     ]
 
-touched_later : {X : Type 0} (m n : Made X) → IsTouched m ⊎ IsTouched n → IsTouched (later m n)
+pub touched_later : {X : Type 0} (m n : Made X) → IsTouched m ⊎ IsTouched n → IsTouched (later m n)
 touched_later None n (inl t) = absurd (false≢true t)
 touched_later None n (inr t) = t
 touched_later (Some x) n t = refl

@@ -113,6 +113,11 @@ IsTouchedIn tree changes (Some (SetBlock ino number bytes)) = IsTouched (last_ma
 IsTouchedIn tree changes (Some (SetEntry e)) = IsTouched (last_made (makes_entry (e.dir, e.name)) tree changes)
 IsTouchedIn tree changes shown = ⊥
 
+-- where a leaf shows a block, the tree has its inode
+abbrev pub HasInode : Tree → Option Change → Type 0
+HasInode tree (Some (SetBlock ino number bytes)) = is_some (inode_at tree ino) ≡ true
+HasInode tree shown = Unit {0}
+
 -- what a leaf shows is such an inode or a block of one
 abbrev pub IsOfForgotten : List ℕ → List Change → Tree → Option Change → Type 0
 IsOfForgotten listed changes tree (Some (SetInode ino inode)) = IsForgotten listed changes tree ino
