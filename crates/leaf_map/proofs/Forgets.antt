@@ -1,5 +1,5 @@
 -- Listed inodes without links that go are all that has no name.
-use Rattle.std.proofs.Common.{◌≡◌, ℕ, Bool, true, false, cond, not, ◌&&◌, List, [], ◌∷◌, refl, sym, ap, subst, ◌∙◌, inl, inr, Option, Some, None}
+use Rattle.std.proofs.Common.{◌≡◌, ◌⊎◌, ℕ, Bool, true, false, cond, not, ◌&&◌, List, [], ◌∷◌, refl, sym, ap, subst, ◌∙◌, inl, inr, Option, Some, None}
 use Rattle.std.specs.Prelude.{◌==◌, ◌||◌, filter, fold}
 use Rattle.std.specs.BTreeMap.{is_at}
 use Rattle.std.specs.List.{list_all, list_any}
@@ -84,7 +84,7 @@ forget_block tree ino q = elim (eqb_tells q.0 ino) [
     elsewhere other false false = refl
 
 -- whether an inode that may be there has no link
-abbrev unlinked : Option Inode → Bool
+abbrev pub unlinked : Option Inode → Bool
 unlinked found = option_map_or (λ inode. inode.nlink == 0) found false
 
 unlinked_cond : (c : Bool) (x : Option Inode) → unlinked (cond c None x) ≡ cond c false (unlinked x)
@@ -173,6 +173,52 @@ forgets_all inos tree s all =
       entries = λ q. ap (λ es. lookup (is_at (name_cmp q)) es) (stays.entries ∙ sym goes.entries);
       highest = stays.highest ∙ sym goes.highest;
     })
+
+-- an inode that goes from two trees
+abbrev pub IsGone : List ℕ → Tree → Tree → ℕ → Type 0
+IsGone inos a b q = (is_nameless a q ≡ true) × (is_nameless b q ≡ true) × (list_any (λ ino. q == ino) inos ≡ true)
+
+-- trees that differ in listed inodes without a name alone
+pub record AreClose (inos : List ℕ) (a b : Tree) : Type 0 where
+  pub inodes : (q : ℕ) → (inode_at a q ≡ inode_at b q) ⊎ IsGone inos a b q
+  pub blocks : (q : ℕ × ℕ) → (lookup (is_at (pair_cmp q)) a.blocks ≡ lookup (is_at (pair_cmp q)) b.blocks) ⊎ IsGone inos a b q.0
+  pub entries : (q : ℕ × List ℕ) → lookup (is_at (name_cmp q)) a.entries ≡ lookup (is_at (name_cmp q)) b.entries
+  pub highest : a.highest ≡ b.highest
+
+nameless_close : (inos : List ℕ) (a b : Tree) (q : ℕ) → AreClose inos a b → is_nameless a q ≡ is_nameless b q
+nameless_close inos a b q c = elim (c.inodes q) [
+  | inl e ↦ ap unlinked e
+  | inr g ↦ g.0 ∙ sym g.1
+]
+
+-- come to the same once these go
+pub forgets_close : (inos : List ℕ) (a b : Tree) → IsSorted a → IsSorted b → AreClose inos a b → fold forget a inos ≡ fold forget b inos
+forgets_close inos a b s t c =
+    let x = forgets_stays inos a in
+    let y = forgets_stays inos b in
+    same_trees (fold forget a inos) (fold forget b inos) (forgets_sorted inos a s) (forgets_sorted inos b t) (record {
+      inodes = λ q. forgets_inode inos a q s ∙ inode q (c.inodes q) ∙ sym (forgets_inode inos b q t);
+      blocks = λ q. forgets_block inos a q s ∙ block q (c.blocks q) ∙ sym (forgets_block inos b q t);
+      entries = λ q. ap (λ es. lookup (is_at (name_cmp q)) es) x.entries ∙ c.entries q ∙ sym (ap (λ es. lookup (is_at (name_cmp q)) es) y.entries);
+      highest = x.highest ∙ c.highest ∙ sym y.highest;
+    })
+  where
+    named : ℕ → Bool
+    named q = list_any (λ ino. q == ino) inos
+
+    out : {X : Type 0} (m n l : Bool) (x y : Option X) → m ≡ true → n ≡ true → l ≡ true → cond (m && l) None x ≡ cond (n && l) None y
+    out m n l x y e f g = rw (e, f, g) refl
+
+    inode : (q : ℕ) → (inode_at a q ≡ inode_at b q) ⊎ IsGone inos a b q → cond (is_nameless a q && named q) None (inode_at a q) ≡ cond (is_nameless b q && named q) None (inode_at b q)
+    inode q (inl e) = ap (λ (x : Option Inode). cond (unlinked x && named q) None x) e
+    inode q (inr g) = out (is_nameless a q) (is_nameless b q) (named q) (inode_at a q) (inode_at b q) g.0 g.1 g.2
+
+    block : (q : ℕ × ℕ) → (lookup (is_at (pair_cmp q)) a.blocks ≡ lookup (is_at (pair_cmp q)) b.blocks) ⊎ IsGone inos a b q.0
+        → cond (is_nameless a q.0 && named q.0) None (lookup (is_at (pair_cmp q)) a.blocks) ≡ cond (is_nameless b q.0 && named q.0) None (lookup (is_at (pair_cmp q)) b.blocks)
+    block q (inl e) =
+        ap (λ (n : Bool). cond (n && named q.0) None (lookup (is_at (pair_cmp q)) a.blocks)) (nameless_close inos a b q.0 c)
+        ∙ ap (λ (x : Option (List ℕ)). cond (is_nameless b q.0 && named q.0) None x) e
+    block q (inr g) = out (is_nameless a q.0) (is_nameless b q.0) (named q.0) (lookup (is_at (pair_cmp q)) a.blocks) (lookup (is_at (pair_cmp q)) b.blocks) g.0 g.1 g.2
 
 -- ---- on leaves
 unlinked_step : (ino : ℕ) (s : Option Change) (rest : Inodes) (kept : List Kept) (b : Bool) → inodes_of kept ≡ rest → list_all (λ y. not (shows_same s (shown_by y))) kept ≡ true

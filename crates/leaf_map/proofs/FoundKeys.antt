@@ -87,6 +87,17 @@ stand_plain (Block ino number) m s = let same : block (record { ino = ino; block
 stand_plain (Dent dir hash) m s = absurd cc
 stand_plain (Xent dir hash) m s = absurd cc
 
+-- whether what is shown is no inode with links
+abbrev pub has_no_link : Option Change → Bool
+has_no_link (Some (SetInode ino node)) = node.nlink == 0
+has_no_link s = true
+
+pub stand_linkless : (k : Key) (m : LeafNode) → stand_in k ≡ Some m → has_no_link (shown m) ≡ true
+stand_linkless (Ino ino) m s = let same : inode (inode_node ino gone_inode) ≡ m = cc in subst (λ z. has_no_link (shown z) ≡ true) same refl
+stand_linkless (Block ino number) m s = let same : block (record { ino = ino; block = number; bytes = [] }) ≡ m = cc in subst (λ z. has_no_link (shown z) ≡ true) same refl
+stand_linkless (Dent dir hash) m s = absurd cc
+stand_linkless (Xent dir hash) m s = absurd cc
+
 -- where there is none to stand in, a name was shown
 pub gone_entry : (l : Leaf) (s : Option Change) → HasKeyOf l s → stand_in l.key ≡ None → is_entry s ≡ true
 gone_entry l (Some (SetInode a x)) h g = let no = rw h at g in absurd cc

@@ -7,6 +7,7 @@ use Rattle.std.specs.Map.{lookup}
 use Rattle.std.specs.Ordering.{nat_cmp}
 use Rattle.std.specs.declared.cmp.Ordering.{Ordering}
 use Rattle.std.proofs.lemmas.Bool.{false≢true, and_parts, and_from, eqb-true, eq-eqb}
+use Rattle.ubifs_base.specs.declared.key.Key.{Key}
 use Rattle.media_leaf.specs.LeafNode.{LeafNode}
 use Rattle.index_tree.specs.declared.leaf.Leaf.{Leaf}
 use Rattle.index_tree.specs.Order.{leaf_rank}
@@ -15,24 +16,26 @@ use Rattle.fs_model.specs.declared.change.Change.TheVariants.{SetInode, SetEntry
 use Rattle.fs_model.specs.declared.inode.Entry.{Entry}
 use Rattle.fs_model.specs.declared.inode.Inode.{Inode}
 use Rattle.fs_model.specs.Files.{Blocks, Entries, Inodes, Tree, inode_at, name_cmp, pair_cmp}
+use Rattle.fs_model.specs.Orphan.{is_nameless}
 use Rattle.fs_model.specs.Path.{is_same_name}
 use Rattle.fs_model.specs.Recovery.{Numbered}
 use Rattle.fs_laws.specs.Maps.{IsOrder, apart, key_cases, set_here, set_other}
 use Rattle.fs_laws.specs.Orders.{named, numbers, pairs}
-use Rattle.leaf_map.specs.Allowed.{FitsTree, IsCopied, IsNodeOf, IsOwnNode, IsReadLeaf, IsSafe, IsTouched, IsTouchedIn, LosesNothing, in_turn}
+use Rattle.leaf_map.specs.Allowed.{FitsTree, IsCopied, IsNodeOf, IsOwnNode, IsReadLeaf, IsSafe, AreForgotten, IsForgotten, IsOfForgotten, IsTouched, IsTouchedIn, LosesNothing, in_turn}
 use Rattle.leaf_map.specs.Kept.{Kept, Placed, kept_at, shown, shown_by}
 use Rattle.leaf_map.specs.LastChange.{last_made, makes_block, makes_entry, makes_inode}
 use Rattle.leaf_map.specs.LeafMap.{HasKeyOf, IsKeyed, IsLeafMap, are_apart, shows_same}
 use Rattle.leaf_map.specs.Parts.{Committed, Parts, is_shown}
 use Rattle.leaf_map.specs.Recovered.{committed_highest, found_leaves, leaves_found, spare_copies, stand_in}
 use Rattle.leaf_map.specs.Shown.{blocks_of, entries_of, inodes_of, tree_of, with_block, with_entry, with_inode}
-use Rattle.leaf_map.proofs.FoundKeys.{IsGood, copy_keyed, copy_place, filter_all, find_all, gone_entry, stand_keyed, stand_plain}
+use Rattle.leaf_map.proofs.FoundKeys.{IsGood, has_no_link, stand_linkless, copy_keyed, copy_place, filter_all, find_all, gone_entry, stand_keyed, stand_plain}
 use Rattle.leaf_map.proofs.FoundLeaves.{found_map, pairs_of}
 use Rattle.leaf_map.proofs.FoundNodes.{filter_copied, find_copied, found_nodes, itself, spare_good, spare_known}
+use Rattle.leaf_map.proofs.Forgets.{unlinked}
 use Rattle.leaf_map.proofs.Names.{is_name, key, same_key}
 use Rattle.leaf_map.proofs.Ranks.{rank_is, rank_shown}
 use Rattle.leaf_map.proofs.Sorted.{leaves_sorted}
-use Rattle.leaf_map.proofs.Things.{at_node, is_entry, keyed_shown, node_shown, not_true, same_thing, same_turned}
+use Rattle.leaf_map.proofs.Things.{at_node, is_entry, node_shown, not_true, one_node, same_thing, same_turned}
 use Rattle.leaf_map.proofs.Walk.{Walk, left, own_leaf, stand_leaf, walk}
 
 abbrev pair_of : {K X : Type 0} → K → X → K × X
@@ -274,49 +277,64 @@ seen_walk parts kept keyed = record {
     self n i = (n, i, itself (shown n) (node_shown kept n keyed i))
 
 -- ---- what is there
-abbrev AllThere : List Placed → List Kept → List Kept → Type 0
-AllThere copies ks found = AllByRecursion IsKeyed ks → AllByRecursion IsGood copies → (n : LeafNode) → IsNodeOf ks n → is_entry (shown n) ≡ false → (m : LeafNode) × IsNodeOf found m × (shows_same (shown n) (shown m) ≡ true)
+-- what stands for a node that nobody can read
+abbrev StandsIn : LeafNode → Type 0
+StandsIn m = (k : Key) × (stand_in k ≡ Some m)
 
-there_walk : (parts : Parts) → Walk parts.named (IsReadLeaf parts) (λ copies ks cs found. AllThere copies ks found)
-there_walk parts = record {
-  done = λ copies k g n i plain. absurd i;
-  own = λ copies ks cs x c m pair e more k g n i plain. elim i [
-    | inl same ↦ (m.node, inl refl, subst (λ (z : LeafNode). shows_same (shown n) (shown z) ≡ true) (same ∙ sym (pair.own m e)) (itself (shown n) (subst (λ (z : LeafNode). is_shown (shown z) ≡ true) (sym same) (keyed_shown x.leaf (shown_by x) k.0))))
-    | inr j ↦ later (own_leaf c m) (found_leaves parts.named copies cs) n (more k.1 g n j plain)
+-- in place of a node that is no name's stands itself, or what stands for it
+abbrev There : List Kept → LeafNode → Type 0
+There found n = (m : LeafNode) × IsNodeOf found m × (shows_same (shown n) (shown m) ≡ true) × ((m ≡ n) ⊎ StandsIn m)
+
+abbrev AllThere : List Kept → List Placed → List Kept → List Kept → Type 0
+AllThere kept copies ks found = AllByRecursion IsKeyed ks → AllByRecursion IsGood copies → ((n : LeafNode) → IsCopied copies n → IsNodeOf kept n) → ((n : LeafNode) → IsNodeOf ks n → IsNodeOf kept n)
+    → (n : LeafNode) → IsNodeOf ks n → is_entry (shown n) ≡ false → There found n
+
+there_walk : (parts : Parts) (kept : List Kept) → AllByRecursion IsKeyed kept → are_apart kept ≡ true → Walk parts.named (IsReadLeaf parts) (λ copies ks cs found. AllThere kept copies ks found)
+there_walk parts kept keyed apart = record {
+  done = λ copies k g known sub n i plain. absurd i;
+  own = λ copies ks cs x c m pair e more k g known sub n i plain. elim i [
+    | inl same ↦ own_one (own_leaf c m) (found_leaves parts.named copies cs) n (pair.own m e ∙ sym same) (node_shown kept n keyed (sub n (inl same)))
+    | inr j ↦ later (own_leaf c m) (found_leaves parts.named copies cs) n (more k.1 g known (λ n j. sub n (inr j)) n j plain)
   ];
-  copy = λ copies ks cs x c d pair e f more k g n i plain. elim i [
+  copy = λ copies ks cs x c d pair e f more k g known sub n i plain. elim i [
     | inl same ↦
         let good = find_all IsGood (λ c'. leaf_rank (kept_at c').leaf == leaf_rank c.leaf) copies d g f in
         let ky = copy_keyed d good in
-        let p : is_entry (shown_by x) ≡ false = subst (λ (z : LeafNode). is_entry (shown z) ≡ false) same plain in (
-          d.node,
-          inl refl,
-          subst (λ (z : LeafNode). shows_same (shown z) (shown d.node) ≡ true) (sym same)
-              (plain_at x.leaf (kept_at d).leaf (shown_by x) (shown d.node) k.0 ky (sym (rank_is x.leaf (shown_by x) k.0) ∙ sym (copy_place c.leaf copies d f ∙ ap leaf_rank pair.leaf) ∙ rank_is (kept_at d).leaf (shown d.node) ky) p),
-        )
-    | inr j ↦ later (kept_at d) (found_leaves parts.named (left d copies) cs) n (more k.1 (filter_all IsGood _ copies g) n j plain)
+        let p : is_entry (shown_by x) ≡ false = subst (λ (z : LeafNode). is_entry (shown z) ≡ false) same plain in
+        let shows = plain_at x.leaf (kept_at d).leaf (shown_by x) (shown d.node) k.0 ky (sym (rank_is x.leaf (shown_by x) k.0) ∙ sym (copy_place c.leaf copies d f ∙ ap leaf_rank pair.leaf) ∙ rank_is (kept_at d).leaf (shown d.node) ky) p in
+        let is : x.node ≡ d.node = one_node kept x.node d.node keyed apart (sub x.node (inl refl)) (known d.node (find_copied (λ c'. leaf_rank (kept_at c').leaf == leaf_rank c.leaf) copies d f)) shows in
+        own_one (kept_at d) (found_leaves parts.named (left d copies) cs) n (sym is ∙ sym same) (node_shown kept n keyed (sub n (inl same)))
+    | inr j ↦ later (kept_at d) (found_leaves parts.named (left d copies) cs) n
+        (more k.1 (filter_all IsGood _ copies g) (λ n j. known n (filter_copied (λ c'. not (shows_same (shown d.node) (shown c'.node))) copies n j)) (λ n j. sub n (inr j)) n j plain)
   ];
-  stand = λ copies ks cs x c m pair e f t more k g n i plain. elim i [
-    | inl same ↦ (m, inl refl, subst (λ (z : LeafNode). shows_same (shown z) (shown m) ≡ true) (sym same) (plain_same x c m pair.leaf k.0 t))
-    | inr j ↦ later (stand_leaf c m) (found_leaves parts.named copies cs) n (more k.1 g n j plain)
+  stand = λ copies ks cs x c m pair e f t more k g known sub n i plain. elim i [
+    | inl same ↦ (m, inl refl, subst (λ (z : LeafNode). shows_same (shown z) (shown m) ≡ true) (sym same) (plain_same x c m pair.leaf k.0 t), inr (c.leaf.key, t))
+    | inr j ↦ later (stand_leaf c m) (found_leaves parts.named copies cs) n (more k.1 g known (λ n j. sub n (inr j)) n j plain)
   ];
-  gone = λ copies ks cs x c pair e f t more k g n i plain. elim i [
+  gone = λ copies ks cs x c pair e f t more k g known sub n i plain. elim i [
     | inl same ↦
         let key : HasKeyOf c.leaf (shown_by x) = subst (λ l. HasKeyOf l (shown_by x)) (sym pair.leaf) k.0 in
         let p : is_entry (shown_by x) ≡ false = subst (λ (z : LeafNode). is_entry (shown z) ≡ false) same plain in
         absurd (false≢true (sym p ∙ gone_entry c.leaf (shown_by x) key t))
-    | inr j ↦ more k.1 g n j plain
+    | inr j ↦ more k.1 g known (λ n j. sub n (inr j)) n j plain
   ];
 }
   where
-    later : (y : Kept) (found : List Kept) (n : LeafNode) → (m : LeafNode) × IsNodeOf found m × (shows_same (shown n) (shown m) ≡ true) → (m : LeafNode) × IsNodeOf (y ∷ found) m × (shows_same (shown n) (shown m) ≡ true)
-    later y found n (m, i, s) = (m, inr i, s)
+    later : (y : Kept) (found : List Kept) (n : LeafNode) → There found n → There (y ∷ found) n
+    later y found n (m, i, s, w) = (m, inr i, s, w)
+
+    own_one : (y : Kept) (found : List Kept) (n : LeafNode) → y.node ≡ n → is_shown (shown n) ≡ true → There (y ∷ found) n
+    own_one y found n e h = (y.node, inl refl, subst (λ (z : LeafNode). shows_same (shown n) (shown z) ≡ true) (sym e) (itself (shown n) h), inl e)
+
+unlinked_shown : (s : Option Change) (q : ℕ) (v : Inode) → has_no_link s ≡ true → inode_key s ≡ Some (q, v) → (v.nlink == 0) ≡ true
+unlinked_shown (Some (SetInode ino node)) q v h e = subst (λ (z : Inode). (z.nlink == 0) ≡ true) (key_parts ino node q v e).1 h
+unlinked_shown s q v h e = absurd cc
 
 -- ---- all of it
 safe_node : (parts : Parts) (tree : Tree) (changes : List Change) (ks : List Kept) (n : LeafNode) → AllByRecursion (IsSafe parts tree changes) ks → IsNodeOf ks n
-    → (IsOwnNode parts.named parts.committed n ⊎ IsCopied parts.copies n) ⊎ IsTouchedIn tree changes (shown n)
+    → (IsOwnNode parts.named parts.committed n ⊎ IsCopied parts.copies n) ⊎ (IsTouchedIn tree changes (shown n) ⊎ IsOfForgotten parts.listed changes tree (shown n))
 safe_node parts tree changes [] n safe i = absurd i
-safe_node parts tree changes (x ∷ ks) n safe (inl e) = subst (λ (z : LeafNode). (IsOwnNode parts.named parts.committed z ⊎ IsCopied parts.copies z) ⊎ IsTouchedIn tree changes (shown z)) (sym e) safe.0
+safe_node parts tree changes (x ∷ ks) n safe (inl e) = subst (λ (z : LeafNode). (IsOwnNode parts.named parts.committed z ⊎ IsCopied parts.copies z) ⊎ (IsTouchedIn tree changes (shown z) ⊎ IsOfForgotten parts.listed changes tree (shown z))) (sym e) safe.0
 safe_node parts tree changes (x ∷ ks) n safe (inr i) = safe_node parts tree changes ks n safe.1 i
 
 touched_inode : (tree : Tree) (changes : List Change) (s : Option Change) (q : ℕ) (v : Inode) → inode_key s ≡ Some (q, v) → IsTouchedIn tree changes s → IsTouched (last_made (makes_inode q) tree changes)
@@ -331,6 +349,18 @@ touched_entry : (tree : Tree) (changes : List Change) (s : Option Change) (q : �
 touched_entry tree changes (Some (SetEntry one)) q v e t = subst (λ (z : ℕ × List ℕ). IsTouched (last_made (makes_entry z) tree changes)) (key_parts (key one.dir one.name) one q v e).0 t
 touched_entry tree changes s q v e t = absurd cc
 
+forgotten_inode : (list : List ℕ) (changes : List Change) (tree : Tree) (s : Option Change) (q : ℕ) (v : Inode) → inode_key s ≡ Some (q, v) → IsOfForgotten list changes tree s → IsForgotten list changes tree q
+forgotten_inode list changes tree (Some (SetInode ino inode)) q v e t = subst (λ (z : ℕ). IsForgotten list changes tree z) (key_parts ino inode q v e).0 t
+forgotten_inode list changes tree s q v e t = absurd cc
+
+forgotten_block : (list : List ℕ) (changes : List Change) (tree : Tree) (s : Option Change) (q : ℕ × ℕ) (v : List ℕ) → block_key s ≡ Some (q, v) → IsOfForgotten list changes tree s → IsForgotten list changes tree q.0
+forgotten_block list changes tree (Some (SetBlock ino number bytes)) q v e t = subst (λ (z : ℕ × ℕ). IsForgotten list changes tree z.0) (key_parts (place ino number) bytes q v e).0 t
+forgotten_block list changes tree s q v e t = absurd cc
+
+forgotten_entry : (list : List ℕ) (changes : List Change) (tree : Tree) (s : Option Change) (q : ℕ × List ℕ) (v : Entry) → entry_key_of s ≡ Some (q, v) → IsOfForgotten list changes tree s → ⊥
+forgotten_entry list changes tree (Some (SetEntry one)) q v e t = t
+forgotten_entry list changes tree s q v e t = absurd cc
+
 inode_plain : (s : Option Change) (q : ℕ) (v : Inode) → inode_key s ≡ Some (q, v) → is_entry s ≡ false
 inode_plain (Some (SetInode ino inode)) q v e = refl
 inode_plain s q v e = absurd cc
@@ -342,12 +372,12 @@ fits_tree parts kept changes fits = record {
   sorted = leaves_sorted kept (committed_highest parts) fits.read.leaves;
   shows = record {
     there = λ q. there q (inode_at (tree_of kept highest) q) refl (inode_at (tree_of F highest) q) refl;
-    inodes = λ q. near inode_kind F kept q (IsTouched (last_made (makes_inode q) tree (in_turn changes))) found.apart fits.read.leaves.apart
-        (λ n v i e. safe n i (λ t. touched_inode tree (in_turn changes) (shown n) q v e t)) (λ n v i e. look inode_kind q n v i e);
-    blocks = λ q. near block_kind F kept q (IsTouched (last_made (makes_block q) tree (in_turn changes))) found.apart fits.read.leaves.apart
-        (λ n v i e. safe n i (λ t. touched_block tree (in_turn changes) (shown n) q v e t)) (λ n v i e. look block_kind q n v i e);
+    inodes = λ q. near inode_kind F kept q (IsTouched (last_made (makes_inode q) tree (in_turn changes)) ⊎ AreForgotten parts.listed (in_turn changes) (tree_of F highest) tree q) found.apart fits.read.leaves.apart
+        (λ n v i e. safe n i (λ t. inl (touched_inode tree (in_turn changes) (shown n) q v e t)) (λ t. inr (forgotten q (forgotten_inode parts.listed (in_turn changes) tree (shown n) q v e t)))) (λ n v i e. look inode_kind q n v i e);
+    blocks = λ q. near block_kind F kept q (IsTouched (last_made (makes_block q) tree (in_turn changes)) ⊎ AreForgotten parts.listed (in_turn changes) (tree_of F highest) tree q.0) found.apart fits.read.leaves.apart
+        (λ n v i e. safe n i (λ t. inl (touched_block tree (in_turn changes) (shown n) q v e t)) (λ t. inr (forgotten q.0 (forgotten_block parts.listed (in_turn changes) tree (shown n) q v e t)))) (λ n v i e. look block_kind q n v i e);
     entries = λ q. near entry_kind F kept q (IsTouched (last_made (makes_entry q) tree (in_turn changes))) found.apart fits.read.leaves.apart
-        (λ n v i e. safe n i (λ t. touched_entry tree (in_turn changes) (shown n) q v e t)) (λ n v i e. look entry_kind q n v i e);
+        (λ n v i e. safe n i (λ t. touched_entry tree (in_turn changes) (shown n) q v e t) (λ t. absurd (forgotten_entry parts.listed (in_turn changes) tree (shown n) q v e t))) (λ n v i e. look entry_kind q n v i e);
     highest = refl;
   };
   listed = fits.listed;
@@ -365,11 +395,35 @@ fits_tree parts kept changes fits = record {
     found : IsLeafMap F
     found = found_map parts kept fits.read
 
-    safe : {T : Type 0} (n : LeafNode) → IsNodeOf kept n → (IsTouchedIn tree (in_turn changes) (shown n) → T) → IsNodeOf F n ⊎ T
-    safe n i to = elim (safe_node parts tree (in_turn changes) kept n fits.safe i) [
+    safe : {T : Type 0} (n : LeafNode) → IsNodeOf kept n → (IsTouchedIn tree (in_turn changes) (shown n) → T) → (IsOfForgotten parts.listed (in_turn changes) tree (shown n) → T) → IsNodeOf F n ⊎ T
+    safe n i to out = elim (safe_node parts tree (in_turn changes) kept n fits.safe i) [
       | inl has ↦ inl (found_nodes parts kept fits.read n has)
-      | inr t ↦ inr (to t)
+      | inr t ↦ elim t [
+        | inl a ↦ inr (to a)
+        | inr b ↦ inr (out b)
+      ]
     ]
+
+    -- in place of an inode or a block
+    in_place : (n : LeafNode) → IsNodeOf kept n → is_entry (shown n) ≡ false → There F n
+    in_place n i plain = walk (there_walk parts kept fits.read.leaves.keyed fits.read.leaves.apart) (spare_copies parts) kept parts.committed (pairs_of parts kept parts.committed fits.read.read)
+        fits.read.leaves.keyed (spare_good parts kept fits.read) (spare_known parts kept fits.read) (λ n i. i) n i plain
+
+    unlinked_there : (q : ℕ) (v : Inode) → (v.nlink == 0) ≡ true → Shower inode_key kept q v → is_nameless (tree_of F highest) q ≡ true
+    unlinked_there q v z (n, i, s) = by (in_place n i (inode_plain (shown n) q v s))
+      where
+        by : There F n → is_nameless (tree_of F highest) q ≡ true
+        by (m, j, t, inl is) = ap unlinked (shown_found inode_kind F m q v found.apart j (ap (λ (w : LeafNode). inode_key (shown w)) is ∙ s)) ∙ z
+        by (m, j, t, inr (k, stands)) =
+            let w = inode_told (shown n) (shown m) q v s t in
+            ap unlinked (shown_found inode_kind F m q w.0 found.apart j w.1) ∙ unlinked_shown (shown m) q w.0 (stand_linkless k m stands) w.1
+
+    forgotten : (q : ℕ) → IsForgotten parts.listed (in_turn changes) tree q → AreForgotten parts.listed (in_turn changes) (tree_of F highest) tree q
+    forgotten q f = (record { nameless = by (inode_at tree q) refl; listed = f.listed; unset = f.unset }, f)
+      where
+        by : (o : Option Inode) → inode_at tree q ≡ o → is_nameless (tree_of F highest) q ≡ true
+        by None e = absurd (false≢true (sym (ap unlinked e) ∙ f.nameless))
+        by (Some v) e = unlinked_there q v (sym (ap unlinked e) ∙ f.nameless) (found_shown inode_kind kept q v e)
 
     seen : (n : LeafNode) → IsNodeOf F n → Seen kept n
     seen n i = walk (seen_walk parts kept fits.read.leaves.keyed) (spare_copies parts) kept parts.committed (pairs_of parts kept parts.committed fits.read.read) fits.read.leaves.keyed (spare_known parts kept fits.read) (λ n i. i) n i
@@ -387,10 +441,10 @@ fits_tree parts kept changes fits = record {
     there q o e p f = by o e p f
       where
         from_kept : (v : Inode) → Shower inode_key kept q v → inode_at (tree_of F highest) q ≡ None → ⊥
-        from_kept v (n, i, s) f = from_found (walk (there_walk parts) (spare_copies parts) kept parts.committed (pairs_of parts kept parts.committed fits.read.read) fits.read.leaves.keyed (spare_good parts kept fits.read) n i (inode_plain (shown n) q v s))
+        from_kept v (n, i, s) f = from_found (in_place n i (inode_plain (shown n) q v s))
           where
-            from_found : (m : LeafNode) × IsNodeOf F m × (shows_same (shown n) (shown m) ≡ true) → ⊥
-            from_found (m, j, t) =
+            from_found : There F n → ⊥
+            from_found (m, j, t, which) =
                 let w = inode_told (shown n) (shown m) q v s t in
                 let is : Some w.0 ≡ None = sym (shown_found inode_kind F m q w.0 found.apart j w.1) ∙ f in
                 absurd cc

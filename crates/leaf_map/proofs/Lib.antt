@@ -28,4 +28,5 @@ mod Same
 mod Sorted
 mod Steps
 mod Things
+mod Touches
 mod Walk

@@ -11,7 +11,7 @@ use Rattle.leaf_map.specs.Recovered.{committed_highest, in_order, leaves_after, 
 use Rattle.leaf_map.specs.Shown.{tree_of}
 use Rattle.leaf_map.proofs.Agrees.{agree_after}
 use Rattle.leaf_map.proofs.Copies.{moved_node, same_tree}
-use Rattle.leaf_map.proofs.Forgets.{forget, forgets_all, orphans_tree}
+use Rattle.leaf_map.proofs.Forgets.{forget, forgets_all, forgets_close, orphans_tree}
 use Rattle.leaf_map.proofs.Lasts.{apply_sorted}
 use Rattle.leaf_map.proofs.Replays.{map_replayed, read_in_order, tree_replayed}
 use Rattle.leaf_map.proofs.Sorted.{leaves_sorted}
@@ -25,11 +25,12 @@ found_is parts committed changes fits =
     let after : List Kept = leaves_after kept (in_order parts.nodes) in
     let start = leaves_sorted kept before fits.leaves in
     let all = tree_replayed (in_order parts.nodes) _ kept before read fits.leaves in
-    let same = agree_after (in_turn changes) (tree_of kept before) committed start fits.sorted fits.shows in
+    let close = agree_after parts.listed (in_turn changes) (tree_of kept before) committed start fits.sorted fits.shows in
     let is = map_replayed (in_order parts.nodes) _ kept read fits.leaves in
     same_tree (moved parts (leaves_left parts)) (leaves_left parts) now (moved_node parts (leaves_left parts))
     ∙ orphans_tree parts.listed after now is
-    ∙ ap (λ t. fold forget t parts.listed) (all ∙ same)
+    ∙ ap (λ t. fold forget t parts.listed) all
+    ∙ forgets_close parts.listed (apply (tree_of kept before) (in_turn changes)) (apply committed (in_turn changes)) (apply_sorted (in_turn changes) (tree_of kept before) start) (apply_sorted (in_turn changes) committed fits.sorted) close
     ∙ forgets_all parts.listed (apply committed (in_turn changes)) (apply_sorted (in_turn changes) committed fits.sorted) fits.listed
 
 pub found_allowed : (parts : Parts) (committed : Tree) (heads : List Head) (counts : List ℕ) → KeepsSynced heads counts → FitsTree parts committed (taken heads counts) → IsRecovered committed heads (tree_found parts)

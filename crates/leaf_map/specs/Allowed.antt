@@ -1,7 +1,7 @@
 -- What is asked of what a mount has read, so that it finds a tree that a cut may leave.
-use Rattle.std.specs.Prelude.{◌≡◌, ◌⊎◌, ℕ, ◌==◌, true, is_some, List, [], ◌∷◌, map, Option, Some}
+use Rattle.std.specs.Prelude.{◌≡◌, ◌⊎◌, ℕ, ◌==◌, Bool, true, false, not, is_some, List, [], ◌∷◌, map, Option, Some}
 use Rattle.std.specs.BTreeMap.{is_at}
-use Rattle.std.specs.List.{AllByRecursion, list_any}
+use Rattle.std.specs.List.{AllByRecursion, list_all, list_any}
 use Rattle.std.specs.Map.{lookup}
 use Rattle.std.specs.Option.{option_map}
 use Rattle.media_leaf.specs.LeafNode.{IsLeaf, LeafNode}
@@ -30,11 +30,26 @@ AreRead (x ∷ nodes) (change ∷ changes) = IsLeaf x.node × (x.sqnum ≡ chang
 abbrev pub IsTouched : {X : Type 0} → Made X → Type 0
 IsTouched made = is_some made ≡ true
 
--- Trees that differ in nothing but what these changes touch. They have the same inodes, though maybe other things are told of these.
-pub record AgreeBut (changes : List Change) (a b : Tree) : Type 0 where
+-- whether a change sets an inode of this number
+abbrev pub sets_inode : ℕ → Change → Bool
+sets_inode q (SetInode ino inode) = ino == q
+sets_inode q change = false
+
+-- an inode of a tree without a name, which is listed and which no change sets: it goes, whatever else happens
+pub record IsForgotten (list : List ℕ) (changes : List Change) (tree : Tree) (q : ℕ) : Type 0 where
+  pub nameless : is_nameless tree q ≡ true
+  pub listed : list_any (λ ino. q == ino) list ≡ true
+  pub unset : list_all (λ change. not (sets_inode q change)) changes ≡ true
+
+-- of either tree
+abbrev pub AreForgotten : List ℕ → List Change → Tree → Tree → ℕ → Type 0
+AreForgotten listed changes a b q = IsForgotten listed changes a q × IsForgotten listed changes b q
+
+-- Trees that differ in nothing but what these changes touch, and in inodes that go with their blocks. They have the same inodes, though maybe other things are told of these.
+pub record AgreeBut (listed : List ℕ) (changes : List Change) (a b : Tree) : Type 0 where
   pub there : (q : ℕ) → is_some (inode_at a q) ≡ is_some (inode_at b q)
-  pub inodes : (q : ℕ) → (inode_at a q ≡ inode_at b q) ⊎ IsTouched (last_made (makes_inode q) b changes)
-  pub blocks : (q : ℕ × ℕ) → (lookup (is_at (pair_cmp q)) a.blocks ≡ lookup (is_at (pair_cmp q)) b.blocks) ⊎ IsTouched (last_made (makes_block q) b changes)
+  pub inodes : (q : ℕ) → (inode_at a q ≡ inode_at b q) ⊎ (IsTouched (last_made (makes_inode q) b changes) ⊎ AreForgotten listed changes a b q)
+  pub blocks : (q : ℕ × ℕ) → (lookup (is_at (pair_cmp q)) a.blocks ≡ lookup (is_at (pair_cmp q)) b.blocks) ⊎ (IsTouched (last_made (makes_block q) b changes) ⊎ AreForgotten listed changes a b q.0)
   pub entries : (q : ℕ × List ℕ) → (lookup (is_at (name_cmp q)) a.entries ≡ lookup (is_at (name_cmp q)) b.entries) ⊎ IsTouched (last_made (makes_entry q) b changes)
   pub highest : a.highest ≡ b.highest
 
@@ -42,12 +57,12 @@ pub record AgreeBut (changes : List Change) (a b : Tree) : Type 0 where
 abbrev pub in_turn : Numbered → List Change
 in_turn changes = map (λ c. as_replayed c.1) (by_number changes)
 
--- What was read fits a committed tree and changes: the nodes carry the changes, the leaves that were found show that tree but for what the changes touch, and what has no name at last is listed.
+-- What was read fits a committed tree and changes: the nodes carry the changes, the leaves that were found show that tree but for what the changes touch and for listed inodes that go, and what has no name at last is listed.
 pub record FitsTree (parts : Parts) (committed : Tree) (changes : Numbered) : Type 0 where
   pub nodes : AreRead parts.nodes changes
   pub leaves : IsLeafMap (leaves_found parts)
   pub sorted : IsSorted committed
-  pub shows : AgreeBut (in_turn changes) (tree_of (leaves_found parts) (committed_highest parts)) committed
+  pub shows : AgreeBut parts.listed (in_turn changes) (tree_of (leaves_found parts) (committed_highest parts)) committed
   pub listed : (q : ℕ) → is_nameless (apply committed (in_turn changes)) q ≡ true → list_any (λ ino. q == ino) parts.listed ≡ true
 
 -- each committed leaf has its own node, and with it is one of these
@@ -98,9 +113,21 @@ IsTouchedIn tree changes (Some (SetBlock ino number bytes)) = IsTouched (last_ma
 IsTouchedIn tree changes (Some (SetEntry e)) = IsTouched (last_made (makes_entry (e.dir, e.name)) tree changes)
 IsTouchedIn tree changes shown = ⊥
 
--- A committed leaf isn't missed: its node stands at its place still, or a copy of it was read, or changes touch what it shows.
+-- where a leaf shows a block, the tree has its inode
+abbrev pub HasInode : Tree → Option Change → Type 0
+HasInode tree (Some (SetBlock ino number bytes)) = is_some (inode_at tree ino) ≡ true
+HasInode tree shown = Unit {0}
+
+-- what a leaf shows is such an inode or a block of one
+abbrev pub IsOfForgotten : List ℕ → List Change → Tree → Option Change → Type 0
+IsOfForgotten listed changes tree (Some (SetInode ino inode)) = IsForgotten listed changes tree ino
+IsOfForgotten listed changes tree (Some (SetBlock ino number bytes)) = IsForgotten listed changes tree ino
+IsOfForgotten listed changes tree shown = ⊥
+
+-- A committed leaf isn't missed: its node stands at its place still, or a copy of it was read, or changes touch what it shows, or it is of a listed inode that goes.
 abbrev pub IsSafe : Parts → Tree → List Change → Kept → Type 0
-IsSafe parts tree changes x = (IsOwnNode parts.named parts.committed x.node ⊎ IsCopied parts.copies x.node) ⊎ IsTouchedIn tree changes (shown_by x)
+IsSafe parts tree changes x =
+    (IsOwnNode parts.named parts.committed x.node ⊎ IsCopied parts.copies x.node) ⊎ (IsTouchedIn tree changes (shown_by x) ⊎ IsOfForgotten parts.listed changes tree (shown_by x))
 
 -- What was read of committed leaves and of changes loses nothing: no leaf is missed, the nodes carry the changes, and what has no name at last is listed.
 pub record LosesNothing (parts : Parts) (kept : List Kept) (changes : Numbered) : Type 0 where

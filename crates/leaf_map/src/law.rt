@@ -17,13 +17,13 @@ ghost use Rattle.fs_model.specs.Change.{applied, apply, key_number};
 ghost use Rattle.fs_model.specs.Files.{Tree, inode_at, name_cmp, pair_cmp};
 ghost use Rattle.change_nodes.specs.Nodes.{change_of, node_of};
 ghost use Rattle.fs_model.specs.Recovery.{Head, IsRecovered, KeepsSynced, Numbered, recovered, taken};
-ghost use Rattle.leaf_map.specs.Allowed.{AreOriginals, FitsLeaves, FitsTree, IsCopied, IsNodeOf, IsOwnNode, LosesNothing};
+ghost use Rattle.leaf_map.specs.Allowed.{AreOriginals, FitsLeaves, FitsTree, HasInode, IsCopied, IsNodeOf, IsOwnNode, IsTouchedIn, LosesNothing};
 ghost use Rattle.leaf_map.specs.After.{Carries, come_by, gone_by, is_gone, is_idle, is_set, kept_after, kept_by, used_by};
 ghost use Rattle.leaf_map.specs.Follows.{block_key_from, last_block_key, with_leaf, without_old};
 ghost use Rattle.leaf_map.specs.Kept.{Kept, Placed, kept_at, shown_by};
 ghost use Rattle.leaf_map.specs.LastChange.{IsSorted, last_made, makes_block, makes_entry, makes_inode, there};
 ghost use Rattle.leaf_map.specs.LeafMap.{IsLeafMap};
-ghost use Rattle.leaf_map.specs.Parts.{Parts};
+ghost use Rattle.leaf_map.specs.Parts.{Parts, is_shown};
 ghost use Rattle.leaf_map.specs.Recovered.{committed_highest, is_unlinked, leaves_found, moved, tree_found, without_orphan};
 ghost use Rattle.leaf_map.specs.Shown.{tree_of};
 
@@ -124,5 +124,13 @@ pub fn copied_leaves_are_found()
 /// What was read that loses nothing of committed leaves fits the tree that they show, so that a mount finds what a cut may leave of
 /// it. A name's copy may be given to another leaf of its hash.
 pub fn what_loses_nothing_fits()
-    ensures { (parts : Parts) (kept : List Kept) (changes : Numbered) → LosesNothing parts kept changes → FitsTree parts (tree_of kept (committed_highest parts)) changes }
+    ensures fits { (parts : Parts) (kept : List Kept) (changes : Numbered) → LosesNothing parts kept changes → FitsTree parts (tree_of kept (committed_highest parts)) changes }
+    ensures allowed { (parts : Parts) (kept : List Kept) (heads : List Head) (counts : List ℕ) → KeepsSynced heads counts → LosesNothing parts kept (taken heads counts)
+        → IsRecovered (tree_of kept (committed_highest parts)) heads (tree_found parts) }
+{}
+
+/// A change that makes a leaf obsolete touches what the leaf shows: an inode, a name, or a block whose inode the tree has.
+pub fn what_makes_obsolete_touches()
+    ensures { (changes : List AnyChange) (tree : Tree) (x : Kept) → IsSorted tree → HasInode tree (shown_by x) → is_shown (shown_by x) ≡ true → list_any (λ change. is_gone change x) changes ≡ true
+        → IsTouchedIn tree changes (shown_by x) }
 {}
