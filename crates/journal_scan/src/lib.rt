@@ -8,11 +8,15 @@
 #![tactic(auto)]
 
 mod bud_text;
+mod content;
 mod journal_node;
 mod journal_read;
+mod leaves;
 mod node_content;
+mod read;
 
 pub use crate::bud_text::BudText;
 pub use crate::journal_node::JournalNode;
 pub use crate::journal_read::JournalRead;
 pub use crate::node_content::NodeContent;
+pub use crate::read::read_journal;
