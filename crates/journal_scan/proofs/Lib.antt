@@ -1,0 +1,5 @@
+pub mod Found
+pub mod Groups
+pub mod Seen
+pub mod Ordered
+pub mod Gathering

@@ -1,0 +1,4 @@
+pub mod Content
+pub mod Journal
+pub mod Stands
+pub mod Gathered

@@ -1,0 +1,15 @@
+// What a leaf node says.
+
+use ubifs_base::Name;
+
+/// What a leaf node of the journal says, without its data. An inode is linked if its links are over 0, and else it goes. An
+/// entry is linked if its inode number is over 0, and else its name goes. `Nothing` is a leaf node that carries no change:
+/// an attribute, or an inode with links that is of no known kind.
+#[derive(Debug, Drop)]
+pub enum NodeContent {
+    Inode { ino: u32, linked: bool },
+    Block { ino: u32, block: u32 },
+    Entry { dir: u32, name: Name, linked: bool },
+    Truncation { ino: u32, new_size: u64 },
+    Nothing,
+}
