@@ -8,14 +8,14 @@ ghost use Rattle.leb_scan.specs.Text.{AnyNode, StandsAt, leaf, system};
 ghost use Rattle.leaf_map.specs.Kept.{Placed};
 ghost use Rattle.journal_scan.specs.Content.{told};
 ghost use Rattle.journal_scan.specs.Journal.{AreLeaves, IsBudRead, IsReadable, placed_at, taken, whole_groups};
-ghost use Rattle.journal_scan.specs.Stands.{HasNode};
+ghost use Rattle.journal_scan.specs.Stands.{HasNode, is_leaf_type};
 
 use crate::bud_text::BudText;
 use crate::content::read_content;
 use crate::journal_node::JournalNode;
 use leb_scan::{Found, Tail, scan};
 use std::alloc::Global;
-use ubifs_base::{JournalHead, Memory};
+use ubifs_base::{JournalHead, Memory, NodeType};
 
 // The nodes that a mount takes of a LEB, and how its text ends.
 #[derive(Debug, Drop)]
@@ -30,9 +30,6 @@ struct Leaves {
     nodes: Vec<JournalNode>,
     whole: usize,
 }
-
-// The last type of the header that is a leaf node's (ubifs-media.h).
-const LAST_LEAF: u8 = 4;
 
 // A node of a group that isn't its last (`UBIFS_IN_NODE_GROUP`).
 const IN_GROUP: u8 = 1;
@@ -85,7 +82,7 @@ fn leaf_at(alloc: Global, bud: &BudText, found: Found) -> Result<Option<JournalN
     ensures some { IfOk result (λ r. IfSome r (λ node. (n : LeafNode) × StandsAt bud.now.bytes found.offs found (leaf n) × (node ≡ told (placed_at bud.now found n)))) }
     ensures none { IfOk result (λ r. IfNone r ((n : SystemNode) × StandsAt bud.now.bytes found.offs found (system n))) }
 {
-    if found.kind > LAST_LEAF {
+    if !is_leaf(found.kind) {
         return Ok(None);
     }
     let bytes = bud.bytes.as_slice().split_at(found.offs as usize).1;
@@ -97,4 +94,18 @@ fn leaf_at(alloc: Global, bud: &BudText, found: Found) -> Result<Option<JournalN
         offs: found.offs,
         len: found.len,
     }))
+}
+
+// Whether nodes of a type are leaf nodes.
+fn is_leaf(kind: NodeType) -> bool
+    ensures { result ≡ is_leaf_type kind }
+{
+    match kind {
+        NodeType::Inode
+        | NodeType::Data
+        | NodeType::Entry
+        | NodeType::Attribute
+        | NodeType::Truncation => true,
+        _ => false,
+    }
 }

@@ -8,8 +8,7 @@ use Rattle.journal_scan.proofs.leaves.leaf_at.Goals as goal
 pub returns-clause-some : goal.returns-clause-some
 returns-clause-some c =
     let f = c.args.found in
-    let low = c.if-found-gt-LAST_LEAF.false in
-    let there = leaf_there c.args.bud.now.bytes f c.requires (omega (arith, low)) in
+    let there = leaf_there c.args.bud.now.bytes f c.requires (sym c.is_leaf.ensures ∙ c.if-not-is_leaf.false) in
     let slice = c.split_at-2.ensures.front ∙ ap (take f.len) (c.split_at.ensures.back ∙ ap (drop f.offs) c.as_slice.ensures) in
     let P : List ℕ → Type 0 = λ bytes. IsLeafNode bytes f.sqnum f.group there.0 in
     let content = c.in_ok-content.ensures f.sqnum f.group there.0 (subst P (sym slice) there.1.is) in
