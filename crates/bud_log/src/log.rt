@@ -98,8 +98,7 @@ impl Log {
         ensures works { Works (V.state volume.old) (V.state volume.new) (λ k. (k ≡ lnum) ⊎ (k ≡ next_lnum self.old))
             (OpenUnderWay (has_room_at self.old) (V.state volume.old) self.old lnum (room_of self.old.geo.min_io 64)) }
         ensures opened { OnOk result (IsOpened (V.state volume.old) (V.state volume.new) self.old self.new lnum) }
-        ensures raised { IsRaised sqnum.old sqnum.new (IsSameLeb (V.state volume.old) (V.state volume.new) (next_lnum self.old)) result }
-        ensures answered { IsLogAnswered (V.state volume.old) (V.state volume.new) self.old self.new result }
+        ensures answered { IsLogAnswered (V.state volume.old) (V.state volume.new) self.old self.new result × IsRaised sqnum.old sqnum.new (IsSameLeb (V.state volume.old) (V.state volume.new) (next_lnum self.old)) result }
     {
         one_node();
         let here = self.has_room();
@@ -151,8 +150,7 @@ impl Log {
         ensures works { Works (V.state volume.old) (V.state volume.new) (λ k. k ≡ leb_behind self.old.geo self.old.lnum)
             (StartUnderWay (V.state volume.old) self.old (room_of self.old.geo.min_io (32 + 64 * length heads.now))) }
         ensures started { OnOk result (IsStarted (V.state volume.new) self.old self.new cmt_no (length heads.now)) }
-        ensures raised { sqnum.new ≡ sqnum.old + (1 + length heads.now) }
-        ensures answered { IsAnswered (V.state volume.old) (V.state volume.new) self.old self.new result }
+        ensures answered { IsAnswered (V.state volume.old) (V.state volume.new) self.old self.new result × (sqnum.new ≡ sqnum.old + (1 + length heads.now)) }
     {
         one_node();
         let number = *sqnum;

@@ -24,8 +24,8 @@ returns-in_err-clear_bud-clause-works g c =
     let at = c.args.self.now in
     first_works c.has_room-here.result (g.V.Volume.state c.args.volume.now) (g.V.Volume.state c.clear_bud.new.volume) at c.args.lnum (room_of at.geo.min_io 64) c.requires.at c.has_room-here.ensures c.requires.main c.clear_bud.ensures.works
 
-pub returns-in_err-clear_bud-clause-raised : goal.returns-in_err-clear_bud-clause-raised
-returns-in_err-clear_bud-clause-raised g c =
+pub returns-in_err-clear_bud-clause-answered : goal.returns-in_err-clear_bud-clause-answered
+returns-in_err-clear_bud-clause-answered g c =
     let same = log_same c.has_room-here.result (g.V.Volume.state c.args.volume.now) (g.V.Volume.state c.clear_bud.new.volume) c.args.self.now c.args.lnum (ChangeUnderWay (g.V.Volume.state c.args.volume.now) c.args.lnum []) c.requires.at c.has_room-here.ensures c.requires.main c.clear_bud.ensures.works in
     search rules
 
