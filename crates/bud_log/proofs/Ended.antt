@@ -25,7 +25,7 @@ pub record IsUnmappedTo (old now : VolumeState) (geo : RawGeometry) (from to lnu
   pub way : steps_to geo from lnum ≤ steps_to geo from to
   pub works : Works old now (IsBetween geo from to) (Each (UnmapUnderWay old geo from to))
   pub each : (k : ℕ) (x : List ℕ) → now.left_now k x → UnmapUnderWay old geo from to k x
-  pub unwritten : (k : ℕ) → IsLogLeb geo k → steps_to geo from k < steps_to geo from lnum → now.holds k ≡ filled old.leb_size []
+  pub unwritten : (k : ℕ) → IsLogLeb geo k → steps_to geo from k < steps_to geo from lnum → (now.holds k ≡ filled old.leb_size []) × (now.written k ≡ 0)
   pub leb_size : now.leb_size ≡ old.leb_size
 
 pub unmapped_none : (a : VolumeState) (geo : RawGeometry) (from to : ℕ) → IsLogLeb geo from → IsUnmappedTo a a geo from to from
@@ -74,17 +74,19 @@ unmapped_next a b c geo from to lnum next f t h ne w done shape e =
       each = left-may b c lnum (ChangeUnderWay b lnum []) (UnmapUnderWay a geo from to) h.each (more_unmapped a b geo from to lnum h is) w;
       unwritten = λ k in_log less. elim (cases_eq k lnum) [
         | inl same ↦
-            let P : ℕ → Type 0 = λ n. c.holds n ≡ filled a.leb_size [] in
-            subst P (sym same) (done.holds ∙ ap (λ (size : ℕ). filled size []) h.leb_size)
+            let P : ℕ → Type 0 = λ n. (c.holds n ≡ filled a.leb_size []) × (c.written n ≡ 0) in
+            subst P (sym same) (done.holds ∙ ap (λ (size : ℕ). filled size []) h.leb_size, done.written)
         | inr other ↦ elim (cases_eq (steps_to geo from k) (steps_to geo from lnum)) [
           | inl same ↦ absurd (other (same_steps geo from k lnum f in_log h.here same))
-          | inr apart ↦ w.others k other ∙ h.unwritten k in_log (omega (arith, less, step, apart))
+          | inr apart ↦
+              let before = h.unwritten k in_log (omega (arith, less, step, apart)) in
+              (w.others k other ∙ before.0, w.others_written k other ∙ before.1)
         ]
       ];
       leb_size = shape.leb_size ∙ h.leb_size;
     })
 
-pub unmapped_all : (a b : VolumeState) (geo : RawGeometry) (from to lnum : ℕ) → IsUnmappedTo a b geo from to lnum → lnum ≡ to → (k : ℕ) → IsBetween geo from to k → b.holds k ≡ filled a.leb_size []
+pub unmapped_all : (a b : VolumeState) (geo : RawGeometry) (from to lnum : ℕ) → IsUnmappedTo a b geo from to lnum → lnum ≡ to → (k : ℕ) → IsBetween geo from to k → (b.holds k ≡ filled a.leb_size []) × (b.written k ≡ 0)
 unmapped_all a b geo from to lnum h e k is =
     let P : ℕ → Type 0 = λ n. steps_to geo from k < steps_to geo from n in
     h.unwritten k is.in_log (subst P (sym e) is.before)

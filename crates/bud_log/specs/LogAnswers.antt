@@ -39,7 +39,7 @@ pub record IsStarted (new : VolumeState) (before after : LogAt) (cmt_no count : 
 
 -- the sections before the present one are unwritten, and needed no more
 pub record HasEnded (old new : VolumeState) (before after : LogAt) : Type 0 where
-  pub unwritten : (k : ℕ) → IsEnded before k → new.holds k ≡ filled old.leb_size []
+  pub unwritten : (k : ℕ) → IsEnded before k → (new.holds k ≡ filled old.leb_size []) × (new.written k ≡ 0)
   pub moved : after ≡ without_old before
   pub at : IsAt new after
   pub within : IsWithin before → IsWithin after

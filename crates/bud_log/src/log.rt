@@ -359,7 +359,7 @@ fn unmap_between<V: Volume>(
     requires lebs { lpt_first (raw_of geometry.now) ≤ (V.state volume.old).leb_cnt }
     requires from { IsLogLeb (raw_of geometry.now) from }
     requires to { IsLogLeb (raw_of geometry.now) to }
-    ensures unwritten { OnOk result ((k : ℕ) → IsBetween (raw_of geometry.now) from to k → (V.state volume.new).holds k ≡ filled (V.state volume.old).leb_size []) }
+    ensures unwritten { OnOk result ((k : ℕ) → IsBetween (raw_of geometry.now) from to k → ((V.state volume.new).holds k ≡ filled (V.state volume.old).leb_size []) × ((V.state volume.new).written k ≡ 0)) }
     ensures works { Works (V.state volume.old) (V.state volume.new) (IsBetween (raw_of geometry.now) from to) (Each (UnmapUnderWay (V.state volume.old) (raw_of geometry.now) from to)) }
     ensures shape { SameShape (V.state volume.old) (V.state volume.new) }
     ensures cause { HasCause (V.state volume.old).faults (V.state volume.new).faults result }
