@@ -13,7 +13,7 @@ use Rattle.leaf_map.proofs.Agrees.{agree_after}
 use Rattle.leaf_map.proofs.Copies.{moved_node, same_tree}
 use Rattle.leaf_map.proofs.Forgets.{forget, forgets_all, forgets_close, orphans_tree}
 use Rattle.leaf_map.proofs.Lasts.{apply_sorted}
-use Rattle.leaf_map.proofs.Replays.{map_replayed, read_in_order, tree_replayed}
+use Rattle.leaf_map.proofs.Replays.{map_replayed, tree_replayed}
 use Rattle.leaf_map.proofs.Sorted.{leaves_sorted}
 
 pub found_is : (parts : Parts) (committed : Tree) (changes : Numbered) → FitsTree parts committed changes → tree_found parts ≡ recovered committed changes
@@ -21,7 +21,7 @@ found_is parts committed changes fits =
     let kept : List Kept = leaves_found parts in
     let before = committed_highest parts in
     let now = (recovered_of parts).highest in
-    let read = read_in_order parts.nodes changes fits.nodes in
+    let read = fits.nodes in
     let after : List Kept = leaves_after kept (in_order parts.nodes) in
     let start = leaves_sorted kept before fits.leaves in
     let all = tree_replayed (in_order parts.nodes) _ kept before read fits.leaves in

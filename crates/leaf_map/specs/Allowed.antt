@@ -16,7 +16,7 @@ use Rattle.leaf_map.specs.Kept.{Kept, Placed, shown_by}
 use Rattle.leaf_map.specs.LastChange.{IsSorted, Made, last_made, makes_block, makes_entry, makes_inode}
 use Rattle.leaf_map.specs.LeafMap.{IsLeafMap}
 use Rattle.leaf_map.specs.Parts.{Committed, Named, Parts, own_node}
-use Rattle.leaf_map.specs.Recovered.{committed_highest, leaves_found}
+use Rattle.leaf_map.specs.Recovered.{committed_highest, in_order, leaves_found}
 use Rattle.leaf_map.specs.Shown.{tree_of}
 
 -- these nodes are nodes of the grammar with the numbers of these changes, and carry what recovery makes of them
@@ -57,9 +57,9 @@ pub record AgreeBut (listed : List ℕ) (changes : List Change) (a b : Tree) : T
 abbrev pub in_turn : Numbered → List Change
 in_turn changes = map (λ c. as_replayed c.1) (by_number changes)
 
--- What was read fits a committed tree and changes: the nodes carry the changes, the leaves that were found show that tree but for what the changes touch and for listed inodes that go, and what has no name at last is listed.
+-- What was read fits a committed tree and changes: the nodes carry the changes, both in order of number, the leaves that were found show that tree but for what the changes touch and for listed inodes that go, and what has no name at last is listed.
 pub record FitsTree (parts : Parts) (committed : Tree) (changes : Numbered) : Type 0 where
-  pub nodes : AreRead parts.nodes changes
+  pub nodes : AreRead (in_order parts.nodes) (by_number changes)
   pub leaves : IsLeafMap (leaves_found parts)
   pub sorted : IsSorted committed
   pub shows : AgreeBut parts.listed (in_turn changes) (tree_of (leaves_found parts) (committed_highest parts)) committed
@@ -129,9 +129,9 @@ abbrev pub IsSafe : Parts → Tree → List Change → Kept → Type 0
 IsSafe parts tree changes x =
     (IsOwnNode parts.named parts.committed x.node ⊎ IsCopied parts.copies x.node) ⊎ (IsTouchedIn tree changes (shown_by x) ⊎ IsOfForgotten parts.listed changes tree (shown_by x))
 
--- What was read of committed leaves and of changes loses nothing: no leaf is missed, the nodes carry the changes, and what has no name at last is listed.
+-- What was read of committed leaves and of changes loses nothing: no leaf is missed, the nodes carry the changes, both in order of number, and what has no name at last is listed.
 pub record LosesNothing (parts : Parts) (kept : List Kept) (changes : Numbered) : Type 0 where
   pub read : FitsLeaves parts kept
-  pub nodes : AreRead parts.nodes changes
+  pub nodes : AreRead (in_order parts.nodes) (by_number changes)
   pub safe : AllByRecursion (IsSafe parts (tree_of kept (committed_highest parts)) (in_turn changes)) kept
   pub listed : (q : ℕ) → is_nameless (apply (tree_of kept (committed_highest parts)) (in_turn changes)) q ≡ true → list_any (λ ino. q == ino) parts.listed ≡ true

@@ -12,7 +12,7 @@ pub record Committed : Type 0 where
   pub leaf : Leaf
   pub found : Option Placed
 
--- a LEB that the log names, for a head, from an offset on
+-- a reference of the log: it names a LEB for a head, from an offset on; a LEB may have several
 pub record Named : Type 0 where
   pub head : ℕ
   pub lnum : ℕ
