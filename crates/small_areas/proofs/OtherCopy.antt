@@ -1,15 +1,15 @@
 -- The copy that isn't the latest is mended.
-use Rattle.std.proofs.Common.{◌≡◌, ◌≢◌, ◌⊎◌, ℕ, ◌+◌, ◌<◌, ◌≤◌, List, Option, Some, None, refl, sym, ◌∙◌, subst, inl, inr, arith}
+use Rattle.std.proofs.Common.{◌≡◌, ◌≢◌, ◌⊎◌, ℕ, ◌+◌, ◌<◌, ◌≤◌, List, Option, Some, None, refl, ap, sym, ◌∙◌, subst, inl, inr, arith}
 use Rattle.ubifs_base.specs.NodeLaws.{IsBytes}
 use Rattle.media_sys.specs.declared.master.Master.{Master}
-use Rattle.ubi_volume.specs.Volume.{VolumeState, Keeps, UnderWay, WorksOn}
+use Rattle.ubi_volume.specs.Volume.{VolumeState, Keeps, UnderWay, WorksOn, filled, put}
 use Rattle.ubi_volume.specs.Frame.{Works}
 use Rattle.ubi_volume.specs.FrameLaws.{Works-keeps, Works-on, Works-then}
-use Rattle.small_areas.specs.Copies.{copy_of, master_node, other_leb, HasMaster, IsCopied, IsMasterLeb, IsMeant, IsMended, IsMendNumbered, IsNodeOf, IsOldOrNew, IsOpen, IsPlace, IsRoom, IsStart, CopyUnderWay, MendUnderWay}
+use Rattle.small_areas.specs.Copies.{copy_of, master_node, other_leb, HasMaster, IsCopied, IsMasterLeb, IsMeant, IsMended, IsMendNumbered, IsMendWritten, IsNodeOf, IsOldOrNew, IsOpen, IsPlace, IsRoom, IsStart, CopyUnderWay, MendUnderWay}
 use Rattle.small_areas.specs.Later.{IsReadOf}
 use Rattle.small_areas.specs.Masters.{IsLastMaster, IsLatest}
 use Rattle.small_areas.specs.declared.placed_master.PlacedMaster.{PlacedMaster}
-use Rattle.small_areas.proofs.BothCopies.{HasMapped, IsCall, spelled}
+use Rattle.small_areas.proofs.BothCopies.{HasMapped, IsCall, copied_spelled, spelled}
 use Rattle.small_areas.proofs.CopyRuns.{first_stage, new_first, new_second, old_reads, open_after, open_still, read_as}
 use Rattle.small_areas.proofs.LaidCopy.{standing_at}
 use Rattle.small_areas.specs.MasterLaws.{OneNode, OneText, last_or_none, one_last}
@@ -249,4 +249,42 @@ numbered_mend node text a e number lnum latest found at bytes read unlike =
     record {
       numbered = inr refl;
       agreed = λ same. absurd (unlike (told node text (a.holds lnum) lnum latest.master found bytes read (subst P (sym at) same)));
+    }
+
+-- what was found says the same, and nothing was written
+pub written_idle : (a c : VolumeState) (room number lnum : ℕ) (old : PlacedMaster) (found : Option PlacedMaster) → Keeps a c → lnum ≡ other_leb old.lnum → IsReadOf lnum (a.holds lnum) found
+    → ((placed : PlacedMaster) × (found ≡ Some placed) × (placed.master ≡ old.master)) → IsMendWritten a c room number old
+written_idle a c room number lnum old found keeps at read (placed, is, same) =
+    let P : Option PlacedMaster → Type 0 = λ o. IsReadOf lnum (a.holds lnum) o in
+    let Q : ℕ → Type 0 = λ n. IsLastMaster (a.holds n) placed in
+    record { alone = keeps.holds old.lnum; copied = inl (placed, subst Q at (subst P is read).some.0, same) }
+
+-- a copy was written after reading
+copied_kept : (a c e : VolumeState) (lnum room : ℕ) (copy : List ℕ) → Keeps a c → c.leb_size ≡ a.leb_size → IsCopied c e lnum room copy → IsCopied a e lnum room copy
+copied_kept a c e lnum room copy keeps size (inl (place, is, w)) =
+    let P : List ℕ → Type 0 = λ leb. IsPlace leb room place in
+    inl (
+      place,
+      subst P (keeps.holds lnum) is,
+      record {
+        holds = w.holds ∙ ap (put place copy) (keeps.holds lnum);
+        written = w.written;
+        left = λ x l. let d = w.left x l in (d.0, (keeps.left_mapped lnum d.0).0 d.1, d.2);
+      },
+    )
+copied_kept a c e lnum room copy keeps size (inr (none, w)) =
+    inr (
+      λ place is. let P : List ℕ → Type 0 = λ leb. IsPlace leb room place in none place (subst P (sym (keeps.holds lnum)) is),
+      record { holds = w.holds ∙ ap (λ (s : ℕ). filled s copy) size; written = w.written; left = λ x l. w.left x l ∙ ap (λ (s : ℕ). filled s copy) size },
+    )
+
+pub written_mend : (a c e : VolumeState) (node : List ℕ) (room number lnum : ℕ) (old : PlacedMaster) → Keeps a c → c.leb_size ≡ a.leb_size → IsLatest (a.holds 1) (a.holds 2) old → lnum ≡ other_leb old.lnum
+    → IsCall c e lnum room (number + 1) old.master node → IsCopied c e lnum room (copy_of room node) → IsMendWritten a e room number old
+written_mend a c e node room number lnum old keeps size latest at call done =
+    let n1 : List ℕ = master_node (number + 1) old.master in
+    let ne : old.lnum ≢ lnum = λ same. elim (has_latest (a.holds 1) (a.holds 2) old latest) [ inl (is, last) ↦ omega (arith, at, is, same) | inr (is, last) ↦ omega (arith, at, is, same) ] in
+    let C : ℕ → Type 0 = λ n. IsCopied a e n room (copy_of room n1) in
+    record {
+      alone = call.works.others old.lnum ne ∙ keeps.holds old.lnum;
+      copied = inr (subst C at (copied_kept a c e lnum room (copy_of room n1) keeps size (copied_spelled c e lnum room (number + 1) old.master node call.spelling done)));
     }

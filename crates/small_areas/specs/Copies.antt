@@ -153,3 +153,8 @@ pub record IsMended (new : VolumeState) (room number : ℕ) (latest : PlacedMast
   pub still : latest.sqnum ≤ number → (now : PlacedMaster) × IsLatest (new.holds 1) (new.holds 2) now × (now.master ≡ latest.master) × (now.sqnum ≤ number + 1)
   pub open_first : IsOpen new 1 room
   pub open_second : IsOpen new 2 room
+
+-- What a mend wrote: the LEB of the latest master is as it was, and in the other one the copy with the number behind this one was written, if the two didn't agree.
+pub record IsMendWritten (old new : VolumeState) (room number : ℕ) (latest : PlacedMaster) : Type 0 where
+  pub alone : new.holds latest.lnum ≡ old.holds latest.lnum
+  pub copied : HasMaster (old.holds (other_leb latest.lnum)) latest.master ⊎ IsCopied old new (other_leb latest.lnum) room (master_copy room (number + 1) latest.master)

@@ -6,7 +6,7 @@ ghost use Rattle.ubi_volume.specs.Volume.{SameShape};
 ghost use Rattle.ubi_volume.specs.Faults.{HasCause, StaysSure};
 ghost use Rattle.ubi_volume.specs.Frame.{Works};
 ghost use Rattle.ubi_volume.specs.Geometry.{IsGeometryOf};
-ghost use Rattle.small_areas.specs.Copies.{room_of, IsOpen, IsRoom, IsMasterLeb, IsMended, IsMendNumbered, MendUnderWay, other_leb};
+ghost use Rattle.small_areas.specs.Copies.{room_of, IsOpen, IsRoom, IsMasterLeb, IsMended, IsMendNumbered, IsMendWritten, MendUnderWay, other_leb};
 ghost use Rattle.small_areas.specs.Masters.{IsLatest};
 ghost use Rattle.small_areas.specs.declared.placed_master.PlacedMaster.{PlacedMaster as APlacedMaster};
 
@@ -38,7 +38,8 @@ pub fn mend_master<V: Volume>(
     requires whole { length leb.old ≡ geometry.now.leb_size }
     requires first { IsOpen (V.state volume.old) 1 (room_of geometry.now.min_io) }
     requires second { IsOpen (V.state volume.old) 2 (room_of geometry.now.min_io) }
-    ensures done { OnOk result (IsMended (V.state volume.new) (room_of geometry.now.min_io) sqnum.old latest.now) }
+    ensures done { OnOk result (IsMended (V.state volume.new) (room_of geometry.now.min_io) sqnum.old latest.now
+        × IsMendWritten (V.state volume.old) (V.state volume.new) (room_of geometry.now.min_io) sqnum.old latest.now) }
     ensures works { Works (V.state volume.old) (V.state volume.new) IsMasterLeb (MendUnderWay (V.state volume.old) (room_of geometry.now.min_io) sqnum.old latest.now) }
     ensures raised { IsMendNumbered (V.state volume.old) (V.state volume.new) sqnum.old sqnum.new latest.now × (length leb.new ≡ length leb.old) }
     ensures shape { SameShape (V.state volume.old) (V.state volume.new) }
@@ -69,6 +70,7 @@ fn mend_in<V: Volume>(
     requires first { IsOpen (V.state volume.old) 1 room }
     requires second { IsOpen (V.state volume.old) 2 room }
     ensures done { OnOk result (IsMended (V.state volume.new) room sqnum.old latest.now) }
+    ensures written { OnOk result (IsMendWritten (V.state volume.old) (V.state volume.new) room sqnum.old latest.now) }
     ensures works { Works (V.state volume.old) (V.state volume.new) IsMasterLeb (MendUnderWay (V.state volume.old) room sqnum.old latest.now) }
     ensures raised { IsMendNumbered (V.state volume.old) (V.state volume.new) sqnum.old sqnum.new latest.now }
     ensures len { length leb.new ≡ length leb.old }

@@ -1,9 +1,9 @@
 use Rattle.std.proofs.Common.{ℕ, ◌+◌, ◌<◌, arith, sym, subst}
 use Rattle.ubifs_base.specs.NodeLaws.{IsBytes}
-use Rattle.small_areas.specs.Copies.{copy_of, other_leb, IsCopied, IsMasterLeb, IsMended}
+use Rattle.small_areas.specs.Copies.{copy_of, other_leb, IsCopied, IsMasterLeb, IsMended, IsMendWritten}
 use Rattle.small_areas.proofs.BothCopies.{IsCall}
-use Rattle.small_areas.proofs.CopyRuns.{on_two}
-use Rattle.small_areas.proofs.OtherCopy.{below_three, lnum_low, mended, mended_found, numbered_idle, numbered_mend, open_other, other_is, works_idle, works_mend}
+use Rattle.small_areas.proofs.CopyRuns.{on_ok, on_two}
+use Rattle.small_areas.proofs.OtherCopy.{below_three, lnum_low, mended, mended_found, numbered_idle, numbered_mend, open_other, other_is, works_idle, works_mend, written_idle, written_mend}
 use Rattle.small_areas.proofs.mending.mend_in.Goals as goal
 
 pub other_of-other-requires : goal.other_of-other-requires
@@ -81,3 +81,19 @@ returns-clause-raised g c =
     let below = subst P (sym c.other_of-other.ensures) (below_three (other_leb latest.lnum) a.leb_cnt (other_is (a.holds 1) (a.holds 2) latest c.requires.latest) c.requires.lebs) in
     numbered_mend c.one_node.ensures c.one_text.ensures a (g.V.Volume.state c.write_copy.new.volume) c.args.sqnum.now lnum latest c.in_ok-found.found c.other_of-other.ensures (g.met.V.Volume.leb_bytes c.args.volume.now lnum below) c.in_ok-found.ensures.read
     (λ same. let yes = c.says.ensures.1 same in let no = c.if-says.false in absurd cc)
+
+pub returns-then-says-clause-written : goal.returns-then-says-clause-written
+returns-then-says-clause-written g c =
+    written_idle (g.V.Volume.state c.args.volume.now) (g.V.Volume.state c.master_in.new.volume) c.args.room c.args.sqnum.now c.other_of-other.result c.args.latest.now c.in_ok-found.found c.master_in.ensures.keeps
+    c.other_of-other.ensures c.in_ok-found.ensures.read (c.says.ensures.0 c.if-says.true)
+
+pub returns-clause-written : goal.returns-clause-written
+returns-clause-written g c =
+    let a = g.V.Volume.state c.args.volume.now in
+    let b = g.V.Volume.state c.master_in.new.volume in
+    let e = g.V.Volume.state c.write_copy.new.volume in
+    let latest = c.args.latest.now in
+    let lnum = c.other_of-other.result in
+    let call : IsCall b e lnum c.args.room (c.args.sqnum.now + 1) latest.master c.spell.new.node = record { spelling = c.spell.ensures.spelling; is_node = c.spell.ensures.is_node; works = c.write_copy.ensures.works } in
+    on_ok c.write_copy.result (IsCopied b e lnum c.args.room (copy_of c.args.room c.spell.new.node)) (IsMendWritten a e c.args.room c.args.sqnum.now latest)
+    (λ done. written_mend a b e c.spell.new.node c.args.room c.args.sqnum.now lnum latest c.master_in.ensures.keeps c.master_in.ensures.shape.leb_size c.requires.latest c.other_of-other.ensures call done) c.write_copy.ensures.done
