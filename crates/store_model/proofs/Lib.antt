@@ -1,5 +1,7 @@
 mod Drops
 mod LegalPut
+mod Numbers
 mod Opens
+mod PutNumbers
 mod Puts
 mod Syncs
