@@ -1,10 +1,10 @@
 // Laws of the events: what each keeps of the invariant.
 
-ghost use Rattle.std.specs.Prelude.{◌≡◌, ℕ, List};
+ghost use Rattle.std.specs.Prelude.{◌≡◌, ℕ, List, None};
 ghost use Rattle.store_model.specs.Backing.{Outside, backing_of};
-ghost use Rattle.store_model.specs.Events.{after, Drop, Free, Open, Put, Putting, Start, Sync};
+ghost use Rattle.store_model.specs.Events.{after, Begin, Drop, Free, Open, Put, Putting, Start, Sync};
 ghost use Rattle.store_model.specs.Invariant.{HasFiles, HasNumbers};
-ghost use Rattle.store_model.specs.Lebs.{IsStoreSettled};
+ghost use Rattle.store_model.specs.Lebs.{IsStoreSettled, lent};
 ghost use Rattle.store_model.specs.Legal.{IsAllSynced, IsLegalEvent};
 ghost use Rattle.store_model.specs.Store.{Index as AnyIndex, Store as AnyStore};
 
@@ -52,4 +52,12 @@ pub fn a_put_leaves_room_for_a_commit()
 pub fn a_sync_comes_first()
     ensures free { (m : AnyStore) → IsLegalEvent m Free → IsAllSynced m }
     ensures start { (m : AnyStore) (taken : List ℕ) → IsLegalEvent m (Start taken) → IsAllSynced m }
+{}
+
+/// A LEB that is lent to a collection comes back: no other collection begins and no commit starts before, and it is lent no more
+/// once the victim is freed.
+pub fn a_lent_leb_comes_back()
+    ensures begin { (m : AnyStore) (victim : ℕ) → IsLegalEvent m (Begin victim) → m.moving ≡ None }
+    ensures start { (m : AnyStore) (taken : List ℕ) → IsLegalEvent m (Start taken) → lent m.moving ≡ 0 }
+    ensures freed { (m : AnyStore) → lent (after Free m).moving ≡ 0 }
 {}
