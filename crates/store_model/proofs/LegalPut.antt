@@ -8,7 +8,7 @@ use Rattle.store_model.specs.Legal.{AreLegal, CanOpen, CanPut, IsPart, IsIndexAf
 use Rattle.store_model.specs.Store.{Store}
 use Rattle.store_model.specs.Worked.{am_entry, am_inode, am_leaves, changed_index, put_am, putting_am, rooted}
 
-opened : CanOpen rooted 1 22
+pub opened : CanOpen rooted 1 22
 opened = record { head_is = omega arith; empty = refl; log = refl; settled = record { empty = omega arith; index = omega arith } }
 
 abbrev before : Store
@@ -31,7 +31,7 @@ index : IsIndexAfter before 2 (put putting_am before).live (changed_index am_lea
 unfolding key_rank r5_of same_leaf
 index = record { contents_are = refl; weight = omega arith; places = tt }
 
-can : CanPut before putting_am
+pub can : CanPut before putting_am
 can = record {
   parts = (part, tt);
   paid = (record { bytes = 4096; nodes = 8 }, refl, omega arith, omega arith);

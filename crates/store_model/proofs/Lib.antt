@@ -1,5 +1,9 @@
 mod Drops
 mod LegalPut
+mod LegalRuns
+mod Numbers
 mod Opens
+mod PutNumbers
 mod Puts
 mod Syncs
+mod WorkedStore

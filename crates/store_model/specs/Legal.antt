@@ -15,7 +15,7 @@ use Rattle.leaf_map.specs.Kept.{Kept, Placed}
 use Rattle.space_sums.specs.Spaces.{taken_lebs}
 use Rattle.store_model.specs.Events.{after, after_part, Copying, credit, dirty_count, drop_inode, end_at, Event, Put, Open, Sync, Begin, Move, Free, Start, Write, Offer, End, Drop, granted, move, nodes_len, Part, Payment, put, Putting, reference_len}
 use Rattle.store_model.specs.Heads.{changes_of, counts_of, numbered}
-use Rattle.store_model.specs.Lebs.{has_role, IsStoreSettled, role_count, space_of, stands_in}
+use Rattle.store_model.specs.Lebs.{has_role, IsStoreSettled, lent, role_count, space_of, stands_in}
 use Rattle.store_model.specs.Store.{At, Carried, Index, Moving, Next, Place, Store}
 
 -- ---- the index
@@ -161,9 +161,11 @@ abbrev pub are_distinct : List ℕ → Bool
 are_distinct [] = true
 are_distinct (n ∷ numbers) = not (list_any (λ k. k == n) numbers) && are_distinct numbers
 
--- All is synced. It takes as many empty LEBs as the index asks for, one more is there, and the log has one for a section.
+-- All is synced, and no LEB is lent to a collection. It takes as many empty LEBs as the index asks for, one more is there, and the log has one for a section.
 pub record CanStart (m : Store) (taken : List ℕ) : Type 0 where
   pub idle : m.next ≡ None
+  -- the leaves copied so far would be committed in that LEB, and the others in the victim, so neither came back
+  pub unlent : lent m.moving ≡ 0
   pub synced : IsAllSynced m
   pub empty : IsTrue (list_all (has_role kind.Free m.lebs) taken)
   pub distinct : IsTrue (are_distinct taken)

@@ -14,7 +14,7 @@ use Rattle.leaf_map.specs.Kept.{Kept, Placed, kept_at}
 use Rattle.leaf_map.specs.Parts.{Committed, Parts}
 use Rattle.leaf_map.specs.Recovered.{recovered_of}
 use Rattle.leaf_map.specs.Worked.{am, at, bb, file, name, root}
-use Rattle.store_model.specs.Events.{Begin, Drop, End, Event, Free, granted, Move, Offer, Open, Put, Start, Sync, Write, Putting}
+use Rattle.store_model.specs.Events.{Begin, Copying, credit, Drop, End, Event, Free, granted, Move, Offer, Open, Payment, Put, Putting, Start, Sync, Write}
 use Rattle.store_model.specs.Fits.{named_by, read_nodes}
 use Rattle.store_model.specs.Heads.{copies_of, heads_of}
 use Rattle.store_model.specs.Store.{Bud, Carried, Index, Item, leaf, Leb, Store, View}
@@ -55,7 +55,7 @@ view_of kept tree = record {
   put = 0;
 }
 
--- a store to which nothing was put: its leaves stand in LEB 20, its index in LEB 21, and six LEBs are empty
+-- a store to which nothing was put: its leaves stand in LEB 20, its index in LEB 21, and ten LEBs are empty
 abbrev pub opened : List Placed → Tree → Store
 opened nodes tree = record {
   geo = geo;
@@ -67,14 +67,14 @@ opened nodes tree = record {
   held = [];
   ends = None ∷ None ∷ None ∷ [];
   synced = 0 ∷ 0 ∷ 0 ∷ [];
-  lebs = leb 20 kind.Leaf (map leaf nodes) ∷ leb 21 kind.Index [] ∷ map (λ lnum. leb lnum kind.Free []) (22 ∷ 23 ∷ 24 ∷ 25 ∷ 26 ∷ 27 ∷ []);
+  lebs = leb 20 kind.Leaf (map leaf nodes) ∷ leb 21 kind.Index [] ∷ map (λ lnum. leb lnum kind.Free []) (22 ∷ 23 ∷ 24 ∷ 25 ∷ 26 ∷ 27 ∷ 28 ∷ 29 ∷ 30 ∷ 31 ∷ []);
   moving = None;
   orphans = [];
   listed = [];
   closed = [];
   log = record { leb = 0; offs = 32 };
   sqnum = 10;
-  credits = 0;
+  credits = 1;
   grant = Some (record { bytes = 4096; nodes = 8 });
 }
 
@@ -89,12 +89,16 @@ carry lnum offs sqnum change = record { change = change; placed = at lnum offs s
 abbrev pub in_group : ℕ → Carried → Carried
 in_group group c = record c { placed = record c.placed { group = group } }
 
--- a group is put to the base, and these are the leaves then
-abbrev pub put_of : List Carried → List Kept → Putting
-put_of group live = record { parts = (record { head = 1; group = group }) ∷ []; payment = granted; index = changed_index live }
+-- a group is put to the base, of what was granted or of a credit, and these are the leaves then
+abbrev pub put_of : Payment → List Carried → List Kept → Putting
+put_of payment group live = record { parts = (record { head = 1; group = group }) ∷ []; payment = payment; index = changed_index live }
 
 abbrev pub putting : List Carried → List Kept → Event
-putting group live = Put (put_of group live)
+putting group live = Put (put_of granted group live)
+
+-- a credit pays for the second group of a run
+abbrev pub putting_next : List Carried → List Kept → Event
+putting_next group live = Put (put_of credit group live)
 
 -- ---- a put and a sync
 -- a file `am` is made, at the start of LEB 22
@@ -108,7 +112,7 @@ abbrev pub am_leaves : List Kept
 am_leaves = map kept_at (root_node ∷ am_entry.placed ∷ am_inode.placed ∷ [])
 
 abbrev pub putting_am : Putting
-putting_am = put_of (am_entry ∷ am_inode ∷ []) am_leaves
+putting_am = put_of granted (am_entry ∷ am_inode ∷ []) am_leaves
 
 abbrev pub put_am : List Event
 put_am = Open 1 22 ∷ Put putting_am ∷ []
@@ -118,7 +122,7 @@ am_tree = record { inodes = (1, new_dir 493 0) ∷ (65, file 1) ∷ []; blocks =
 
 -- the name goes, and the inode stays without links, since somebody has it open
 abbrev pub unlinking : List Carried
-unlinking = carry 22 224 14 (DropEntry 1 am) ∷ carry 22 288 15 (SetInode 65 (file 0)) ∷ []
+unlinking = in_group 1 (carry 22 224 14 (DropEntry 1 am)) ∷ in_group 2 (carry 22 288 15 (SetInode 65 (file 0))) ∷ []
 
 abbrev pub unlinked_leaves : List Kept
 unlinked_leaves = map kept_at (root_node ∷ at 22 288 15 (SetInode 65 (file 0)) ∷ [])
@@ -154,10 +158,10 @@ allowed view base = recovered view.tree (taken (heads_of view.buds (0 ∷ 0 ∷ 
 -- ---- a commit with a put inside
 -- a file `bb` is made while a commit runs, behind `am`
 abbrev pub bb_entry : Carried
-bb_entry = carry 22 224 30 (SetEntry (name bb 66))
+bb_entry = in_group 1 (carry 22 224 30 (SetEntry (name bb 66)))
 
 abbrev pub bb_inode : Carried
-bb_inode = carry 22 288 31 (SetInode 66 (file 1))
+bb_inode = in_group 2 (carry 22 288 31 (SetInode 66 (file 1)))
 
 abbrev pub bb_leaves : List Kept
 bb_leaves = map kept_at (root_node ∷ am_entry.placed ∷ bb_entry.placed ∷ am_inode.placed ∷ bb_inode.placed ∷ [])
@@ -170,11 +174,14 @@ bb_tree = record {
   highest = 66;
 }
 
+abbrev pub putting_bb : Putting
+putting_bb = put_of credit (bb_entry ∷ bb_inode ∷ []) bb_leaves
+
 abbrev pub until_offer : List Event
-until_offer = Open 1 22 ∷ putting (am_entry ∷ am_inode ∷ []) am_leaves ∷ Sync ∷ Start (23 ∷ []) ∷ putting (bb_entry ∷ bb_inode ∷ []) bb_leaves ∷ Write ∷ Offer ∷ []
+until_offer = Open 1 22 ∷ Put putting_am ∷ Sync ∷ Start (23 ∷ []) ∷ Put putting_bb ∷ Write ∷ Offer ∷ []
 
 abbrev pub whole_commit : List Event
-whole_commit = Open 1 22 ∷ putting (am_entry ∷ am_inode ∷ []) am_leaves ∷ Sync ∷ Start (23 ∷ []) ∷ putting (bb_entry ∷ bb_inode ∷ []) bb_leaves ∷ Write ∷ Offer ∷ End ∷ []
+whole_commit = Open 1 22 ∷ Put putting_am ∷ Sync ∷ Start (23 ∷ []) ∷ Put putting_bb ∷ Write ∷ Offer ∷ End ∷ []
 
 -- the buds of a view: head, LEB and offset, with how many groups
 abbrev pub bud_rows : List Bud → List (ℕ × ℕ × ℕ × ℕ)
@@ -198,24 +205,24 @@ root_copy = at 24 0 1 root
 abbrev pub file_copy : Placed
 file_copy = at 24 160 2 (SetInode 65 (file 2))
 
-abbrev pub move_root : Event
-move_root = Move (record { leaf = kept_at root_node; copy = root_copy; index = changed_index (map kept_at (root_copy ∷ file_node ∷ [])) })
+abbrev pub moving_root : Copying
+moving_root = record { leaf = kept_at root_node; copy = root_copy; index = changed_index (map kept_at (root_copy ∷ file_node ∷ [])) }
 
-abbrev pub move_file : Event
-move_file = Move (record { leaf = kept_at file_node; copy = file_copy; index = changed_index (map kept_at (root_copy ∷ file_copy ∷ [])) })
+abbrev pub moving_file : Copying
+moving_file = record { leaf = kept_at file_node; copy = file_copy; index = changed_index (map kept_at (root_copy ∷ file_copy ∷ [])) }
 
 abbrev pub half_collected : List Event
-half_collected = Begin 20 ∷ Open 0 24 ∷ move_root ∷ Sync ∷ []
+half_collected = Begin 20 ∷ Open 0 24 ∷ Move moving_root ∷ Sync ∷ []
 
 abbrev pub all_copied : List Event
-all_copied = Begin 20 ∷ Open 0 24 ∷ move_root ∷ move_file ∷ Sync ∷ []
+all_copied = Begin 20 ∷ Open 0 24 ∷ Move moving_root ∷ Move moving_file ∷ Sync ∷ []
 
 abbrev pub collected : List Event
-collected = Begin 20 ∷ Open 0 24 ∷ move_root ∷ move_file ∷ Sync ∷ Free ∷ []
+collected = Begin 20 ∷ Open 0 24 ∷ Move moving_root ∷ Move moving_file ∷ Sync ∷ Free ∷ []
 
 -- ---- an orphan that is closed while a commit runs
 -- file 65 loses its name and is synced, a commit starts whose list has it, and the file is closed before the commit ends
 abbrev pub closed_in_commit : List Event
 closed_in_commit =
-    Open 1 22 ∷ putting (am_entry ∷ am_inode ∷ []) am_leaves ∷ putting unlinking unlinked_leaves ∷ Sync
+    Open 1 22 ∷ Put putting_am ∷ putting_next unlinking unlinked_leaves ∷ Sync
     ∷ Start (23 ∷ []) ∷ Drop 65 (changed_index (map kept_at (root_node ∷ []))) ∷ Write ∷ Offer ∷ End ∷ []

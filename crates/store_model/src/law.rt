@@ -1,18 +1,20 @@
 // Laws of the events: what each keeps of the invariant.
 
-ghost use Rattle.std.specs.Prelude.{◌≡◌, ℕ, List};
+ghost use Rattle.std.specs.Prelude.{◌≡◌, ℕ, List, None};
 ghost use Rattle.store_model.specs.Backing.{Outside, backing_of};
-ghost use Rattle.store_model.specs.Events.{after, Drop, Free, Open, Put, Putting, Start, Sync};
+ghost use Rattle.store_model.specs.Events.{after, Begin, Drop, Free, Open, Put, Putting, Start, Sync};
 ghost use Rattle.store_model.specs.Invariant.{HasFiles, HasNumbers};
-ghost use Rattle.store_model.specs.Lebs.{IsStoreSettled};
+ghost use Rattle.store_model.specs.Lebs.{IsStoreSettled, lent};
 ghost use Rattle.store_model.specs.Legal.{IsAllSynced, IsLegalEvent};
 ghost use Rattle.store_model.specs.Store.{Index as AnyIndex, Store as AnyStore};
 
 use leaf_map::a_change_of_leaves_is_one_of_the_tree;
 
-/// A put keeps the files: its leaves show the tree after its changes, and the index has them.
+/// A put keeps the files: its leaves show the tree after its changes, and the index has them. It keeps the numbers: those of its
+/// groups are the next ones.
 pub fn a_put_keeps_the_files()
-    ensures { (m : AnyStore) (p : Putting) → IsLegalEvent m (Put p) → HasFiles m → HasFiles (after (Put p) m) }
+    ensures files { (m : AnyStore) (p : Putting) → IsLegalEvent m (Put p) → HasFiles m → HasFiles (after (Put p) m) }
+    ensures numbers { (m : AnyStore) (p : Putting) → IsLegalEvent m (Put p) → HasNumbers m → HasNumbers (after (Put p) m) }
 {
     a_change_of_leaves_is_one_of_the_tree();
 }
@@ -32,9 +34,10 @@ pub fn an_opened_leb_keeps_the_files()
     ensures files { (m : AnyStore) (head lnum : ℕ) → IsLegalEvent m (Open head lnum) → HasFiles m → HasFiles (after (Open head lnum) m) }
 {}
 
-/// An inode without a name that is dropped is gone with its blocks, from the leaves as from the files.
+/// An inode without a name that is dropped is gone with its blocks, from the leaves as from the files. No number changes.
 pub fn a_drop_keeps_the_files()
-    ensures { (m : AnyStore) (ino : ℕ) (index : AnyIndex) → IsLegalEvent m (Drop ino index) → HasFiles m → HasFiles (after (Drop ino index) m) }
+    ensures files { (m : AnyStore) (ino : ℕ) (index : AnyIndex) → IsLegalEvent m (Drop ino index) → HasFiles m → HasFiles (after (Drop ino index) m) }
+    ensures numbers { (m : AnyStore) (ino : ℕ) (index : AnyIndex) → IsLegalEvent m (Drop ino index) → HasNumbers m → HasNumbers (after (Drop ino index) m) }
 {
     a_change_of_leaves_is_one_of_the_tree();
 }
@@ -49,4 +52,12 @@ pub fn a_put_leaves_room_for_a_commit()
 pub fn a_sync_comes_first()
     ensures free { (m : AnyStore) → IsLegalEvent m Free → IsAllSynced m }
     ensures start { (m : AnyStore) (taken : List ℕ) → IsLegalEvent m (Start taken) → IsAllSynced m }
+{}
+
+/// A LEB that is lent to a collection comes back: no other collection begins and no commit starts before, and it is lent no more
+/// once the victim is freed.
+pub fn a_lent_leb_comes_back()
+    ensures begin { (m : AnyStore) (victim : ℕ) → IsLegalEvent m (Begin victim) → m.moving ≡ None }
+    ensures start { (m : AnyStore) (taken : List ℕ) → IsLegalEvent m (Start taken) → lent m.moving ≡ 0 }
+    ensures freed { (m : AnyStore) → lent (after Free m).moving ≡ 0 }
 {}

@@ -7,6 +7,7 @@ ghost use Rattle.leaf_map.specs.Shown.{tree_of};
 ghost use Rattle.leaf_map.specs.Worked.{places};
 ghost use Rattle.store_model.specs.Events.{next_list, run, Sync};
 ghost use Rattle.store_model.specs.Fits.{faces};
+ghost use Rattle.store_model.specs.Invariant.{IsStore};
 ghost use Rattle.store_model.specs.Lebs.{space_of, lent};
 ghost use Rattle.store_model.specs.Legal.{AreLegal};
 ghost use Rattle.store_model.specs.Worked.{all_copied, allowed, am_tree, bb_tree, bud_rows, closed_in_commit, collected, half_collected, left_parts, places_found, put_am, put_root, roles, root_tree, rooted, two_leaves, until_offer, whole_commit};
@@ -16,23 +17,23 @@ pub fn a_put_is_told()
     ensures tree { (run put_am rooted).tree ≡ am_tree }
     ensures leaves { tree_of (run put_am rooted).live 65 ≡ am_tree }
     ensures at { places (run put_am rooted).live ≡ (20, 0) ∷ (22, 0) ∷ (22, 64) ∷ [] }
-    ensures space { space_of (run put_am rooted) ≡ record { used = 384; held = 0; credits = 0; empty = 5; index = 1; weight = 3; main = 8 } }
+    ensures space { space_of (run put_am rooted) ≡ record { used = 384; held = 0; credits = 1; empty = 9; index = 1; weight = 3; main = 12 } }
     ensures lost { tree_found (left_parts (run put_am rooted).now 0 0 []) ≡ root_tree }
     ensures kept { tree_found (left_parts (run put_am rooted).now 1 0 []) ≡ am_tree }
 {}
 
 /// What an unsynced group made obsolete is held, and its LEB isn't empty; a sync frees it.
 pub fn a_sync_is_told()
-    ensures held { space_of (run put_root rooted) ≡ record { used = 160; held = 160; credits = 0; empty = 5; index = 1; weight = 2; main = 8 } }
-    ensures synced { space_of (run (put_root ++ Sync ∷ []) rooted) ≡ record { used = 160; held = 0; credits = 0; empty = 6; index = 1; weight = 2; main = 8 } }
-    ensures before { roles (run put_root rooted) ≡ kind.Leaf ∷ kind.Index ∷ kind.Bud ∷ kind.Free ∷ kind.Free ∷ kind.Free ∷ kind.Free ∷ kind.Free ∷ [] }
+    ensures held { space_of (run put_root rooted) ≡ record { used = 160; held = 160; credits = 1; empty = 9; index = 1; weight = 2; main = 12 } }
+    ensures synced { space_of (run (put_root ++ Sync ∷ []) rooted) ≡ record { used = 160; held = 0; credits = 1; empty = 10; index = 1; weight = 2; main = 12 } }
+    ensures before { roles (run put_root rooted) ≡ kind.Leaf ∷ kind.Index ∷ kind.Bud ∷ kind.Free ∷ kind.Free ∷ kind.Free ∷ kind.Free ∷ kind.Free ∷ kind.Free ∷ kind.Free ∷ kind.Free ∷ kind.Free ∷ [] }
     ensures counts { (run (put_am ++ Sync ∷ []) rooted).synced ≡ 0 ∷ 1 ∷ 0 ∷ [] }
 {}
 
 /// A commit with a put inside: either master may be there before its end, and each leads to what was put since its own start.
 pub fn a_commit_is_told()
-    ensures taken { roles (run until_offer rooted) ≡ kind.Leaf ∷ kind.Index ∷ kind.Bud ∷ kind.Taken ∷ kind.Free ∷ kind.Free ∷ kind.Free ∷ kind.Free ∷ [] }
-    ensures ended { roles (run whole_commit rooted) ≡ kind.Leaf ∷ kind.Free ∷ kind.Bud ∷ kind.Index ∷ kind.Free ∷ kind.Free ∷ kind.Free ∷ kind.Free ∷ [] }
+    ensures taken { roles (run until_offer rooted) ≡ kind.Leaf ∷ kind.Index ∷ kind.Bud ∷ kind.Taken ∷ kind.Free ∷ kind.Free ∷ kind.Free ∷ kind.Free ∷ kind.Free ∷ kind.Free ∷ kind.Free ∷ kind.Free ∷ [] }
+    ensures ended { roles (run whole_commit rooted) ≡ kind.Leaf ∷ kind.Free ∷ kind.Bud ∷ kind.Index ∷ kind.Free ∷ kind.Free ∷ kind.Free ∷ kind.Free ∷ kind.Free ∷ kind.Free ∷ kind.Free ∷ kind.Free ∷ [] }
     ensures buds { bud_rows (run whole_commit rooted).now.buds ≡ (1, 22, 224, 1) ∷ [] }
     ensures old { map (λ f. tree_found (left_parts f.view 1 0 [])) (faces (run until_offer rooted)) ≡ am_tree ∷ bb_tree ∷ [] }
     ensures new { map (λ f. tree_found (left_parts f.view 0 0 [])) (faces (run until_offer rooted)) ≡ root_tree ∷ am_tree ∷ [] }
@@ -45,8 +46,8 @@ pub fn a_collection_is_told()
     ensures whole { places_found (left_parts (run all_copied two_leaves).now 0 2 []) ≡ (24, 0) ∷ (24, 160) ∷ [] }
     ensures copies { (run all_copied two_leaves).synced ≡ 2 ∷ 0 ∷ 0 ∷ [] }
     ensures lent { lent (run half_collected two_leaves).moving ≡ 1 }
-    ensures victim { roles (run all_copied two_leaves) ≡ kind.Leaf ∷ kind.Index ∷ kind.Free ∷ kind.Free ∷ kind.Bud ∷ kind.Free ∷ kind.Free ∷ kind.Free ∷ [] }
-    ensures freed { space_of (run collected two_leaves) ≡ record { used = 320; held = 0; credits = 0; empty = 6; index = 1; weight = 1; main = 8 } }
+    ensures victim { roles (run all_copied two_leaves) ≡ kind.Leaf ∷ kind.Index ∷ kind.Free ∷ kind.Free ∷ kind.Bud ∷ kind.Free ∷ kind.Free ∷ kind.Free ∷ kind.Free ∷ kind.Free ∷ kind.Free ∷ kind.Free ∷ [] }
+    ensures freed { space_of (run collected two_leaves) ≡ record { used = 320; held = 0; credits = 1; empty = 10; index = 1; weight = 1; main = 12 } }
 {}
 
 /// An orphan that is closed while a commit runs is still on the list after its end, and on the next one; so a mount drops it.
@@ -58,7 +59,14 @@ pub fn an_orphan_closed_in_a_commit_is_told()
     ensures found { tree_found (left_parts (run closed_in_commit rooted).now 0 0 (run closed_in_commit rooted).listed) ≡ record root_tree { highest = 65 } }
 {}
 
-/// The events of a put meet their conditions.
-pub fn a_put_is_legal()
-    ensures { AreLegal rooted put_am }
+/// The events of a put, of a whole commit with a put inside, and of a whole collection meet their conditions.
+pub fn worked_runs_are_legal()
+    ensures put { AreLegal rooted put_am }
+    ensures commit { AreLegal rooted whole_commit }
+    ensures collection { AreLegal two_leaves collected }
+{}
+
+/// A store to which nothing was put yet is a store: each line of the invariant holds of it.
+pub fn a_worked_store_is_one()
+    ensures { IsStore rooted }
 {}

@@ -1,0 +1,112 @@
+-- The events of a whole commit with a put inside, and of a whole collection, meet their conditions.
+use Rattle.std.proofs.Common.{arith, refl, inl, [], ◌∷◌}
+use Rattle.ubifs_base.specs.R5.{r5_of}
+use Rattle.index_tree.specs.Order.{key_rank}
+use Rattle.index_tree.specs.Removal.{same_leaf}
+use Rattle.store_model.specs.Events.{after, Begin, Move, Open, put, run, Start, Sync}
+use Rattle.store_model.specs.Legal.{AreLegal, CanBegin, CanFree, CanMove, CanOpen, CanPut, CanStart, IsPart, IsIndexAfter}
+use Rattle.store_model.specs.Store.{Store}
+use Rattle.store_model.specs.Worked.{bb_entry, bb_inode, bb_leaves, changed_index, collected, moving_file, moving_root, put_am, putting_bb, rooted, two_leaves, whole_commit}
+use Rattle.store_model.proofs.LegalPut.{can, opened}
+
+-- ---- a commit
+abbrev am_put : Store
+am_put = run put_am rooted
+
+abbrev am_synced : Store
+am_synced = after Sync am_put
+
+starts : CanStart am_synced (23 ∷ [])
+unfolding key_rank r5_of same_leaf
+starts = record {
+  idle = refl;
+  unlent = refl;
+  synced = record { counts = refl; none_held = refl; orphans = refl };
+  empty = refl;
+  distinct = refl;
+  count = refl;
+  spare = omega arith;
+  log = omega arith;
+}
+
+abbrev started : Store
+started = after (Start (23 ∷ [])) am_synced
+
+part : IsPart started (record { head = 1; group = bb_entry ∷ bb_inode ∷ [] })
+part = record {
+  head = inl refl;
+  group = (refl, refl);
+  numbers = record { ascending = refl; above = refl };
+  carried = (
+    record { node = record { inum_fits = omega arith; kind_known = omega arith; some = omega arith; most = omega arith; plain = refl }; carries = refl },
+    (record { node = record { numbered = omega arith; most = omega arith; plain = λ _. refl }; carries = refl }, tt),
+  );
+  fits = ((refl, refl, refl, (refl, refl, refl, tt)), omega arith);
+  revives_none = refl;
+}
+
+index : IsIndexAfter started 2 (put putting_bb started).live (changed_index bb_leaves)
+unfolding key_rank r5_of same_leaf
+index = record { contents_are = refl; weight = omega arith; places = tt }
+
+puts : CanPut started putting_bb
+unfolding key_rank r5_of same_leaf
+puts = record {
+  parts = (part, tt);
+  paid = (omega arith, omega arith, omega arith);
+  index = index;
+  settled = record { cut = record { empty = omega arith; index = omega arith }; end = record { empty = omega arith; index = omega arith } };
+}
+
+-- each event of the commit
+pub legal_commit : AreLegal rooted whole_commit
+legal_commit = (opened, (can, (tt, (starts, (puts, (omega arith, ((refl, refl), (refl, tt))))))))
+
+-- ---- a collection
+begins : CanBegin two_leaves 20
+begins = record { idle = refl; leaf_leb = refl }
+
+abbrev begun : Store
+begun = after (Begin 20) two_leaves
+
+opens : CanOpen begun 0 24
+opens = record { head_is = omega arith; empty = refl; log = refl; settled = record { empty = omega arith; index = omega arith } }
+
+abbrev ready : Store
+ready = after (Open 0 24) begun
+
+root_moves : CanMove ready moving_root
+unfolding key_rank r5_of same_leaf
+root_moves = record {
+  live = refl;
+  victim = refl;
+  node_is = refl;
+  sqnum = refl;
+  fits = ((refl, refl, refl, tt), omega arith);
+  index = record { contents_are = refl; weight = omega arith; places = tt };
+}
+
+abbrev half : Store
+half = after (Move moving_root) ready
+
+file_moves : CanMove half moving_file
+unfolding key_rank r5_of same_leaf
+file_moves = record {
+  live = refl;
+  victim = refl;
+  node_is = refl;
+  sqnum = refl;
+  fits = ((refl, refl, refl, tt), omega arith);
+  index = record { contents_are = refl; weight = omega arith; places = tt };
+}
+
+abbrev copied : Store
+copied = after Sync (after (Move moving_file) half)
+
+frees : CanFree copied
+unfolding key_rank r5_of same_leaf
+frees = record { synced = record { counts = refl; none_held = refl; orphans = refl }; empty = refl }
+
+-- each event of the collection
+pub legal_collection : AreLegal two_leaves collected
+legal_collection = (begins, (opens, (root_moves, (file_moves, (tt, (frees, tt))))))
