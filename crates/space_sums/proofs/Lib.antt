@@ -3,4 +3,3 @@ pub mod Full
 pub mod Index
 pub mod Keeps
 pub mod NextIndex
-pub mod PassSums

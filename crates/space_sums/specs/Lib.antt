@@ -1,4 +1,3 @@
 pub mod MainLebs
-pub mod Passes
 pub mod Spaces
 pub mod Sums

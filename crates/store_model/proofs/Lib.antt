@@ -3,6 +3,7 @@ mod LegalPut
 mod LegalRuns
 mod Numbers
 mod Opens
+mod PassSums
 mod PutNumbers
 mod Puts
 mod Syncs

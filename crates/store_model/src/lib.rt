@@ -7,6 +7,7 @@
 #![tactic(auto)]
 
 mod law;
+mod passes;
 mod worked;
 
 pub use crate::law::{
@@ -14,6 +15,7 @@ pub use crate::law::{
     a_put_leaves_room_for_a_commit, a_sync_comes_first, a_sync_keeps_the_files,
     an_opened_leb_keeps_the_files,
 };
+pub use crate::passes::a_collection_gains;
 pub use crate::worked::{
     a_collection_is_told, a_commit_is_told, a_put_is_told, a_sync_is_told, a_worked_store_is_one,
     an_orphan_closed_in_a_commit_is_told, worked_runs_are_legal,
