@@ -1,3 +1,4 @@
+mod Bytes
 mod Drops
 mod LegalPut
 mod LegalRuns

@@ -1,14 +1,14 @@
 // Laws of the events: what each keeps of the invariant.
 
-ghost use Rattle.std.specs.Prelude.{◌≡◌, ℕ, List, None};
+ghost use Rattle.std.specs.Prelude.{◌≡◌, ℕ, ◌+◌, ◌≤◌, List, None};
 ghost use Rattle.store_model.specs.Backing.{Outside, backing_of};
-ghost use Rattle.store_model.specs.Events.{after, Begin, Drop, Free, Open, Put, Putting, Start, Sync};
+ghost use Rattle.store_model.specs.Events.{after, Begin, Drop, Free, nodes_len, Open, Put, Putting, Start, Sync};
 ghost use Rattle.store_model.specs.Invariant.{HasFiles, HasNumbers};
-ghost use Rattle.store_model.specs.Lebs.{IsStoreSettled, lent};
-ghost use Rattle.store_model.specs.Legal.{IsAllSynced, IsLegalEvent};
+ghost use Rattle.store_model.specs.Lebs.{IsStoreSettled, lent, space_of};
+ghost use Rattle.store_model.specs.Legal.{IsAllSynced, IsLegalEvent, nodes_of};
 ghost use Rattle.store_model.specs.Store.{Index as AnyIndex, Store as AnyStore};
 
-use leaf_map::a_change_of_leaves_is_one_of_the_tree;
+use leaf_map::{a_change_of_leaves_is_one_of_the_tree, bytes_of_leaves_add_up};
 
 /// A put keeps the files: its leaves show the tree after its changes, and the index has them. It keeps the numbers: those of its
 /// groups are the next ones.
@@ -61,3 +61,19 @@ pub fn a_lent_leb_comes_back()
     ensures start { (m : AnyStore) (taken : List ℕ) → IsLegalEvent m (Start taken) → lent m.moving ≡ 0 }
     ensures freed { (m : AnyStore) → lent (after Free m).moving ≡ 0 }
 {}
+
+/// Used and held bytes are those of the live and the held leaves. A put adds no more to both than its nodes, a drop nothing, and
+/// an opened LEB changes neither; a sync holds nothing and uses what was used.
+pub fn bytes_follow_the_leaves()
+    ensures put { (m : AnyStore) (p : Putting) → IsLegalEvent m (Put p) → HasFiles m
+        → (space_of (after (Put p) m)).used + (space_of (after (Put p) m)).held ≤ (space_of m).used + (space_of m).held + nodes_len (nodes_of p.parts) }
+    ensures dropped { (m : AnyStore) (ino : ℕ) (index : AnyIndex) → IsLegalEvent m (Drop ino index) → HasFiles m
+        → (space_of (after (Drop ino index) m)).used + (space_of (after (Drop ino index) m)).held ≤ (space_of m).used + (space_of m).held }
+    ensures opened_used { (m : AnyStore) (head lnum : ℕ) → (space_of (after (Open head lnum) m)).used ≡ (space_of m).used }
+    ensures opened_held { (m : AnyStore) (head lnum : ℕ) → (space_of (after (Open head lnum) m)).held ≡ (space_of m).held }
+    ensures synced_used { (m : AnyStore) → (space_of (after Sync m)).used ≡ (space_of m).used }
+    ensures synced_held { (m : AnyStore) → (space_of (after Sync m)).held ≡ 0 }
+{
+    a_change_of_leaves_is_one_of_the_tree();
+    bytes_of_leaves_add_up();
+}
