@@ -5,5 +5,6 @@ pub mod Heads
 pub mod Invariant
 pub mod Lebs
 pub mod Legal
+pub mod Recovery
 pub mod Store
 pub mod Worked
