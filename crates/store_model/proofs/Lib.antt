@@ -7,5 +7,8 @@ mod Opens
 mod PassSums
 mod PutNumbers
 mod Puts
+mod RecoveryCopies
+mod RecoveryOrder
+mod RecoverySafe
 mod Syncs
 mod WorkedStore

@@ -1,11 +1,13 @@
 -- What a mount may read after a cut: parts that fit a view of the store.
-use Rattle.std.specs.Prelude.{◌≡◌, ◌⊎◌, ℕ, ◌-◌, ◌≤◌, ◌==◌, ◌&&◌, IsTrue, Bool, true, false, if◌then◌else◌, List, [], ◌∷◌, ◌++◌, length, map, take, get_or, Option, Some, None}
-use Rattle.std.specs.List.{flat_map, list_any}
+use Rattle.std.specs.Prelude.{◌≡◌, ◌⊎◌, ℕ, ◌-◌, ◌≤◌, ◌==◌, ◌&&◌, IsTrue, not, Bool, true, false, if◌then◌else◌, List, [], ◌∷◌, ◌++◌, length, map, take, get_or, Option, Some, None}
+use Rattle.std.specs.List.{flat_map, list_all, list_any}
 use Rattle.fs_model.specs.declared.change.Change.{Change}
 use Rattle.fs_model.specs.declared.change.Change.TheVariants.{SetInode, SetBlock}
+use Rattle.fs_model.specs.Orphan.{is_nameless}
 use Rattle.fs_model.specs.Path.{is_empty}
 use Rattle.fs_model.specs.Recovery.{Head, KeepsSynced, as_replayed, taken}
 use Rattle.leaf_map.specs.After.{is_gone}
+use Rattle.leaf_map.specs.Allowed.{sets_inode}
 use Rattle.leaf_map.specs.Kept.{Kept, Placed, shown_by}
 use Rattle.leaf_map.specs.LeafMap.{shows_same}
 use Rattle.leaf_map.specs.Kept.{shown}
@@ -82,13 +84,27 @@ abbrev pub AreOfListed : List (List ℕ) → Kept → Type 0
 AreOfListed [] x = Unit {0}
 AreOfListed (list ∷ lists) x = IsTrue (is_of_listed list (shown_by x)) × AreOfListed lists x
 
+-- whatever a cut leaves of the groups, they set no inode of this number
+abbrev pub IsUnset : List Head → ℕ → Type 0
+IsUnset heads ino = (counts : List ℕ) → KeepsSynced heads counts → list_all (λ c. not (sets_inode ino (as_replayed c.1))) (taken heads counts) ≡ true
+
+-- an inode has no name in the committed tree, and gets none
+abbrev pub StaysNameless : Faced → ℕ → Type 0
+StaysNameless f ino = (is_nameless f.view.tree ino ≡ true) × IsUnset (heads_of f.view.buds f.synced) ino
+
+-- that is so of a leaf's inode
+abbrev pub IsOfNameless : Faced → Option Change → Type 0
+IsOfNameless f (Some (SetInode ino inode)) = StaysNameless f ino
+IsOfNameless f (Some (SetBlock ino number bytes)) = StaysNameless f ino
+IsOfNameless f shown = ⊥
+
 -- a copy of the leaf's node is synced
 abbrev pub has_copy : Faced → Kept → Bool
 has_copy f x = list_any (λ c. (c.sqnum == x.sqnum) && shows_same (shown_by x) (shown c.node)) (take (get_or f.synced 0 0) (copies_of f.view.buds))
 
--- A committed leaf that needn't stand any more: a copy of it is synced, or synced groups or the list of orphans make it obsolete.
+-- A committed leaf that needn't stand any more: a copy of it is synced, or synced groups make it obsolete, or its inode stays without a name and each list of orphans has it.
 abbrev pub IsLeft : Faced → Kept → Type 0
-IsLeft f x = IsTrue (has_copy f x) ⊎ IsTouchedBy (heads_of f.view.buds f.synced) x ⊎ AreOfListed f.lists x
+IsLeft f x = IsTrue (has_copy f x) ⊎ IsTouchedBy (heads_of f.view.buds f.synced) x ⊎ (AreOfListed f.lists x × IsOfNameless f (shown_by x))
 
 -- each leaf of a LEB needn't
 abbrev pub AreLeft : Faced → ℕ → List Kept → Type 0

@@ -6,5 +6,6 @@ pub mod Invariant
 pub mod Lebs
 pub mod Legal
 pub mod Passes
+pub mod Recovery
 pub mod Store
 pub mod Worked
