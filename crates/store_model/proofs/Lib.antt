@@ -3,6 +3,8 @@ mod LegalPut
 mod Opens
 mod Puts
 mod RecoveryCopies
+mod RecoveryListed
 mod RecoveryOrder
 mod RecoverySafe
+mod RecoveryTrees
 mod Syncs
