@@ -8,7 +8,9 @@ mod PassSums
 mod PutNumbers
 mod Puts
 mod RecoveryCopies
+mod RecoveryListed
 mod RecoveryOrder
 mod RecoverySafe
+mod RecoveryTrees
 mod Syncs
 mod WorkedStore

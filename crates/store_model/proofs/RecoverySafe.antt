@@ -1,21 +1,21 @@
 -- What fits a view loses no committed leaf.
-use Rattle.std.proofs.Common.{◌≡◌, ◌⊎◌, ℕ, ◌≤◌, Bool, true, false, not, List, [], ◌∷◌, take, refl, sym, subst, ap, ◌∙◌, inl, inr, Option, Some, None}
+use Rattle.std.proofs.Common.{◌≡◌, ◌⊎◌, ℕ, true, not, List, [], ◌∷◌, refl, sym, subst, ap, ◌∙◌, inl, inr, Option, Some, None}
 use Rattle.std.specs.Prelude.{◌==◌, get_or, is_some}
-use Rattle.std.specs.List.{AllByRecursion, list_all, list_any}
+use Rattle.std.specs.List.{AllByRecursion, list_any}
 use Rattle.std.specs.Option.{option_map}
-use Rattle.std.proofs.lemmas.Bool.{false≢true, and_parts, and_from, eqb-true, eq-eqb}
+use Rattle.std.proofs.lemmas.Bool.{false≢true}
 use Rattle.media_leaf.specs.LeafNode.{IsLeaf, LeafNode}
 use Rattle.fs_model.specs.declared.change.Change.{Change}
-use Rattle.fs_model.specs.declared.change.Change.TheVariants.{SetInode, SetEntry, SetBlock}
+use Rattle.fs_model.specs.declared.change.Change.TheVariants.{SetInode, SetBlock}
 use Rattle.fs_model.specs.Files.{Tree, inode_at}
 use Rattle.fs_model.specs.Orphan.{is_nameless}
-use Rattle.fs_model.specs.Recovery.{KeepsSynced, as_replayed, taken}
+use Rattle.fs_model.specs.Recovery.{KeepsSynced, taken}
 use Rattle.leaf_map.specs.After.{is_gone}
-use Rattle.leaf_map.specs.Allowed.{AreReadLeaves, FitsLeaves, HasInode, IsCopied, IsForgotten, IsNodeOf, IsOfForgotten, IsOwnNode, IsReadLeaf, IsSafe, IsTouchedIn, in_turn, sets_inode}
-use Rattle.leaf_map.specs.Kept.{Kept, Placed, shown, shown_by}
+use Rattle.leaf_map.specs.Allowed.{AreReadLeaves, FitsLeaves, HasInode, IsCopied, IsNodeOf, IsOfForgotten, IsOwnNode, IsSafe, IsTouchedIn, in_turn, sets_inode}
+use Rattle.leaf_map.specs.Kept.{Kept, Placed, shown_by}
 use Rattle.leaf_map.specs.LastChange.{IsSorted}
 use Rattle.leaf_map.specs.LeafMap.{IsKeyed, IsLeafMap}
-use Rattle.leaf_map.specs.Parts.{Committed, Named, Parts, is_shown, own_node}
+use Rattle.leaf_map.specs.Parts.{Committed, Parts, is_shown, own_node}
 use Rattle.leaf_map.specs.Recovered.{committed_highest}
 use Rattle.leaf_map.specs.Shown.{tree_of}
 use Rattle.store_model.specs.Fits.{AreCommitted, AreLeft, AreOfListed, AreOwn, Faced, FitsFaced, HasOwn, IsLeft, IsOfNameless, IsOneOf, is_of_listed}
@@ -56,7 +56,7 @@ on_list [] list x h one = absurd one
 on_list (first ∷ lists) list x h (inl same) = subst (λ l. is_of_listed l (shown_by x) ≡ true) (sym same) h.0
 on_list (first ∷ lists) list x h (inr one) = on_list lists list x h.1 one
 
-among_turned : (list : List ℕ) (q : ℕ) → is_among list q ≡ true → list_any (λ ino. q == ino) list ≡ true
+pub among_turned : (list : List ℕ) (q : ℕ) → is_among list q ≡ true → list_any (λ ino. q == ino) list ≡ true
 among_turned [] q h = h
 among_turned (k ∷ list) q h = by (among_turned list q) (either_of (k == q) (is_among list q) h)
   where

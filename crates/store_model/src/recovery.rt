@@ -1,23 +1,45 @@
 // Laws of recovery: what a mount may read after a cut loses no leaf that was committed.
 
-ghost use Rattle.std.specs.Prelude.{◌≡◌, ◌∷◌, ℕ, List};
-ghost use Rattle.std.specs.List.{AllByRecursion};
+ghost use Rattle.std.specs.Prelude.{◌≡◌, ◌==◌, ℕ, true};
+ghost use Rattle.std.specs.List.{AllByRecursion, list_any};
+ghost use Rattle.fs_model.specs.Change.{apply};
+ghost use Rattle.fs_model.specs.Orphan.{is_nameless};
+ghost use Rattle.fs_model.specs.Recovery.{IsRecovered};
 ghost use Rattle.leaf_map.specs.Allowed.{FitsLeaves, IsSafe, in_turn};
 ghost use Rattle.leaf_map.specs.Parts.{Parts};
-ghost use Rattle.leaf_map.specs.Recovered.{committed_highest};
+ghost use Rattle.leaf_map.specs.Recovered.{committed_highest, tree_found};
 ghost use Rattle.leaf_map.specs.Shown.{tree_of};
 ghost use Rattle.store_model.specs.Fits.{Faced, FitsFaced};
-ghost use Rattle.store_model.specs.Recovery.{HasCommitted, read_changes};
+ghost use Rattle.store_model.specs.Heads.{heads_of};
+ghost use Rattle.store_model.specs.Invariant.{HaveOrphans};
+ghost use Rattle.store_model.specs.Recovery.{CarryAll, HasCommitted, read_changes};
 
-use leaf_map::{the_last_change_wins, what_makes_obsolete_touches};
+use leaf_map::{
+    a_mount_finds_what_a_cut_may_leave, the_last_change_wins, what_loses_nothing_fits,
+    what_makes_obsolete_touches,
+};
 
 /// What fits a view loses no committed leaf: each is found at its own place or as a copy, or the groups that were read touch
-/// what it shows, or it is of a listed inode that goes. Own nodes and copies are those of committed leaves.
+/// what it shows, or it is of a listed inode that goes. Own nodes and copies are those of committed leaves. What has no name
+/// at last is listed.
 pub fn what_fits_loses_no_leaf()
     ensures read { (f : Faced) (parts : Parts) → HasCommitted f.view → FitsFaced f parts → FitsLeaves parts f.view.kept }
     ensures safe { (f : Faced) (parts : Parts) → HasCommitted f.view → (fits : FitsFaced f parts)
         → AllByRecursion (IsSafe parts (tree_of f.view.kept (committed_highest parts)) (in_turn (read_changes f parts fits))) f.view.kept }
+    ensures listed { (f : Faced) (parts : Parts) → HasCommitted f.view → HaveOrphans f f.lists → (fits : FitsFaced f parts) → (q : ℕ)
+        → is_nameless (apply (tree_of f.view.kept (committed_highest parts)) (in_turn (read_changes f parts fits))) q ≡ true → list_any (λ ino. q == ino) parts.listed ≡ true }
 {
     the_last_change_wins();
     what_makes_obsolete_touches();
+}
+
+/// What fits a view is recovered to a tree that a cut may leave of the view's tree and its heads, where the nodes that were
+/// read carry the changes of the groups.
+pub fn what_fits_is_recovered()
+    ensures { (f : Faced) (parts : Parts) → HasCommitted f.view → HaveOrphans f f.lists → (fits : FitsFaced f parts) → CarryAll parts.nodes (read_changes f parts fits)
+        → IsRecovered f.view.tree (heads_of f.view.buds f.synced) (tree_found parts) }
+{
+    a_mount_finds_what_a_cut_may_leave();
+    what_loses_nothing_fits();
+    what_fits_loses_no_leaf();
 }
