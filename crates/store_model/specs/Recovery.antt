@@ -2,9 +2,9 @@
 use Rattle.std.specs.Prelude.{◌≡◌, List, ◌∷◌, [], map}
 use Rattle.std.specs.List.{AllByRecursion}
 use Rattle.media_leaf.specs.LeafNode.{IsLeaf}
-use Rattle.fs_model.specs.Recovery.{Numbered, by_number, taken}
-use Rattle.leaf_map.specs.Allowed.{AreRead, HasInode, IsNodeOf}
-use Rattle.leaf_map.specs.Kept.{Placed, shown_by}
+use Rattle.fs_model.specs.Recovery.{Numbered, taken}
+use Rattle.leaf_map.specs.Allowed.{HasInode, IsNodeOf}
+use Rattle.leaf_map.specs.Kept.{shown_by}
 use Rattle.leaf_map.specs.LeafMap.{IsLeafMap}
 use Rattle.leaf_map.specs.Parts.{Parts}
 use Rattle.leaf_map.specs.Recovered.{highest_key}
@@ -24,9 +24,3 @@ pub record HasCommitted (view : View) : Type 0 where
 -- the changes of the groups that were read
 abbrev pub read_changes : (f : Faced) → (parts : Parts) → FitsFaced f parts → Numbered
 read_changes f parts fits = taken (heads_of f.view.buds f.synced) (0 ∷ fits.base ∷ fits.data_groups ∷ [])
-
--- Nodes carry all these changes. They stand in the order of the log, and so may these, if they are the same in order of number.
-pub record CarryAll (nodes : List Placed) (changes : Numbered) : Type 0 where
-  pub logged : Numbered
-  pub read : AreRead nodes logged
-  pub same : by_number logged ≡ by_number changes

@@ -4,15 +4,15 @@ ghost use Rattle.std.specs.Prelude.{◌≡◌, ◌==◌, ℕ, true};
 ghost use Rattle.std.specs.List.{AllByRecursion, list_any};
 ghost use Rattle.fs_model.specs.Change.{apply};
 ghost use Rattle.fs_model.specs.Orphan.{is_nameless};
-ghost use Rattle.fs_model.specs.Recovery.{IsRecovered};
-ghost use Rattle.leaf_map.specs.Allowed.{FitsLeaves, IsSafe, in_turn};
+ghost use Rattle.fs_model.specs.Recovery.{IsRecovered, by_number};
+ghost use Rattle.leaf_map.specs.Allowed.{AreRead, FitsLeaves, IsSafe, in_turn};
 ghost use Rattle.leaf_map.specs.Parts.{Parts};
-ghost use Rattle.leaf_map.specs.Recovered.{committed_highest, tree_found};
+ghost use Rattle.leaf_map.specs.Recovered.{committed_highest, in_order, tree_found};
 ghost use Rattle.leaf_map.specs.Shown.{tree_of};
 ghost use Rattle.store_model.specs.Fits.{Faced, FitsFaced};
 ghost use Rattle.store_model.specs.Heads.{heads_of};
 ghost use Rattle.store_model.specs.Invariant.{HaveOrphans};
-ghost use Rattle.store_model.specs.Recovery.{CarryAll, HasCommitted, read_changes};
+ghost use Rattle.store_model.specs.Recovery.{HasCommitted, read_changes};
 
 use leaf_map::{
     a_mount_finds_what_a_cut_may_leave, the_last_change_wins, what_loses_nothing_fits,
@@ -34,9 +34,9 @@ pub fn what_fits_loses_no_leaf()
 }
 
 /// What fits a view is recovered to a tree that a cut may leave of the view's tree and its heads, where the nodes that were
-/// read carry the changes of the groups.
+/// read carry the changes of the groups, both in order of number.
 pub fn what_fits_is_recovered()
-    ensures { (f : Faced) (parts : Parts) → HasCommitted f.view → HaveOrphans f f.lists → (fits : FitsFaced f parts) → CarryAll parts.nodes (read_changes f parts fits)
+    ensures { (f : Faced) (parts : Parts) → HasCommitted f.view → HaveOrphans f f.lists → (fits : FitsFaced f parts) → AreRead (in_order parts.nodes) (by_number (read_changes f parts fits))
         → IsRecovered f.view.tree (heads_of f.view.buds f.synced) (tree_found parts) }
 {
     a_mount_finds_what_a_cut_may_leave();

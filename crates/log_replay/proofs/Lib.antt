@@ -1,0 +1,12 @@
+mod Distinct
+mod Finding
+mod First
+mod Hashes
+mod Keyed
+mod Maps
+mod Noted
+mod OneNode
+mod Orphans
+mod Rounds
+mod Tests
+mod Things

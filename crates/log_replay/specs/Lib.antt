@@ -1,0 +1,4 @@
+pub mod Changes
+pub mod Noting
+pub mod Standing
+pub mod Told

@@ -1,0 +1,43 @@
+-- What is told of leaves and nodes, and of which leaves.
+use Rattle.std.specs.Prelude.{◌≡◌, ℕ, List, fold, map}
+use Rattle.std.specs.List.{AllByRecursion}
+use Rattle.media_leaf.specs.LeafNode.{IsLeaf}
+use Rattle.index_tree.specs.declared.index.Index.{Index}
+use Rattle.index_tree.specs.Distinct.{AreDistinct}
+use Rattle.index_tree.specs.Shape.{contents}
+use Rattle.index_tree.specs.Tree.{shape}
+use Rattle.leaf_map.specs.Kept.{Kept, Placed}
+use Rattle.leaf_map.specs.LeafMap.{IsLeafMap}
+use Rattle.leaf_map.specs.Parts.{Parts}
+use Rattle.leaf_map.specs.Recovered.{in_order, leaves_after, leaves_found, without_orphan}
+use Rattle.journal_scan.specs.Content.{content_of, told}
+use Rattle.journal_scan.specs.declared.journal_node.JournalNode.{JournalNode}
+use Rattle.log_replay.specs.declared.standing.Standing.{Standing}
+use Rattle.log_replay.specs.Standing.{AreFresh, Stands, leaves, names_in}
+
+-- what is told of a leaf: what its node says, where it stands
+abbrev pub told_leaf : Kept → JournalNode
+told_leaf x = record { content = content_of x.node; sqnum = x.sqnum; lnum = x.leaf.lnum; offs = x.leaf.offs; len = x.leaf.len }
+
+-- An index has these leaves, which are those of an index, and of each this is told; no two names have one leaf.
+pub record AreLeavesOf (kept : List Kept) (index : Index) (found : List JournalNode) : Type 0 where
+  pub in_index : contents (shape index.root) ≡ leaves kept
+  pub told : found ≡ map told_leaf kept
+  pub leaf_map : IsLeafMap kept
+  pub distinct : AreDistinct (leaves (names_in kept))
+
+-- Of these nodes this is told, and they can be applied to leaves.
+pub record AreNodesOf (kept : List Kept) (placed : List Placed) (nodes : List JournalNode) : Type 0 where
+  pub of_nodes : nodes ≡ map told placed
+  pub leaf_nodes : AllByRecursion (λ x. IsLeaf x.node) placed
+  pub fresh : AreFresh kept placed
+
+-- the leaves after some inodes are gone that are listed and have no links
+abbrev pub without_orphans : List Kept → List ℕ → List Kept
+without_orphans kept listed = fold without_orphan kept listed
+
+-- This is told of what a mount has read: an index of the leaves that were found, what is said of each, the nodes in order of number, and the list.
+pub record IsToldBy (parts : Parts) (index : Index) (found nodes : List JournalNode) (listed : List ℕ) : Type 0 where
+  pub of_leaves : AreLeavesOf (leaves_found parts) index found
+  pub of_nodes : AreNodesOf (leaves_found parts) (in_order parts.nodes) nodes
+  pub of_list : listed ≡ parts.listed

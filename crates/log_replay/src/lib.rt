@@ -1,0 +1,18 @@
+//! Which index does a mount recover, given the committed leaves and the nodes of the journal?
+//!
+//! The nodes are applied in order of number: each sets a leaf, takes one out, or takes out a range of keys, by one look-up
+//! and one call of the index. An inode and a block are found by their key. A name is not, since two names may have one hash:
+//! so beside the index stands a map from names to their leaves, and another from inodes to whether they have links, which
+//! tells the orphans that go. The invariant is `Stands` of `specs/Standing.antt`: the index, and both maps, are those of one
+//! list of leaves with their nodes; each node makes of it what `leaf_map` says.
+#![tactic(auto)]
+
+mod application;
+mod index_calls;
+mod listed;
+mod nodes;
+mod noting;
+mod replay;
+mod standing;
+
+pub use crate::replay::replay_nodes;
