@@ -5,6 +5,7 @@ mod LegalRuns
 mod Numbers
 mod Opens
 mod PutNumbers
+mod PutSums
 mod Puts
 mod Syncs
 mod WorkedStore
