@@ -6,6 +6,7 @@ mod Numbers
 mod Opens
 mod PassSums
 mod PutNumbers
+mod PutSums
 mod Puts
 mod RecoveryCopies
 mod RecoveryListed

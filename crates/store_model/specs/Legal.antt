@@ -6,7 +6,9 @@ use Rattle.media_lpt.specs.declared.leb_kind.LebKind.TheVariants as kind
 use Rattle.index_tree.specs.Removal.{same_leaf}
 use Rattle.index_tree.specs.Shape.{Shape, done, leaf, node, contents, node_count, shape_weight}
 use Rattle.index_tree.specs.Listing.{height}
+use Rattle.fs_model.specs.declared.space.Class.TheVariants.{Removal}
 use Rattle.fs_model.specs.declared.space.Grant.{Grant}
+use Rattle.fs_model.specs.declared.space.Need.{Need}
 use Rattle.fs_model.specs.Journal.{AreNext}
 use Rattle.fs_model.specs.Orphan.{all_revive_none}
 use Rattle.change_nodes.specs.Texts.{leaf_len}
@@ -98,6 +100,10 @@ AreParts m (part ∷ parts) = IsPart m part × AreParts (after_part m part) part
 -- the nodes of a put
 abbrev pub nodes_of : List Part → List Placed
 nodes_of parts = flat_map (λ part. map (λ c. c.placed) part.group) parts
+
+-- what was granted to a group, as the need that was admitted
+abbrev pub need_of : Grant → Need
+need_of grant = record { credits = 0; bytes = grant.bytes; nodes = grant.nodes; class = Removal }
 
 -- two nodes are paid by a credit, others by what was granted
 abbrev pub IsPaid : Store → Payment → List Placed → Type 0

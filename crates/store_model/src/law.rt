@@ -1,11 +1,13 @@
 // Laws of the events: what each keeps of the invariant.
 
-ghost use Rattle.std.specs.Prelude.{◌≡◌, ℕ, ◌+◌, ◌≤◌, List, None};
+ghost use Rattle.std.specs.Prelude.{◌≡◌, ℕ, ◌+◌, ◌≤◌, List, None, Some};
+ghost use Rattle.fs_model.specs.declared.space.Grant.{Grant as AnyGrant};
+ghost use Rattle.space_sums.specs.Spaces.{IsAfterGroup, IsAfterPage};
 ghost use Rattle.store_model.specs.Backing.{Outside, backing_of};
-ghost use Rattle.store_model.specs.Events.{after, Begin, Drop, Free, nodes_len, Open, Put, Putting, Start, Sync};
+ghost use Rattle.store_model.specs.Events.{after, Begin, credit, Drop, Free, granted, nodes_len, Open, Put, Putting, Start, Sync};
 ghost use Rattle.store_model.specs.Invariant.{HasFiles, HasNumbers};
 ghost use Rattle.store_model.specs.Lebs.{IsStoreSettled, lent, space_of};
-ghost use Rattle.store_model.specs.Legal.{IsAllSynced, IsLegalEvent, nodes_of};
+ghost use Rattle.store_model.specs.Legal.{IsAllSynced, IsLegalEvent, need_of, nodes_of};
 ghost use Rattle.store_model.specs.Store.{Index as AnyIndex, Store as AnyStore};
 
 use leaf_map::{a_change_of_leaves_is_one_of_the_tree, bytes_of_leaves_add_up};
@@ -73,6 +75,17 @@ pub fn bytes_follow_the_leaves()
     ensures opened_held { (m : AnyStore) (head lnum : ℕ) → (space_of (after (Open head lnum) m)).held ≡ (space_of m).held }
     ensures synced_used { (m : AnyStore) → (space_of (after Sync m)).used ≡ (space_of m).used }
     ensures synced_held { (m : AnyStore) → (space_of (after Sync m)).held ≡ 0 }
+{
+    a_change_of_leaves_is_one_of_the_tree();
+    bytes_of_leaves_add_up();
+}
+
+/// What a put makes of the numbers of a store is what admission reckons with: a page spends its credit, a group no more than was
+/// granted to it. The index has the LEBs that it had.
+pub fn a_put_spends_what_was_granted()
+    ensures page { (m : AnyStore) (p : Putting) → IsLegalEvent m (Put p) → HasFiles m → p.payment ≡ credit → IsAfterPage (space_of m) (space_of (after (Put p) m)) }
+    ensures group { (m : AnyStore) (p : Putting) (grant : AnyGrant) → IsLegalEvent m (Put p) → HasFiles m → p.payment ≡ granted → m.grant ≡ Some grant
+        → IsAfterGroup (need_of grant) (space_of m) (space_of (after (Put p) m)) }
 {
     a_change_of_leaves_is_one_of_the_tree();
     bytes_of_leaves_add_up();

@@ -13,8 +13,8 @@ mod worked;
 
 pub use crate::law::{
     a_drop_keeps_the_files, a_lent_leb_comes_back, a_put_keeps_the_files,
-    a_put_leaves_room_for_a_commit, a_sync_comes_first, a_sync_keeps_the_files,
-    an_opened_leb_keeps_the_files, bytes_follow_the_leaves,
+    a_put_leaves_room_for_a_commit, a_put_spends_what_was_granted, a_sync_comes_first,
+    a_sync_keeps_the_files, an_opened_leb_keeps_the_files, bytes_follow_the_leaves,
 };
 pub use crate::passes::a_collection_gains;
 pub use crate::recovery::{what_fits_is_recovered, what_fits_loses_no_leaf};
