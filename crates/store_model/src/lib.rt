@@ -14,7 +14,7 @@ pub use crate::law::{
     a_drop_keeps_the_files, a_put_keeps_the_files, a_put_leaves_room_for_a_commit,
     a_sync_comes_first, a_sync_keeps_the_files, an_opened_leb_keeps_the_files,
 };
-pub use crate::recovery::{what_fits_is_recovered, what_fits_loses_no_leaf};
+pub use crate::recovery::{a_store_is_recovered, what_fits_is_recovered, what_fits_loses_no_leaf};
 pub use crate::worked::{
     a_collection_is_told, a_commit_is_told, a_put_is_legal, a_put_is_told, a_sync_is_told,
     an_orphan_closed_in_a_commit_is_told,
