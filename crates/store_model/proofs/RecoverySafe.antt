@@ -102,11 +102,11 @@ left_safe : SortedLaw → TouchesLaw → (f : Faced) (parts : Parts) (fits : Fit
     → IsLeft f x → Safe f parts fits x
 left_safe sorted touches f parts fits has x keyed inode of (inl copy) =
     inl (inr (subst (λ (ds : List Placed). IsCopied ds x.node) (sym fits.copies_are)
-      (copied f.view.kept x (get_or f.synced 0 0) fits.copies (copies_of f.view.buds) fits.synced_copies has.leaves.keyed has.leaves.apart of has.copies copy)))
+    (copied f.view.kept x (get_or f.synced 0 0) fits.copies (copies_of f.view.buds) fits.synced_copies has.leaves.keyed has.leaves.apart of has.copies copy)))
 left_safe sorted touches f parts fits has x keyed inode of (inr (inl touched)) =
     let any = any_in_turn (λ c. is_gone c x) (read_changes f parts fits) (touched (0 ∷ fits.base ∷ fits.data_groups ∷ []) fits.keeps) in
     inr (inl (touches (in_turn (read_changes f parts fits)) (shown_tree f parts) x (sorted f.view.kept (committed_highest parts) has.leaves)
-      (has_inode f.view.kept f.view.tree (committed_highest parts) (shown_by x) has.tree inode) (keyed_shown x.leaf (shown_by x) keyed) any))
+    (has_inode f.view.kept f.view.tree (committed_highest parts) (shown_by x) has.tree inode) (keyed_shown x.leaf (shown_by x) keyed) any))
 left_safe sorted touches f parts fits has x keyed inode of (inr (inr gone)) =
     inr (inr (forgotten f parts.listed (0 ∷ fits.base ∷ fits.data_groups ∷ []) (committed_highest parts) (shown_by x) has.tree fits.keeps (on_list f.lists parts.listed x gone.0 fits.listed) gone.1))
 

@@ -11,7 +11,8 @@ use Rattle.leaf_map.specs.Recovered.{highest_key}
 use Rattle.leaf_map.specs.Shown.{tree_of}
 use Rattle.store_model.specs.Fits.{Faced, FitsFaced}
 use Rattle.store_model.specs.Heads.{copies_of, heads_of}
-use Rattle.store_model.specs.Store.{View}
+use Rattle.store_model.specs.Invariant.{OfBoth}
+use Rattle.store_model.specs.Store.{Store, View}
 
 -- A view's leaves are those of an index and show its tree, whose highest number is that of the master or of a key; each block has its inode, and what the collector copied are nodes of these leaves.
 pub record HasCommitted (view : View) : Type 0 where
@@ -20,6 +21,10 @@ pub record HasCommitted (view : View) : Type 0 where
   pub inodes : AllByRecursion (λ x. HasInode view.tree (shown_by x)) view.kept
   pub highest : highest_key view.highest (map (λ x. x.leaf.key) view.kept) ≡ view.tree.highest
   pub copies : AllByRecursion (λ d. IsLeaf d.node × IsNodeOf view.kept d.node) (copies_of view.buds)
+
+-- that is so of both views of a store
+abbrev pub HaveCommitted : Store → Type 0
+HaveCommitted m = OfBoth m (λ f. HasCommitted f.view)
 
 -- the changes of the groups that were read
 abbrev pub read_changes : (f : Faced) → (parts : Parts) → FitsFaced f parts → Numbered

@@ -1,6 +1,6 @@
 // Laws of recovery: what a mount may read after a cut loses no leaf that was committed.
 
-ghost use Rattle.std.specs.Prelude.{◌≡◌, ◌==◌, ℕ, true};
+ghost use Rattle.std.specs.Prelude.{◌≡◌, ◌==◌, ℕ, Some, true};
 ghost use Rattle.std.specs.List.{AllByRecursion, list_any};
 ghost use Rattle.fs_model.specs.Change.{apply};
 ghost use Rattle.fs_model.specs.Orphan.{is_nameless};
@@ -9,10 +9,11 @@ ghost use Rattle.leaf_map.specs.Allowed.{AreRead, FitsLeaves, IsSafe, in_turn};
 ghost use Rattle.leaf_map.specs.Parts.{Parts};
 ghost use Rattle.leaf_map.specs.Recovered.{committed_highest, in_order, tree_found};
 ghost use Rattle.leaf_map.specs.Shown.{tree_of};
-ghost use Rattle.store_model.specs.Fits.{Faced, FitsFaced};
-ghost use Rattle.store_model.specs.Heads.{heads_of};
-ghost use Rattle.store_model.specs.Invariant.{HaveOrphans};
-ghost use Rattle.store_model.specs.Recovery.{HasCommitted, read_changes};
+ghost use Rattle.store_model.specs.Fits.{Faced, FitsFaced, faced_now};
+ghost use Rattle.store_model.specs.Heads.{heads_of, synced_since};
+ghost use Rattle.store_model.specs.Invariant.{HaveOrphans, IsStore, faced_later};
+ghost use Rattle.store_model.specs.Recovery.{HasCommitted, HaveCommitted, read_changes};
+ghost use Rattle.store_model.specs.Store.{Next as AnyNext, Store as AnyStore};
 
 use leaf_map::{
     a_mount_finds_what_a_cut_may_leave, the_last_change_wins, what_loses_nothing_fits,
@@ -42,4 +43,15 @@ pub fn what_fits_is_recovered()
     a_mount_finds_what_a_cut_may_leave();
     what_loses_nothing_fits();
     what_fits_loses_no_leaf();
+}
+
+/// A store is recovered to a tree that a cut may leave, by either master: of the last finished commit's tree, or of the tree on
+/// which the running commit began.
+pub fn a_store_is_recovered()
+    ensures now { (m : AnyStore) (parts : Parts) → IsStore m → HaveCommitted m → (fits : FitsFaced (faced_now m) parts) → AreRead (in_order parts.nodes) (by_number (read_changes (faced_now m) parts fits))
+        → IsRecovered m.now.tree (heads_of m.now.buds m.synced) (tree_found parts) }
+    ensures next { (m : AnyStore) (next : AnyNext) (parts : Parts) → IsStore m → HaveCommitted m → m.next ≡ Some next → (fits : FitsFaced (faced_later m next) parts)
+        → AreRead (in_order parts.nodes) (by_number (read_changes (faced_later m next) parts fits)) → IsRecovered next.view.tree (heads_of next.view.buds (synced_since m next)) (tree_found parts) }
+{
+    what_fits_is_recovered();
 }
