@@ -1,8 +1,7 @@
 -- What is found in leaves after one is put, and after some are taken out.
-use Rattle.std.proofs.Common.{◌≡◌, ℕ, Bool, true, false, cond, not, List, [], ◌∷◌, refl, sym, ap, ◌∙◌, Option, Some, None}
+use Rattle.std.proofs.Common.{◌≡◌, Bool, true, false, cond, not, List, [], ◌∷◌, refl, sym, ap, Some, None}
 use Rattle.std.specs.Prelude.{nat_le, filter}
 use Rattle.std.specs.List.{find}
-use Rattle.std.proofs.lemmas.Bool.{false≢true}
 use Rattle.index_tree.specs.Order.{leaf_rank}
 use Rattle.leaf_map.specs.After.{put_leaf}
 use Rattle.leaf_map.specs.Kept.{Kept}

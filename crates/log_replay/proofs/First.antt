@@ -1,5 +1,5 @@
 -- The leaf of an inode or a block is the first of its key.
-use Rattle.std.proofs.Common.{◌≡◌, ℕ, ◌+◌, ◌-◌, ◌*◌, ◌/◌, ◌^◌, ◌<◌, Bool, true, false, cond, not, ◌&&◌, ◌||◌, List, [], ◌∷◌, refl, sym, ap, ◌∙◌, arith, inl, inr, Option, Some, None}
+use Rattle.std.proofs.Common.{◌≡◌, ℕ, ◌+◌, ◌-◌, ◌*◌, ◌/◌, ◌^◌, ◌<◌, Bool, true, false, cond, not, ◌&&◌, ◌||◌, List, [], ◌∷◌, refl, sym, ap, ◌∙◌, arith, inl, inr, Option, Some}
 use Rattle.std.specs.Prelude.{◌==◌, nat_le, filter, min, slice_get, is_some}
 use Rattle.std.specs.List.{AllByRecursion, find, list_any}
 use Rattle.std.proofs.lemmas.Bool.{false≢true, and_parts, eqb-true, eq-eqb, leb-true, lt-leb}
@@ -12,16 +12,15 @@ use Rattle.index_tree.specs.Order.{key_rank, leaf_rank}
 use Rattle.index_tree.specs.RangeRemoval.{in_range, outside_range}
 use Rattle.fs_model.specs.declared.change.Change.{Change}
 use Rattle.fs_model.specs.declared.change.Change.TheVariants.{SetInode, SetEntry, SetBlock}
-use Rattle.fs_model.specs.declared.inode.Entry.{Entry}
 use Rattle.leaf_map.specs.After.{goes, is_inode}
 use Rattle.leaf_map.specs.Follows.{block_key_from, last_block_key}
-use Rattle.leaf_map.specs.Kept.{Kept, shown_by}
+use Rattle.leaf_map.specs.Kept.{Kept}
 use Rattle.leaf_map.specs.LeafMap.{HasKeyOf, IsKeyed}
 use Rattle.log_replay.specs.Changes.{IsOfKey, first_of}
 use Rattle.log_replay.specs.Standing.{is_name, leaves}
 use Rattle.log_replay.proofs.Hashes.{r5_small}
 use Rattle.log_replay.proofs.Maps.{place}
-use Rattle.log_replay.proofs.Tests.{key, name_is}
+use Rattle.log_replay.proofs.Tests.{name_is}
 use Rattle.log_replay.proofs.Things.{rank_is}
 
 unequal : (a b : ℕ) → (a ≡ b → ⊥) → (a == b) ≡ false
@@ -67,9 +66,9 @@ block_at ino number bytes n x (Some (SetInode other old)) h = rw (rank_is x (Som
 block_at ino number bytes n x (Some (SetBlock other at old)) h =
     let small = h.1 in
     rw (rank_is x (Some (SetBlock other at old)) h, block_rank ino number) (both other ino at number _
-        (λ e f. eq-eqb _ _ (omega (arith, e, f)))
-        (λ e. unequal _ _ (λ t. e (omega (arith, t, n, small))))
-        (λ e. unequal _ _ (λ t. e (omega (arith, t, n, small)))))
+    (λ e f. eq-eqb _ _ (omega (arith, e, f)))
+    (λ e. unequal _ _ (λ t. e (omega (arith, t, n, small))))
+    (λ e. unequal _ _ (λ t. e (omega (arith, t, n, small)))))
 block_at ino number bytes n x (Some (SetEntry e)) h = let small = r5_small e.name in rw (rank_is x (Some (SetEntry e)) h, block_rank ino number) (unequal _ _ (λ t. absurd (omega (arith, t, n, small))))
 block_at ino number bytes n x s h = absurd h
 
@@ -145,8 +144,8 @@ cut_range ino size xs = by ((size + 4095) / 4096)
     by n = elim (leb_tells n (2 ^ 29)) [
       | inl l ↦ let le = l.1 in let e : min n (2 ^ 29) ≡ n = omega (arith, le) in ap (λ (k : ℕ). outside_range (key_rank (Block ino k)) (key_rank (last_block_key ino)) xs) e
       | inr l ↦ let less = l.1 in
-        let a = block_rank ino (min n (2 ^ 29)) in
-        let b = block_rank ino n in
-        let c = last_rank ino in
-        same_range _ _ _ xs (λ x. empty_range _ _ x (omega (arith, a, c, less)) ∙ sym (empty_range _ _ x (omega (arith, b, c, less))))
+          let a = block_rank ino (min n (2 ^ 29)) in
+          let b = block_rank ino n in
+          let c = last_rank ino in
+          same_range _ _ _ xs (λ x. empty_range _ _ x (omega (arith, a, c, less)) ∙ sym (empty_range _ _ x (omega (arith, b, c, less))))
     ]

@@ -1,22 +1,20 @@
 -- What the maps say after a change.
 use Rattle.std.proofs.Common.{◌≡◌, ℕ, Bool, true, false, cond, not, List, refl, sym, ap, subst, ◌∙◌, Option, Some, None}
-use Rattle.std.specs.Prelude.{◌==◌, filter}
+use Rattle.std.specs.Prelude.{filter}
 use Rattle.std.specs.BTreeMap.{is_at}
-use Rattle.std.specs.List.{find}
 use Rattle.std.specs.Option.{option_map}
 use Rattle.std.specs.Ordering.{nat_cmp}
 use Rattle.std.proofs.lemmas.Bool.{eq-eqb}
 use Rattle.index_tree.specs.declared.leaf.Leaf.{Leaf}
-use Rattle.fs_model.specs.declared.change.Change.{Change}
 use Rattle.fs_model.specs.declared.change.Change.TheVariants.{SetInode, SetEntry, DropEntry, DropInode}
 use Rattle.fs_model.specs.declared.inode.Entry.{Entry}
 use Rattle.fs_model.specs.declared.inode.Inode.{Inode}
 use Rattle.fs_model.specs.Files.{name_cmp}
-use Rattle.leaf_map.specs.After.{goes, is_gone, is_inode, put_leaf}
+use Rattle.leaf_map.specs.After.{is_gone, is_inode, put_leaf}
 use Rattle.leaf_map.specs.Kept.{Kept, shown_by}
 use Rattle.log_replay.specs.Standing.{is_entry, is_linked, is_name, links_of, place_of}
 use Rattle.log_replay.proofs.Finding.{filter_beside, filter_gone, put_beside, put_found}
-use Rattle.log_replay.proofs.Tests.{all_other, all_stay, entry_is, entry_other, inode_is, inode_other, key, key_other, key_same, name_here, name_other, no_inode, no_name, number_other, number_same}
+use Rattle.log_replay.proofs.Tests.{all_other, all_stay, entry_is, entry_other, inode_is, inode_other, key, key_other, key_same, name_here, no_name, number_other, number_same}
 
 abbrev links : Option Kept → Option Bool
 links o = option_map (λ x. is_linked (shown_by x)) o

@@ -1,20 +1,19 @@
 -- What is kept of the leaves that were found is what they show.
-use Rattle.std.proofs.Common.{◌≡◌, ℕ, Bool, true, false, cond, not, ◌&&◌, List, [], ◌∷◌, ◌++◌, map, append_assoc, append-nil, refl, sym, ap, subst, ◌∙◌, Option, Some, None}
+use Rattle.std.proofs.Common.{◌≡◌, ℕ, Bool, true, false, cond, not, List, [], ◌∷◌, ◌++◌, map, append_assoc, append-nil, refl, sym, ap, subst, ◌∙◌, Option, Some, None}
 use Rattle.std.specs.Prelude.{◌==◌}
-use Rattle.std.specs.BTreeMap.{BTreeMap, get, is_at}
+use Rattle.std.specs.BTreeMap.{is_at}
 use Rattle.std.specs.List.{AllByRecursion, find}
 use Rattle.std.specs.Option.{option_map}
 use Rattle.std.specs.Ordering.{nat_cmp}
-use Rattle.std.proofs.lemmas.Bool.{eqb-true, eq-eqb, false≢true}
+use Rattle.std.proofs.lemmas.Bool.{eq-eqb, false≢true}
 use Rattle.ubifs_base.specs.R5.{r5_of}
 use Rattle.ubifs_base.specs.declared.key.Key.{Key}
 use Rattle.ubifs_base.specs.declared.key.Key.TheVariants.{Dent}
 use Rattle.media_leaf.specs.LeafNode.{LeafNode, inode, block, entry, truncation}
-use Rattle.media_leaf.specs.declared.dent_node.DentNode.{DentNode}
 use Rattle.media_leaf.specs.declared.ino_node.InoNode.{InoNode}
 use Rattle.index_tree.specs.declared.leaf.Leaf.{Leaf}
 use Rattle.fs_model.specs.declared.change.Change.{Change}
-use Rattle.fs_model.specs.declared.change.Change.TheVariants.{SetInode, SetEntry, DropEntry, SetBlock, DropInode}
+use Rattle.fs_model.specs.declared.change.Change.TheVariants.{SetInode, SetEntry, SetBlock, DropInode}
 use Rattle.fs_model.specs.declared.inode.Entry.{Entry as AnEntry}
 use Rattle.fs_model.specs.declared.inode.Inode.{Inode as AnInode}
 use Rattle.fs_model.specs.declared.inode.Kind.{Kind}
@@ -29,7 +28,7 @@ use Rattle.journal_scan.specs.declared.node_content.NodeContent.TheVariants.{Ino
 use Rattle.journal_scan.specs.declared.journal_node.JournalNode.{JournalNode}
 use Rattle.log_replay.specs.declared.application.Place.{Place}
 use Rattle.log_replay.specs.declared.standing.Standing.{Standing}
-use Rattle.log_replay.specs.Noting.{Notes, NotesBy, NotesInode, NotesName, Says}
+use Rattle.log_replay.specs.Noting.{Notes, NotesBy, Says}
 use Rattle.log_replay.specs.Standing.{is_linked, is_name, leaf_at, links_of, place_of}
 use Rattle.log_replay.specs.Told.{told_leaf}
 use Rattle.log_replay.proofs.OneNode.{linked_node, same_links, same_places}

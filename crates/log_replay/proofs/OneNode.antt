@@ -1,8 +1,8 @@
 -- One node makes of an index and its maps those of the leaves after it.
-use Rattle.std.proofs.Common.{◌≡◌, ℕ, ◌<◌, ◌^◌, Bool, true, false, cond, not, List, [], ◌∷◌, refl, sym, ap, subst, ◌∙◌, Option, Some, None}
-use Rattle.std.specs.Prelude.{◌==◌, if◌then◌else◌, is_some}
+use Rattle.std.proofs.Common.{◌≡◌, ℕ, Bool, true, false, cond, not, List, refl, sym, ap, subst, ◌∙◌, Option, Some, None}
+use Rattle.std.specs.Prelude.{◌==◌, is_some}
 use Rattle.std.specs.BTreeMap.{BTreeMap, get, is_at}
-use Rattle.std.specs.List.{find, list_any}
+use Rattle.std.specs.List.{find}
 use Rattle.std.specs.Option.{MatchOption, option_map}
 use Rattle.std.specs.Ordering.{nat_cmp}
 use Rattle.ubifs_base.specs.R5.{r5_of}
@@ -22,17 +22,16 @@ use Rattle.fs_model.specs.declared.inode.Inode.{Inode}
 use Rattle.fs_model.specs.declared.inode.Kind.{Kind}
 use Rattle.fs_model.specs.Files.{name_cmp}
 use Rattle.change_nodes.specs.Nodes.{bits_of, change_of, inode_of, kind_of_bits, kind_of_type}
-use Rattle.leaf_map.specs.After.{Carries, goes, has_inode, is_gone, is_idle, is_inode, is_set, kept_after, kept_by, put_leaf, read}
+use Rattle.leaf_map.specs.After.{Carries, has_inode, is_gone, is_idle, is_inode, is_set, kept_after, kept_by, put_leaf, read}
 use Rattle.leaf_map.specs.Follows.{block_key_from, last_block_key, with_leaf, without_old}
 use Rattle.leaf_map.specs.Kept.{Kept, Placed, kept_at, node_key, shown, shown_by}
-use Rattle.leaf_map.specs.LeafMap.{HasKeyOf, IsKeyed, IsLeafMap}
-use Rattle.leaf_map.specs.Recovered.{is_unlinked, without_orphan}
+use Rattle.leaf_map.specs.LeafMap.{IsLeafMap}
 use Rattle.journal_scan.specs.Content.{content_by, told}
 use Rattle.journal_scan.specs.declared.journal_node.JournalNode.{JournalNode}
 use Rattle.log_replay.specs.declared.application.Place.{Place}
 use Rattle.log_replay.specs.declared.standing.Standing.{Standing}
 use Rattle.log_replay.specs.Changes.{CutsBlocks, Does, DoesBy, DropsInode, DropsName, IsOfKey, PutsBlock, SetsBlock, SetsInode, SetsName, first_of, put_over, taken_out}
-use Rattle.log_replay.specs.Standing.{IsFresh, Stands, is_entry, is_linked, is_name, leaf_at, leaves, leaves_in, links_of, names_in, place_of}
+use Rattle.log_replay.specs.Standing.{IsFresh, Stands, is_entry, is_linked, is_name, leaf_at, leaves, leaves_in, links_of, place_of}
 use Rattle.log_replay.proofs.Distinct.{all_distinct, left_distinct, names_beside, names_stay, put_distinct}
 use Rattle.log_replay.proofs.First.{any_found, block_at, block_key, cut_range, find_same, first_is, found_key, inode_at, inode_key, name_key}
 use Rattle.log_replay.proofs.Keyed.{node_keyed, read_carried}
@@ -115,7 +114,7 @@ inode_set L ino set new kept s t e leaf st d =
     let nk : node_key new.node ≡ Ino ino = node_keyed new.node (kept_at new).leaf (SetInode ino set) refl leaf carries refl in
     let gone : Kept → Bool = is_gone (SetInode ino set) in
     let first : first_of (Ino ino) (leaves_in s) ≡ place (find gone kept) =
-        ap (first_of (Ino ino)) st.in_index ∙ first_is (Ino ino) gone kept st.leaf_map.keyed (λ x h. inode_at ino x.leaf (shown_by x) h ∙ sym (inode_is ino set (shown_by x))) in
+    ap (first_of (Ino ino)) st.in_index ∙ first_is (Ino ino) gone kept st.leaf_map.keyed (λ x h. inode_at ino x.leaf (shown_by x) h ∙ sym (inode_is ino set (shown_by x))) in
     let ok : IsOfKey (Ino ino) (place (find gone kept)) = found_key (Ino ino) gone kept st.leaf_map.keyed (λ x h g. inode_key ino x.leaf (shown_by x) h (sym (inode_is ino set (shown_by x)) ∙ g)) in
     let plain : is_entry (shown new.node) ≡ false = ap is_entry carries in
     record {
@@ -160,7 +159,7 @@ block_put L ino number bytes new kept s t e leaf there st d =
     let busy : is_idle kept (SetBlock ino number bytes) ≡ false = ap not there in
     let same : kept_by (SetBlock ino number bytes) (kept_at new) kept ≡ put_leaf gone (kept_at new) kept = rw busy refl in
     let first : first_of k (leaves_in s) ≡ place (find gone kept) =
-        ap (first_of k) st.in_index ∙ first_is k gone kept st.leaf_map.keyed (λ x h. block_at ino number bytes keyed.1 x.leaf (shown_by x) h) in
+    ap (first_of k) st.in_index ∙ first_is k gone kept st.leaf_map.keyed (λ x h. block_at ino number bytes keyed.1 x.leaf (shown_by x) h) in
     let ok : IsOfKey k (place (find gone kept)) = found_key k gone kept st.leaf_map.keyed (λ x h g. block_key ino number bytes x.leaf (shown_by x) h g) in
     let plain : is_entry (shown new.node) ≡ false = ap is_entry carries in
     record {

@@ -19,7 +19,7 @@ use Rattle.leaf_map.specs.LeafMap.{IsLeafMap, are_apart, shows_same}
 use Rattle.leaf_map.specs.Recovered.{is_unlinked, without_orphan}
 use Rattle.log_replay.specs.declared.standing.Standing.{Standing}
 use Rattle.log_replay.specs.Changes.{DropsInode, DropsOrphan, is_bare}
-use Rattle.log_replay.specs.Standing.{Stands, is_linked, leaves, leaves_in, links_of}
+use Rattle.log_replay.specs.Standing.{Stands, is_linked, leaves, links_of}
 use Rattle.log_replay.proofs.Distinct.{names_stay}
 use Rattle.log_replay.proofs.Maps.{links_dropped, place_stay}
 use Rattle.log_replay.proofs.OneNode.{same_places}

@@ -1,6 +1,5 @@
 -- Nodes one after another lead to the leaves after all of them.
-use Rattle.std.proofs.Common.{◌≡◌, List, [], ◌∷◌, map, refl, ap, subst}
-use Rattle.std.specs.List.{AllByRecursion}
+use Rattle.std.proofs.Common.{◌≡◌, List, [], ◌∷◌, map, subst}
 use Rattle.media_leaf.specs.LeafNode.{IsLeaf}
 use Rattle.leaf_map.specs.After.{kept_after}
 use Rattle.leaf_map.specs.Kept.{Kept, Placed}

@@ -9,11 +9,10 @@ use Rattle.index_tree.specs.Tree.{shape}
 use Rattle.leaf_map.specs.Kept.{Kept, Placed}
 use Rattle.leaf_map.specs.LeafMap.{IsLeafMap}
 use Rattle.leaf_map.specs.Parts.{Parts}
-use Rattle.leaf_map.specs.Recovered.{in_order, leaves_after, leaves_found, without_orphan}
+use Rattle.leaf_map.specs.Recovered.{in_order, leaves_found, without_orphan}
 use Rattle.journal_scan.specs.Content.{content_of, told}
 use Rattle.journal_scan.specs.declared.journal_node.JournalNode.{JournalNode}
-use Rattle.log_replay.specs.declared.standing.Standing.{Standing}
-use Rattle.log_replay.specs.Standing.{AreFresh, Stands, leaves, names_in}
+use Rattle.log_replay.specs.Standing.{AreFresh, leaves, names_in}
 
 -- what is told of a leaf: what its node says, where it stands
 abbrev pub told_leaf : Kept → JournalNode

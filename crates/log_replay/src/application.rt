@@ -32,11 +32,7 @@ pub(crate) struct Place {
 }
 
 // Applies one node.
-pub(crate) fn apply(
-    alloc: Global,
-    standing: &mut Standing,
-    node: JournalNode,
-) -> Result<(), Memory>
+pub(crate) fn apply(alloc: Global, standing: &mut Standing, node: JournalNode) -> Result<(), Memory>
     requires { HasBlockKey node }
     ensures does { OnOk result (Does node standing.old standing.new) }
     ensures weight { IsHeavier 1 standing.old standing.new }
@@ -75,12 +71,7 @@ pub(crate) fn apply(
 }
 
 // An inode with links stands at its node.
-fn set_inode(
-    alloc: Global,
-    standing: &mut Standing,
-    ino: u32,
-    place: Place,
-) -> Result<(), Memory>
+fn set_inode(alloc: Global, standing: &mut Standing, ino: u32, place: Place) -> Result<(), Memory>
     ensures does { OnOk result (SetsInode ino (leaf_at (Ino ino) place) standing.old standing.new) }
     ensures weight { IsHeavier 1 standing.old standing.new }
 {
@@ -161,7 +152,11 @@ fn first_past(size: u64) -> u32
     ensures { result ≡ min ((size + 4095) / 4096) (2 ^ 29) }
 {
     let whole = size / BLOCK_BYTES;
-    let first = if size % BLOCK_BYTES == 0 { whole } else { whole + 1 };
+    let first = if size % BLOCK_BYTES == 0 {
+        whole
+    } else {
+        whole + 1
+    };
     first.min(1 << BLOCK_BITS) as u32
 }
 

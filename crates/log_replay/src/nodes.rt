@@ -35,11 +35,7 @@ pub(crate) fn apply_nodes(
 }
 
 // Applies a node: the index and its maps are then those of the leaves after it.
-fn apply_node(
-    alloc: Global,
-    standing: &mut Standing,
-    node: JournalNode,
-) -> Result<(), Memory>
+fn apply_node(alloc: Global, standing: &mut Standing, node: JournalNode) -> Result<(), Memory>
     requires { HasBlockKey node }
     ensures stands { OnOk result ((kept : List Kept) (new : Placed) → node ≡ told new → IsLeaf new.node → IsFresh kept new → Stands kept standing.old → Stands (kept_after kept new) standing.new) }
     ensures weight { IsHeavier 1 standing.old standing.new }
