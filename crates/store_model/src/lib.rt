@@ -17,7 +17,10 @@ pub use crate::law::{
     a_sync_keeps_the_files, an_opened_leb_keeps_the_files, bytes_follow_the_leaves,
 };
 pub use crate::passes::a_collection_gains;
-pub use crate::recovery::{a_store_is_recovered, what_fits_is_recovered, what_fits_loses_no_leaf};
+pub use crate::recovery::{
+    a_store_is_recovered, a_worked_store_has_its_leaves, what_fits_is_recovered,
+    what_fits_loses_no_leaf,
+};
 pub use crate::worked::{
     a_collection_is_told, a_commit_is_told, a_put_is_told, a_sync_is_told, a_worked_store_is_one,
     an_orphan_closed_in_a_commit_is_told, worked_runs_are_legal,

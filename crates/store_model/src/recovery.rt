@@ -14,6 +14,7 @@ ghost use Rattle.store_model.specs.Heads.{heads_of, synced_since};
 ghost use Rattle.store_model.specs.Invariant.{HaveOrphans, IsStore, faced_later};
 ghost use Rattle.store_model.specs.Recovery.{HasCommitted, HaveCommitted, read_changes};
 ghost use Rattle.store_model.specs.Store.{Next as AnyNext, Store as AnyStore};
+ghost use Rattle.store_model.specs.Worked.{rooted};
 
 use leaf_map::{
     a_mount_finds_what_a_cut_may_leave, the_last_change_wins, what_loses_nothing_fits,
@@ -55,3 +56,8 @@ pub fn a_store_is_recovered()
 {
     what_fits_is_recovered();
 }
+
+/// A store that was worked by hand has its committed leaves.
+pub fn a_worked_store_has_its_leaves()
+    ensures { HaveCommitted rooted }
+{}
