@@ -31,7 +31,7 @@ keys_read named (c ∷ committed) (x ∷ kept) h = ap (λ l. l.key ∷ map (λ (
 same_tree : (f : Faced) (parts : Parts) → HasCommitted f.view → FitsFaced f parts → tree_of f.view.kept (committed_highest parts) ≡ f.view.tree
 same_tree f parts has fits =
     let number = ap (λ (n : ℕ). highest_key n (map (λ (c : Committed). c.leaf.key) parts.committed)) fits.highest
-        ∙ ap (highest_key f.view.highest) (keys_read parts.named parts.committed f.view.kept fits.committed) ∙ has.highest in
+    ∙ ap (highest_key f.view.highest) (keys_read parts.named parts.committed f.view.kept fits.committed) ∙ has.highest in
     ap (tree_of f.view.kept) number ∙ has.tree
 
 pub allowed : FitsLaw → FoundLaw → (f : Faced) (parts : Parts) → HasCommitted f.view → (fits : FitsFaced f parts) → AreRead (in_order parts.nodes) (by_number (read_changes f parts fits))
