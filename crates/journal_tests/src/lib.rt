@@ -5,3 +5,5 @@
 
 #[cfg(test)]
 mod journal_scan_tests;
+#[cfg(test)]
+mod log_replay_tests;
