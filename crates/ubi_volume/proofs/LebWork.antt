@@ -9,7 +9,8 @@ use Rattle.std.proofs.lemmas.List.{get_or-set_same, get_or-set_other}
 use Rattle.std.proofs.lemmas.Option.{slice_get-get_or, slice_get_past}
 use Rattle.ubifs_base.specs.NodeLaws.{IsBytes}
 use Rattle.ubi_volume.specs.Volume.{WorksOn, Torn, IsLebBytes, filled}
-use Rattle.ubi_volume.specs.Lebs.{IsLeft, IsLeb, IsReplaced, bytes_in, written_in}
+use Rattle.ubi_volume.specs.Lebs.{LebView, IsLeft, IsLeb, IsReplaced, bytes_in, written_in, pending_in}
+use Rattle.ubi_volume.specs.Effects.{final_leb}
 use Rattle.ubi_volume.specs.MemVolume.{state_of, state_with}
 use Rattle.ubi_volume.specs.declared.arming.Arming.{Arming}
 use Rattle.ubi_volume.specs.declared.leb.Leb.{Leb}
@@ -35,19 +36,20 @@ elsewhere lebs n k leb ne = elim (cases_lt k (length lebs)) [
 ]
 
 set_replaced : (size lnum : ℕ) (lebs : List Leb) (leb : Leb) (bytes : List ℕ) → lnum < length lebs → All (IsLeb size) lebs → IsLeb size leb → leb.content.items ≡ bytes
-    → IsReplaced size lebs (slice_set lebs lnum leb) lnum bytes leb.written
+    → IsReplaced size lebs (slice_set lebs lnum leb) lnum (record { bytes = bytes; written = leb.written; pending = pending_in (Some leb) })
 set_replaced size lnum lebs leb bytes inside all is same =
     record {
       others = λ k ne. elsewhere lebs lnum k leb ne;
       bytes_are = ap bytes_in (there lebs lnum leb inside) ∙ same;
       written_is = ap written_in (there lebs lnum leb inside);
+      pending_is = ap pending_in (there lebs lnum leb inside);
       len = length-set lebs lnum leb;
       sizes = All-set (IsLeb size) lebs lnum leb is all;
     }
 
-replaced : (shape : VolShape) (a b : List Leb) (x y : Arming) (size lnum written : ℕ) (bytes : List ℕ) (P : List ℕ → Type 0) → IsReplaced size a b lnum bytes written
+replaced : (shape : VolShape) (a b : List Leb) (x y : Arming) (size lnum : ℕ) (leb : LebView) (P : List ℕ → Type 0) → IsReplaced size a b lnum leb
     → ((c : List ℕ) → IsLeft (slice_get b lnum) c → P c) → (y.is_cut ≡ false → x.is_cut ≡ false) → WorksOn (state_with shape a x) (state_with shape b y) lnum P
-replaced shape a b x y size lnum written bytes P one left unbroken =
+replaced shape a b x y size lnum leb P one left unbroken =
     let back : (k : ℕ) (c : List ℕ) → k ≢ lnum → IsLeft (slice_get b k) c → IsLeft (slice_get a k) c = λ k c ne h.
     let L : Option Leb → Type 0 = λ o. IsLeft o c in
     subst L (one.others k ne) h in
@@ -66,20 +68,20 @@ replaced shape a b x y size lnum written bytes P one left unbroken =
     }
 
 -- of the volume's own list, of which s was lent and b given back
-pub replaced_works : (v : MemVolume) (s b : List Leb) (y : Arming) (size lnum written : ℕ) (bytes : List ℕ) (P : List Leb → List ℕ → Type 0) → s ≡ v.lebs.items → IsReplaced size s b lnum bytes written
+pub replaced_works : (v : MemVolume) (s b : List Leb) (y : Arming) (size lnum : ℕ) (leb : LebView) (P : List Leb → List ℕ → Type 0) → s ≡ v.lebs.items → IsReplaced size s b lnum leb
     → ((c : List ℕ) → IsLeft (slice_get b lnum) c → P s c) → (y.is_cut ≡ false → v.arming.is_cut ≡ false)
     → WorksOn (state_of v) (state_with v.shape (with_items v.lebs b).items y) lnum (P v.lebs.items)
-replaced_works v s b y size lnum written bytes P same one left unbroken =
-    let R : List Leb → Type 0 = λ l. IsReplaced size l b lnum bytes written in
+replaced_works v s b y size lnum leb P same one left unbroken =
+    let R : List Leb → Type 0 = λ l. IsReplaced size l b lnum leb in
     let M : List Leb → Type 0 = λ l. (c : List ℕ) → IsLeft (slice_get b lnum) c → P l c in
     let W : List Leb → Type 0 = λ l. WorksOn (state_of v) (state_with v.shape l y) lnum (P v.lebs.items) in
     let back : (with_items v.lebs b).items ≡ b = refill v.lebs.len b v.lebs.items v.lebs.ok.0 (one.len ∙ ap length same) in
-    subst W (sym back) (replaced v.shape v.lebs.items b v.arming y size lnum written bytes (P v.lebs.items) (subst R same one) (subst M same left) unbroken)
+    subst W (sym back) (replaced v.shape v.lebs.items b v.arming y size lnum leb (P v.lebs.items) (subst R same one) (subst M same left) unbroken)
 
 -- a LEB whose bytes were lent and given back
 pub put_replaced : (size lnum written : ℕ) (lebs : List Leb) (leb : Leb) (buffer bytes : List ℕ) → lnum < length lebs → All (IsLeb size) lebs → IsLeb size leb → length buffer ≡ length leb.content.items → IsBytes buffer
     → drop written buffer ≡ replicate (size - written) 255 → buffer ≡ bytes
-    → IsReplaced size lebs (slice_set lebs lnum (record { content = with_items leb.content buffer; written = written; before = leb.before; undo = false })) lnum bytes written
+    → IsReplaced size lebs (slice_set lebs lnum (record { content = with_items leb.content buffer; written = written; before = leb.before; undo = false })) lnum (final_leb bytes written)
 put_replaced size lnum written lebs leb buffer bytes inside all is long are blank same =
     let back : (with_items leb.content buffer).items ≡ buffer = refill leb.content.len buffer leb.content.items leb.content.ok.0 long in
     let new : Leb = record { content = with_items leb.content buffer; written = written; before = leb.before; undo = false } in

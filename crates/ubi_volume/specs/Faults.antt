@@ -1,7 +1,7 @@
 -- When a volume fails. A count of faults that reached 2 ^ 64 - 1 stays there.
-use Rattle.std.specs.Prelude.{◌≡◌, ◌⊎◌, ℕ, ◌<◌, ◌≤◌, Result, Err, Ok, IsOk}
+use Rattle.std.specs.Prelude.{◌≡◌, ◌⊎◌, ℕ, ◌≤◌, Result, Err, Ok, IsOk}
 use Rattle.ubifs_base.specs.Faults.{IsCause}
-use Rattle.ubi_volume.specs.Volume.{VolumeState}
+use Rattle.ubi_volume.specs.Volume.{VolumeState, SameShape}
 use Rattle.ubi_volume.specs.declared.fault.VolFault.{VolFault}
 use Rattle.ubi_volume.specs.declared.fault.VolFault.TheVariants.{Failed}
 use Rattle.ubi_volume.specs.declared.fault.AreaFault.{AreaFault}
@@ -35,3 +35,9 @@ StaysSure old new result = old.sure → new.spent ⊎ (new.sure × ((new.faults 
 -- the same of a call whose other fault is want of memory
 abbrev pub StaysSureArea : {T : Type 0} → VolumeState → VolumeState → Result T AreaFault → Type 0
 StaysSureArea old new result = old.sure → new.spent ⊎ (new.sure × ((new.faults ≡ old.faults) × IsNotVolume result))
+
+-- what every call of a volume says of its answer
+pub record HasAnswer {T : Type 0} (old new : VolumeState) (result : Result T VolFault) : Type 0 where
+  pub shape : SameShape old new
+  pub cause : HasCause old.faults new.faults result
+  pub sure : StaysSure old new result

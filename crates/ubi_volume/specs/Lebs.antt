@@ -1,5 +1,5 @@
 -- The LEBs of a volume in memory.
-use Rattle.std.specs.Prelude.{◌≡◌, ◌≢◌, ◌⊎◌, IsTrue, false, ℕ, ◌-◌, ◌*◌, take, List, [], Option, Some, None, slice_get, length, drop, replicate, All}
+use Rattle.std.specs.Prelude.{◌≡◌, ◌≢◌, ◌⊎◌, IsTrue, false, ℕ, ◌-◌, ◌*◌, if◌then◌else◌, take, List, [], Option, Some, None, slice_get, length, drop, replicate, All}
 use Rattle.ubifs_base.specs.NodeLaws.{IsBytes}
 use Rattle.ubi_volume.specs.Volume.{filled, IsLebBytes}
 use Rattle.ubi_volume.specs.Loading.{IsWrittenPart}
@@ -15,6 +15,24 @@ abbrev pub written_in : Option Leb → ℕ
 written_in (Some leb) = leb.written
 written_in None = 0
 
+-- the bytes that an undone unmapping brings back, while it may be undone
+abbrev pub pending_in : Option Leb → Option (List ℕ)
+pending_in (Some leb) = if leb.undo then Some leb.before.items else None
+pending_in None = None
+
+-- a LEB as it is kept: its bytes, how many of them aren't open for writing, and those that an undone unmapping brings back
+pub record LebView : Type 0 where
+  pub bytes : List ℕ
+  pub written : ℕ
+  pub pending : Option (List ℕ)
+
+abbrev pub view_of : Option Leb → LebView
+view_of leb = record { bytes = bytes_in leb; written = written_in leb; pending = pending_in leb }
+
+-- each LEB of several
+abbrev pub views : List Leb → ℕ → LebView
+views lebs lnum = view_of (slice_get lebs lnum)
+
 -- what a cut may leave: the bytes, or those from before an unmapping that isn't final
 abbrev pub IsLeft : Option Leb → List ℕ → Type 0
 IsLeft (Some leb) c = (c ≡ leb.content.items) ⊎ (IsTrue leb.undo × (c ≡ leb.before.items))
@@ -26,11 +44,12 @@ pub record IsLeb (size : ℕ) (leb : Leb) : Type 0 where
   pub before : IsLebBytes size leb.before.items
   pub blank : drop leb.written leb.content.items ≡ replicate (size - leb.written) 255
 
--- one LEB has other bytes, and the rest is the same
-pub record IsReplaced (size : ℕ) (old new : List Leb) (n : ℕ) (bytes : List ℕ) (written : ℕ) : Type 0 where
+-- one LEB became this one, and the rest is the same
+pub record IsReplaced (size : ℕ) (old new : List Leb) (n : ℕ) (leb : LebView) : Type 0 where
   pub others : (k : ℕ) → k ≢ n → slice_get new k ≡ slice_get old k
-  pub bytes_are : bytes_in (slice_get new n) ≡ bytes
-  pub written_is : written_in (slice_get new n) ≡ written
+  pub bytes_are : bytes_in (slice_get new n) ≡ leb.bytes
+  pub written_is : written_in (slice_get new n) ≡ leb.written
+  pub pending_is : pending_in (slice_get new n) ≡ leb.pending
   pub len : length new ≡ length old
   pub sizes : All (IsLeb size) new
 

@@ -10,6 +10,7 @@ pub mod Lebs
 pub mod Arming
 pub mod Patterns
 pub mod Shape
+pub mod Effects
 pub mod Loading
 pub mod FoundLaws
 pub mod MemVolume

@@ -1,9 +1,10 @@
 -- A volume in memory as a volume. It keeps no record of its calls, so its outcomes at any moment are those of now.
 use Rattle.std.specs.Prelude.{◌≡◌, ℕ, ◌<◌, ◌/◌, ◌%◌, false, List, [], slice_get}
 use Rattle.ubi_volume.specs.Volume.{VolumeState, Only, filled}
-use Rattle.ubi_volume.specs.Lebs.{bytes_in, written_in, IsLeft}
+use Rattle.ubi_volume.specs.Lebs.{bytes_in, written_in, views, IsLeft}
 use Rattle.ubi_volume.specs.Arming.{IsUnarmed}
 use Rattle.ubi_volume.specs.Patterns.{left_in, digits_at}
+use Rattle.ubi_volume.specs.Effects.{MemState}
 use Rattle.ubi_volume.specs.declared.arming.Arming.{Arming}
 use Rattle.ubi_volume.specs.declared.leb.Leb.{Leb}
 use Rattle.ubi_volume.specs.declared.mem_volume.MemVolume.{MemVolume}
@@ -35,9 +36,16 @@ state_of v = state_with v.shape v.lebs.items v.arming
 abbrev pub arming_of : MemVolume → Arming
 arming_of v = v.arming
 
+-- all that decides what its calls do
+abbrev pub mem_with : List Leb → Arming → MemState
+mem_with lebs arming = record { leb = views lebs; arming = arming }
+
+abbrev pub mem_of : MemVolume → MemState
+mem_of v = mem_with v.lebs.items v.arming
+
 -- What a cut leaves of a LEB: of the digits behind the lowest each is for an unmapping that may be undone, in order of LEB.
-abbrev pub contents_left : MemVolume → ℕ → List ℕ
-contents_left v lnum = left_in (digits_at (v.arming.pattern / 4) v.lebs.items lnum % 4) (slice_get v.lebs.items lnum)
+abbrev pub contents_left : MemState → ℕ → List ℕ
+contents_left v lnum = left_in (digits_at (v.arming.pattern / 4) v.leb lnum % 4) (v.leb lnum)
 
 -- the volume as if no call were armed to fail
 abbrev pub without_fail : VolumeState → VolumeState

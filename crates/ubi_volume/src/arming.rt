@@ -3,6 +3,13 @@
 ghost use Rattle.std.specs.Prelude.{◌≡◌};
 ghost use Rattle.ubi_volume.specs.Arming.{IsUnarmed, IsFate, fate_of, after_call};
 
+// Each of these calls is one step; a write has one for each unit, and a read none.
+pub(crate) const CHANGE_STEPS: u64 = 1;
+
+pub(crate) const UNMAP_STEPS: u64 = 1;
+
+pub(crate) const MAP_STEPS: u64 = 1;
+
 // A cut falls within step `cut_step`, counted from arming, and the call `fail` calls from now answers Failed; 0 is none of
 // them. `steps` are those since a cut was armed.
 #[derive(Clone, Copy)]

@@ -2,7 +2,8 @@
 
 ghost use Rattle.std.specs.Prelude.{◌≡◌, ◌⊎◌, ◌+◌, ◌-◌, ◌<◌, ◌≤◌, ◌++◌, ℕ, List, [], length, drop, replicate, All, slice_get, IfOk};
 ghost use Rattle.ubifs_base.specs.NodeLaws.{IsBytes};
-ghost use Rattle.ubi_volume.specs.Lebs.{bytes_in, written_in, IsLeft, IsLeb, IsBlankLeb, IsReplaced};
+ghost use Rattle.ubi_volume.specs.Lebs.{bytes_in, written_in, view_of, IsLeft, IsLeb, IsBlankLeb, IsReplaced};
+ghost use Rattle.ubi_volume.specs.Effects.{final_leb, unmapped_leb};
 ghost use Rattle.ubi_volume.specs.Volume.{put, filled, image_of, Torn};
 
 use std::alloc::Global;
@@ -88,7 +89,7 @@ pub(crate) fn change_leb(lebs: &mut [Leb], size: u32, lnum: usize, bytes: &[u8])
     requires lnum { lnum < length lebs.old }
     requires sizes { All (IsLeb size) lebs.old }
     requires range { length bytes.now ≤ size }
-    ensures changed { IsReplaced size lebs.old lebs.new lnum (filled size bytes.now) (length bytes.now) }
+    ensures changed { IsReplaced size lebs.old lebs.new lnum (final_leb (filled size bytes.now) (length bytes.now)) }
     ensures left { (c : List ℕ) → IsLeft (slice_get lebs.new lnum) c → c ≡ bytes_in (slice_get lebs.new lnum) }
 {
     let leb = &mut lebs[lnum];
@@ -101,7 +102,7 @@ pub(crate) fn change_leb(lebs: &mut [Leb], size: u32, lnum: usize, bytes: &[u8])
 pub(crate) fn unmap_leb(lebs: &mut [Leb], size: u32, lnum: usize)
     requires lnum { lnum < length lebs.old }
     requires sizes { All (IsLeb size) lebs.old }
-    ensures changed { IsReplaced size lebs.old lebs.new lnum (filled size []) 0 }
+    ensures changed { IsReplaced size lebs.old lebs.new lnum (unmapped_leb size (view_of (slice_get lebs.old lnum))) }
     ensures left { (c : List ℕ) → IsLeft (slice_get lebs.new lnum) c → IsLeft (slice_get lebs.old lnum) c ⊎ (c ≡ filled size []) }
 {
     let leb = &mut lebs[lnum];
@@ -117,7 +118,7 @@ pub(crate) fn unmap_leb(lebs: &mut [Leb], size: u32, lnum: usize)
 pub(crate) fn map_leb(lebs: &mut [Leb], size: u32, lnum: usize)
     requires lnum { lnum < length lebs.old }
     requires sizes { All (IsLeb size) lebs.old }
-    ensures mapped { IsReplaced size lebs.old lebs.new lnum (bytes_in (slice_get lebs.old lnum)) (written_in (slice_get lebs.old lnum)) }
+    ensures mapped { IsReplaced size lebs.old lebs.new lnum (final_leb (bytes_in (slice_get lebs.old lnum)) (written_in (slice_get lebs.old lnum))) }
     ensures left { (c : List ℕ) → IsLeft (slice_get lebs.new lnum) c → c ≡ bytes_in (slice_get lebs.new lnum) }
 {
     lebs[lnum].undo = false;
@@ -131,7 +132,7 @@ pub(crate) fn write_leb(lebs: &mut [Leb], size: u32, lnum: usize, offs: u32, byt
     requires open { written_in (slice_get lebs.old lnum) ≤ offs }
     ensures torn { Torn offs (length bytes.now) (bytes_in (slice_get lebs.old lnum)) (bytes_in (slice_get lebs.new lnum)) }
     ensures left { (c : List ℕ) → IsLeft (slice_get lebs.new lnum) c → c ≡ bytes_in (slice_get lebs.new lnum) }
-    ensures put { IsReplaced size lebs.old lebs.new lnum (put offs bytes.now (bytes_in (slice_get lebs.old lnum))) (offs + length bytes.now) }
+    ensures put { IsReplaced size lebs.old lebs.new lnum (final_leb (put offs bytes.now (bytes_in (slice_get lebs.old lnum))) (offs + length bytes.now)) }
 {
     let leb = &mut lebs[lnum];
     put_at(&mut leb.content, offs as usize, bytes);

@@ -4,7 +4,7 @@ ghost use Rattle.std.specs.Prelude.{◌≡◌, All, length};
 ghost use Rattle.ubi_volume.specs.Lebs.{IsLeb};
 ghost use Rattle.ubi_volume.specs.Shape.{IsShape};
 
-use crate::arming::{Arming, Fate};
+use crate::arming::{Arming, CHANGE_STEPS, Fate, MAP_STEPS, UNMAP_STEPS};
 use crate::leb::{Leb, all_bytes, blank_lebs, change_leb, map_leb, unmap_leb, write_leb};
 use crate::loading::loaded_lebs;
 use crate::settling::settle_lebs;
@@ -34,9 +34,10 @@ pub struct MemVolume {
 }
 
 impl MemVolume {
-    ghost use Rattle.std.specs.Prelude.{◌≡◌, false, IfOk};
+    ghost use Rattle.std.specs.Prelude.{◌≡◌, ℕ, false, None, IfOk};
     ghost use Rattle.ubi_volume.specs.Shape.{IsShape};
-    ghost use Rattle.ubi_volume.specs.MemVolume.{state_of, arming_of, contents_left, without_fail, IsBlank};
+    ghost use Rattle.ubi_volume.specs.MemVolume.{state_of, mem_of, arming_of, contents_left, without_fail, IsBlank};
+    ghost use Rattle.ubi_volume.specs.Effects.{IsArmed};
     ghost use Rattle.ubi_volume.specs.Loading.{IsFound, IsLoaded};
     ghost use Rattle.ubi_volume.specs.Volume.{Each, Keeps, SameShape, image_of};
 
@@ -71,7 +72,7 @@ impl MemVolume {
     pub fn arm_cut(&mut self, cut: Cut)
         ensures keeps { Keeps (state_of self.old) (state_of self.new) }
         ensures shape { SameShape (state_of self.old) (state_of self.new) }
-        ensures armed { arming_of self.new ≡ record (arming_of self.old) { cut_step = cut.step; pattern = cut.pattern; steps = 0 } }
+        ensures armed { IsArmed (mem_of self.old) (mem_of self.new) (Arm.Cut cut) }
     {
         self.arming.cut_step = cut.step;
         self.arming.pattern = cut.pattern;
@@ -83,7 +84,7 @@ impl MemVolume {
     pub fn arm_fail(&mut self, call: u64)
         ensures keeps { Keeps (state_of self.old) (state_of self.new) }
         ensures shape { SameShape (state_of self.old) (state_of self.new) }
-        ensures armed { arming_of self.new ≡ record (arming_of self.old) { fail = call } }
+        ensures armed { IsArmed (mem_of self.old) (mem_of self.new) (Arm.Fail call) }
     {
         self.arming.fail = call;
     }
@@ -92,8 +93,9 @@ impl MemVolume {
     /// be undone takes a digit of the pattern behind its lowest, in order of LEB: 0 says that it stays. Then no cut is armed;
     /// a call that is armed to fail still is.
     pub fn revive(&mut self)
-        ensures outcome { Each (state_of self.old).left_now (contents_left self.old) }
-        ensures found { IsFound (contents_left self.old) (without_fail (state_of self.new)) }
+        ensures outcome { Each (state_of self.old).left_now (contents_left (mem_of self.old)) }
+        ensures found { IsFound (contents_left (mem_of self.old)) (without_fail (state_of self.new)) }
+        ensures settled { (k : ℕ) → ((mem_of self.new).leb k).pending ≡ None }
         ensures shape { SameShape (state_of self.old) (state_of self.new) }
         ensures armed { arming_of self.new ≡ record (arming_of self.old) { cut_step = 0; pattern = 0; is_cut = false } }
     {
@@ -132,9 +134,12 @@ impl MemVolume {
 }
 
 impl Volume for MemVolume {
-    ghost use Rattle.std.specs.Prelude.{slice_get};
+    ghost use Rattle.std.specs.Prelude.{◌≡◌, ◌+◌, ◌<◌, ◌≤◌, [], length, slice_get, slice_range, OnOk, OnErr};
     ghost use Rattle.std.proofs.Common.{refl};
-    ghost use Rattle.ubi_volume.specs.MemVolume.{state_of};
+    ghost use Rattle.ubi_volume.specs.Volume.{SameShape, Keeps, WorksOn, AreUnits, IsChanged, IsWritten, IsUnmapped, IsMapped, ChangeUnderWay, WriteUnderWay};
+    ghost use Rattle.ubi_volume.specs.Faults.{HasAnswer};
+    ghost use Rattle.ubi_volume.specs.Effects.{HasEffect, IsArmed, write_effect, change_effect, unmap_effect, map_effect, no_effect};
+    ghost use Rattle.ubi_volume.specs.MemVolume.{state_of, mem_of};
     ghost use Rattle.ubi_volume.specs.MemVolumeLaws.{left_now, leb_len_of, leb_bytes_of, left_bytes_of, blank_of};
 
     ghost state = { state_of };
@@ -169,7 +174,14 @@ impl Volume for MemVolume {
         self.shape.leb_cnt
     }
 
-    fn read(&mut self, lnum: u32, offs: u32, out: &mut [u8]) -> Result<(), VolFault> {
+    fn read(&mut self, lnum: u32, offs: u32, out: &mut [u8]) -> Result<(), VolFault>
+        requires lnum { lnum < (state_of self.old).leb_cnt }
+        requires range { offs + length out.old ≤ (state_of self.old).leb_size }
+        ensures read { OnOk result (out.new ≡ slice_range ((state_of self.old).holds lnum) offs (offs + length out.old)) }
+        ensures keeps { Keeps (state_of self.old) (state_of self.new) }
+        ensures answer { HasAnswer (state_of self.old) (state_of self.new) result }
+        ensures exact { HasEffect (mem_of self.old) (mem_of self.new) lnum (no_effect ((mem_of self.old).leb lnum)) result }
+    {
         match self.arming.next(0) {
             Fate::Runs => {
                 let leb = &self.lebs[lnum as usize];
@@ -181,7 +193,17 @@ impl Volume for MemVolume {
         }
     }
 
-    fn write(&mut self, lnum: u32, offs: u32, bytes: &[u8]) -> Result<(), VolFault> {
+    fn write(&mut self, lnum: u32, offs: u32, bytes: &[u8]) -> Result<(), VolFault>
+        requires lnum { lnum < (state_of self.old).leb_cnt }
+        requires range { offs + length bytes.now ≤ (state_of self.old).leb_size }
+        requires units { AreUnits (state_of self.old).min_io offs (length bytes.now) }
+        requires open { (state_of self.old).written lnum ≤ offs }
+        ensures done { OnOk result (IsWritten (state_of self.old) (state_of self.new) lnum offs bytes.now) }
+        ensures works { WorksOn (state_of self.old) (state_of self.new) lnum (WriteUnderWay (state_of self.old) lnum offs (length bytes.now)) }
+        ensures failed { OnErr result ((state_of self.new).unbroken → Keeps (state_of self.old) (state_of self.new)) }
+        ensures answer { HasAnswer (state_of self.old) (state_of self.new) result }
+        ensures exact { HasEffect (mem_of self.old) (mem_of self.new) lnum (write_effect (state_of self.old).min_io offs bytes.now ((mem_of self.old).leb lnum)) result }
+    {
         let size = self.shape.leb_size;
         let unit = self.shape.min_io as usize;
         match self.arming.next((bytes.len() / unit) as u64) {
@@ -199,9 +221,18 @@ impl Volume for MemVolume {
         }
     }
 
-    fn change(&mut self, lnum: u32, bytes: &[u8]) -> Result<(), VolFault> {
+    fn change(&mut self, lnum: u32, bytes: &[u8]) -> Result<(), VolFault>
+        requires lnum { lnum < (state_of self.old).leb_cnt }
+        requires range { length bytes.now ≤ (state_of self.old).leb_size }
+        requires units { AreUnits (state_of self.old).min_io 0 (length bytes.now) }
+        ensures done { OnOk result (IsChanged (state_of self.old) (state_of self.new) lnum bytes.now) }
+        ensures works { WorksOn (state_of self.old) (state_of self.new) lnum (ChangeUnderWay (state_of self.old) lnum bytes.now) }
+        ensures failed { OnErr result ((state_of self.new).unbroken → Keeps (state_of self.old) (state_of self.new)) }
+        ensures answer { HasAnswer (state_of self.old) (state_of self.new) result }
+        ensures exact { HasEffect (mem_of self.old) (mem_of self.new) lnum (change_effect (state_of self.old).leb_size bytes.now ((mem_of self.old).leb lnum)) result }
+    {
         let size = self.shape.leb_size;
-        match self.arming.next(1) {
+        match self.arming.next(CHANGE_STEPS) {
             Fate::Runs => {
                 change_leb(&mut self.lebs, size, lnum as usize, bytes);
                 Ok(())
@@ -217,9 +248,16 @@ impl Volume for MemVolume {
         }
     }
 
-    fn unmap(&mut self, lnum: u32) -> Result<(), VolFault> {
+    fn unmap(&mut self, lnum: u32) -> Result<(), VolFault>
+        requires { lnum < (state_of self.old).leb_cnt }
+        ensures done { OnOk result (IsUnmapped (state_of self.old) (state_of self.new) lnum) }
+        ensures works { WorksOn (state_of self.old) (state_of self.new) lnum (ChangeUnderWay (state_of self.old) lnum []) }
+        ensures failed { OnErr result ((state_of self.new).unbroken → Keeps (state_of self.old) (state_of self.new)) }
+        ensures answer { HasAnswer (state_of self.old) (state_of self.new) result }
+        ensures exact { HasEffect (mem_of self.old) (mem_of self.new) lnum (unmap_effect (state_of self.old).leb_size ((mem_of self.old).leb lnum)) result }
+    {
         let size = self.shape.leb_size;
-        match self.arming.next(1) {
+        match self.arming.next(UNMAP_STEPS) {
             Fate::Runs => {
                 unmap_leb(&mut self.lebs, size, lnum as usize);
                 Ok(())
@@ -235,9 +273,16 @@ impl Volume for MemVolume {
         }
     }
 
-    fn map(&mut self, lnum: u32) -> Result<(), VolFault> {
+    fn map(&mut self, lnum: u32) -> Result<(), VolFault>
+        requires { lnum < (state_of self.old).leb_cnt }
+        ensures done { OnOk result (IsMapped (state_of self.old) (state_of self.new) lnum) }
+        ensures works { WorksOn (state_of self.old) (state_of self.new) lnum ((state_of self.old).left_now lnum) }
+        ensures failed { OnErr result ((state_of self.new).unbroken → Keeps (state_of self.old) (state_of self.new)) }
+        ensures answer { HasAnswer (state_of self.old) (state_of self.new) result }
+        ensures exact { HasEffect (mem_of self.old) (mem_of self.new) lnum (map_effect ((mem_of self.old).leb lnum)) result }
+    {
         let size = self.shape.leb_size;
-        match self.arming.next(1) {
+        match self.arming.next(MAP_STEPS) {
             Fate::Runs => {
                 map_leb(&mut self.lebs, size, lnum as usize);
                 Ok(())
@@ -253,7 +298,12 @@ impl Volume for MemVolume {
         }
     }
 
-    fn arm(&mut self, what: &Arm) {
+    fn arm(&mut self, what: &Arm)
+        ensures keeps { Keeps (state_of self.old) (state_of self.new) }
+        ensures shape { SameShape (state_of self.old) (state_of self.new) }
+        ensures faults { (state_of self.new).faults ≡ (state_of self.old).faults }
+        ensures exact { IsArmed (mem_of self.old) (mem_of self.new) what.now }
+    {
         match *what {
             Arm::Cut { cut } => self.arm_cut(cut),
             Arm::Fail { call } => self.arm_fail(call),

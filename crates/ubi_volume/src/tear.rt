@@ -4,6 +4,7 @@ ghost use Rattle.std.specs.Prelude.{◌≡◌, ◌+◌, ◌-◌, ◌<◌, ◌≤
 ghost use Rattle.ubifs_base.specs.NodeLaws.{IsBytes};
 ghost use Rattle.ubi_volume.specs.Lebs.{bytes_in, written_in, IsLeft, IsLeb, IsReplaced};
 ghost use Rattle.ubi_volume.specs.Patterns.{unit_left, write_left};
+ghost use Rattle.ubi_volume.specs.Effects.{final_leb};
 ghost use Rattle.ubi_volume.specs.Volume.{put, Torn};
 
 use crate::leb::{Leb, copy_at};
@@ -32,7 +33,7 @@ pub(crate) fn tear_leb(
     requires open { written_in (slice_get lebs.old lnum) ≤ offs }
     ensures torn { Torn offs (length bytes.now) (bytes_in (slice_get lebs.old lnum)) (bytes_in (slice_get lebs.new lnum)) }
     ensures left { (c : List ℕ) → IsLeft (slice_get lebs.new lnum) c → c ≡ bytes_in (slice_get lebs.new lnum) }
-    ensures put { IsReplaced size lebs.old lebs.new lnum (write_left tear.unit tear.done tear.digit offs bytes.now (bytes_in (slice_get lebs.old lnum))) (offs + length bytes.now) }
+    ensures put { IsReplaced size lebs.old lebs.new lnum (final_leb (write_left tear.unit tear.done tear.digit offs bytes.now (bytes_in (slice_get lebs.old lnum))) (offs + length bytes.now)) }
 {
     let leb = &mut lebs[lnum];
     tear_at(&mut leb.content, offs as usize, bytes, tear);

@@ -7,5 +7,5 @@ loop-lnum-init c = so_far_none c.args.size c.args.unit c.args.digits c.args.lebs
 pub loop-lnum-preserved : goal.loop-lnum-preserved
 loop-lnum-preserved c =
     let call = c.settle_at-rest in
-    so_far_more c.args.size c.args.unit c.args.digits c.args.lebs.now c.loop-lnum.lebs call.new.lebs c.loop-lnum.lnum c.loop-lnum.rest call.result c.loop-lnum-test.true c.loop-lnum.invariant
+    so_far_more c.args.size c.args.unit c.args.digits c.args.lebs.now c.loop-lnum.lebs call.new.lebs c.loop-lnum.lnum c.loop-lnum.rest call.result c.loop-lnum.invariant
     call.ensures.settled call.ensures.others call.ensures.len call.ensures.sizes call.ensures.rest

@@ -6,12 +6,12 @@ pub returns-in-Runs-clause-works : goal.returns-in-Runs-clause-works
 returns-in-Runs-clause-works c =
     let v = c.args.self.now in
     let call = c.unmap_leb in
-    replaced_works v _ call.new.lebs c.next.new.self v.shape.leb_size c.args.lnum _ _ (UnmapFrom v.shape.leb_size c.args.lnum)
+    replaced_works v _ call.new.lebs c.next.new.self v.shape.leb_size c.args.lnum _ (UnmapFrom v.shape.leb_size c.args.lnum)
     c.deref_mut.ensures.value call.ensures.changed call.ensures.left (search rules)
 
 pub returns-then-digit-eq1-clause-works : goal.returns-then-digit-eq1-clause-works
 returns-then-digit-eq1-clause-works c =
     let v = c.args.self.now in
     let call = c.unmap_leb-then-digit-eq1 in
-    replaced_works v _ call.new.lebs c.next.new.self v.shape.leb_size c.args.lnum _ _ (UnmapFrom v.shape.leb_size c.args.lnum)
+    replaced_works v _ call.new.lebs c.next.new.self v.shape.leb_size c.args.lnum _ (UnmapFrom v.shape.leb_size c.args.lnum)
     c.deref_mut-then-digit-eq1.ensures.value call.ensures.changed call.ensures.left (search rules)

@@ -7,7 +7,7 @@ returns-in-Runs-clause-works c =
     let v = c.args.self.now in
     let call = c.write_leb in
     let n = length c.args.bytes.now in
-    replaced_works v c.deref_mut.result.now call.new.lebs c.next.new.self v.shape.leb_size c.args.lnum _ _ (WriteFrom c.args.lnum c.args.offs n)
+    replaced_works v c.deref_mut.result.now call.new.lebs c.next.new.self v.shape.leb_size c.args.lnum _ (WriteFrom c.args.lnum c.args.offs n)
     c.deref_mut.ensures.value call.ensures.put (torn_from c.deref_mut.result.now call.new.lebs c.args.lnum c.args.offs n call.ensures.torn call.ensures.left) (search rules)
 
 pub returns-in-Struck-clause-works : goal.returns-in-Struck-clause-works
@@ -16,5 +16,5 @@ returns-in-Struck-clause-works c =
     let call = c.tear_leb in
     let n = length c.args.bytes.now in
     let before = c.deref_mut-in-Struck.result.now in
-    replaced_works v before call.new.lebs c.next.new.self v.shape.leb_size c.args.lnum _ _ (WriteFrom c.args.lnum c.args.offs n)
+    replaced_works v before call.new.lebs c.next.new.self v.shape.leb_size c.args.lnum _ (WriteFrom c.args.lnum c.args.offs n)
     c.deref_mut-in-Struck.ensures.value call.ensures.put (torn_from before call.new.lebs c.args.lnum c.args.offs n call.ensures.torn call.ensures.left) (search rules)
