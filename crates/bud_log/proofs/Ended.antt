@@ -10,13 +10,14 @@ use Rattle.ubi_volume.specs.FrameLaws.{Works-none, Works-then, Works-may, Works-
 use Rattle.bud_log.specs.Log.{IsLogLeb, next_leb}
 use Rattle.bud_log.specs.LogAt.{LogAt, IsBetween, IsEnded, steps_to}
 use Rattle.bud_log.specs.LogCalls.{UnmapUnderWay, EndUnderWay}
-use Rattle.bud_log.specs.Writing.{IsAmong, IsOlder, IsReady, NamesBuds}
+use Rattle.bud_log.specs.Writing.{IsAmong, IsOlder, IsReady}
+use Rattle.bud_log.specs.AfterCut.{IsLeftReady, lebs_to}
 use Rattle.bud_log.specs.declared.head_at.HeadAt.{HeadAt}
 use Rattle.bud_log.specs.LogLaws.{chain_alike, next_in}
-use Rattle.bud_log.proofs.Appended.{IsQuiet, quiet_names}
-use Rattle.bud_log.proofs.Chains.{past_other}
+use Rattle.bud_log.proofs.Appended.{IsQuiet, quiet_ready}
+use Rattle.bud_log.specs.Chains.{past_other}
 use Rattle.bud_log.proofs.Opened.{past_is, blank_older}
-use Rattle.bud_log.proofs.RingRuns.{left_of}
+use Rattle.bud_log.specs.RingRuns.{left_of}
 use Rattle.bud_log.proofs.Steps.{steps_next, steps_none, steps_small, same_steps, before_left}
 
 -- the LEBs up to this one are unmapped
@@ -114,10 +115,10 @@ ended_quiet a at number buds h x f s l way each = record {
 
 -- at every moment the log reads as before
 pub ended_moment : (a b : VolumeState) (at : LogAt) (number : ℕ) (buds : List HeadAt) → IsReady a at.geo at.section at.lnum at.offs number buds → IsLogLeb at.geo at.first → IsLogLeb at.geo at.section → IsLogLeb at.geo at.lnum
-    → steps_to at.geo at.first at.section ≤ steps_to at.geo at.first at.lnum → Leaves a b (EndUnderWay a at) → Leaves a b (λ left. NamesBuds left at.geo at.section buds)
+    → steps_to at.geo at.first at.section ≤ steps_to at.geo at.first at.lnum → Leaves a b (EndUnderWay a at) → Leaves a b (λ left. IsLeftReady left at.geo at.section (lebs_to at.geo at.section at.lnum) number buds)
 ended_moment a b at number buds h f s l way time =
-    Leaves-more a b (EndUnderWay a at) (λ left. NamesBuds left at.geo at.section buds)
-    (λ x each. quiet_names a at.geo at.section at.lnum at.offs number buds h x s (ended_quiet a at number buds h x f s l way each)) time
+    Leaves-more a b (EndUnderWay a at) (λ left. IsLeftReady left at.geo at.section (lebs_to at.geo at.section at.lnum) number buds)
+    (λ x each. quiet_ready a at.geo at.section at.lnum at.offs number buds h x s (ended_quiet a at number buds h x f s l way each)) time
 
 -- and the volume stays ready
 pub ended_ready : (a b : VolumeState) (at : LogAt) (number : ℕ) (buds : List HeadAt) → IsReady a at.geo at.section at.lnum at.offs number buds → IsLogLeb at.geo at.first → IsLogLeb at.geo at.section → IsLogLeb at.geo at.lnum

@@ -16,14 +16,9 @@ use Rattle.leb_scan.specs.declared.tail.Tail.TheVariants.{Clean}
 use Rattle.bud_log.specs.LogText.{Refer, first_of}
 use Rattle.bud_log.specs.MeantNodes.{node_at, node_front, laid_items, laid_stand}
 use Rattle.bud_log.specs.Writing.{reference_in, references_in, AreSpelled, laid}
-use Rattle.bud_log.proofs.Parts.{none_in, one_in}
+use Rattle.bud_log.proofs.Parts.{FirstIs, none_in, one_in}
 
--- the first of the nodes found, if any were laid
-abbrev pub FirstIs : ℕ → ℕ → List SystemNode → List Found → Type 0
-FirstIs place number [] found = ⊤
-FirstIs place number (node ∷ nodes) found = (first : Found) × (first_of found ≡ Some first) × (first.offs ≡ place) × (first.sqnum ≡ number + 1) × (first.kind ≡ node_type node)
-
--- and it stands there
+-- the first of the nodes found, if any were laid, stands there
 abbrev pub FirstStands : List ℕ → List SystemNode → List Found → Type 0
 FirstStands leb [] found = ⊤
 FirstStands leb (node ∷ nodes) found = (first : Found) × (first_of found ≡ Some first) × IsSystemNode (take first.len (drop first.offs leb)) first.sqnum first.group node

@@ -1,11 +1,8 @@
 pub mod Appended
-pub mod Below
 pub mod BudLists
-pub mod Bytes
 pub mod Calls
-pub mod Chains
 pub mod Ended
-pub mod Grown
+pub mod Found
 pub mod Laid
 pub mod NodeLists
 pub mod OneBud
@@ -13,8 +10,6 @@ pub mod OneLog
 pub mod Opened
 pub mod Parts
 pub mod ReadyAgain
-pub mod References
-pub mod RingRuns
 pub mod Spelled
 pub mod Steps
 pub mod Works

@@ -6,17 +6,18 @@ use Rattle.ubifs_base.specs.declared.raw_geometry.RawGeometry.{RawGeometry}
 use Rattle.ubi_volume.specs.Volume.{VolumeState, UnderWay, WorksOn, Leaves, ChangeUnderWay}
 use Rattle.ubi_volume.specs.VolumeLaws.{Leaves-more}
 use Rattle.ubi_volume.specs.Frame.{IsSameLeb, Works}
-use Rattle.media_sys.specs.SystemNode.{SystemNode, reference}
+use Rattle.media_sys.specs.SystemNode.{reference}
 use Rattle.media_sys.specs.declared.ref_node.RefNode.{RefNode}
 use Rattle.bud_log.specs.Log.{IsLogLeb, next_leb}
-use Rattle.bud_log.specs.LogAt.{LogAt, IsAt, IsStart, has_room, used_lebs, lnum_at, offs_at, next_lnum, next_offs}
+use Rattle.bud_log.specs.LogAt.{LogAt, IsAt, IsStart, has_room, used_lebs, lnum_at, offs_at, next_lnum, next_offs, references_to, section_nodes}
 use Rattle.bud_log.specs.LogCalls.{IsEmptied, AddDuring, OpenUnderWay}
-use Rattle.bud_log.specs.Writing.{references_in, AreSpelled, IsReady, NamesSome, NamesOpened, IsOldOrMeant}
+use Rattle.bud_log.specs.Writing.{AreSpelled, IsReady, IsOldOrMeant}
+use Rattle.bud_log.specs.AfterCut.{IsLeftOpened, IsLeftStarted}
+use Rattle.bud_log.specs.AfterCutLaws.{IsReady-left}
 use Rattle.bud_log.specs.declared.head_at.HeadAt.{HeadAt}
 use Rattle.bud_log.specs.LogLaws.{next_in}
-use Rattle.bud_log.proofs.Appended.{quiet_left, quiet_names}
 use Rattle.bud_log.proofs.Opened.{HasMapped, opened_moment, started_moment}
-use Rattle.bud_log.proofs.References.{OneNode}
+use Rattle.bud_log.specs.References.{OneNode}
 use Rattle.bud_log.proofs.Steps.{next_free}
 use Rattle.bud_log.proofs.Works.{emptied_works, opened_works}
 
@@ -40,12 +41,12 @@ free_of a at from h start room = next_free at from h.first h.here h.on_the_way r
 
 -- the bud's LEB was emptied, or that failed
 pub bud_moment : (a b : VolumeState) (at : LogAt) (from number : ℕ) (buds : List HeadAt) (node : RefNode) (M : (ℕ → List ℕ) → Type 0) (D : List ℕ → Type 0) → IsAt a at → IsStart at from → main_first at.geo ≤ node.lnum
-    → IsReady a at.geo from at.lnum at.offs number buds → WorksOn a b node.lnum D → Leaves a b (λ left. M left → NamesOpened left at.geo from buds node)
+    → IsReady a at.geo from at.lnum at.offs number buds → WorksOn a b node.lnum D → Leaves a b (λ left. M left → IsLeftOpened left at from number buds node)
 bud_moment a b at from number buds node M D h start main ready w =
     let f = start_in a at from h start in
     let P : ℕ → Type 0 = λ n. IsLogLeb at.geo n in
-    Leaves-more a b (UnderWay a node.lnum D) (λ left. M left → NamesOpened left at.geo from buds node)
-    (λ x u meant. inl (quiet_names a at.geo from at.lnum at.offs number buds ready x f (quiet_left a at.geo from at.lnum at.offs number buds ready x f (λ k is. u.0 k (λ e. main_out at.geo node.lnum main (subst P e is))))))
+    Leaves-more a b (UnderWay a node.lnum D) (λ left. M left → IsLeftOpened left at from number buds node)
+    (λ x u meant. inl (IsReady-left a at.geo from at.lnum at.offs number buds x f ready (λ k is. u.0 k (λ e. main_out at.geo node.lnum main (subst P e is)))))
     w.time
 
 -- the bud's LEB was emptied, or that failed: what that does
@@ -71,12 +72,12 @@ both_works here a b c at bud n h e main same done ab bc =
 
 pub both_moment : OneNode → (here : Bool) (a b c : VolumeState) (at : LogAt) (from number n : ℕ) (buds : List HeadAt) (node : RefNode) → IsAt a at → here ≡ has_room at → ((here ≡ false) → used_lebs at < at.geo.log_lebs) → main_first at.geo ≤ node.lnum → IsStart at from
     → HasMapped a → AreSpelled number (reference node ∷ []) → b.leb_size ≡ a.leb_size → IsEmptied a b node.lnum → WorksOn a b node.lnum (ChangeUnderWay a node.lnum []) → WorksOn b c (lnum_at here at) (AddDuring here b at n) → IsReady a at.geo from at.lnum at.offs number buds
-    → Leaves a c (λ left. IsOldOrMeant a (next_lnum at) (next_offs at) number (reference node ∷ []) (left (next_lnum at)) → NamesOpened left at.geo from buds node)
+    → Leaves a c (λ left. IsOldOrMeant a (next_lnum at) (next_offs at) number (reference node ∷ []) (left (next_lnum at)) → IsLeftOpened left at from number buds node)
 both_moment one here a b c at from number n buds node h e kept main start sub spelled same done ab bc ready =
     let f = start_in a at from h start in
     let works = opened_works here a b c at node.lnum n (there_other here at node.lnum h.here main) same done ab bc in
-    let H : Bool → Type 0 = λ r. Leaves a c (λ left. IsOldOrMeant a (lnum_at r at) (offs_at r at) number (reference node ∷ []) (left (lnum_at r at)) → NamesOpened left at.geo from buds node) in
-    subst H e (opened_moment one here a c at from number n buds node ready f (λ r. sym e ∙ r) (λ r. free_of a at from h start (kept r)) sub spelled (main_out at.geo node.lnum main) works.time)
+    let H : Bool → Type 0 = λ r. Leaves a c (λ left. IsOldOrMeant a (lnum_at r at) (offs_at r at) number (reference node ∷ []) (left (lnum_at r at)) → IsLeftOpened left at from number buds node) in
+    subst H e (opened_moment one here a c at from number n buds node e ready f (λ r. free_of a at from h start (kept r)) sub spelled (main_out at.geo node.lnum main) works.time)
 
 -- the bud's LEB stays empty
 pub emptied_still : (here : Bool) (a b c : VolumeState) (at : LogAt) (bud : ℕ) (D : List ℕ → Type 0) → IsAt a at → main_first at.geo ≤ bud → IsEmptied a b bud → WorksOn b c (lnum_at here at) D → IsEmptied a c bud
@@ -85,8 +86,8 @@ emptied_still here a b c at bud D h main w works =
     record { holds = works.others bud ne ∙ w.holds; written = works.others_written bud ne ∙ w.written; left = λ x left. w.left x (works.others_left bud x ne left) }
 
 -- a section is started, or that failed
-pub section_moment : OneNode → (a b : VolumeState) (at : LogAt) (from number n : ℕ) (buds : List HeadAt) (nodes : List SystemNode) → IsAt a at → used_lebs at < at.geo.log_lebs → IsStart at from → HasMapped a → AreSpelled number nodes
+pub section_moment : OneNode → (a b : VolumeState) (at : LogAt) (from number n cmt_no : ℕ) (buds heads : List HeadAt) → IsAt a at → used_lebs at < at.geo.log_lebs → IsStart at from → HasMapped a → AreSpelled number (section_nodes cmt_no heads)
     → WorksOn a b (next_leb at.geo at.lnum) (AddDuring false a at n) → IsReady a at.geo from at.lnum at.offs number buds
-    → Leaves a b (λ left. IsOldOrMeant a (next_leb at.geo at.lnum) 0 number nodes (left (next_leb at.geo at.lnum)) → NamesSome left at.geo from buds (references_in nodes))
-section_moment one a b at from number n buds nodes h kept start sub spelled works ready =
-    started_moment one a b at from number n buds nodes ready (start_in a at from h start) (free_of a at from h start kept) sub spelled works.time
+    → Leaves a b (λ left. IsOldOrMeant a (next_leb at.geo at.lnum) 0 number (section_nodes cmt_no heads) (left (next_leb at.geo at.lnum)) → IsLeftStarted left at from number buds (references_to heads))
+section_moment one a b at from number n cmt_no buds heads h kept start sub spelled works ready =
+    started_moment one a b at from number n cmt_no buds heads ready (start_in a at from h start) (free_of a at from h start kept) sub spelled works.time

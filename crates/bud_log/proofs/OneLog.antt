@@ -13,9 +13,9 @@ use Rattle.bud_log.specs.LogLaws.{next_in}
 use Rattle.bud_log.specs.LogText.{LogText, Refer, IsTextOf, begins_with, start_of, BeginsCommit, is_later}
 use Rattle.bud_log.specs.declared.head_at.HeadAt.{HeadAt}
 use Rattle.bud_log.specs.declared.log_end.LogEnd.{LogEnd}
-use Rattle.bud_log.proofs.Bytes.{bytes_drop, bytes_take}
-use Rattle.bud_log.proofs.References.{OneNode, reference_same, one_commit}
-use Rattle.bud_log.proofs.RingRuns.{OneText, ends_same}
+use Rattle.bud_log.specs.Bytes.{bytes_drop, bytes_take}
+use Rattle.bud_log.specs.References.{OneNode, reference_same, one_commit}
+use Rattle.bud_log.specs.RingRuns.{OneText, ends_same}
 
 one_refer : OneNode → (leb : List ℕ) → IsBytes leb → (nodes : List Found) (a b : List RefNode) → Refer leb nodes a → Refer leb nodes b → a ≡ b
 one_refer one leb fits [] a b h k = h ∙ sym k

@@ -1,5 +1,5 @@
 -- A LEB is made a journal head's, and nodes are written to the log: over all calls together.
-use Rattle.std.proofs.Common.{◌≡◌, ◌⊎◌, inl, inr, ℕ, ◌+◌, ◌-◌, ◌%◌, ◌^◌, ◌<◌, ◌≤◌, Bool, true, false, List, [], ◌∷◌, ◌++◌, length, take, drop, refl, ap, sym, ◌∙◌, subst, arith, append_assoc, length-append, length-drop, suc, zero}
+use Rattle.std.proofs.Common.{◌≡◌, ◌⊎◌, inl, inr, ℕ, ◌+◌, ◌-◌, ◌%◌, ◌^◌, ◌<◌, ◌≤◌, Bool, true, false, List, [], ◌∷◌, ◌++◌, length, take, drop, refl, ap, sym, ◌∙◌, subst, arith, append_assoc, length-append, length-drop}
 use Rattle.std.specs.Prelude.{◌≢◌, fold}
 use Rattle.std.proofs.lemmas.Bool.{cases_eq}
 use Rattle.std.proofs.lemmas.List.{drop-drop, take_at, drop_at, length-take-le, length-replicate}
@@ -7,7 +7,8 @@ use Rattle.ubifs_base.specs.Gap.{gap_of}
 use Rattle.ubifs_base.specs.declared.raw_geometry.RawGeometry.{RawGeometry}
 use Rattle.ubi_volume.specs.Volume.{VolumeState, filled, put, WorksOn, Leaves, WriteUnderWay}
 use Rattle.ubi_volume.specs.VolumeLaws.{Leaves-more}
-use Rattle.media_sys.specs.SystemNode.{SystemNode, reference}
+use Rattle.media_sys.specs.SystemNode.{SystemNode, reference, commit_start, node_type}
+use Rattle.ubifs_base.specs.declared.node_type.NodeType.TheVariants as types
 use Rattle.media_sys.specs.declared.ref_node.RefNode.{RefNode}
 use Rattle.leb_scan.specs.Gaps.{gap_length}
 use Rattle.leb_scan.specs.Text.{is_blank, IsText}
@@ -15,17 +16,20 @@ use Rattle.leb_scan.specs.TextLaws.{blank_drop, blank_replicate}
 use Rattle.leb_scan.specs.declared.tail.Tail.TheVariants.{Clean}
 use Rattle.bud_log.specs.Buds.{named}
 use Rattle.bud_log.specs.Log.{IsLogLeb, next_leb, Run}
-use Rattle.bud_log.specs.LogAt.{LogAt, has_room, lnum_at, offs_at}
+use Rattle.bud_log.specs.LogAt.{LogAt, has_room, lnum_at, offs_at, references_to, head_nodes, section_nodes}
 use Rattle.bud_log.specs.LogCalls.{IsBegun, IsAdded, AddDuring, OpenUnderWay, StartUnderWay}
 use Rattle.bud_log.specs.LogText.{LogText, IsTextOf}
-use Rattle.bud_log.specs.Writing.{references_in, AreSpelled, AreNodes, laid, IsAmong, IsOlder, IsChain, last_end, GoesOn, IsReady, NamesBuds, NamesSome, NamesOpened, IsMeant, IsOldOrMeant}
+use Rattle.bud_log.specs.Writing.{references_in, AreSpelled, AreNodes, laid, IsAmong, IsOlder, IsChain, last_end, GoesOn, IsReady, IsMeant, IsOldOrMeant}
+use Rattle.bud_log.specs.AfterCut.{IsLeftReady, IsLeftOpened, IsLeftStarted, lebs_to}
+use Rattle.bud_log.specs.AfterCutLaws.{goes_lnum, IsReady-left, IsReadyIn-later}
 use Rattle.bud_log.specs.declared.head_at.HeadAt.{HeadAt}
 use Rattle.bud_log.specs.declared.log_end.LogEnd.{LogEnd}
 use Rattle.bud_log.specs.LogLaws.{blank-older, among_log}
-use Rattle.bud_log.proofs.Appended.{goes_lnum, quiet_left, quiet_names, ready_works, here_names}
+use Rattle.bud_log.proofs.Appended.{IsLeftFirst, ready_works, here_first}
 use Rattle.bud_log.proofs.Laid.{AreLaid, laid_there}
-use Rattle.bud_log.proofs.ReadyAgain.{ready_here, ready_next, next_names}
-use Rattle.bud_log.proofs.References.{OneNode}
+use Rattle.bud_log.proofs.ReadyAgain.{ready_here, ready_next, next_first}
+use Rattle.bud_log.proofs.Spelled.{as_many, first_references}
+use Rattle.bud_log.specs.References.{OneNode}
 
 -- an unwritten LEB begins with no node
 pub blank_older : (start lnum size : ℕ) → IsOlder start lnum (filled size [])
@@ -146,67 +150,88 @@ added_ready false a b at from number next buds node nodes bytes h f roomy free l
     subst R e (ready_next a b at.geo from at.lnum at.offs number next (0 + length bytes) buds node nodes bytes (AddDuring false a at (length bytes)) h f (subst N (sym e) (free refl)) later (subst B (sym e) w) (subst W (sym e) works) (subst L (sym e) laid))
 
 -- and whatever a cut leaves on the way
-pub added_names : OneNode → (here : Bool) (a : VolumeState) (at : LogAt) (from number n : ℕ) (buds : List HeadAt) (nodes : List SystemNode) (x : ℕ → List ℕ) → IsReady a at.geo from at.lnum at.offs number buds → IsLogLeb at.geo from
-    → (here ≡ true → has_room at ≡ true) → (here ≡ false → next_leb at.geo at.lnum ≢ from) → HasMapped a → AreSpelled number nodes → ((k : ℕ) → IsLogLeb at.geo k → k ≢ lnum_at here at → a.left_now k (x k)) → a.left_now (lnum_at here at) (x (lnum_at here at)) ⊎ AddDuring here a at n (x (lnum_at here at))
-    → IsOldOrMeant a (lnum_at here at) (offs_at here at) number nodes (x (lnum_at here at)) → NamesSome x at.geo from buds (references_in nodes)
-added_names one here a at from number n buds nodes x h f roomy free sub spelled others there (inl old) =
+pub added_first : OneNode → (here : Bool) (a : VolumeState) (at : LogAt) (from number n : ℕ) (buds : List HeadAt) (node : SystemNode) (nodes : List SystemNode) (x : ℕ → List ℕ) → (here ≡ true → node_type node ≢ types.CommitStart) → IsReady a at.geo from at.lnum at.offs number buds → IsLogLeb at.geo from
+    → (here ≡ true → has_room at ≡ true) → (here ≡ false → next_leb at.geo at.lnum ≢ from) → HasMapped a → AreSpelled number (node ∷ nodes) → ((k : ℕ) → IsLogLeb at.geo k → k ≢ lnum_at here at → a.left_now k (x k)) → a.left_now (lnum_at here at) (x (lnum_at here at)) ⊎ AddDuring here a at n (x (lnum_at here at))
+    → IsOldOrMeant a (lnum_at here at) (offs_at here at) number (node ∷ nodes) (x (lnum_at here at)) → IsLeftFirst x at.geo from (lebs_to at.geo from at.lnum) (lebs_to at.geo from (lnum_at here at)) number buds node nodes
+added_first one here a at from number n buds node nodes x other h f roomy free sub spelled others there (inl old) =
     let all : (k : ℕ) → IsLogLeb at.geo k → a.left_now k (x k) = λ k is. elim (cases_eq k (lnum_at here at)) [
       | inl e ↦ let P : ℕ → Type 0 = λ m. a.left_now m (x m) in subst P (sym e) old
       | inr ne ↦ others k is ne
     ] in
-    (0, quiet_names a at.geo from at.lnum at.offs number buds h x f (quiet_left a at.geo from at.lnum at.offs number buds h x f all))
-added_names one true a at from number n buds nodes x h f roomy free sub spelled others there (inr meant) =
+    inl (IsReady-left a at.geo from at.lnum at.offs number buds x f h all)
+added_first one true a at from number n buds node nodes x other h f roomy free sub spelled others there (inr meant) =
     let here : WriteUnderWay a at.lnum at.offs n (x at.lnum) = elim there [ inl now ↦ inl now | inr w ↦ w ] in
-    here_names one a at.geo from at.lnum at.offs number n buds nodes h x (clean_end at (last_end h.first.ends h.more) (roomy refl) h.last) f (sub at.lnum) spelled others here meant
-added_names one false a at from number n buds nodes x h f roomy free sub spelled others there (inr meant) =
+    here_first one a at.geo from at.lnum at.offs number n buds node nodes h x (other refl) (clean_end at (last_end h.first.ends h.more) (roomy refl) h.last) f (sub at.lnum) spelled others here meant
+added_first one false a at from number n buds node nodes x other h f roomy free sub spelled others there (inr meant) =
     let e : h.past ≡ next_leb at.geo at.lnum = past_is a at.geo from at.lnum at.offs number buds h in
     let N : ℕ → Type 0 = λ m. m ≢ from in
     let O : ℕ → Type 0 = λ m. (k : ℕ) → IsLogLeb at.geo k → k ≢ m → a.left_now k (x k) in
-    let M : ℕ → Type 0 = λ m. IsMeant number 0 nodes (x m) in
-    next_names one a at.geo from at.lnum at.offs number buds nodes h x f (subst N (sym e) (free refl)) spelled (subst O (sym e) others) (subst M (sym e) meant)
+    let M : ℕ → Type 0 = λ m. IsMeant number 0 (node ∷ nodes) (x m) in
+    let L : ℕ → Type 0 = λ m. IsLeftFirst x at.geo from (lebs_to at.geo from at.lnum) (lebs_to at.geo from m) number buds node nodes in
+    subst L e (next_first one a at.geo from at.lnum at.offs number buds node nodes h x f (subst N (sym e) (free refl)) spelled (subst O (sym e) others) (subst M (sym e) meant))
 
--- of one reference nothing, or all, is named
-one_named : (n : ℕ) (buds : List HeadAt) (node : RefNode) → (fold named buds (take n (node ∷ [])) ≡ buds) ⊎ (fold named buds (take n (node ∷ [])) ≡ named buds node)
-one_named zero buds node = inl refl
-one_named (suc zero) buds node = inr refl
-one_named (suc (suc n)) buds node = inr refl
-
-opened_names : (x : ℕ → List ℕ) (geo : RawGeometry) (from : ℕ) (buds : List HeadAt) (node : RefNode) → NamesSome x geo from buds (node ∷ []) → is_blank (x node.lnum) ≡ true → NamesOpened x geo from buds node
-opened_names x geo from buds node (n, names) blank =
-    let P : List HeadAt → Type 0 = λ bs. NamesBuds x geo from bs in
-    elim (one_named n buds node) [ inl none ↦ inl (subst P none names) | inr all ↦ inr (subst P all names, blank) ]
+-- of one reference nothing, or all, is there
+opened_left : (here : Bool) (x : ℕ → List ℕ) (at : LogAt) (from number : ℕ) (buds : List HeadAt) (node : RefNode) → here ≡ has_room at → IsLeftFirst x at.geo from (lebs_to at.geo from at.lnum) (lebs_to at.geo from (lnum_at here at)) number buds (reference node) [] → is_blank (x node.lnum) ≡ true
+    → IsLeftOpened x at from number buds node
+opened_left here x at from number buds node e (inl none) blank = inl none
+opened_left here x at from number buds node e (inr (inl lone)) blank = let start = lone.0 in absurd cc
+opened_left here x at from number buds node e (inr (inr first)) blank =
+    let few = first.1 in
+    let none : first.0 ≡ 0 = omega (arith, few) in
+    let P : ℕ → Type 0 = λ n. IsLeftReady x at.geo from (lebs_to at.geo from (lnum_at here at)) (number + 1 + n) (fold named buds (references_in (reference node ∷ take n []))) in
+    let Q : ℕ → Type 0 = λ n. IsLeftReady x at.geo from (lebs_to at.geo from (lnum_at here at)) n (named buds node) in
+    let H : Bool → Type 0 = λ r. IsLeftReady x at.geo from (lebs_to at.geo from (lnum_at r at)) (number + 1) (named buds node) in
+    let same : number + 1 + 0 ≡ number + 1 = omega arith in
+    let left : P 0 = subst P none first.3 in
+    inr (subst H e (subst Q same left), blank)
 
 -- a bud was opened, or the call failed on the way
-pub opened_moment : OneNode → (here : Bool) (a b : VolumeState) (at : LogAt) (from number n : ℕ) (buds : List HeadAt) (node : RefNode) → IsReady a at.geo from at.lnum at.offs number buds → IsLogLeb at.geo from
-    → (here ≡ true → has_room at ≡ true) → (here ≡ false → next_leb at.geo at.lnum ≢ from) → HasMapped a → AreSpelled number (reference node ∷ []) → (IsLogLeb at.geo node.lnum → ⊥) → Leaves a b (OpenUnderWay here a at node.lnum n)
-    → Leaves a b (λ left. IsOldOrMeant a (lnum_at here at) (offs_at here at) number (reference node ∷ []) (left (lnum_at here at)) → NamesOpened left at.geo from buds node)
-opened_moment one here a b at from number n buds node h f roomy free sub spelled out time =
+pub opened_moment : OneNode → (here : Bool) (a b : VolumeState) (at : LogAt) (from number n : ℕ) (buds : List HeadAt) (node : RefNode) → here ≡ has_room at → IsReady a at.geo from at.lnum at.offs number buds → IsLogLeb at.geo from
+    → (here ≡ false → next_leb at.geo at.lnum ≢ from) → HasMapped a → AreSpelled number (reference node ∷ []) → (IsLogLeb at.geo node.lnum → ⊥) → Leaves a b (OpenUnderWay here a at node.lnum n)
+    → Leaves a b (λ left. IsOldOrMeant a (lnum_at here at) (offs_at here at) number (reference node ∷ []) (left (lnum_at here at)) → IsLeftOpened left at from number buds node)
+opened_moment one here a b at from number n buds node e h f free sub spelled out time =
     let there = lnum_at here at in
     let nodes : List SystemNode = reference node ∷ [] in
     let P : ℕ → Type 0 = λ m. IsLogLeb at.geo m in
     let M : (ℕ → List ℕ) → Type 0 = λ left. IsOldOrMeant a there (offs_at here at) number nodes (left there) in
-    let aside : (k : ℕ) → IsLogLeb at.geo k → k ≢ node.lnum = λ k in_log e. out (subst P e in_log) in
-    Leaves-more a b (OpenUnderWay here a at node.lnum n) (λ left. M left → NamesOpened left at.geo from buds node)
+    let aside : (k : ℕ) → IsLogLeb at.geo k → k ≢ node.lnum = λ k in_log same. out (subst P same in_log) in
+    Leaves-more a b (OpenUnderWay here a at node.lnum n) (λ left. M left → IsLeftOpened left at from number buds node)
     (λ x d meant. elim d.1 [
       | inl before ↦
           let all : (k : ℕ) → IsLogLeb at.geo k → a.left_now k (x k) = λ k in_log. elim (cases_eq k there) [
-            | inl e ↦ let Q : ℕ → Type 0 = λ m. a.left_now m (x m) in subst Q (sym e) before.1
+            | inl same ↦ let Q : ℕ → Type 0 = λ m. a.left_now m (x m) in subst Q (sym same) before.1
             | inr ne ↦ d.0 k (aside k in_log) ne
           ] in
-          inl (quiet_names a at.geo from at.lnum at.offs number buds h x f (quiet_left a at.geo from at.lnum at.offs number buds h x f all))
+          inl (IsReady-left a at.geo from at.lnum at.offs number buds x f h all)
       | inr added ↦
           let B : List ℕ → Type 0 = λ leb. is_blank leb ≡ true in
-          let names = added_names one here a at from number n buds nodes x h f roomy free sub spelled (λ k in_log ne. d.0 k (aside k in_log) ne) (inr added.1) meant in
-          opened_names x at.geo from buds node names (subst B (sym added.0) (blank_replicate (a.leb_size - 0)))
+          let first = added_first one here a at from number n buds (reference node) [] x (λ r start. absurd cc) h f (λ r. sym e ∙ r) free sub spelled (λ k in_log ne. d.0 k (aside k in_log) ne) (inr added.1) meant in
+          opened_left here x at from number buds node e first (subst B (sym added.0) (blank_replicate (a.leb_size - 0)))
     ])
     time
 
+-- the first of a section's nodes are the commit start and the first of its references
+started_left : (x : ℕ → List ℕ) (at : LogAt) (from number cmt_no : ℕ) (buds heads : List HeadAt) → IsLeftFirst x at.geo from (lebs_to at.geo from at.lnum) (lebs_to at.geo from (next_leb at.geo at.lnum)) number buds (commit_start (record { cmt_no = cmt_no })) (head_nodes heads)
+    → IsLeftStarted x at from number buds (references_to heads)
+started_left x at from number cmt_no buds heads (inl none) = inl (none.0, IsReadyIn-later x at.geo from number (number + 1) none.0 (omega arith) none.1, none.2, none.3)
+started_left x at from number cmt_no buds heads (inr (inl lone)) = inl lone.1
+started_left x at from number cmt_no buds heads (inr (inr first)) =
+    let n = first.0 in
+    let few = first.1 in
+    let Q : List RefNode → Type 0 = λ r. IsLeftReady x at.geo from (lebs_to at.geo from (next_leb at.geo at.lnum)) (number + 1 + n) (fold named buds r) in
+    let count = as_many heads in
+    let nodes = count.0 in
+    let references = count.1 in
+    inr (n, first.2 refl, omega (arith, few, nodes, references), subst Q (first_references n heads) first.3)
+
 -- a section was started, or the call failed on the way
-pub started_moment : OneNode → (a b : VolumeState) (at : LogAt) (from number n : ℕ) (buds : List HeadAt) (nodes : List SystemNode) → IsReady a at.geo from at.lnum at.offs number buds → IsLogLeb at.geo from → next_leb at.geo at.lnum ≢ from → HasMapped a → AreSpelled number nodes
+pub started_moment : OneNode → (a b : VolumeState) (at : LogAt) (from number n cmt_no : ℕ) (buds heads : List HeadAt) → IsReady a at.geo from at.lnum at.offs number buds → IsLogLeb at.geo from → next_leb at.geo at.lnum ≢ from → HasMapped a → AreSpelled number (section_nodes cmt_no heads)
     → Leaves a b (StartUnderWay a at n)
-    → Leaves a b (λ left. IsOldOrMeant a (next_leb at.geo at.lnum) 0 number nodes (left (next_leb at.geo at.lnum)) → NamesSome left at.geo from buds (references_in nodes))
-started_moment one a b at from number n buds nodes h f free sub spelled time =
+    → Leaves a b (λ left. IsOldOrMeant a (next_leb at.geo at.lnum) 0 number (section_nodes cmt_no heads) (left (next_leb at.geo at.lnum)) → IsLeftStarted left at from number buds (references_to heads))
+started_moment one a b at from number n cmt_no buds heads h f free sub spelled time =
     let there = next_leb at.geo at.lnum in
-    Leaves-more a b (StartUnderWay a at n) (λ left. IsOldOrMeant a there 0 number nodes (left there) → NamesSome left at.geo from buds (references_in nodes))
-    (λ x u meant. added_names one false a at from number n buds nodes x h f (λ e. absurd cc) (λ e. free) sub spelled (λ k in_log ne. u.0 k ne) (inr u.1) meant)
+    let nodes = section_nodes cmt_no heads in
+    Leaves-more a b (StartUnderWay a at n) (λ left. IsOldOrMeant a there 0 number nodes (left there) → IsLeftStarted left at from number buds (references_to heads))
+    (λ x u meant. started_left x at from number cmt_no buds heads
+    (added_first one false a at from number n buds (commit_start (record { cmt_no = cmt_no })) (head_nodes heads) x (λ e. absurd cc) h f (λ e. absurd cc) (λ e. free) sub spelled (λ k in_log ne. u.0 k ne) (inr u.1) meant))
     time

@@ -1,30 +1,33 @@
 -- After nodes were written the volume is ready for the next ones.
-use Rattle.std.proofs.Common.{◌≡◌, inl, inr, ℕ, ◌+◌, ◌<◌, ◌≤◌, true, false, List, [], ◌∷◌, ◌++◌, Option, Some, length, take, refl, ap, sym, ◌∙◌, subst, arith, append-nil}
-use Rattle.std.specs.Prelude.{◌≢◌, fold}
+use Rattle.std.proofs.Common.{◌≡◌, inl, inr, ℕ, ◌+◌, ◌<◌, ◌≤◌, Bool, true, false, List, [], ◌∷◌, ◌++◌, Option, Some, length, take, refl, ap, sym, ◌∙◌, subst, arith, append-nil}
+use Rattle.std.specs.Prelude.{◌≢◌, if◌then◌else◌, fold}
 use Rattle.std.proofs.lemmas.Bool.{cases_eq, cases_Bool, lt-ltb, le-ltb}
 use Rattle.ubifs_base.specs.declared.raw_geometry.RawGeometry.{RawGeometry}
 use Rattle.ubi_volume.specs.Volume.{VolumeState, put, WorksOn, IsWritten, WriteUnderWay}
-use Rattle.media_sys.specs.SystemNode.{SystemNode, commit_start}
+use Rattle.media_sys.specs.SystemNode.{SystemNode, commit_start, node_type}
 use Rattle.media_sys.specs.declared.commit_start.CommitStart.{CommitStart}
 use Rattle.ubifs_base.specs.declared.node_type.NodeType.TheVariants as types
 use Rattle.leb_scan.specs.Text.{nodes_of, IsText}
 use Rattle.leb_scan.specs.declared.found.Found.{Found}
 use Rattle.leb_scan.specs.declared.tail.Tail.TheVariants.{Clean}
 use Rattle.bud_log.specs.Buds.{named, buds_of}
-use Rattle.bud_log.specs.Log.{IsLogLeb, next_leb, references_of}
+use Rattle.bud_log.specs.Log.{IsLogLeb, next_leb, references_of, end_of}
 use Rattle.bud_log.specs.LogCalls.{IsBegun}
-use Rattle.bud_log.specs.LogText.{LogText, IsTextOf, IsStartAt, at_start, begins_with, start_of, BeginsCommit, StartsCommit, is_later}
-use Rattle.bud_log.specs.Writing.{references_in, IsAmong, IsPassedOver, AreOthersOlder, AreSpelled, last_end, IsReady, NamesBuds, NamesSome, IsMeant}
+use Rattle.bud_log.specs.LogText.{LogText, IsTextOf, IsStartAt, at_start, begins_with, start_of, BeginsCommit, StartsCommit, is_later, is_start_alone}
+use Rattle.bud_log.specs.Writing.{references_in, IsAmong, IsPassedOver, AreOthersOlder, AreSpelled, last_end, IsReady, IsMeant}
 use Rattle.bud_log.specs.declared.head_at.HeadAt.{HeadAt}
 use Rattle.bud_log.specs.declared.log_end.LogEnd.{LogEnd}
 use Rattle.bud_log.specs.LogLaws.{among_log, below_more, chain_alike, older_more, passed-later}
-use Rattle.bud_log.proofs.Appended.{past_free, names_chain, IsQuiet, quiet_names, end_among}
-use Rattle.bud_log.proofs.Chains.{chain_more, last_first, last_more, Grows, chain_grown, references_grown, last_end_grown, among_grown, buds_behind, references_added, last_end_added, among_added}
-use Rattle.bud_log.proofs.Grown.{grown, grown_text}
-use Rattle.bud_log.proofs.Laid.{AreLaid, FirstIs, FirstStands}
-use Rattle.bud_log.proofs.Below.{below_last, below_grown}
-use Rattle.bud_log.proofs.Parts.{part_references}
-use Rattle.bud_log.proofs.References.{OneNode, some_references}
+use Rattle.bud_log.proofs.Appended.{IsQuiet, IsLeftFirst, quiet_ready, end_among}
+use Rattle.bud_log.specs.AfterCut.{IsLeftReady, lebs_to}
+use Rattle.bud_log.specs.AfterCutLaws.{older_ready, chain_ready, goes_lnum, lebs_same}
+use Rattle.bud_log.specs.RingRuns.{last_of, end_then}
+use Rattle.bud_log.specs.Chains.{past_free, chain_more, last_first, last_more, Grows, chain_grown, references_grown, last_end_grown, among_grown, buds_behind, references_added, last_end_added, among_added}
+use Rattle.bud_log.specs.Grown.{grown, grown_text}
+use Rattle.bud_log.proofs.Laid.{AreLaid, FirstStands}
+use Rattle.bud_log.specs.Below.{below_last, below_grown}
+use Rattle.bud_log.proofs.Parts.{FirstIs, part_begins}
+use Rattle.bud_log.specs.References.{OneNode, some_references}
 
 -- nodes behind the end of the log
 pub ready_here : (a b : VolumeState) (geo : RawGeometry) (from lnum offs number next end len : ℕ) (buds : List HeadAt) (nodes : List SystemNode) (bytes : List ℕ) (h : IsReady a geo from lnum offs number buds) → last_end h.first.ends h.more ≡ record { lnum = lnum; offs = offs; tail = Clean } → IsLogLeb geo from
@@ -191,35 +194,66 @@ ready_section a b geo number next end there start nodes bytes D older later w wo
     }
 
 -- what was torn at the start of the next LEB
-pub next_names : OneNode → (a : VolumeState) (geo : RawGeometry) (from lnum offs number : ℕ) (buds : List HeadAt) (nodes : List SystemNode) (h : IsReady a geo from lnum offs number buds) (x : ℕ → List ℕ) → IsLogLeb geo from → h.past ≢ from
-    → AreSpelled number nodes → ((k : ℕ) → IsLogLeb geo k → k ≢ h.past → a.left_now k (x k)) → IsMeant number 0 nodes (x h.past) → NamesSome x geo from buds (references_in nodes)
-next_names one a geo from lnum offs number buds nodes h x f ne spelled others meant =
+pub next_first : OneNode → (a : VolumeState) (geo : RawGeometry) (from lnum offs number : ℕ) (buds : List HeadAt) (node : SystemNode) (nodes : List SystemNode) (h : IsReady a geo from lnum offs number buds) (x : ℕ → List ℕ) → IsLogLeb geo from → h.past ≢ from
+    → AreSpelled number (node ∷ nodes) → ((k : ℕ) → IsLogLeb geo k → k ≢ h.past → a.left_now k (x k)) → IsMeant number 0 (node ∷ nodes) (x h.past) → IsLeftFirst x geo from (lebs_to geo from lnum) (lebs_to geo from h.past) number buds node nodes
+next_first one a geo from lnum offs number buds node nodes h x f ne spelled others meant =
     let all : List LogText = h.first ∷ h.more in
     let past = h.past in
     let free = past_free a.holds geo from h.start past h.first h.more f h.chain ne in
     let apart : (k : ℕ) → IsAmong k all → k ≢ past = λ k is e. let P : ℕ → Type 0 = λ n. IsAmong n all in free (subst P e is) in
     let in_log : (k : ℕ) → IsAmong k all → IsLogLeb geo k = λ k is. among_log a.holds geo from h.start past k h.first h.more f h.chain is in
+    let found = nodes_of meant.items in
     let some = some_references (x past) meant.items 0 meant.end meant.is_text.stand in
-    let text : LogText = record { nodes = nodes_of meant.items; references = some.0; ends = record { lnum = past; offs = meant.end; tail = meant.tail } } in
+    let text : LogText = record { nodes = found; references = some.0; ends = record { lnum = past; offs = meant.end; tail = meant.tail } } in
     let is_text : IsTextOf (x past) past text = record { items = meant.items; is_text = meant.is_text; here = refl; nodes = refl; refer = some.1 } in
-    elim (cases_Bool (is_later h.start (begins_with text.nodes))) [
-      | inl later ↦
-          let part = part_references one (x past) (nodes_of meant.items) 0 number nodes some.0 spelled meant.part some.1 in
-          let old = chain_alike a.holds x geo from h.start past h.first h.more (λ k is. sym (h.settled k is (x k) (others k (in_log k is) (apart k is)))) h.chain in
-          let chain = chain_more x geo from h.start past h.first h.more text old ne is_text later in
-          let names = names_chain x geo from h.start number (next_leb geo past) h.first (h.more ++ text ∷ []) f chain
-          (λ k is none. let other : k ≢ past = λ e. none (inr ((among_added k h.more text).1 (inr e))) in elim (h.spare k (x k) is (λ i. none (among_new k h.first h.more text i)) (others k is other)) [ inl older ↦ inl older | inr lone ↦ absurd (other lone.0) ]) in
-          let P : List HeadAt → Type 0 = λ bs. NamesBuds x geo from bs in
-          let e : buds_of (references_of (h.first ∷ (h.more ++ text ∷ []))) ≡ fold named buds (take part.0 (references_in nodes)) =
-          ap buds_of (references_added h.first h.more text) ∙ buds_behind (references_of all) some.0 ∙ ap (λ (b : List HeadAt). fold named b some.0) (sym h.buds_are) ∙ ap (fold named buds) part.1 in
-          (part.0, subst P e names)
-      | inr not_later ↦
+    elim (part_begins one (x past) found 0 number node nodes some.0 spelled meant.part some.1) [
+      | inl none ↦
+          let not_later : is_later h.start (begins_with text.nodes) ≡ false = ap (λ (n : List Found). is_later h.start (begins_with n)) none in
           let quiet : IsQuiet a geo h.start number h.past all x = record {
             read = λ k is. h.settled k is (x k) (others k (in_log k is) (apart k is));
-            not_read = λ k is none. elim (cases_eq k past) [
+            not_read = λ k is free_of. elim (cases_eq k past) [
               | inl e ↦ let Q : ℕ → Type 0 = λ n. IsPassedOver h.start number h.past n (x n) in subst Q (sym e) (inl (text, is_text, not_later))
-              | inr other ↦ h.spare k (x k) is none (others k is other)
+              | inr other ↦ h.spare k (x k) is free_of (others k is other)
             ];
           } in
-          (0, quiet_names a geo from lnum offs number buds h x f quiet)
+          inl (quiet_ready a geo from lnum offs number buds h x f quiet)
+      | inr (first, start_only, behind) ↦
+          let n = behind.0 in
+          let few = behind.1 in
+          let refs = behind.2 in
+          let alone_if = behind.3 in
+          let low = h.low in
+          let old = chain_alike a.holds x geo from h.start past h.first h.more (λ k is. sym (h.settled k is (x k) (others k (in_log k is) (apart k is)))) h.chain in
+          elim (cases_Bool (is_start_alone found)) [
+            | inl alone ↦
+                let next : ℕ = number + 1 in
+                let more : number ≤ next = omega arith in
+                let less : number < next = omega arith in
+                let most = lebs_to geo from lnum in
+                let P : List HeadAt → Type 0 = λ bs. IsLeftReady x geo from most next bs in
+                let passed : (k : ℕ) → IsLogLeb geo k → (IsAmong k all → ⊥) → IsPassedOver h.start next past k (x k) = λ k is none. elim (cases_eq k past) [
+                  | inl e ↦ let Q : ℕ → Type 0 = λ m. IsPassedOver h.start next past m (x m) in subst Q (sym e) (inr (refl, text, is_text, alone, not_above next number nodes node found first less))
+                  | inr other ↦ passed-later h.start number next past k (x k) more (h.spare k (x k) is none (others k is other))
+                ] in
+                let near = lebs_same geo from (last_end h.first.ends h.more).lnum lnum (goes_lnum geo (last_end h.first.ends h.more) lnum offs h.last) in
+                inr (inl (start_only alone, subst P (sym h.buds_are) (chain_ready x geo from h.start next past most h.first h.more f old (omega (arith, low)) (below_more number next all more h.below) passed near)))
+            | inr other_text ↦
+                let next : ℕ = number + 1 + n in
+                let less : number < next = omega arith in
+                let more : number ≤ next = omega arith in
+                let most = lebs_to geo from past in
+                let chain = chain_more x geo from h.start past h.first h.more text old ne is_text (later_first h.start number 0 nodes node found first low) in
+                let below = below_last next all text (below_more number next all more h.below) (not_above next number nodes node found first less) in
+                let E : Bool → Type 0 = λ b. (if b then last_of h.first.ends h.more else text.ends).lnum ≡ past in
+                let end : (end_of h.first.ends (h.more ++ text ∷ [])).lnum ≡ past = ap (λ (z : LogEnd). z.lnum) (end_then h.first.ends h.more text) ∙ subst E (sym other_text) refl in
+                let ready = older_ready x geo from h.start next (next_leb geo past) most h.first (h.more ++ text ∷ []) f chain (omega (arith, low)) below (λ k is none.
+                let other : k ≢ past = λ e. none (inr ((among_added k h.more text).1 (inr e))) in
+                elim (h.spare k (x k) is (λ i. none (among_new k h.first h.more text i)) (others k is other)) [ inl older ↦ older | inr lone ↦ absurd (other lone.0) ])
+                (lebs_same geo from (end_of h.first.ends (h.more ++ text ∷ [])).lnum past end) in
+                let P : List HeadAt → Type 0 = λ bs. IsLeftReady x geo from most next bs in
+                let e : buds_of (references_of (h.first ∷ (h.more ++ text ∷ []))) ≡ fold named buds (references_in (node ∷ take n nodes)) =
+                ap buds_of (references_added h.first h.more text) ∙ buds_behind (references_of all) some.0 ∙ ap (λ (b : List HeadAt). fold named b some.0) (sym h.buds_are) ∙ ap (fold named buds) refs in
+                let some_behind : node_type node ≡ types.CommitStart → 0 < n = λ start. elim (cases_eq n 0) [ inl none ↦ (let alone = alone_if none start in absurd cc) | inr positive ↦ omega (arith, positive) ] in
+                inr (inr (n, few, some_behind, subst P e ready))
+          ]
     ]

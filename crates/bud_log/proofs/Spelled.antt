@@ -1,5 +1,5 @@
 -- The nodes of references, and lengths in units.
-use Rattle.std.proofs.Common.{◌≡◌, ℕ, ◌+◌, ◌%◌, ◌≤◌, ◌-◌, Bool, true, false, List, [], ◌∷◌, refl, ap, sym, ◌∙◌, subst, arith}
+use Rattle.std.proofs.Common.{◌≡◌, ℕ, zero, suc, ◌+◌, ◌%◌, ◌≤◌, ◌-◌, Bool, true, false, List, [], ◌∷◌, length, take, refl, ap, sym, ◌∙◌, subst, arith}
 use Rattle.std.proofs.lemmas.Nat.Gcd.{dvd_of_mod-eq-zero, mod-eq-zero_of_dvd, dvd_trans}
 use Rattle.std.proofs.Math.Nat.{dvd-add}
 use Rattle.std.proofs.lemmas.Bool.{leb-true}
@@ -15,6 +15,16 @@ use Rattle.bud_log.specs.declared.head_at.HeadAt.{HeadAt}
 pub references_same : (heads : List HeadAt) → references_in (head_nodes heads) ≡ references_to heads
 references_same [] = refl
 references_same (at ∷ heads) = ap (λ (r : List RefNode). reference_to at ∷ r) (references_same heads)
+
+pub first_references : (n : ℕ) (heads : List HeadAt) → references_in (take n (head_nodes heads)) ≡ take n (references_to heads)
+first_references zero heads = refl
+first_references (suc n) [] = refl
+first_references (suc n) (at ∷ heads) = ap (λ (r : List RefNode). reference_to at ∷ r) (first_references n heads)
+
+-- as many as heads
+pub as_many : (heads : List HeadAt) → (length (head_nodes heads) ≡ length heads) × (length (references_to heads) ≡ length heads)
+as_many [] = (refl, refl)
+as_many (at ∷ heads) = let rest = as_many heads in (ap suc rest.0, ap suc rest.1)
 
 -- multiples of a multiple
 pub mod_through : (place room unit : ℕ) → place % room ≡ 0 → room % unit ≡ 0 → place % unit ≡ 0

@@ -1,25 +1,12 @@
 -- Steps round the ring.
 use Rattle.std.proofs.Common.{◌≡◌, ◌⊎◌, inl, inr, ℕ, ◌+◌, ◌-◌, ◌<◌, ◌≤◌, ◌==◌, Bool, true, false, refl, sym, ◌∙◌, subst, arith}
 use Rattle.std.specs.Prelude.{◌≢◌}
-use Rattle.std.proofs.lemmas.Bool.{cases_eq, cases_Bool, eq-eqb, ne_eqb, cases_lt, lt-ltb, le-ltb}
-use Rattle.ubifs_base.specs.Areas.{lpt_first}
+use Rattle.std.proofs.lemmas.Bool.{cases_eq, cases_Bool, eq-eqb, ne_eqb, cases_lt}
 use Rattle.ubifs_base.specs.declared.raw_geometry.RawGeometry.{RawGeometry}
 use Rattle.bud_log.specs.Log.{IsLogLeb, next_leb}
 use Rattle.bud_log.specs.LogAt.{LogAt, IsStart, steps_to, used_lebs, most_lebs, IsWithin, has_room, IsFull, lnum_at, ending, starting, without_old}
-use Rattle.bud_log.proofs.RingRuns.{left_of, left_below, left_above, next_here, next_round}
-
--- by which way
-pub steps_are : (geo : RawGeometry) (from lnum : ℕ) → ((lnum < from) × (steps_to geo from lnum ≡ lnum + geo.log_lebs - from)) ⊎ ((from ≤ lnum) × (steps_to geo from lnum ≡ lnum - from))
-steps_are geo from lnum = elim (cases_lt lnum from) [
-  | inl below ↦ inl (below, rw (lt-ltb lnum from below) refl)
-  | inr above ↦ inr (above, rw (le-ltb lnum from above) refl)
-]
-
-pub next_is : (geo : RawGeometry) (lnum : ℕ) → ((lnum + 1 < 3 + geo.log_lebs) × (next_leb geo lnum ≡ lnum + 1)) ⊎ ((3 + geo.log_lebs ≤ lnum + 1) × (next_leb geo lnum ≡ 3))
-next_is geo lnum = elim (cases_lt (lnum + 1) (lpt_first geo)) [
-  | inl here ↦ inl (here, next_here geo lnum here)
-  | inr round ↦ inr (round, next_round geo lnum round)
-]
+use Rattle.bud_log.specs.RingRuns.{left_of, left_below, left_above}
+use Rattle.bud_log.specs.RingSteps.{steps_are, next_is}
 
 -- one step more
 pub steps_next : (geo : RawGeometry) (from lnum : ℕ) → IsLogLeb geo from → IsLogLeb geo lnum → steps_to geo from lnum + 1 < geo.log_lebs → steps_to geo from (next_leb geo lnum) ≡ steps_to geo from lnum + 1

@@ -72,14 +72,14 @@ laid_stand leb place number (node ∷ nodes) gap back spelled h room even fits e
     let Q : ℕ → Type 0 = λ p. Stand leb p (laid_items (place + length w) (number + 1) nodes gap) (place + length (w ++ laid (number + 1) nodes) + gap) in
     (at.there, subst Q at.after (subst P end more))
 
-padding_part : (left : List ℕ) (place number : ℕ) (nodes : List SystemNode) (found : List Found) → All IsPadding found → ArePart left place number nodes found
-padding_part left place number nodes [] paddings = tt
-padding_part left place number nodes (found ∷ others) paddings = inl (All-head IsPadding found others paddings, padding_part left place number nodes others (All-tail IsPadding found others paddings))
+padding_part : (left : List ℕ) (place number : ℕ) (found : List Found) → All IsPadding found → ArePart left place number [] found
+padding_part left place number [] paddings = tt
+padding_part left place number (found ∷ others) paddings = (All-head IsPadding found others paddings, padding_part left place number others (All-tail IsPadding found others paddings))
 
 -- a first part of these items, each untorn, has the first of these nodes
 first_part : (meant left : List ℕ) (place number : ℕ) (nodes : List SystemNode) (gap : ℕ) (back : List ℕ) (first rest : List Item) → AreSpelled number nodes → drop place meant ≡ laid number nodes ++ (gap_of gap ++ back) → place ≤ length meant
     → place % 8 ≡ 0 → laid_items place number nodes gap ≡ first ++ rest → AreUntorn meant place first left → ArePart left place number nodes (nodes_of first)
-first_part meant left place number [] gap back first rest spelled h room even split whole = padding_part left place number [] (nodes_of first) (gap_part_alone place gap first rest split)
+first_part meant left place number [] gap back first rest spelled h room even split whole = padding_part left place number (nodes_of first) (gap_part_alone place gap first rest split)
 first_part meant left place number (node ∷ nodes) gap back [] rest spelled h room even split whole = tt
 first_part meant left place number (node ∷ nodes) gap back (one ∷ first) rest spelled h room even split whole =
     let w : List ℕ = written (number + 1) 0 node in
@@ -91,7 +91,7 @@ first_part meant left place number (node ∷ nodes) gap back (one ∷ first) res
     let R : Item → Type 0 = λ i. ArePart left place number (node ∷ nodes) (nodes_of (i ∷ first)) in
     let here : AreUntorn meant place (item ∷ first) left = subst P (sym its.0) whole in
     let more = first_part meant left (place + length w) (number + 1) nodes gap back first rest spelled.1 at.next at.inside at.even its.1 (subst Q (sym at.after) here.1) in
-    subst R its.0 (inr (node, nodes, refl, record { offs = refl; kind = refl; bytes = here.0 ∙ at.front }, more))
+    subst R its.0 (record { offs = refl; sqnum = refl; kind = refl; bytes = here.0 ∙ at.front }, more)
 
 shown_meant : (left : List ℕ) (place end number : ℕ) (nodes : List SystemNode) (first rest : List Item) (shown : ℕ) → ArePart left place number nodes (nodes_of first) → is_blank (drop end left) ≡ true → Stand left place first shown
     → ((rest ≡ []) × (shown ≡ end)) ⊎ IsText left place first shown (tail_at left shown) → IsMeant number place nodes left

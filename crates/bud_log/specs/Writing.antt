@@ -1,5 +1,5 @@
 -- A log that is written on: what it takes to be ready for its next nodes, and what a cut leaves while they are written.
-use Rattle.std.specs.Prelude.{◌≡◌, ◌≢◌, ◌⊎◌, ⊤, ℕ, ◌+◌, ◌%◌, ◌^◌, ◌<◌, ◌≤◌, nat_le, IsTrue, IsFalse, Some, List, [], ◌∷◌, ◌++◌, take, drop, length, fold}
+use Rattle.std.specs.Prelude.{◌≡◌, ◌≢◌, ◌⊎◌, ⊤, ℕ, ◌+◌, ◌%◌, ◌^◌, ◌<◌, ◌≤◌, nat_le, IsTrue, IsFalse, Some, List, [], ◌∷◌, ◌++◌, take, drop, length}
 use Rattle.ubifs_base.specs.Gap.{gap_of}
 use Rattle.ubifs_base.specs.NodeLaws.{IsBytes}
 use Rattle.ubifs_base.specs.declared.node_type.NodeType.TheVariants as types
@@ -7,13 +7,13 @@ use Rattle.ubifs_base.specs.declared.raw_geometry.RawGeometry.{RawGeometry}
 use Rattle.ubi_volume.specs.Volume.{VolumeState, Only}
 use Rattle.media_sys.specs.SystemNode.{SystemNode, padding, superblock, master, reference, index, commit_start, orphans, node_type, written, IsSystemNode}
 use Rattle.media_sys.specs.declared.ref_node.RefNode.{RefNode}
-use Rattle.leb_scan.specs.Text.{is_blank, IsText, nodes_of}
+use Rattle.leb_scan.specs.Text.{IsText, nodes_of}
 use Rattle.leb_scan.specs.declared.found.Found.{Found}
 use Rattle.leb_scan.specs.declared.item.Item.{Item}
 use Rattle.leb_scan.specs.declared.tail.Tail.{Tail}
 use Rattle.leb_scan.specs.declared.tail.Tail.TheVariants.{Clean}
-use Rattle.bud_log.specs.Buds.{named, buds_of}
-use Rattle.bud_log.specs.Log.{Log, IsLog, IsLogLeb, next_leb, Run, references_of}
+use Rattle.bud_log.specs.Buds.{buds_of}
+use Rattle.bud_log.specs.Log.{IsLogLeb, next_leb, Run, references_of}
 use Rattle.bud_log.specs.LogAt.{room_of}
 use Rattle.bud_log.specs.LogText.{LogText, IsTextOf, begins_with, start_of, is_later, is_start_alone}
 use Rattle.bud_log.specs.declared.head_at.HeadAt.{HeadAt}
@@ -114,30 +114,18 @@ pub record IsReady (state : VolumeState) (geo : RawGeometry) (from lnum offs num
   pub settled : (k : ℕ) → IsAmong k (first ∷ more) → Only (state.holds k) (state.left_now k)
   pub spare : (k : ℕ) (leb : List ℕ) → IsLogLeb geo k → (IsAmong k (first ∷ more) → ⊥) → state.left_now k leb → IsPassedOver start number past k leb
 
--- the log that is read from this LEB on names these buds
-abbrev pub NamesBuds : (ℕ → List ℕ) → RawGeometry → ℕ → List HeadAt → Type 0
-NamesBuds contents geo from buds = (log : Log) × IsLog contents geo from log × (log.buds ≡ buds)
-
--- it names these buds, and of these references the first ones
-abbrev pub NamesSome : (ℕ → List ℕ) → RawGeometry → ℕ → List HeadAt → List RefNode → Type 0
-NamesSome contents geo from buds references = (n : ℕ) × NamesBuds contents geo from (fold named buds (take n references))
-
--- It names these buds, or this one too, whose LEB is blank then: a bud is never read from while it holds what it held before.
-abbrev pub NamesOpened : (ℕ → List ℕ) → RawGeometry → ℕ → List HeadAt → RefNode → Type 0
-NamesOpened contents geo from buds node = NamesBuds contents geo from buds ⊎ (NamesBuds contents geo from (named buds node) × IsTrue (is_blank (contents node.lnum)))
-
--- this node was found whole, at this place
+-- this node was found whole, with this number and at this place
 pub record IsWhole (left : List ℕ) (place number : ℕ) (node : SystemNode) (found : Found) : Type 0 where
   pub offs : found.offs ≡ place
+  pub sqnum : found.sqnum ≡ number
   pub kind : found.kind ≡ node_type node
   pub bytes : take found.len (drop place left) ≡ written number 0 node
 
--- what was found from a place on are, padding aside, the first of these nodes, each whole and at its place
+-- what was found from a place on are the first of these nodes, each whole and at its place; padding stands behind the last of them alone
 abbrev pub ArePart : List ℕ → ℕ → ℕ → List SystemNode → List Found → Type 0
 ArePart left place number nodes [] = ⊤
-ArePart left place number nodes (found ∷ others) =
-    ((found.kind ≡ types.Padding) × ArePart left place number nodes others)
-    ⊎ ((node : SystemNode) × (more : List SystemNode) × (nodes ≡ node ∷ more) × IsWhole left place (number + 1) node found × ArePart left (place + found.len) (number + 1) more others)
+ArePart left place number [] (found ∷ others) = (found.kind ≡ types.Padding) × ArePart left place number [] others
+ArePart left place number (node ∷ nodes) (found ∷ others) = IsWhole left place (number + 1) node found × ArePart left (place + found.len) (number + 1) nodes others
 
 -- Of what a cut may leave of a LEB while nodes are written from a place on, this is what is meant: no torn node has a
 -- matching checksum. So the text from the place on has the first of these nodes alone.

@@ -7,11 +7,7 @@ ghost use Rattle.bud_log.specs.Writing.{AreNodes};
 
 use crate::head_at::HeadAt;
 use media_sys::{CommitStart, RefNode};
-use ubifs_base::fill_gap;
-
-const COMMIT_START_LEN: usize = 32;
-
-const REFERENCE_LEN: usize = 64;
+use ubifs_base::{COMMIT_START_NODE_LEN, REFERENCE_NODE_LEN, fill_gap};
 
 // The bytes that so many bytes take, with the padding to the unit.
 pub(crate) fn room_for(unit: u32, len: u32) -> u32
@@ -36,7 +32,7 @@ pub(crate) fn lay_reference(node: &RefNode, number: u64, bytes: &mut [u8])
     requires even { length bytes.old % 8 ≡ 0 }
     ensures { AreNodes bytes.new number (reference node.now ∷ []) }
 {
-    let (front, rest) = bytes.split_at_mut(REFERENCE_LEN);
+    let (front, rest) = bytes.split_at_mut(REFERENCE_NODE_LEN as usize);
     node.encode(number + 1, 0, front);
     lay_gap(number + 1, rest);
 }
@@ -67,7 +63,7 @@ fn lay_references(heads: &[HeadAt], number: u64, bytes: &mut [u8])
         offs: head.offs,
         head: head.head,
     };
-    let (front, rest) = bytes.split_at_mut(REFERENCE_LEN);
+    let (front, rest) = bytes.split_at_mut(REFERENCE_NODE_LEN as usize);
     node.encode(number + 1, 0, front);
     lay_references(others, number + 1, rest);
 }
@@ -80,7 +76,7 @@ pub(crate) fn lay_section(cmt_no: u64, heads: &[HeadAt], number: u64, bytes: &mu
     requires even { length bytes.old % 8 ≡ 0 }
     ensures { AreNodes bytes.new number (section_nodes cmt_no heads.now) }
 {
-    let (front, rest) = bytes.split_at_mut(COMMIT_START_LEN);
+    let (front, rest) = bytes.split_at_mut(COMMIT_START_NODE_LEN as usize);
     CommitStart { cmt_no }.encode(number + 1, 0, front);
     lay_references(heads, number + 1, rest);
 }

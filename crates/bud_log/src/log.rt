@@ -7,13 +7,14 @@ ghost use Rattle.ubi_volume.specs.Volume.{Each, AreUnits, filled, Leaves, WorksO
 ghost use Rattle.ubi_volume.specs.Frame.{IsSameLeb, Works};
 ghost use Rattle.ubi_volume.specs.Faults.{HasCause, StaysSure};
 ghost use Rattle.media_sys.specs.SystemNode.{reference};
+ghost use Rattle.bud_log.specs.AfterCut.{lebs_to, IsLeftReady, IsLeftOpened, IsLeftStarted};
 ghost use Rattle.bud_log.specs.Buds.{named, buds_of};
 ghost use Rattle.bud_log.specs.Log.{IsLogLeb, next_leb as leb_behind};
 ghost use Rattle.bud_log.specs.LogAnswers.{IsAnswered, IsLogAnswered, IsOpened, IsStarted, HasEnded};
 ghost use Rattle.bud_log.specs.LogAt.{LogAt, IsAt, IsStart, IsBetween, IsEnded, IsFull, IsFullExactly, IsRaised, room_of, used_lebs, most_lebs, has_room as has_room_at, next_lnum, next_offs, lnum_at, offs_at, ending, references_to, section_nodes};
 ghost use Rattle.bud_log.specs.LogText.{StartsCommit};
 ghost use Rattle.bud_log.specs.LogCalls.{IsEmptied, IsBegun, BeginUnderWay, IsAdded, AddDuring, OpenUnderWay, StartUnderWay, UnmapUnderWay, EndUnderWay};
-ghost use Rattle.bud_log.specs.Writing.{AreSpelled, AreOthersOlder, IsReady, NamesBuds, NamesSome, NamesOpened, IsOldOrMeant};
+ghost use Rattle.bud_log.specs.Writing.{AreSpelled, AreOthersOlder, IsReady, IsOldOrMeant};
 ghost use Rattle.bud_log.specs.declared.head_at.HeadAt.{HeadAt as AHead};
 
 use crate::head_at::HeadAt;
@@ -23,7 +24,7 @@ use crate::ring::next_leb;
 use media_sys::{RefNode, one_node};
 use std::marker::Model;
 use ubi_volume::{VolFault, Volume};
-use ubifs_base::{Geometry, JournalHead};
+use ubifs_base::{COMMIT_START_NODE_LEN, Geometry, JournalHead, REFERENCE_NODE_LEN};
 
 // The most bytes that a write of the log takes: the greatest unit, into which a commit start and three references fit.
 const MOST: usize = 16384;
@@ -74,7 +75,8 @@ impl Log {
     /// volume. Takes no memory.
     ///
     /// Whether the log is read from its oldest section on or from the present one, at every moment a power cut leaves a log
-    /// with the old buds, or with the new one too and its LEB blank, where no torn node has a matching checksum.
+    /// that may be written on, with the old buds, or with the new one too and its LEB blank, where no torn node has a matching
+    /// checksum.
     pub fn open_bud<V: Volume>(
         &mut self,
         volume: &mut V,
@@ -94,7 +96,7 @@ impl Log {
             → IsReady (V.state volume.old) self.old.geo from self.old.lnum self.old.offs sqnum.old buds
             → Leaves (V.state volume.old) (V.state volume.new) (λ left.
             IsOldOrMeant (V.state volume.old) (next_lnum self.old) (next_offs self.old) sqnum.old (reference (record { lnum = lnum; offs = 0; head = head }) ∷ []) (left (next_lnum self.old))
-            → NamesOpened left self.old.geo from buds (record { lnum = lnum; offs = 0; head = head })) }
+            → IsLeftOpened left self.old from sqnum.old buds (record { lnum = lnum; offs = 0; head = head })) }
         ensures works { Works (V.state volume.old) (V.state volume.new) (λ k. (k ≡ lnum) ⊎ (k ≡ next_lnum self.old))
             (OpenUnderWay (has_room_at self.old) (V.state volume.old) self.old lnum (room_of self.old.geo.min_io 64)) }
         ensures opened { OnOk result (IsOpened (V.state volume.old) (V.state volume.new) self.old self.new lnum) }
@@ -123,8 +125,8 @@ impl Log {
     /// which there are at most three. The LEB is unmapped first, and all is written at once. The sequence number rises by
     /// the number of nodes, whatever the answer. Takes no memory.
     ///
-    /// At every moment a power cut leaves a log with the old buds and the first of these heads', where no torn node has a
-    /// matching checksum. Afterwards it may be read from the new section on, where it names the buds of these heads alone;
+    /// At every moment a power cut leaves a log that may be written on, with the old buds and the first of these heads', where
+    /// no torn node has a matching checksum. Afterwards it may be read from the new section on, where it names the buds of these heads alone;
     /// for that no other LEB of the log need be read, so long as none begins with a number above `sqnum`.
     pub fn start_section<V: Volume>(
         &mut self,
@@ -146,7 +148,7 @@ impl Log {
             → IsReady (V.state volume.old) self.old.geo from self.old.lnum self.old.offs sqnum.old buds
             → Leaves (V.state volume.old) (V.state volume.new) (λ left.
             IsOldOrMeant (V.state volume.old) (leb_behind self.old.geo self.old.lnum) 0 sqnum.old (section_nodes cmt_no heads.now) (left (leb_behind self.old.geo self.old.lnum))
-            → NamesSome left self.old.geo from buds (references_to heads.now)) }
+            → IsLeftStarted left self.old from sqnum.old buds (references_to heads.now)) }
         ensures works { Works (V.state volume.old) (V.state volume.new) (λ k. k ≡ leb_behind self.old.geo self.old.lnum)
             (StartUnderWay (V.state volume.old) self.old (room_of self.old.geo.min_io (32 + 64 * length heads.now))) }
         ensures started { OnOk result (IsStarted (V.state volume.new) self.old self.new cmt_no (length heads.now)) }
@@ -163,13 +165,14 @@ impl Log {
     /// Unmaps the LEBs of the sections before the present one, which is the oldest that is needed from then on. Takes no
     /// memory.
     ///
-    /// At every moment, and whatever the answer, the log that is read from the present section on is as it was.
+    /// At every moment, and whatever the answer, the log that is read from the present section on is as it was, and may be
+    /// written on.
     pub fn end_section<V: Volume>(&mut self, volume: &mut V) -> Result<(), VolFault>
         requires at { IsAt (V.state volume.old) self.old }
         ensures stands { (number : ℕ) (buds : List AHead) → IsReady (V.state volume.old) self.old.geo self.old.section self.old.lnum self.old.offs number buds
             → IsReady (V.state volume.new) self.old.geo self.old.section self.old.lnum self.old.offs number buds }
         ensures any_moment { (number : ℕ) (buds : List AHead) → IsReady (V.state volume.old) self.old.geo self.old.section self.old.lnum self.old.offs number buds
-            → Leaves (V.state volume.old) (V.state volume.new) (λ left. NamesBuds left self.old.geo self.old.section buds) }
+            → Leaves (V.state volume.old) (V.state volume.new) (λ left. IsLeftReady left self.old.geo self.old.section (lebs_to self.old.geo self.old.section self.old.lnum) number buds) }
         ensures works { Works (V.state volume.old) (V.state volume.new) (IsEnded self.old) (EndUnderWay (V.state volume.old) self.old) }
         ensures ended { OnOk result (HasEnded (V.state volume.old) (V.state volume.new) self.old self.new) }
         ensures answered { IsAnswered (V.state volume.old) (V.state volume.new) self.old self.new result }
@@ -203,7 +206,7 @@ impl Log {
         ensures cause { HasCause (V.state volume.old).faults (V.state volume.new).faults result }
         ensures sure { StaysSure (V.state volume.old) (V.state volume.new) result }
     {
-        let room = room_for(self.geometry.min_io, 64);
+        let room = room_for(self.geometry.min_io, REFERENCE_NODE_LEN);
         let buffer: &mut [u8] = &mut [0u8; MOST];
         let bytes = buffer.split_at_mut(room as usize).0;
         lay_reference(node, number, bytes);
@@ -239,7 +242,8 @@ impl Log {
         ensures cause { HasCause (V.state volume.old).faults (V.state volume.new).faults result }
         ensures sure { StaysSure (V.state volume.old) (V.state volume.new) result }
     {
-        let room = room_for(self.geometry.min_io, 32 + 64 * heads.len() as u32);
+        let len = COMMIT_START_NODE_LEN + REFERENCE_NODE_LEN * heads.len() as u32;
+        let room = room_for(self.geometry.min_io, len);
         let buffer: &mut [u8] = &mut [0u8; MOST];
         let bytes = buffer.split_at_mut(room as usize).0;
         lay_section(cmt_no, heads, number, bytes);
@@ -280,7 +284,7 @@ impl Log {
     fn has_room(&self) -> bool
         ensures { result ≡ has_room_at self.now }
     {
-        let room = room_for(self.geometry.min_io, 64);
+        let room = room_for(self.geometry.min_io, REFERENCE_NODE_LEN);
         self.offs as u64 + room as u64 <= self.geometry.leb_size as u64
     }
 

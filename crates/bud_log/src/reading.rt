@@ -5,6 +5,7 @@ ghost use Rattle.ubifs_base.specs.Areas.{lpt_first};
 ghost use Rattle.ubifs_base.specs.RawOf.{raw_of};
 ghost use Rattle.ubi_volume.specs.Volume.{Keeps, SameShape};
 ghost use Rattle.ubi_volume.specs.Faults.{HasAreaCause, StaysSureArea};
+ghost use Rattle.bud_log.specs.AfterCut.{OpensReady};
 ghost use Rattle.bud_log.specs.Log.{IsLogLeb, IsLog, log_of};
 ghost use Rattle.bud_log.specs.LogText.{is_later as is_later_than};
 ghost use Rattle.bud_log.specs.Seen.{HasBeginning, IsSeen, IsTaken, IsPassed, IsReadOn};
@@ -12,6 +13,7 @@ ghost use Rattle.bud_log.specs.Seen.{HasBeginning, IsSeen, IsTaken, IsPassed, Is
 use crate::buds::name_buds;
 use crate::commits::commit_of;
 use crate::head_at::HeadAt;
+use crate::laws::one_log;
 use crate::log_end::LogEnd;
 use crate::log_read::LogRead;
 use crate::ring::next_leb;
@@ -21,7 +23,11 @@ use std::alloc::{AllocError, Global};
 use ubi_volume::{AreaFault, Volume, read_leb};
 use ubifs_base::Geometry;
 
-/// Reads the log from a LEB of the log on, at which a section starts.
+/// Reads the log from a LEB of the log on, at which a section starts. References are told as they stand: whether a bud is a
+/// main LEB, and its offset a multiple of 8, is for whoever reads the bud.
+///
+/// Where the volume was found after a cut, and the cut left a log that may be written on, a log that is opened over what was
+/// read is ready for its next node: behind the end, if it is clean and a unit begins there, and else in the next LEB.
 pub fn read_log<V: Volume>(
     alloc: Global,
     volume: &mut V,
@@ -31,11 +37,13 @@ pub fn read_log<V: Volume>(
     requires ring { IsLogLeb (raw_of geometry.now) from }
     requires lebs { lpt_first (raw_of geometry.now) ≤ (V.state volume.old).leb_cnt }
     ensures log { IfOk result (λ read. IsLog (V.state volume.old).holds (raw_of geometry.now) from (log_of read)) }
+    ensures ready { IfOk result (OpensReady (V.state volume.old) (V.state volume.new) (raw_of geometry.now) from) }
     ensures keeps { Keeps (V.state volume.old) (V.state volume.new) }
     ensures shape { SameShape (V.state volume.old) (V.state volume.new) }
     ensures cause { HasAreaCause (V.state volume.old).faults (V.state volume.new).faults result }
     ensures sure { StaysSureArea (V.state volume.old) (V.state volume.new) result }
 {
+    one_log();
     let mut leb = vec![in alloc; 0; volume.leb_size() as usize]?;
     read_from(alloc, volume, geometry, from, &mut leb)
 }

@@ -170,6 +170,16 @@ fn references_name_buds(rt: HostRuntime) -> Result<(), Fail> {
         &buds,
         (3, 1024, Tail::Clean),
     )?;
+    // A reference to an offset that is no multiple of 8, and one to no main LEB, are told as they stand.
+    let strange = [Start(10), Bud(11, Data, 20, 68), Bud(12, Base, 1, 0)];
+    is_log(
+        &rt,
+        alloc,
+        (&strange, &[], &[], &[]),
+        3,
+        &[bud(Data, 20, 68), bud(Base, 1, 0)],
+        (3, 1024, Tail::Clean),
+    )?;
     // A torn end.
     let torn = [
         Start(10),

@@ -1,6 +1,6 @@
 use Rattle.std.proofs.Common.{◌++◌, ◌∷◌, [], arith, rules}
 use Rattle.leb_scan.specs.Gathered.{gathered_next}
-use Rattle.bud_log.proofs.References.{next_stands, room_of, reference_there, named_more, named_other, named_all}
+use Rattle.bud_log.specs.References.{next_stands, room_of, reference_there, named_more, named_other, named_all}
 use Rattle.bud_log.proofs.buds.name_buds.Goals as goal
 
 pub reference_at-requires-clause-room : goal.reference_at-requires-clause-room

@@ -1,7 +1,7 @@
 use Rattle.std.proofs.Common.{List, ◌-◌, ◌≤◌, length}
 use Rattle.leb_scan.specs.declared.found.Found.{Found}
 use Rattle.leb_scan.specs.Gathered.{IsGathered}
-use Rattle.bud_log.proofs.References.{IsNamedSoFar}
+use Rattle.bud_log.specs.References.{IsNamedSoFar}
 use Rattle.bud_log.proofs.buds.name_buds.Given as goal
 
 -- the nodes so far, and the references among them, which were named

@@ -1,6 +1,6 @@
 use Rattle.std.proofs.Common.{List, ℕ, take, ap, sym, ◌∙◌, subst}
 use Rattle.media_sys.specs.SystemNode.{IsRef}
-use Rattle.bud_log.proofs.References.{is_there}
+use Rattle.bud_log.specs.References.{is_there}
 use Rattle.bud_log.proofs.buds.reference_at.Goals as goal
 
 pub returns-clause-is_some : goal.returns-clause-is_some

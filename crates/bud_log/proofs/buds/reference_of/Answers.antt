@@ -1,5 +1,5 @@
 use Rattle.std.proofs.Common.{arith}
-use Rattle.bud_log.proofs.References.{only_reference}
+use Rattle.bud_log.specs.References.{only_reference}
 use Rattle.bud_log.proofs.buds.reference_of.Goals as goal
 
 pub returns-clause-some : goal.returns-clause-some

@@ -1,5 +1,5 @@
 use Rattle.std.proofs.Common.{arith}
-use Rattle.bud_log.proofs.References.{only_start}
+use Rattle.bud_log.specs.References.{only_start}
 use Rattle.bud_log.proofs.commits.commit_start_of.Goals as goal
 
 pub returns-clause-some : goal.returns-clause-some

@@ -1,6 +1,6 @@
 use Rattle.std.proofs.Common.{List, ℕ, take, ap, sym, ◌∙◌, subst}
 use Rattle.media_sys.specs.SystemNode.{IsCommitStart}
-use Rattle.bud_log.proofs.References.{start_is_there}
+use Rattle.bud_log.specs.References.{start_is_there}
 use Rattle.bud_log.proofs.commits.start_at.Goals as goal
 
 pub returns-clause-is_some : goal.returns-clause-is_some

@@ -3,7 +3,7 @@ use Rattle.std.specs.Prelude.{◌≡◌, ◌⊎◌}
 use Rattle.ubifs_base.specs.RawOf.{raw_of}
 use Rattle.ubi_volume.specs.Volume.{SameShape}
 use Rattle.bud_log.proofs.Ended.{IsUnmappedTo}
-use Rattle.bud_log.proofs.RingRuns.{left_of}
+use Rattle.bud_log.specs.RingRuns.{left_of}
 use Rattle.bud_log.proofs.log.unmap_between.Given as goal
 
 -- the LEBs up to the next one are unmapped, and nothing failed

@@ -5,7 +5,7 @@ use Rattle.bud_log.specs.Log.{Log, IsLog}
 use Rattle.bud_log.specs.LogText.{start_of, BeginsCommit}
 use Rattle.bud_log.specs.Seen.{IsTaken}
 use Rattle.bud_log.specs.declared.head_at.HeadAt.{HeadAt}
-use Rattle.bud_log.proofs.RingRuns.{log_alone, log_further, read_moved}
+use Rattle.bud_log.specs.RingRuns.{log_alone, log_further, read_moved}
 use Rattle.bud_log.proofs.reading.read_from.Goals as goal
 
 pub returns-in_default-clause-log : goal.returns-in_default-clause-log

@@ -1,7 +1,7 @@
 use Rattle.std.proofs.Common.{List, ℕ, refl, subst}
 use Rattle.bud_log.specs.Seen.{IsPassed}
 use Rattle.bud_log.specs.declared.head_at.HeadAt.{HeadAt}
-use Rattle.bud_log.proofs.RingRuns.{passed_of}
+use Rattle.bud_log.specs.RingRuns.{passed_of}
 use Rattle.bud_log.proofs.reading.read_later.Goals as goal
 
 pub returns-then-not-is_later-clause-passed : goal.returns-then-not-is_later-clause-passed

@@ -5,7 +5,7 @@ use Rattle.bud_log.specs.LogText.{is_later}
 use Rattle.bud_log.specs.Seen.{IsTaken}
 use Rattle.bud_log.specs.declared.seen.Seen.{Seen}
 use Rattle.bud_log.proofs.Calls.{keeps_on_then}
-use Rattle.bud_log.proofs.RingRuns.{so_far_next}
+use Rattle.bud_log.specs.RingRuns.{so_far_next}
 use Rattle.bud_log.proofs.reading.read_on.Goals as goal
 
 pub loop-lnum-preserved : goal.loop-lnum-preserved

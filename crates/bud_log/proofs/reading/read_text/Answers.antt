@@ -1,4 +1,4 @@
-use Rattle.bud_log.proofs.References.{seen_begins}
+use Rattle.bud_log.specs.References.{seen_begins}
 use Rattle.bud_log.proofs.reading.read_text.Goals as goal
 
 pub returns-clause-begins : goal.returns-clause-begins

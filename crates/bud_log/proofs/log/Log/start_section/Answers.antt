@@ -1,16 +1,13 @@
-use Rattle.std.proofs.Common.{rules, inl, false, refl, ℕ, ◌+◌, ◌*◌, List, length, sym, ◌∙◌, subst, arith}
+use Rattle.std.proofs.Common.{rules, inl, false, refl, ℕ, ◌+◌, ◌*◌, length, sym, ◌∙◌, subst, arith}
 use Rattle.std.specs.Prelude.{fold}
-use Rattle.media_sys.specs.declared.ref_node.RefNode.{RefNode}
-use Rattle.ubi_volume.specs.Volume.{Leaves}
 use Rattle.bud_log.specs.Buds.{named, buds_of}
 use Rattle.bud_log.specs.Log.{next_leb}
 use Rattle.ubi_volume.specs.FrameLaws.{Works-on}
-use Rattle.bud_log.specs.LogAt.{LogAt, IsWithin, starting, room_of, references_to, section_nodes}
+use Rattle.bud_log.specs.LogAt.{LogAt, IsWithin, starting, room_of, references_to}
 use Rattle.bud_log.specs.LogText.{StartsCommit}
 use Rattle.bud_log.specs.LogCalls.{AddDuring}
-use Rattle.bud_log.specs.Writing.{IsReady, NamesSome, IsOldOrMeant}
+use Rattle.bud_log.specs.Writing.{IsReady}
 use Rattle.bud_log.proofs.OneBud.{start_in, free_of, section_moment}
-use Rattle.bud_log.proofs.Spelled.{references_same}
 use Rattle.bud_log.proofs.Steps.{within_started}
 use Rattle.bud_log.proofs.log.Log.start_section.Goals as goal
 
@@ -19,11 +16,7 @@ returns-in_err-write_section-clause-any_moment g c = λ from buds start h.
     let a = g.V.Volume.state c.args.volume.now in
     let b = g.V.Volume.state c.write_section.new.volume in
     let at = c.args.self.now in
-    let nodes = section_nodes c.args.cmt_no c.args.heads.now in
-    let there = next_leb at.geo at.lnum in
-    let S : List RefNode → Type 0 = λ r. Leaves a b (λ left. IsOldOrMeant a there 0 c.args.sqnum.now nodes (left there) → NamesSome left at.geo from buds r) in
-    subst S (references_same c.args.heads.now)
-    (section_moment c.one_node.ensures a b at from c.args.sqnum.now (room_of at.geo.min_io (32 + 64 * length c.args.heads.now)) buds nodes c.requires.at c.requires.kept start (g.met.V.Volume.mapped_now c.args.volume.now) c.write_section.ensures.spelled c.write_section.ensures.works h)
+    section_moment c.one_node.ensures a b at from c.args.sqnum.now (room_of at.geo.min_io (32 + 64 * length c.args.heads.now)) c.args.cmt_no buds c.args.heads.now c.requires.at c.requires.kept start (g.met.V.Volume.mapped_now c.args.volume.now) c.write_section.ensures.spelled c.write_section.ensures.works h
 
 pub returns-clause-done : goal.returns-clause-done
 returns-clause-done g c = λ from buds start h.
@@ -61,11 +54,7 @@ returns-clause-any_moment g c = λ from buds start h.
     let a = g.V.Volume.state c.args.volume.now in
     let b = g.V.Volume.state c.write_section.new.volume in
     let at = c.args.self.now in
-    let nodes = section_nodes c.args.cmt_no c.args.heads.now in
-    let there = next_leb at.geo at.lnum in
-    let S : List RefNode → Type 0 = λ r. Leaves a b (λ left. IsOldOrMeant a there 0 c.args.sqnum.now nodes (left there) → NamesSome left at.geo from buds r) in
-    subst S (references_same c.args.heads.now)
-    (section_moment c.one_node.ensures a b at from c.args.sqnum.now (room_of at.geo.min_io (32 + 64 * length c.args.heads.now)) buds nodes c.requires.at c.requires.kept start (g.met.V.Volume.mapped_now c.args.volume.now) c.write_section.ensures.spelled c.write_section.ensures.works h)
+    section_moment c.one_node.ensures a b at from c.args.sqnum.now (room_of at.geo.min_io (32 + 64 * length c.args.heads.now)) c.args.cmt_no buds c.args.heads.now c.requires.at c.requires.kept start (g.met.V.Volume.mapped_now c.args.volume.now) c.write_section.ensures.spelled c.write_section.ensures.works h
 
 pub returns-clause-works : goal.returns-clause-works
 returns-clause-works g c =

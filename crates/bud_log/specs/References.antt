@@ -20,7 +20,7 @@ use Rattle.bud_log.specs.LogText.{LogText, IsReferenceAt, Refer, IsTextOf, IsSta
 use Rattle.bud_log.specs.Seen.{HasBeginning, IsSeen, AreNamed}
 use Rattle.bud_log.specs.declared.head_at.HeadAt.{HeadAt}
 use Rattle.bud_log.specs.declared.seen.Seen.{Seen}
-use Rattle.bud_log.proofs.Bytes.{bytes_drop, bytes_take}
+use Rattle.bud_log.specs.Bytes.{bytes_drop, bytes_take}
 
 -- a node that stands at the place that it tells
 abbrev pub Stands : List ℕ → Found → Type 0
@@ -178,10 +178,10 @@ some_references leb (Node found ∷ items) place end h =
 some_references leb (Padding found pad_len ∷ items) place end h =
     more_references leb found (nodes_of items) (placed leb place found found _ refl h.0.stands) (some_references leb items (behind leb place (Padding found pad_len)) end h.1)
 
-others_skip : (found : Found) (nodes : List Found) → (type_number found.kind == 5) ≡ true → others (found ∷ nodes) ≡ others nodes
+pub others_skip : (found : Found) (nodes : List Found) → (type_number found.kind == 5) ≡ true → others (found ∷ nodes) ≡ others nodes
 others_skip found nodes is = rw is refl
 
-others_keep : (found : Found) (nodes : List Found) → (type_number found.kind == 5) ≡ false → others (found ∷ nodes) ≡ found ∷ others nodes
+pub others_keep : (found : Found) (nodes : List Found) → (type_number found.kind == 5) ≡ false → others (found ∷ nodes) ≡ found ∷ others nodes
 others_keep found nodes is = rw is refl
 
 -- where padding alone stands there are no references
@@ -195,7 +195,7 @@ padding_references leb (found ∷ nodes) references h none = elim (cases_Bool (t
   | inr node ↦ let cons : found ∷ others nodes ≡ [] = sym (others_keep found nodes node) ∙ none in absurd cc
 ]
 
-one_parts : (found : Found) (rest : List Found) → is_one_start (found ∷ rest) ≡ true → (rest ≡ []) × (found.kind ≡ types.CommitStart)
+pub one_parts : (found : Found) (rest : List Found) → is_one_start (found ∷ rest) ≡ true → (rest ≡ []) × (found.kind ≡ types.CommitStart)
 one_parts found [] h = (refl, type_same found.kind types.CommitStart (eqb-true (type_number found.kind) 10 h))
 one_parts found (other ∷ rest) h = absurd cc
 

@@ -11,7 +11,7 @@ use Rattle.leb_scan.specs.declared.item.Item.TheVariants.{Node, Padding, Word}
 use Rattle.leb_scan.specs.declared.tail.Tail.{Tail}
 use Rattle.bud_log.specs.LogText.{LogText, Refer, IsTextOf}
 use Rattle.bud_log.specs.declared.log_end.LogEnd.{LogEnd}
-use Rattle.bud_log.proofs.References.{refer_then}
+use Rattle.bud_log.specs.References.{refer_then}
 
 refer_node : (a b : List ℕ) (end : ℕ) (found : Found) (nodes : List Found) (references : List RefNode) → take end a ≡ take end b → found.offs + found.len ≤ end → ((r : List RefNode) → Refer a nodes r → Refer b nodes r) → Refer a (found ∷ nodes) references
     → Refer b (found ∷ nodes) references

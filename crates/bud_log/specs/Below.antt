@@ -7,8 +7,8 @@ use Rattle.bud_log.specs.Log.{next_leb, Run}
 use Rattle.bud_log.specs.LogText.{LogText, begins_with, start_of, is_later}
 use Rattle.bud_log.specs.Writing.{AreBelow, IsChain}
 use Rattle.bud_log.specs.declared.log_end.LogEnd.{LogEnd}
-use Rattle.bud_log.proofs.Chains.{last_first, last_more}
-use Rattle.bud_log.proofs.Grown.{grown_text}
+use Rattle.bud_log.specs.Chains.{last_first, last_more}
+use Rattle.bud_log.specs.Grown.{grown_text}
 
 pub below_last : (b : ℕ) (texts : List LogText) (text : LogText) → AreBelow b texts → is_later b (begins_with text.nodes) ≡ false → AreBelow b (texts ++ text ∷ [])
 below_last b [] text h last = (last, h)

@@ -1,19 +1,18 @@
--- Texts that are read, where some LEB changes.
-use Rattle.std.proofs.Common.{◌≡◌, ◌⊎◌, inl, inr, ℕ, ◌<◌, ◌≤◌, true, List, [], ◌∷◌, ◌++◌, Option, Some, refl, ap, sym, ◌∙◌, subst, arith, append-nil, append_assoc}
+-- Laws of texts that are read, where some LEB changes.
+use Rattle.std.proofs.Common.{◌≡◌, ◌⊎◌, inl, inr, ℕ, ◌<◌, ◌≤◌, true, List, [], ◌∷◌, ◌++◌, Some, refl, ap, sym, ◌∙◌, subst, arith, append-nil, append_assoc}
 use Rattle.std.specs.Prelude.{◌≢◌, IsTrue, fold}
 use Rattle.std.proofs.lemmas.List.Sums.{fold-append}
 use Rattle.ubifs_base.specs.declared.raw_geometry.RawGeometry.{RawGeometry}
 use Rattle.media_sys.specs.declared.ref_node.RefNode.{RefNode}
 use Rattle.leb_scan.specs.declared.found.Found.{Found}
 use Rattle.bud_log.specs.Buds.{named, buds_of}
-use Rattle.bud_log.specs.Log.{IsLogLeb, next_leb, Run, AreFurther, references_of, end_of}
+use Rattle.bud_log.specs.Log.{IsLogLeb, next_leb, Run, references_of}
 use Rattle.bud_log.specs.LogText.{LogText, IsTextOf, begins_with, start_of, is_later}
-use Rattle.bud_log.specs.Writing.{IsAmong, IsOlder, IsChain, last_end, NamesBuds}
+use Rattle.bud_log.specs.Writing.{IsAmong, IsChain, last_end}
 use Rattle.bud_log.specs.declared.log_end.LogEnd.{LogEnd}
 use Rattle.bud_log.specs.LogLaws.{next_in}
-use Rattle.bud_log.proofs.Grown.{grown_text}
-use Rattle.bud_log.proofs.References.{text_begins, some_commit}
-use Rattle.bud_log.proofs.RingRuns.{left_of, fewer_left, run_then, references_then}
+use Rattle.bud_log.specs.Grown.{grown_text}
+use Rattle.bud_log.specs.RingRuns.{left_of, fewer_left, run_then, references_then}
 
 pub past_in : (c : ℕ → List ℕ) (geo : RawGeometry) (from number lnum past : ℕ) (texts : List LogText) → Run c geo from number lnum texts past → IsLogLeb geo lnum → IsLogLeb geo past
 past_in c geo from number lnum past [] h l = let P : ℕ → Type 0 = λ n. IsLogLeb geo n in subst P h l
@@ -45,6 +44,14 @@ past_other c geo from number lnum past k (text ∷ texts) f h l (inl same) =
     subst P (sym (same ∙ h.1.here)) (omega (arith, less, rest))
 past_other c geo from number lnum past k (text ∷ texts) f h l (inr there) = past_other c geo from number (next_leb geo lnum) past k texts f h.3 (next_in geo lnum l) there
 
+-- the LEB behind a chain isn't read
+pub past_free : (c : ℕ → List ℕ) (geo : RawGeometry) (from start past : ℕ) (first : LogText) (more : List LogText) → IsLogLeb geo from → IsChain c geo from start first more past → past ≢ from → IsAmong past (first ∷ more) → ⊥
+past_free c geo from start past first more f h ne (inl same) = ne (same ∙ h.is_first.here)
+past_free c geo from start past first more f h ne (inr there) = let less = past_other c geo from start (next_leb geo from) past past more f h.run (next_in geo from f) there in absurd (omega (arith, less))
+
+pub chain_past : (c : ℕ → List ℕ) (geo : RawGeometry) (from start past : ℕ) (first : LogText) (more : List LogText) → IsLogLeb geo from → IsChain c geo from start first more past → IsLogLeb geo past
+chain_past c geo from start past first more f h = past_in c geo from start (next_leb geo from) past more h.run (next_in geo from f)
+
 -- one LEB more
 pub chain_more : (c : ℕ → List ℕ) (geo : RawGeometry) (from start past : ℕ) (first : LogText) (more : List LogText) (text : LogText) → IsChain c geo from start first more past → past ≢ from → IsTextOf (c past) past text
     → IsTrue (is_later start (begins_with text.nodes)) → IsChain c geo from start first (more ++ text ∷ []) (next_leb geo past)
@@ -59,17 +66,6 @@ abbrev pub last_more : (LogText → LogText) → List LogText → List LogText
 last_more f [] = []
 last_more f (text ∷ []) = f text ∷ []
 last_more f (text ∷ (other ∷ texts)) = text ∷ last_more f (other ∷ texts)
-
--- the log that such texts are
-pub chain_log : (c : ℕ → List ℕ) (geo : RawGeometry) (from start past : ℕ) (first : LogText) (more : List LogText) → IsChain c geo from start first more past → (past ≡ from) ⊎ IsOlder start past (c past)
-    → NamesBuds c geo from (buds_of (references_of (first ∷ more)))
-chain_log c geo from start past first more h stops =
-    let P : Option ℕ → Type 0 = λ o. AreFurther c geo from o more in
-    let commit = some_commit (c from) (begins_with first.nodes) (text_begins (c from) from first h.is_first) in (
-      record { commit = commit.0; buds = buds_of (references_of (first ∷ more)); ends = end_of first.ends more },
-      record { first = first; more = more; is_first = h.is_first; commit = commit.1; are_further = subst P (sym h.starts) (past, h.run, stops); buds = refl; ends = refl },
-      refl,
-    )
 
 pub last_among : (first : LogEnd) (text : LogText) (texts : List LogText) (ends : LogEnd) → last_end first (text ∷ texts) ≡ ends → IsAmong ends.lnum (text ∷ texts)
 last_among first text [] ends h = inl (sym (ap (λ (e : LogEnd). e.lnum) h))

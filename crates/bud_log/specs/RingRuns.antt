@@ -18,7 +18,7 @@ use Rattle.bud_log.specs.Seen.{IsSeen, AreNamed, IsTaken, IsPassed, IsReadOn}
 use Rattle.bud_log.specs.declared.head_at.HeadAt.{HeadAt}
 use Rattle.bud_log.specs.declared.log_end.LogEnd.{LogEnd}
 use Rattle.bud_log.specs.declared.seen.Seen.{Seen}
-use Rattle.bud_log.proofs.References.{some_references}
+use Rattle.bud_log.specs.References.{some_references}
 
 -- bytes have at most one text
 abbrev pub OneText : Type 0

@@ -1,0 +1,71 @@
+-- What a power cut leaves of a log, and where whoever mounts it goes on.
+use Rattle.std.specs.Prelude.{◌≡◌, ◌⊎◌, ℕ, ◌+◌, ◌%◌, ◌<◌, ◌≤◌, ◌==◌, if◌then◌else◌, IsTrue, Some, List, ◌∷◌, take, length, fold}
+use Rattle.ubifs_base.specs.declared.raw_geometry.RawGeometry.{RawGeometry}
+use Rattle.media_sys.specs.declared.ref_node.RefNode.{RefNode}
+use Rattle.ubi_volume.specs.Volume.{VolumeState}
+use Rattle.ubi_volume.specs.Loading.{IsFound}
+use Rattle.leb_scan.specs.Text.{is_blank}
+use Rattle.leb_scan.specs.declared.tail.Tail.{Tail}
+use Rattle.leb_scan.specs.declared.tail.Tail.TheVariants.{Clean, Torn}
+use Rattle.bud_log.specs.Buds.{named}
+use Rattle.bud_log.specs.Log.{Log, IsLog, IsLogLeb, next_leb, log_of}
+use Rattle.bud_log.specs.LogAt.{LogAt, IsAt, steps_to, used_lebs, next_lnum}
+use Rattle.bud_log.specs.LogText.{begins_with, start_of}
+use Rattle.bud_log.specs.Writing.{IsAmong, IsOlder, AreBelow, IsReady}
+use Rattle.bud_log.specs.declared.head_at.HeadAt.{HeadAt}
+use Rattle.bud_log.specs.declared.log_end.LogEnd.{LogEnd}
+use Rattle.bud_log.specs.declared.log_read.LogRead.{LogRead}
+
+-- These contents are this log, and whoever mounts them may write on. It begins with a commit start. No LEB that is read begins with
+-- a number above this one, and no other with one above the commit start's.
+pub record IsReadyIn (contents : ℕ → List ℕ) (geo : RawGeometry) (from number : ℕ) (log : Log) : Type 0 where
+  pub is_log : IsLog contents geo from log
+  pub start : ℕ
+  pub starts : start_of (begins_with is_log.first.nodes) ≡ Some start
+  pub low : start ≤ number
+  pub below : AreBelow number (is_log.first ∷ is_log.more)
+  pub spare : (k : ℕ) → IsLogLeb geo k → (IsAmong k (is_log.first ∷ is_log.more) → ⊥) → IsOlder start k (contents k)
+
+abbrev offs_if : RawGeometry → ℕ → Tail → ℕ
+offs_if geo offs Clean = if offs % geo.min_io == 0 then offs else geo.leb_size
+offs_if geo offs Torn = geo.leb_size
+
+-- where a log that ends here is written on: there, if the end is clean and a unit begins there, and else nowhere in that LEB
+abbrev pub offs_behind : RawGeometry → LogEnd → ℕ
+offs_behind geo ends = offs_if geo ends.offs ends.tail
+
+-- the log that is opened over what was read from this LEB on, and ends here
+abbrev pub opened_at : RawGeometry → ℕ → LogEnd → LogAt
+opened_at geo from ends = record { geo = geo; first = from; section = from; lnum = ends.lnum; offs = offs_behind geo ends }
+
+-- how many LEBs of the ring a log takes that is read from one LEB on, and ends in another
+abbrev pub lebs_to : RawGeometry → ℕ → ℕ → ℕ
+lebs_to geo from lnum = steps_to geo from lnum + 1
+
+-- These contents are such a log of these buds. Once it is opened no more LEBs of the ring are in use than so many.
+abbrev pub IsLeftReady : (ℕ → List ℕ) → RawGeometry → ℕ → ℕ → ℕ → List HeadAt → Type 0
+IsLeftReady contents geo from most number buds = (log : Log) × IsReadyIn contents geo from number log × (log.buds ≡ buds) × (used_lebs (opened_at geo from log.ends) ≤ most)
+
+-- While a bud is opened: a log of the buds before, or of this one too, whose LEB is blank then. So a bud is never read from while it
+-- holds what it held before. The reference has the number behind this one.
+abbrev pub IsLeftOpened : (ℕ → List ℕ) → LogAt → ℕ → ℕ → List HeadAt → RefNode → Type 0
+IsLeftOpened contents at from number buds node =
+    IsLeftReady contents at.geo from (lebs_to at.geo from at.lnum) number buds
+    ⊎ (IsLeftReady contents at.geo from (lebs_to at.geo from (next_lnum at)) (number + 1) (named buds node) × IsTrue (is_blank (contents node.lnum)))
+
+-- While a section is started: a log of the buds before, perhaps with the commit start alone, which has the number behind this one; or
+-- one of the first of these references too, which takes the next LEB.
+abbrev pub IsLeftStarted : (ℕ → List ℕ) → LogAt → ℕ → ℕ → List HeadAt → List RefNode → Type 0
+IsLeftStarted contents at from number buds references =
+    IsLeftReady contents at.geo from (lebs_to at.geo from at.lnum) (number + 1) buds
+    ⊎ ((n : ℕ) × (0 < n) × (n ≤ length references) × IsLeftReady contents at.geo from (lebs_to at.geo from (next_leb at.geo at.lnum)) (number + 1 + n) (fold named buds (take n references)))
+
+-- If what is read was found after a cut that left such a log, it is that log. Once it is opened it is ready for its next node, and nothing
+-- is written where it goes on.
+abbrev pub OpensReady : VolumeState → VolumeState → RawGeometry → ℕ → LogRead → Type 0
+OpensReady old new geo from read =
+    (contents : ℕ → List ℕ) (number : ℕ) (log : Log) → IsFound contents old → IsReadyIn contents geo from number log
+    → let at : LogAt = opened_at geo from (log_of read).ends in
+    (log_of read ≡ log)
+    × IsReady new geo from at.lnum at.offs number read.buds.items
+    × ((geo.leb_size ≡ old.leb_size) → (geo.min_io ≡ old.min_io) → IsAt new at)
