@@ -10,10 +10,10 @@ use Rattle.fs_model.specs.Recovery.{Numbered}
 use Rattle.leaf_map.specs.Kept.{Kept}
 use Rattle.store_model.specs.Events.{in_next, new_bud, open_leb}
 use Rattle.store_model.specs.Heads.{copies_of, counts_of, groups_of, numbered}
-use Rattle.store_model.specs.Invariant.{AreNumbered, HasNumbers, OfNext, are_given, are_within, head_numbers}
+use Rattle.store_model.specs.Invariant.{AreNumbered, HasNumbers, OfNext, are_given, are_other, are_within, head_numbers}
 use Rattle.store_model.specs.Store.{Bud, Next, Store}
 
-groups_open : (head h lnum : ℕ) (buds : List Bud) → groups_of head (buds ++ new_bud h lnum 0 ∷ []) ≡ groups_of head buds
+pub groups_open : (head h lnum : ℕ) (buds : List Bud) → groups_of head (buds ++ new_bud h lnum 0 ∷ []) ≡ groups_of head buds
 groups_open head h lnum [] = by (h == head)
   where
     by : (b : Bool) → flat_map (λ bud. bud.groups) (cond b (new_bud h lnum 0 ∷ []) []) ≡ []
@@ -27,7 +27,7 @@ groups_open head h lnum (bud ∷ buds) = by (groups_open head h lnum buds) (bud.
     by same true = ap (λ groups. bud.groups ++ groups) same
     by same false = same
 
-copies_open : (h lnum : ℕ) (buds : List Bud) → copies_of (buds ++ new_bud h lnum 0 ∷ []) ≡ copies_of buds
+pub copies_open : (h lnum : ℕ) (buds : List Bud) → copies_of (buds ++ new_bud h lnum 0 ∷ []) ≡ copies_of buds
 copies_open h lnum [] = by (h == 0)
   where
     by : (b : Bool) → flat_map (λ bud. bud.copies) (cond b (new_bud h lnum 0 ∷ []) []) ≡ []
@@ -65,16 +65,21 @@ head_more : (sqnum head h lnum : ℕ) (buds : List Bud) → are_given sqnum (hea
 head_more sqnum head h lnum buds g =
     subst (λ groups. are_given (sqnum + 1) (flat_map numbered groups) ≡ true) (sym (groups_open head h lnum buds)) (given_more sqnum (head_numbers buds head) g)
 
+apart_open : (h lnum : ℕ) (buds : List Bud) → are_other (head_numbers buds 1) (head_numbers buds 2) ≡ true
+    → are_other (head_numbers (buds ++ new_bud h lnum 0 ∷ []) 1) (head_numbers (buds ++ new_bud h lnum 0 ∷ []) 2) ≡ true
+apart_open h lnum buds apart = rw (groups_open 1 h lnum buds, groups_open 2 h lnum buds) apart
+
 next_more : (m : Store) (h lnum : ℕ) (next : Option Next) → OfNext m next (AreNumbered m)
     → OfNext (open_leb h lnum m) (option_map (in_next (λ buds. buds ++ new_bud h lnum 0 ∷ []) 0) next) (AreNumbered (open_leb h lnum m))
 next_more m h lnum None n = n
 next_more m h lnum (Some next) n = record {
   base = head_more m.sqnum 1 h lnum next.view.buds n.base;
   data_nodes = head_more m.sqnum 2 h lnum next.view.buds n.data_nodes;
+  apart = apart_open h lnum next.view.buds n.apart;
   kept = kept_more m.sqnum next.view.kept n.kept;
 }
 
-counts_open : (h lnum : ℕ) (buds : List Bud) → counts_of (buds ++ new_bud h lnum 0 ∷ []) ≡ counts_of buds
+pub counts_open : (h lnum : ℕ) (buds : List Bud) → counts_of (buds ++ new_bud h lnum 0 ∷ []) ≡ counts_of buds
 counts_open h lnum buds = rw (copies_open h lnum buds, groups_open 1 h lnum buds, groups_open 2 h lnum buds) refl
 
 -- what is opened has no group yet, and its reference has the next number
@@ -84,6 +89,7 @@ opened_numbers m h lnum n = record {
     record {
       base = head_more m.sqnum 1 h lnum m.now.buds n.both.0.base;
       data_nodes = head_more m.sqnum 2 h lnum m.now.buds n.both.0.data_nodes;
+      apart = apart_open h lnum m.now.buds n.both.0.apart;
       kept = kept_more m.sqnum m.now.kept n.both.0.kept;
     },
     next_more m h lnum m.next n.both.1,

@@ -1,76 +1,21 @@
 -- A put keeps the numbers: its groups stand last at their heads, or a head without a bud gets none.
-use Rattle.std.proofs.Common.{◌≡◌, ℕ, ◌+◌, ◌⊎◌, Bool, true, false, List, [], ◌∷◌, ◌++◌, length, refl, sym, ap, subst, ◌∙◌, arith, inl, inr, Option, Some, None}
-use Rattle.std.specs.Prelude.{nat_le, not, ◌==◌, ◌&&◌, ◌||◌, fold}
+use Rattle.std.proofs.Common.{◌≡◌, ℕ, ◌+◌, ◌⊎◌, true, List, [], ◌∷◌, length, refl, sym, subst, arith, inl, inr, Option, Some, None}
+use Rattle.std.specs.Prelude.{nat_le, fold}
 use Rattle.std.specs.List.{flat_map}
 use Rattle.std.specs.Option.{option_map}
-use Rattle.std.proofs.lemmas.Bool.{and_parts, eqb-true}
-use Rattle.std.proofs.lemmas.List.{append-nil, append_assoc, length-append}
+use Rattle.std.proofs.lemmas.Bool.{and_parts}
+use Rattle.std.proofs.lemmas.List.{length-append}
 use Rattle.fs_model.specs.Journal.{AreNext, last_number}
 use Rattle.store_model.specs.Events.{after_part, credit, granted, in_next, paid, Part, Payment, Putting}
-use Rattle.store_model.specs.Heads.{copies_of, counts_of, groups_of, has_bud, numbered, with_group}
+use Rattle.store_model.specs.Heads.{copies_of, counts_of, groups_of, numbered, with_group}
 use Rattle.store_model.specs.Invariant.{AreNumbered, HasNumbers, OfNext, are_given, are_within, head_numbers}
 use Rattle.store_model.specs.Legal.{AreParts}
 use Rattle.store_model.specs.Store.{Bud, Carried, Next, Store}
+use Rattle.store_model.proofs.Apart.{apart_put}
 use Rattle.store_model.proofs.Numbers.{given_after, given_still, kept_still, no_less}
-
--- as it was, or with a group behind
-abbrev IsGrown : List (List Carried) → List Carried → List (List Carried) → Type 0
-IsGrown old group new = (new ≡ old) ⊎ (new ≡ old ++ group ∷ [])
-
-or_parts : (a b : Bool) → (a || b) ≡ false → (a ≡ false) × (b ≡ false)
-or_parts false b h = (refl, h)
-or_parts true b h = absurd cc
-
--- a head without a bud has no groups
-none_of : (head : ℕ) (buds : List Bud) → has_bud head buds ≡ false → groups_of head buds ≡ []
-none_of head [] h = refl
-none_of head (bud ∷ buds) h =
-    let p = or_parts (bud.head == head) (has_bud head buds) h in
-    rw p.0 (none_of head buds p.1)
-
-groups_put : (head h : ℕ) (group : List Carried) (buds : List Bud) → IsGrown (groups_of head buds) group (groups_of head (with_group h group buds))
-groups_put head h group [] = inl refl
-groups_put head h group (bud ∷ buds) = by (groups_put head h group buds) (has_bud h buds) refl (bud.head == h) refl (bud.head == head) refl
-  where
-    Goal : Type 0
-    Goal = IsGrown (groups_of head (bud ∷ buds)) group (groups_of head (with_group h group (bud ∷ buds)))
-
-    deeper : (bud.head == head) ≡ true → IsGrown (groups_of head buds) group (groups_of head (with_group h group buds))
-        → IsGrown (groups_of head (bud ∷ buds)) group (groups_of head (bud ∷ with_group h group buds))
-    deeper here (inl same) = inl (rw here (ap (λ gs. bud.groups ++ gs) same))
-    deeper here (inr more) = inr (rw here (ap (λ gs. bud.groups ++ gs) more ∙ sym (append_assoc bud.groups (groups_of head buds) (group ∷ []))))
-
-    beside : (bud.head == head) ≡ false → IsGrown (groups_of head buds) group (groups_of head (with_group h group buds))
-        → IsGrown (groups_of head (bud ∷ buds)) group (groups_of head (bud ∷ with_group h group buds))
-    beside away (inl same) = inl (rw away same)
-    beside away (inr more) = inr (rw away more)
-
-    by : IsGrown (groups_of head buds) group (groups_of head (with_group h group buds)) → (other : Bool) → has_bud h buds ≡ other → (mine : Bool) → (bud.head == h) ≡ mine → (here : Bool) → (bud.head == head) ≡ here → Goal
-    by s true o true m true i = rw (m, o) (deeper i s)
-    by s true o true m false i = rw (m, o) (beside i s)
-    by s o x false m true i = rw m (deeper i s)
-    by s o x false m false i = rw m (beside i s)
-    by s false o true m true i =
-        let none = none_of head buds (subst (λ n. has_bud n buds ≡ false) (sym (eqb-true bud.head h m) ∙ eqb-true bud.head head i) o) in
-        inr (rw (m, o, i) (ap (λ gs. (bud.groups ++ group ∷ []) ++ gs) none ∙ append-nil (bud.groups ++ group ∷ []) ∙ sym (ap (λ gs. (bud.groups ++ gs) ++ group ∷ []) none ∙ ap (λ gs. gs ++ group ∷ []) (append-nil bud.groups))))
-    by s false o true m false i = inl (rw (m, o, i) refl)
-
-copies_put : (h : ℕ) (group : List Carried) (buds : List Bud) → copies_of (with_group h group buds) ≡ copies_of buds
-copies_put h group [] = refl
-copies_put h group (bud ∷ buds) = by (copies_put h group buds) ((bud.head == h) && not (has_bud h buds)) refl (bud.head == 0) refl
-  where
-    by : copies_of (with_group h group buds) ≡ copies_of buds → (last : Bool) → ((bud.head == h) && not (has_bud h buds)) ≡ last → (here : Bool) → (bud.head == 0) ≡ here
-        → copies_of (with_group h group (bud ∷ buds)) ≡ copies_of (bud ∷ buds)
-    by s true l true i = rw (l, i) refl
-    by s true l false i = rw (l, i) refl
-    by s false l true i = rw (l, i) (ap (λ cs. bud.copies ++ cs) s)
-    by s false l false i = rw (l, i) s
+use Rattle.store_model.proofs.PutGroups.{IsGrown, copies_put, groups_put, numbers_end}
 
 -- ---- numbers
-numbers_end : (groups : List (List Carried)) (group : List Carried) → flat_map numbered (groups ++ group ∷ []) ≡ flat_map numbered groups ++ numbered group
-numbers_end [] group = append-nil (numbered group)
-numbers_end (first ∷ groups) group = ap (λ ns. numbered first ++ ns) (numbers_end groups group) ∙ sym (append_assoc (numbered first) (flat_map numbered groups) (numbered group))
-
 head_put : (n head h : ℕ) (group : List Carried) (buds : List Bud) → AreNext n (numbered group) → are_given n (head_numbers buds head) ≡ true
     → are_given (last_number n (numbered group)) (head_numbers (with_group h group buds) head) ≡ true
 head_put n head h group buds next given = by (groups_put head h group buds)
@@ -111,24 +56,26 @@ counts_put : (h : ℕ) (group : List Carried) (buds : List Bud) → are_within (
 counts_put h group buds = rw (copies_put h group buds, le_self (length (copies_of buds)), count_put 1 h group buds, count_put 2 h group buds) refl
 
 -- ---- a group, and all of them
-part_next : (m : Store) (part : Part) (next : Option Next) → AreNext m.sqnum (numbered part.group) → OfNext m next (AreNumbered m)
+part_next : (m : Store) (part : Part) (next : Option Next) → (part.head ≡ 1) ⊎ (part.head ≡ 2) → AreNext m.sqnum (numbered part.group) → OfNext m next (AreNumbered m)
     → OfNext (after_part m part) (option_map (in_next (with_group part.head part.group) (length part.group)) next) (AreNumbered (after_part m part))
-part_next m part None follows n = n
-part_next m part (Some next) follows n = record {
+part_next m part None at follows n = n
+part_next m part (Some next) at follows n = record {
   base = head_put m.sqnum 1 part.head part.group next.view.buds follows n.base;
   data_nodes = head_put m.sqnum 2 part.head part.group next.view.buds follows n.data_nodes;
+  apart = apart_put m.sqnum part.head part.group next.view.buds at follows n.base n.data_nodes n.apart;
   kept = kept_still m.sqnum (last_number m.sqnum (numbered part.group)) (no_less m.sqnum (numbered part.group) follows) next.view.kept n.kept;
 }
 
-part_numbers : (m : Store) (part : Part) → AreNext m.sqnum (numbered part.group) → HasNumbers m → HasNumbers (after_part m part)
-part_numbers m part follows n = record {
+part_numbers : (m : Store) (part : Part) → (part.head ≡ 1) ⊎ (part.head ≡ 2) → AreNext m.sqnum (numbered part.group) → HasNumbers m → HasNumbers (after_part m part)
+part_numbers m part at follows n = record {
   both = (
     record {
       base = head_put m.sqnum 1 part.head part.group m.now.buds follows n.both.0.base;
       data_nodes = head_put m.sqnum 2 part.head part.group m.now.buds follows n.both.0.data_nodes;
+      apart = apart_put m.sqnum part.head part.group m.now.buds at follows n.both.0.base n.both.0.data_nodes n.both.0.apart;
       kept = kept_still m.sqnum (last_number m.sqnum (numbered part.group)) (no_less m.sqnum (numbered part.group) follows) m.now.kept n.both.0.kept;
     },
-    part_next m part m.next follows n.both.1,
+    part_next m part m.next at follows n.both.1,
   );
   synced = within_more m.synced (counts_of m.now.buds) (counts_of (with_group part.head part.group m.now.buds)) n.synced (counts_put part.head part.group m.now.buds);
 }
@@ -136,17 +83,17 @@ part_numbers m part follows n = record {
 -- groups that can be put
 pub parts_numbers : (parts : List Part) (m : Store) → AreParts m parts → HasNumbers m → HasNumbers (fold after_part m parts)
 parts_numbers [] m are n = n
-parts_numbers (part ∷ parts) m are n = parts_numbers parts (after_part m part) are.1 (part_numbers m part are.0.numbers n)
+parts_numbers (part ∷ parts) m are n = parts_numbers parts (after_part m part) are.1 (part_numbers m part are.0.head are.0.numbers n)
 
 -- numbers are a matter of what was put, of what is synced, and of the greatest one alone
 same_next : (m k : Store) (next : Option Next) → k.sqnum ≡ m.sqnum → OfNext m next (AreNumbered m) → OfNext k next (AreNumbered k)
 same_next m k None same n = n
-same_next m k (Some next) same n = record { base = rw same n.base; data_nodes = rw same n.data_nodes; kept = rw same n.kept }
+same_next m k (Some next) same n = record { base = rw same n.base; data_nodes = rw same n.data_nodes; apart = n.apart; kept = rw same n.kept }
 
 pub same_numbers : (m k : Store) → k.sqnum ≡ m.sqnum → k.now ≡ m.now → k.next ≡ m.next → k.synced ≡ m.synced → HasNumbers m → HasNumbers k
 same_numbers m k sqnum now next synced n = record {
   both = (
-    record { base = rw (sqnum, now) n.both.0.base; data_nodes = rw (sqnum, now) n.both.0.data_nodes; kept = rw (sqnum, now) n.both.0.kept },
+    record { base = rw (sqnum, now) n.both.0.base; data_nodes = rw (sqnum, now) n.both.0.data_nodes; apart = rw now n.both.0.apart; kept = rw (sqnum, now) n.both.0.kept },
     subst (λ other. OfNext k other (AreNumbered k)) (sym next) (same_next m k m.next sqnum n.both.1),
   );
   synced = rw (synced, now) n.synced;

@@ -24,9 +24,9 @@ use Rattle.leaf_map.specs.Parts.{Parts}
 use Rattle.leaf_map.specs.Recovered.{committed_highest}
 use Rattle.leaf_map.specs.Shown.{inodes_of, tree_of, with_inode}
 use Rattle.store_model.specs.Fits.{Faced, FitsFaced, IsOneOf}
-use Rattle.store_model.specs.Invariant.{HaveOrphans, is_listed}
+use Rattle.store_model.specs.Invariant.{HasCommitted, HaveOrphans, is_listed}
 use Rattle.store_model.specs.Lebs.{is_among}
-use Rattle.store_model.specs.Recovery.{HasCommitted, read_changes}
+use Rattle.store_model.specs.Recovery.{read_changes}
 use Rattle.store_model.proofs.RecoveryOrder.{all_in_turn}
 use Rattle.store_model.proofs.RecoverySafe.{SortedLaw, among_turned}
 

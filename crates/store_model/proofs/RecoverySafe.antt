@@ -20,8 +20,9 @@ use Rattle.leaf_map.specs.Recovered.{committed_highest}
 use Rattle.leaf_map.specs.Shown.{tree_of}
 use Rattle.store_model.specs.Fits.{AreCommitted, AreLeft, AreOfListed, AreOwn, Faced, FitsFaced, HasOwn, IsLeft, IsOfNameless, IsOneOf, is_of_listed}
 use Rattle.store_model.specs.Heads.{copies_of, heads_of}
+use Rattle.store_model.specs.Invariant.{HasCommitted}
 use Rattle.store_model.specs.Lebs.{is_among}
-use Rattle.store_model.specs.Recovery.{HasCommitted, read_changes}
+use Rattle.store_model.specs.Recovery.{read_changes}
 use Rattle.store_model.proofs.RecoveryCopies.{all_taken, copied, either_of, keyed_shown, number_turned}
 use Rattle.store_model.proofs.RecoveryOrder.{all_in_turn, any_in_turn, or_left, or_right}
 

@@ -14,7 +14,8 @@ use Rattle.leaf_map.specs.Recovered.{committed_highest, highest_key, in_order, t
 use Rattle.leaf_map.specs.Shown.{tree_of}
 use Rattle.store_model.specs.Fits.{AreCommitted, Faced, FitsFaced}
 use Rattle.store_model.specs.Heads.{heads_of}
-use Rattle.store_model.specs.Recovery.{HasCommitted, read_changes}
+use Rattle.store_model.specs.Invariant.{HasCommitted}
+use Rattle.store_model.specs.Recovery.{read_changes}
 
 abbrev pub FitsLaw : Type 0
 FitsLaw = (parts : Parts) (kept : List Kept) (changes : Numbered) → LosesNothing parts kept changes → FitsTree parts (tree_of kept (committed_highest parts)) changes

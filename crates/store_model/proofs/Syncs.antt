@@ -22,11 +22,11 @@ within_self (n ∷ counts) = rw (nat_le_self n) (within_self counts)
 
 next_numbers : (m : Store) (next : Option Next) → OfNext m next (AreNumbered m) → OfNext (sync m) next (AreNumbered (sync m))
 next_numbers m None n = n
-next_numbers m (Some next) n = record { base = n.base; data_nodes = n.data_nodes; kept = n.kept }
+next_numbers m (Some next) n = record { base = n.base; data_nodes = n.data_nodes; apart = n.apart; kept = n.kept }
 
 -- numbers that were given stay so, and what was put is synced
 pub synced_numbers : (m : Store) → HasNumbers m → HasNumbers (sync m)
 synced_numbers m n = record {
-  both = (record { base = n.both.0.base; data_nodes = n.both.0.data_nodes; kept = n.both.0.kept }, next_numbers m m.next n.both.1);
+  both = (record { base = n.both.0.base; data_nodes = n.both.0.data_nodes; apart = n.both.0.apart; kept = n.both.0.kept }, next_numbers m m.next n.both.1);
   synced = within_self (counts_of m.now.buds);
 }

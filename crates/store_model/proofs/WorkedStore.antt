@@ -10,7 +10,7 @@ use Rattle.fs_model.specs.Proper.{IsProper}
 use Rattle.fs_model.specs.Recovery.{KeepsSynced, recovered, taken}
 use Rattle.store_model.specs.Fits.{faced_now}
 use Rattle.store_model.specs.Heads.{heads_of}
-use Rattle.store_model.specs.Invariant.{AreProper, AreWholeOrLeft, HasFiles, IsStore}
+use Rattle.store_model.specs.Invariant.{AreProper, AreWholeOrLeft, HasCommitted, HasFiles, IsStore}
 use Rattle.store_model.specs.Worked.{root_tree, rooted}
 
 root_is_proper : IsProper root_tree
@@ -46,6 +46,10 @@ files : HasFiles rooted
 unfolding key_rank r5_of same_leaf
 files = record { leaves = record { keyed = (refl, tt); ordered = refl; apart = refl }; tree = refl; index = refl }
 
+committed : HasCommitted rooted.now
+unfolding key_rank r5_of
+committed = record { leaves = record { keyed = (refl, tt); ordered = refl; apart = refl }; tree = refl; inodes = (tt, tt); highest = refl; copies = tt }
+
 proper : AreProper (faced_now rooted)
 proper tree r = subst IsProper (sym (same_tree r.counts r.synced) ∙ sym r.tree_is) root_is_proper
 
@@ -60,12 +64,13 @@ pub is_store : IsStore rooted
 unfolding key_rank r5_of same_leaf
 is_store = record {
   files = files;
+  views = record { committed = (committed, tt); carried = (tt, tt) };
   distinct = distinct;
   places = refl;
   stands = (inl (refl, inl refl), tt);
   proper = (proper, tt);
   history = (refl, tt);
-  numbers = record { both = (record { base = refl; data_nodes = refl; kept = refl }, tt); synced = refl };
+  numbers = record { both = (record { base = refl; data_nodes = refl; apart = refl; kept = refl }, tt); synced = refl };
   whole_or_left = (whole, tt);
   orphans = ((refl, tt), tt);
   nameless_are = refl;

@@ -1,13 +1,15 @@
 -- A store as a backing of files.
-use Rattle.std.specs.Prelude.{ℕ, ◌-◌, List, [], ◌∷◌, length, Option, Some, None}
+use Rattle.std.specs.Prelude.{ℕ, ◌-◌, List, [], ◌∷◌, length, map, Option, Some, None}
 use Rattle.std.specs.List.{list_any}
 use Rattle.std.specs.Option.{option_map, option_map_or}
 use Rattle.fs_model.specs.declared.backing_answers.Mode.{Mode}
+use Rattle.fs_model.specs.declared.change.Change.{Change}
 use Rattle.fs_model.specs.Backing.{BackingState}
 use Rattle.fs_model.specs.Files.{Tree}
 use Rattle.fs_model.specs.Journal.{Journal, Medium}
 use Rattle.fs_model.specs.Orphan.{without_nameless}
-use Rattle.store_model.specs.Heads.{begun_of, heads_of}
+use Rattle.store_model.specs.Events.{Part}
+use Rattle.store_model.specs.Heads.{begun_of, changes_of, heads_of}
 use Rattle.store_model.specs.Lebs.{is_victim, space_of}
 use Rattle.store_model.specs.Store.{Next, Store}
 
@@ -65,3 +67,7 @@ backing_of m outside = record {
   mode = outside.mode;
   faults = outside.faults;
 }
+
+-- the groups of a put as a backing's, each at its head
+abbrev pub puts_of : List Part → List (ℕ × List Change)
+puts_of parts = map (λ part. (part.head, changes_of part.group)) parts

@@ -1,7 +1,9 @@
 -- What is always so of a store.
 use Rattle.std.specs.Prelude.{◌≡◌, ◌⊎◌, ℕ, ◌+◌, ◌≤◌, ◌==◌, ◌&&◌, ◌||◌, nat_le, IsTrue, not, Bool, true, false, if◌then◌else◌, List, [], ◌∷◌, length, map, Option, Some, None, is_some}
 use Rattle.std.specs.List.{flat_map, list_all, list_any, AllByRecursion}
+use Rattle.std.specs.Option.{option_or}
 use Rattle.std.specs.Ordering.{nat_cmp}
+use Rattle.media_leaf.specs.LeafNode.{IsLeaf}
 use Rattle.media_lpt.specs.declared.leb_kind.LebKind.{LebKind}
 use Rattle.media_lpt.specs.declared.leb_kind.LebKind.TheVariants as kind
 use Rattle.index_tree.specs.Distinct.{AreDistinct}
@@ -13,15 +15,17 @@ use Rattle.fs_model.specs.Orphan.{nameless, without_nameless}
 use Rattle.fs_model.specs.Proper.{IsProper, ascends}
 use Rattle.fs_model.specs.Recovery.{IsRecovered, Numbered, recovered, taken}
 use Rattle.fs_model.specs.Settled.{IsCovered}
+use Rattle.leaf_map.specs.Allowed.{HasInode, IsNodeOf}
 use Rattle.leaf_map.specs.Kept.{Kept, kept_at, shown_by}
 use Rattle.leaf_map.specs.LeafMap.{IsLeafMap}
 use Rattle.leaf_map.specs.Parts.{in_bud}
+use Rattle.leaf_map.specs.Recovered.{highest_key}
 use Rattle.leaf_map.specs.Shown.{tree_of}
 use Rattle.store_model.specs.Fits.{AreLeft, Faced, faced_now, named_by}
-use Rattle.store_model.specs.Heads.{counts_of, groups_of, heads_of, numbered, synced_since}
-use Rattle.store_model.specs.Legal.{are_distinct}
+use Rattle.store_model.specs.Heads.{copies_of, counts_of, groups_of, heads_of, numbered, synced_since}
+use Rattle.store_model.specs.Legal.{are_distinct, IsCarried}
 use Rattle.store_model.specs.Lebs.{has_leaf, has_role, is_among, is_victim_of, IsStoreSettled, space_of, weight_of}
-use Rattle.store_model.specs.Store.{At, Bud, Item, leaf, branching, gap, Leb, Next, Store, View}
+use Rattle.store_model.specs.Store.{At, Bud, Carried, Item, leaf, branching, gap, Leb, Next, Store, View}
 
 -- ---- both views
 -- what a running commit's master will lead to, whose list is the one that the medium has then
@@ -72,6 +76,13 @@ abbrev pub LeadsTo : Tree → Faced → Type 0
 LeadsTo tree f = without_nameless (recovered f.view.tree (all_changes f)) ≡ without_nameless tree
 
 -- ---- numbers
+-- whether a number is among those of changes, and whether two lists have none in common
+abbrev pub has_number : Numbered → ℕ → Bool
+has_number changes n = list_any (λ c. c.0 == n) changes
+
+abbrev pub are_other : Numbered → Numbered → Bool
+are_other changes others = list_all (λ c. not (has_number others c.0)) changes
+
 -- the numbers of a head's groups ascend, up to the greatest one that was given
 abbrev pub are_given : ℕ → Numbered → Bool
 are_given sqnum changes = ascends nat_cmp (map (λ c. c.0) changes) && list_all (λ c. nat_le c.0 sqnum) changes
@@ -79,10 +90,11 @@ are_given sqnum changes = ascends nat_cmp (map (λ c. c.0) changes) && list_all 
 abbrev pub head_numbers : List Bud → ℕ → Numbered
 head_numbers buds head = flat_map numbered (groups_of head buds)
 
--- the groups and leaves of a view have numbers that were given
+-- the groups and leaves of a view have numbers that were given, and no number stands at two heads
 pub record AreNumbered (m : Store) (f : Faced) : Type 0 where
   pub base : IsTrue (are_given m.sqnum (head_numbers f.view.buds 1))
   pub data_nodes : IsTrue (are_given m.sqnum (head_numbers f.view.buds 2))
+  pub apart : IsTrue (are_other (head_numbers f.view.buds 1) (head_numbers f.view.buds 2))
   pub kept : IsTrue (list_all (λ x. nat_le x.sqnum m.sqnum) f.view.kept)
 
 -- no number is above another at the same place
@@ -90,6 +102,23 @@ abbrev pub are_within : List ℕ → List ℕ → Bool
 are_within [] counts = true
 are_within (n ∷ numbers) [] = false
 are_within (n ∷ numbers) (count ∷ counts) = nat_le n count && are_within numbers counts
+
+-- ---- what was committed
+-- A view's leaves are those of an index and show its tree, whose highest number is that of the master or of a key; each block has its inode, and what the collector copied are nodes of these leaves.
+pub record HasCommitted (view : View) : Type 0 where
+  pub leaves : IsLeafMap view.kept
+  pub tree : tree_of view.kept view.tree.highest ≡ view.tree
+  pub inodes : AllByRecursion (λ x. HasInode view.tree (shown_by x)) view.kept
+  pub highest : highest_key view.highest (map (λ x. x.leaf.key) view.kept) ≡ view.tree.highest
+  pub copies : AllByRecursion (λ d. IsLeaf d.node × IsNodeOf view.kept d.node) (copies_of view.buds)
+
+-- all nodes of the groups of some buds, with their changes
+abbrev pub all_carried : List Bud → List Carried
+all_carried buds = flat_map (λ bud. flat_map (λ group. group) bud.groups) buds
+
+-- the nodes of a view's groups carry their changes
+abbrev pub AreCarried : View → Type 0
+AreCarried view = AllByRecursion IsCarried (all_carried view.buds)
 
 -- ---- orphans
 -- an inode leaf without links is listed
@@ -104,24 +133,17 @@ HaveOrphans f (list ∷ lists) = IsTrue (list_all (λ x. is_listed list (shown_b
 
 -- ---- what LEBs are for
 -- a leaf LEB has a leaf or is a victim; an empty one, one of the index and one that a commit took have none
-abbrev pub is_used_as : Store → Leb → Bool
-is_used_as m leb = by leb.role
-  where
-    by : LebKind → Bool
-    by kind.Free = not (has_leaf m leb.lnum)
-    by kind.Leaf = has_leaf m leb.lnum || is_victim_of m.moving leb.lnum
-    by kind.Index = not (has_leaf m leb.lnum)
-    by kind.Bud = list_any (λ bud. bud.lnum == leb.lnum) m.now.buds
-    by kind.Taken = not (has_leaf m leb.lnum) && is_some m.next
+abbrev pub is_used : Store → ℕ → LebKind → Bool
+is_used m lnum kind.Free = not (has_leaf m lnum)
+is_used m lnum kind.Leaf = has_leaf m lnum || is_victim_of m.moving lnum
+is_used m lnum kind.Index = not (has_leaf m lnum)
+is_used m lnum kind.Bud = list_any (λ bud. bud.lnum == lnum) m.now.buds
+is_used m lnum kind.Taken = not (has_leaf m lnum) && is_some m.next
 
 -- a head stands in its last bud, or has none
 abbrev pub last_bud : List Bud → ℕ → Option ℕ
 last_bud [] head = None
-last_bud (bud ∷ buds) head = by (last_bud buds head)
-  where
-    by : Option ℕ → Option ℕ
-    by (Some lnum) = Some lnum
-    by None = if bud.head == head then Some bud.lnum else None
+last_bud (bud ∷ buds) head = option_or (last_bud buds head) (if bud.head == head then Some bud.lnum else None)
 
 -- a head is open in its last bud
 abbrev pub AreAtBuds : List Bud → ℕ → List (Option At) → Type 0
@@ -132,7 +154,7 @@ AreAtBuds buds head (Some at ∷ ends) = (last_bud buds head ≡ Some at.lnum) �
 -- what each LEB is for
 pub record AreApart (m : Store) : Type 0 where
   pub numbers : IsTrue (are_distinct (map (λ leb. leb.lnum) m.lebs))
-  pub used : IsTrue (list_all (is_used_as m) m.lebs)
+  pub used : IsTrue (list_all (λ leb. is_used m leb.lnum leb.role) m.lebs)
   pub buds : IsTrue (list_all (λ bud. has_role kind.Bud m.lebs bud.lnum) m.now.buds)
   pub ends : AreAtBuds m.now.buds 0 m.ends
   pub index : IsTrue (list_all (λ place. has_role kind.Index m.lebs place.lnum) m.now.places)
@@ -162,8 +184,14 @@ pub record HasNumbers (m : Store) : Type 0 where
   pub both : OfBoth m (AreNumbered m)
   pub synced : IsTrue (are_within m.synced (counts_of m.now.buds))
 
+-- What was committed is whole, and the nodes that were put since carry their changes.
+pub record HasViews (m : Store) : Type 0 where
+  pub committed : OfBoth m (λ f. HasCommitted f.view)
+  pub carried : OfBoth m (λ f. AreCarried f.view)
+
 pub record IsStore (m : Store) : Type 0 where
   pub files : HasFiles m
+  pub views : HasViews m
   -- no two leaves stand at one place, and each node of the index has a place or is dirty
   pub distinct : AreDistinct (map (λ x. x.leaf) m.live)
   pub places : length m.index.places ≡ node_count m.index.shape

@@ -9,3 +9,4 @@ pub mod Passes
 pub mod Recovery
 pub mod Store
 pub mod Worked
+pub mod WorkedRun

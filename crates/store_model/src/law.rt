@@ -5,7 +5,7 @@ ghost use Rattle.fs_model.specs.declared.space.Grant.{Grant as AnyGrant};
 ghost use Rattle.space_sums.specs.Spaces.{IsAfterGroup, IsAfterPage};
 ghost use Rattle.store_model.specs.Backing.{Outside, backing_of};
 ghost use Rattle.store_model.specs.Events.{after, Begin, credit, Drop, Free, granted, nodes_len, Open, Put, Putting, Start, Sync};
-ghost use Rattle.store_model.specs.Invariant.{HasFiles, HasNumbers};
+ghost use Rattle.store_model.specs.Invariant.{HasFiles, HasNumbers, HasViews};
 ghost use Rattle.store_model.specs.Lebs.{IsStoreSettled, lent, space_of};
 ghost use Rattle.store_model.specs.Legal.{IsAllSynced, IsLegalEvent, need_of, nodes_of};
 ghost use Rattle.store_model.specs.Store.{Index as AnyIndex, Store as AnyStore};
@@ -13,33 +13,38 @@ ghost use Rattle.store_model.specs.Store.{Index as AnyIndex, Store as AnyStore};
 use leaf_map::{a_change_of_leaves_is_one_of_the_tree, bytes_of_leaves_add_up};
 
 /// A put keeps the files: its leaves show the tree after its changes, and the index has them. It keeps the numbers: those of its
-/// groups are the next ones.
+/// groups are the next ones. What was committed stays whole, and its nodes carry its changes.
 pub fn a_put_keeps_the_files()
     ensures files { (m : AnyStore) (p : Putting) → IsLegalEvent m (Put p) → HasFiles m → HasFiles (after (Put p) m) }
     ensures numbers { (m : AnyStore) (p : Putting) → IsLegalEvent m (Put p) → HasNumbers m → HasNumbers (after (Put p) m) }
+    ensures views { (m : AnyStore) (p : Putting) → IsLegalEvent m (Put p) → HasViews m → HasViews (after (Put p) m) }
 {
     a_change_of_leaves_is_one_of_the_tree();
 }
 
-/// A sync keeps the files and the numbers, and all that was put is synced afterwards. As a backing the store has the tree that
+/// A sync keeps the files, the numbers and what was committed, and all that was put is synced afterwards. As a backing the store has the tree that
 /// it had.
 pub fn a_sync_keeps_the_files()
     ensures files { (m : AnyStore) → HasFiles m → HasFiles (after Sync m) }
     ensures numbers { (m : AnyStore) → HasNumbers m → HasNumbers (after Sync m) }
+    ensures views { (m : AnyStore) → HasViews m → HasViews (after Sync m) }
     ensures synced { (m : AnyStore) → IsAllSynced (after Sync m) }
     ensures tree { (m : AnyStore) (outside : Outside) → (backing_of (after Sync m) outside).tree ≡ (backing_of m outside).tree }
 {}
 
-/// A LEB that is opened at a head keeps the files and the numbers.
+/// A LEB that is opened at a head keeps the files, the numbers and what was committed.
 pub fn an_opened_leb_keeps_the_files()
     ensures numbers { (m : AnyStore) (head lnum : ℕ) → IsLegalEvent m (Open head lnum) → HasNumbers m → HasNumbers (after (Open head lnum) m) }
+    ensures views { (m : AnyStore) (head lnum : ℕ) → IsLegalEvent m (Open head lnum) → HasViews m → HasViews (after (Open head lnum) m) }
     ensures files { (m : AnyStore) (head lnum : ℕ) → IsLegalEvent m (Open head lnum) → HasFiles m → HasFiles (after (Open head lnum) m) }
 {}
 
-/// An inode without a name that is dropped is gone with its blocks, from the leaves as from the files. No number changes.
+/// An inode without a name that is dropped is gone with its blocks, from the leaves as from the files. No number changes, and
+/// nothing that was committed.
 pub fn a_drop_keeps_the_files()
     ensures files { (m : AnyStore) (ino : ℕ) (index : AnyIndex) → IsLegalEvent m (Drop ino index) → HasFiles m → HasFiles (after (Drop ino index) m) }
     ensures numbers { (m : AnyStore) (ino : ℕ) (index : AnyIndex) → IsLegalEvent m (Drop ino index) → HasNumbers m → HasNumbers (after (Drop ino index) m) }
+    ensures views { (m : AnyStore) (ino : ℕ) (index : AnyIndex) → IsLegalEvent m (Drop ino index) → HasViews m → HasViews (after (Drop ino index) m) }
 {
     a_change_of_leaves_is_one_of_the_tree();
 }

@@ -6,22 +6,29 @@
 //! The idea: a commit that runs is a second view beside the first, so what a mount finds is one question of one view.
 #![tactic(auto)]
 
+mod backing;
 mod law;
+mod lebs;
 mod passes;
 mod recovery;
 mod worked;
 
+pub use crate::backing::{
+    a_commits_start_is_a_backings, a_drop_is_a_backings, a_put_is_a_backings, a_sync_is_a_backings,
+    an_opened_leb_is_no_backings,
+};
 pub use crate::law::{
     a_drop_keeps_the_files, a_lent_leb_comes_back, a_put_keeps_the_files,
     a_put_leaves_room_for_a_commit, a_put_spends_what_was_granted, a_sync_comes_first,
     a_sync_keeps_the_files, an_opened_leb_keeps_the_files, bytes_follow_the_leaves,
 };
-pub use crate::passes::a_collection_gains;
-pub use crate::recovery::{
-    a_store_is_recovered, a_worked_store_has_its_leaves, what_fits_is_recovered,
-    what_fits_loses_no_leaf,
+pub use crate::lebs::{
+    a_running_commit_keeps_its_lebs, lebs_are_counted, lebs_keep_what_they_are_for,
 };
+pub use crate::passes::a_collection_gains;
+pub use crate::recovery::{a_store_is_recovered, what_fits_is_recovered, what_fits_loses_no_leaf};
 pub use crate::worked::{
-    a_collection_is_told, a_commit_is_told, a_put_is_told, a_sync_is_told, a_worked_store_is_one,
-    an_orphan_closed_in_a_commit_is_told, worked_runs_are_legal,
+    a_collection_is_told, a_commit_is_told, a_long_run_is_told, a_put_is_told, a_sync_is_told,
+    a_worked_store_is_one, an_orphan_closed_in_a_commit_is_told, cuts_of_a_long_run_are_told,
+    worked_runs_are_legal,
 };

@@ -1,16 +1,17 @@
 // Stores worked by hand: what the events make of them, and what a cut leaves.
 
-ghost use Rattle.std.specs.Prelude.{◌≡◌, ◌∷◌, [], ◌++◌, Some, None, map, length};
+ghost use Rattle.std.specs.Prelude.{◌≡◌, ◌∷◌, [], ◌++◌, Some, None, map, length, take};
 ghost use Rattle.media_lpt.specs.declared.leb_kind.LebKind.TheVariants as kind;
 ghost use Rattle.leaf_map.specs.Recovered.{tree_found};
 ghost use Rattle.leaf_map.specs.Shown.{tree_of};
 ghost use Rattle.leaf_map.specs.Worked.{places};
-ghost use Rattle.store_model.specs.Events.{next_list, run, Sync};
+ghost use Rattle.store_model.specs.Events.{next_list, Offer, run, Sync};
 ghost use Rattle.store_model.specs.Fits.{faces};
 ghost use Rattle.store_model.specs.Invariant.{IsStore};
 ghost use Rattle.store_model.specs.Lebs.{space_of, lent};
 ghost use Rattle.store_model.specs.Legal.{AreLegal};
 ghost use Rattle.store_model.specs.Worked.{all_copied, allowed, am_tree, bb_tree, bud_rows, closed_in_commit, collected, half_collected, left_parts, places_found, put_am, put_root, roles, root_tree, rooted, two_leaves, until_offer, whole_commit};
+ghost use Rattle.store_model.specs.WorkedRun.{collection, collection_rows, copying, first_commit, first_rows, found_am, found_bb, found_last, found_root, found_rows, least, most, rows, run_all, second_commit, second_rows, started, uncopied, unlinked};
 
 /// A group that is put to a LEB just opened: its leaves stand there and show the tree, and a cut leaves it or not.
 pub fn a_put_is_told()
@@ -57,6 +58,26 @@ pub fn an_orphan_closed_in_a_commit_is_told()
     ensures closed { (run closed_in_commit rooted).closed ≡ 65 ∷ [] }
     ensures next { next_list (run closed_in_commit rooted) ≡ 65 ∷ [] }
     ensures found { tree_found (left_parts (run closed_in_commit rooted).now 0 0 (run closed_in_commit rooted).listed) ≡ record root_tree { highest = 65 } }
+{}
+
+/// A long run: a put, a sync, a commit with a put inside, a collection, and a commit in which an orphan is closed. Each state has the
+/// numbers that a simulation gave, and a cut between any two events leaves what it found there. A group or a copy that isn't synced
+/// may be lost.
+pub fn a_long_run_is_told()
+    ensures first { rows first_commit started ≡ first_rows }
+    ensures collected { rows collection (run_all first_commit started) ≡ collection_rows }
+    ensures second { rows second_commit (run_all collection (run_all first_commit started)) ≡ second_rows }
+    ensures found { found_rows first_commit started ≡ (found_am ∷ []) ∷ (found_am ∷ []) ∷ (found_am ∷ []) ∷ (found_bb 0 (20, 0) ∷ []) ∷ (found_bb 0 (20, 0) ∷ []) ∷ (found_bb 1 (20, 0) ∷ []) ∷ [] }
+    ensures found_last { found_rows (collection ++ second_commit) (run_all first_commit started) ≡ (found_bb 1 (21, 0) ∷ []) ∷ (found_last 1 ∷ []) ∷ (found_last 1 ∷ []) ∷ (found_last 1 ∷ []) ∷ (found_last 1 ∷ []) ∷ (found_last 1 ∷ []) ∷ (found_last 2 ∷ []) ∷ [] }
+{}
+
+/// In that run, what a cut leaves where a group or a copy isn't synced, and where either master may be there.
+pub fn cuts_of_a_long_run_are_told()
+    ensures put { map (least (run_all (take 1 first_commit) started)) (faces (run_all (take 1 first_commit) started)) ≡ found_root ∷ [] }
+    ensures inside { map (least (run_all (take 4 first_commit) started)) (faces (run_all (take 4 first_commit) started)) ≡ found_am ∷ [] }
+    ensures offered { map (most (run (Offer ∷ []) (run_all (take 5 first_commit) started))) (faces (run (Offer ∷ []) (run_all (take 5 first_commit) started))) ≡ found_bb 0 (20, 0) ∷ found_bb 1 (20, 0) ∷ [] }
+    ensures copied { map (uncopied (run copying (run_all first_commit started))) (faces (run copying (run_all first_commit started))) ≡ found_bb 1 (20, 0) ∷ [] }
+    ensures unlinked { map (least (run (unlinked ∷ []) (run_all (first_commit ++ collection) started))) (faces (run (unlinked ∷ []) (run_all (first_commit ++ collection) started))) ≡ found_bb 1 (21, 0) ∷ [] }
 {}
 
 /// The events of a put, of a whole commit with a put inside, and of a whole collection meet their conditions.

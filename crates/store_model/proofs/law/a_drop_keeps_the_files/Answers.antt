@@ -2,6 +2,7 @@ use Rattle.std.proofs.Common.{refl}
 use Rattle.store_model.proofs.PutNumbers.{same_numbers}
 use Rattle.store_model.specs.Events.{after, Drop}
 use Rattle.store_model.proofs.Drops.{drop_shows}
+use Rattle.store_model.proofs.Views.{same_views}
 use Rattle.store_model.proofs.law.a_drop_keeps_the_files.Goals as goal
 
 pub returns-clause-files : goal.returns-clause-files
@@ -12,3 +13,6 @@ returns-clause-files c = λ m ino index can has.
 
 pub returns-clause-numbers : goal.returns-clause-numbers
 returns-clause-numbers c = λ m ino index can has. same_numbers m (after (Drop ino index) m) refl refl refl refl has
+
+pub returns-clause-views : goal.returns-clause-views
+returns-clause-views c = λ m ino index can has. same_views m (after (Drop ino index) m) refl refl has

@@ -2,6 +2,7 @@ use Rattle.store_model.specs.Events.{after_part}
 use Rattle.std.specs.Prelude.{fold}
 use Rattle.store_model.proofs.PutNumbers.{paid_numbers, parts_numbers}
 use Rattle.store_model.proofs.Puts.{parts_show, paid_shows}
+use Rattle.store_model.proofs.Views.{put_views}
 use Rattle.store_model.proofs.law.a_put_keeps_the_files.Goals as goal
 
 pub returns-clause-files : goal.returns-clause-files
@@ -12,3 +13,6 @@ returns-clause-files c = λ m p can has.
 
 pub returns-clause-numbers : goal.returns-clause-numbers
 returns-clause-numbers c = λ m p can has. paid_numbers p (fold after_part m p.parts) (parts_numbers p.parts m can.parts has)
+
+pub returns-clause-views : goal.returns-clause-views
+returns-clause-views c = λ m p can has. put_views p m can.parts has

@@ -1,0 +1,52 @@
+// Laws of a store as a backing: its events are what a backing's clauses say of its calls.
+
+ghost use Rattle.std.specs.Prelude.{◌≡◌, ℕ, List, ◌∷◌, []};
+ghost use Rattle.fs_model.specs.declared.backing_answers.Started.TheVariants.{Began};
+ghost use Rattle.fs_model.specs.declared.page_node.PageNode.{PageNode as AnyPage};
+ghost use Rattle.fs_model.specs.Backing.{IsDropped, IsGroupPut, IsPagePut, IsStarted, IsSynced, KeepsCommit, KeepsFiles, page_puts};
+ghost use Rattle.fs_model.specs.Journal.{Leaves};
+ghost use Rattle.store_model.specs.Backing.{Outside, backing_of, journal_of, puts_of};
+ghost use Rattle.store_model.specs.Events.{after, credit, Drop, granted, Open, Part, Put, Putting, Start, Sync};
+ghost use Rattle.store_model.specs.Heads.{changes_of};
+ghost use Rattle.store_model.specs.Invariant.{AreApart, HasNumbers};
+ghost use Rattle.store_model.specs.Legal.{IsLegalEvent};
+ghost use Rattle.store_model.specs.Store.{Index as AnyIndex, Store as AnyStore};
+
+/// A put is a backing's: a group of one head that its grant pays is a group that was put, two groups that a credit pays are a page.
+/// A put's groups stand last in the journal, so a cut keeps what was synced before and leaves whole groups alone.
+pub fn a_put_is_a_backings()
+    ensures group { (m : AnyStore) (p : Putting) (part : Part) (outside : Outside) → p.payment ≡ granted → p.parts ≡ part ∷ []
+        → IsGroupPut (backing_of m outside) (backing_of (after (Put p) m) outside) (changes_of part.group) }
+    ensures page { (m : AnyStore) (p : Putting) (page : AnyPage) (outside : Outside) → IsLegalEvent m (Put p) → p.payment ≡ credit → puts_of p.parts ≡ page_puts page
+        → IsPagePut (backing_of m outside) (backing_of (after (Put p) m) outside) page }
+    ensures cut { (m : AnyStore) (p : Putting) → IsLegalEvent m (Put p) → AreApart m → Leaves (journal_of m) (journal_of (after (Put p) m)) (puts_of p.parts) }
+{}
+
+/// A sync is a backing's: all is synced and nothing is held, the files stay, a commit that runs goes on, and a cut leaves nothing
+/// that it didn't leave before.
+pub fn a_sync_is_a_backings()
+    ensures synced { (m : AnyStore) (outside : Outside) → IsSynced (backing_of (after Sync m) outside) }
+    ensures files { (m : AnyStore) (outside : Outside) → KeepsFiles (backing_of m outside) (backing_of (after Sync m) outside) }
+    ensures commit { (m : AnyStore) → KeepsCommit (journal_of m) (journal_of (after Sync m)) }
+    ensures cut { (m : AnyStore) → HasNumbers m → Leaves (journal_of m) (journal_of (after Sync m)) [] }
+{}
+
+/// A LEB that is opened changes no file, and a cut leaves nothing that it didn't leave before.
+pub fn an_opened_leb_is_no_backings()
+    ensures files { (m : AnyStore) (head lnum : ℕ) (outside : Outside) → KeepsFiles (backing_of m outside) (backing_of (after (Open head lnum) m) outside) }
+    ensures cut { (m : AnyStore) (head lnum : ℕ) → Leaves (journal_of m) (journal_of (after (Open head lnum) m)) [] }
+{}
+
+/// An inode that is dropped is a backing's: it is gone from the tree, at most one more is closed, and the journal is what it was.
+pub fn a_drop_is_a_backings()
+    ensures dropped { (m : AnyStore) (ino : ℕ) (index : AnyIndex) (outside : Outside) → IsDropped (backing_of m outside) (backing_of (after (Drop ino index) m) outside) ino }
+    ensures journal { (m : AnyStore) (ino : ℕ) (index : AnyIndex) → journal_of (after (Drop ino index) m) ≡ journal_of m }
+{}
+
+/// A commit's start is a backing's: it begins on the tree as it is, but for what has no name, with all groups that each head had, none
+/// of its own, and no orphan closed since. All is synced, the files stay, and a cut leaves nothing that it didn't leave before.
+pub fn a_commits_start_is_a_backings()
+    ensures started { (m : AnyStore) (taken : List ℕ) (outside : Outside) → IsLegalEvent m (Start taken) → IsStarted (backing_of m outside) (backing_of (after (Start taken) m) outside) Began }
+    ensures files { (m : AnyStore) (taken : List ℕ) (outside : Outside) → KeepsFiles (backing_of m outside) (backing_of (after (Start taken) m) outside) }
+    ensures cut { (m : AnyStore) (taken : List ℕ) → Leaves (journal_of m) (journal_of (after (Start taken) m)) [] }
+{}

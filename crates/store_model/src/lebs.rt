@@ -1,0 +1,37 @@
+// Laws of LEBs: what each is for.
+
+ghost use Rattle.std.specs.Prelude.{◌≡◌, ◌≤◌, ◌+◌, ℕ};
+ghost use Rattle.store_model.specs.Events.{after, Drop, Open, Put, Putting, Sync};
+ghost use Rattle.store_model.specs.Invariant.{AreApart, IsTaking};
+ghost use Rattle.store_model.specs.Lebs.{space_of};
+ghost use Rattle.store_model.specs.Legal.{IsLegalEvent};
+ghost use Rattle.store_model.specs.Store.{Index as AnyIndex, Store as AnyStore};
+
+/// A put, a LEB that is opened, a sync and an inode that is dropped leave each LEB for one thing. Leaves stand in leaf LEBs and
+/// buds, heads in their last buds, and the committed index in its own LEBs; a LEB without a leaf is empty, or a victim.
+pub fn lebs_keep_what_they_are_for()
+    ensures put { (m : AnyStore) (p : Putting) → IsLegalEvent m (Put p) → AreApart m → AreApart (after (Put p) m) }
+    ensures open { (m : AnyStore) (head lnum : ℕ) → IsLegalEvent m (Open head lnum) → AreApart m → AreApart (after (Open head lnum) m) }
+    ensures sync { (m : AnyStore) → AreApart m → AreApart (after Sync m) }
+    ensures dropped { (m : AnyStore) (ino : ℕ) (index : AnyIndex) → IsLegalEvent m (Drop ino index) → AreApart m → AreApart (after (Drop ino index) m) }
+{}
+
+/// A commit that runs keeps the LEBs that it took, through each of them, and its index is to stand in these and in those of the
+/// committed one.
+pub fn a_running_commit_keeps_its_lebs()
+    ensures put { (m : AnyStore) (p : Putting) → IsTaking m m.next → IsTaking (after (Put p) m) (after (Put p) m).next }
+    ensures open { (m : AnyStore) (head lnum : ℕ) → IsLegalEvent m (Open head lnum) → AreApart m → IsTaking m m.next → IsTaking (after (Open head lnum) m) (after (Open head lnum) m).next }
+    ensures sync { (m : AnyStore) → IsTaking m m.next → IsTaking (after Sync m) (after Sync m).next }
+    ensures dropped { (m : AnyStore) (ino : ℕ) (index : AnyIndex) → IsTaking m m.next → IsTaking (after (Drop ino index) m) (after (Drop ino index) m).next }
+{}
+
+/// The numbers of admission count roles. A put opens no LEB, a LEB that is opened was empty, a sync empties some, and none of
+/// them changes how many LEBs the index has.
+pub fn lebs_are_counted()
+    ensures put { (m : AnyStore) (p : Putting) → (space_of (after (Put p) m)).empty ≡ (space_of m).empty }
+    ensures opened { (m : AnyStore) (head lnum : ℕ) → IsLegalEvent m (Open head lnum) → AreApart m → (space_of (after (Open head lnum) m)).empty + 1 ≡ (space_of m).empty }
+    ensures opened_index { (m : AnyStore) (head lnum : ℕ) → IsLegalEvent m (Open head lnum) → AreApart m → (space_of (after (Open head lnum) m)).index ≡ (space_of m).index }
+    ensures synced { (m : AnyStore) → (space_of m).empty ≤ (space_of (after Sync m)).empty }
+    ensures synced_index { (m : AnyStore) → (space_of (after Sync m)).index ≡ (space_of m).index }
+    ensures dropped_index { (m : AnyStore) (ino : ℕ) (index : AnyIndex) → (space_of (after (Drop ino index) m)).index ≡ (space_of m).index }
+{}
