@@ -1,6 +1,7 @@
 pub mod After
 pub mod Allowed
 pub mod Follows
+pub mod InOrder
 pub mod Kept
 pub mod LastChange
 pub mod LeafMap

@@ -1,6 +1,6 @@
 // Laws of the definitions: of leaves, and of the trees that they show.
 
-ghost use Rattle.std.specs.Prelude.{◌≡◌, ◌⊎◌, ◌+◌, ℕ, IsTrue, List, Some, false, if◌then◌else◌, map, max, true};
+ghost use Rattle.std.specs.Prelude.{◌≡◌, ◌⊎◌, ◌+◌, ◌++◌, ℕ, IsTrue, List, Some, false, if◌then◌else◌, map, max, true};
 ghost use Rattle.std.specs.BTreeMap.{is_at};
 ghost use Rattle.std.specs.List.{find, list_any};
 ghost use Rattle.std.specs.Map.{lookup};
@@ -20,11 +20,12 @@ ghost use Rattle.fs_model.specs.Recovery.{Head, IsRecovered, KeepsSynced, Number
 ghost use Rattle.leaf_map.specs.Allowed.{AreOriginals, FitsLeaves, FitsTree, HasInode, IsCopied, IsNodeOf, IsOwnNode, IsTouchedIn, LosesNothing};
 ghost use Rattle.leaf_map.specs.After.{Carries, come_by, gone_by, is_gone, is_idle, is_set, kept_after, kept_by, used_by};
 ghost use Rattle.leaf_map.specs.Follows.{block_key_from, last_block_key, with_leaf, without_old};
+ghost use Rattle.leaf_map.specs.InOrder.{Ascends, are_beside, of_number};
 ghost use Rattle.leaf_map.specs.Kept.{Kept, Placed, kept_at, shown_by};
 ghost use Rattle.leaf_map.specs.LastChange.{IsSorted, last_made, makes_block, makes_entry, makes_inode, there};
 ghost use Rattle.leaf_map.specs.LeafMap.{IsLeafMap};
 ghost use Rattle.leaf_map.specs.Parts.{Parts, is_shown};
-ghost use Rattle.leaf_map.specs.Recovered.{committed_highest, is_unlinked, leaves_found, moved, tree_found, without_orphan};
+ghost use Rattle.leaf_map.specs.Recovered.{committed_highest, in_order, is_unlinked, leaves_found, moved, tree_found, without_orphan};
 ghost use Rattle.leaf_map.specs.Shown.{tree_of};
 
 /// The tree of the leaves after a change is the change applied to their tree; they are leaves as an index has them again.
@@ -133,4 +134,12 @@ pub fn what_loses_nothing_fits()
 pub fn what_makes_obsolete_touches()
     ensures { (changes : List AnyChange) (tree : Tree) (x : Kept) → IsSorted tree → HasInode tree (shown_by x) → is_shown (shown_by x) ≡ true → list_any (λ change. is_gone change x) changes ≡ true
         → IsTouchedIn tree changes (shown_by x) }
+{}
+
+/// Nodes in order of number depend on nothing but the nodes that each number has, in their order. So lists that have no number
+/// in common may be joined either way, and an ascending list that has of each number the nodes of two lists is their merge.
+pub fn order_forgets_how_nodes_were_joined()
+    ensures same { (xs ys : List Placed) → ((n : ℕ) → of_number n xs ≡ of_number n ys) → in_order xs ≡ in_order ys }
+    ensures joined { (front xs ys back : List Placed) → are_beside xs ys ≡ true → in_order (front ++ (xs ++ ys) ++ back) ≡ in_order (front ++ (ys ++ xs) ++ back) }
+    ensures merged { (xs ys zs : List Placed) → Ascends 0 zs → ((n : ℕ) → of_number n zs ≡ of_number n xs ++ of_number n ys) → in_order (xs ++ ys) ≡ zs }
 {}

@@ -14,8 +14,8 @@ pub use crate::law::{
     a_change_of_leaves_is_one_of_the_tree, a_copy_changes_no_tree,
     a_mount_finds_what_a_cut_may_leave, bytes_of_leaves_add_up, copied_leaves_are_found,
     found_leaves_are_of_an_index, indexes_follow, leaves_stay_distinct,
-    nodes_of_changes_carry_them, originals_are_found, the_last_change_wins,
-    what_loses_nothing_fits, what_makes_obsolete_touches,
+    nodes_of_changes_carry_them, order_forgets_how_nodes_were_joined, originals_are_found,
+    the_last_change_wins, what_loses_nothing_fits, what_makes_obsolete_touches,
 };
 pub use crate::worked::{
     collections_are_told, leaves_are_told, recovered_space_is_told, recovery_of_leaves_is_told,
