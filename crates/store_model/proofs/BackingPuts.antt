@@ -79,7 +79,7 @@ page_put m p page outside pays by_credit is = record {
 }
 
 -- ---- the heads
-has_last : (buds : List Bud) (head l : ℕ) → last_bud buds head ≡ Some l → has_bud head buds ≡ true
+pub has_last : (buds : List Bud) (head l : ℕ) → last_bud buds head ≡ Some l → has_bud head buds ≡ true
 has_last [] head l e = absurd cc
 has_last (bud ∷ buds) head l e = by (has_last buds head) (last_bud buds head) refl (bud.head == head) e
   where
@@ -88,7 +88,7 @@ has_last (bud ∷ buds) head l e = by (has_last buds head) (last_bud buds head) 
     by rest (Some k) same false e = rest k same
     by rest None same false e = absurd cc
 
-groups_added : (h : ℕ) (group : List Carried) (buds : List Bud) → has_bud h buds ≡ true → groups_of h (with_group h group buds) ≡ groups_of h buds ++ group ∷ []
+pub groups_added : (h : ℕ) (group : List Carried) (buds : List Bud) → has_bud h buds ≡ true → groups_of h (with_group h group buds) ≡ groups_of h buds ++ group ∷ []
 groups_added h group [] has = absurd (false≢true has)
 groups_added h group (bud ∷ buds) has = by (groups_added h group buds) (has_bud h buds) refl (bud.head == h) refl has
   where

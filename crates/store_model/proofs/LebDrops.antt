@@ -25,7 +25,7 @@ dropped_store ino index m = record m {
 }
 
 drop_fewer : (m : Store) (ino : ℕ) (index : Index) → HasFewer m (dropped_store ino index m)
-drop_fewer m ino index = record { lebs = refl; none = none; live = λ test h. all_filter (λ x. test x.leaf.lnum) (λ x. not (is_gone (DropInode ino) x)) m.live h; buds = refl; places = refl; next = refl }
+drop_fewer m ino index = record { lebs = refl; none = none; live = λ test h. all_filter (λ x. test x.leaf.lnum) (λ x. not (is_gone (DropInode ino) x)) m.live h; buds = refl; places = refl; next = refl; moving = refl }
   where
     none : (lnum : ℕ) → (list_any (stands_in lnum) m.live || list_any (stands_in lnum) m.held) ≡ false
         → (list_any (stands_in lnum) (filter (λ x. not (is_gone (DropInode ino) x)) m.live)

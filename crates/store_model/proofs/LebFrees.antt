@@ -12,10 +12,10 @@ use Rattle.store_model.specs.Heads.{counts_of}
 use Rattle.store_model.specs.Invariant.{AreApart, AreAtBuds, is_used}
 use Rattle.store_model.specs.Legal.{are_distinct}
 use Rattle.store_model.specs.Lebs.{freed, has_leaf, is_role, is_victim_of, stands_in, tidied}
-use Rattle.store_model.specs.Store.{At, Bud, Leb, Place, Store}
+use Rattle.store_model.specs.Store.{At, Bud, Leb, Moving, Place, Store}
 use Rattle.store_model.proofs.LebLeaves.{or_none}
 use Rattle.store_model.proofs.LebPuts.{text_rows}
-use Rattle.store_model.proofs.LebRows.{AreRows, Row, all_in, all_weaker, from_rows, has_row, not_more, numbers_kept, row_kept, rows, to_rows, used_kept}
+use Rattle.store_model.proofs.LebRows.{AreRows, Row, all_in, all_weaker, from_rows, has_row, not_more, numbers_kept, row_kept, rows, to_rows, used_kept, victim_row}
 use Rattle.store_model.proofs.RecoveryCopies.{either_of}
 use Rattle.store_model.proofs.RecoveryOrder.{or_left, or_right}
 use Rattle.store_model.proofs.Sorting.{or_false}
@@ -53,43 +53,59 @@ pub keeps_taken : (m : Store) (r : Row) → is_role kind.Taken r.1 ≡ true → 
 keeps_taken m (n, kind.Taken) h = refl
 keeps_taken m (n, role) h = absurd (false≢true h)
 
--- a leaf LEB with a leaf isn't freed
-leaf_stays : (m : Store) (rs : List Row) (lnum : ℕ) → has_leaf m lnum ≡ true → has_row kind.Leaf rs lnum ≡ true → has_row kind.Leaf (map (freed_row m) rs) lnum ≡ true
-leaf_stays m [] lnum leaf h = h
-leaf_stays m (r ∷ rs) lnum leaf h = by (leaf_stays m rs lnum leaf) (either_of ((r.0 == lnum) && is_role kind.Leaf r.1) (has_row kind.Leaf rs lnum) h)
+-- a leaf LEB with a leaf isn't freed, and no victim is
+abbrev is_freed : Store → ℕ → Bool
+is_freed m lnum = not (has_leaf m lnum) && not (is_victim_of m.moving lnum)
+
+leaf_stays : (m : Store) (rs : List Row) (lnum : ℕ) → is_freed m lnum ≡ false → has_row kind.Leaf rs lnum ≡ true → has_row kind.Leaf (map (freed_row m) rs) lnum ≡ true
+leaf_stays m [] lnum stays h = h
+leaf_stays m (r ∷ rs) lnum stays h = by (leaf_stays m rs lnum stays) (either_of ((r.0 == lnum) && is_role kind.Leaf r.1) (has_row kind.Leaf rs lnum) h)
   where
     Rest : Bool
     Rest = has_row kind.Leaf (map (freed_row m) rs) lnum
 
-    gate : (x v : Bool) → (x && not true && not v) ≡ false
-    gate true v = refl
-    gate false v = refl
+    gate : (x a v : Bool) → (not a && not v) ≡ false → (x && not a && not v) ≡ false
+    gate true a v e = e
+    gate false a v e = refl
 
-    same : (a v : Bool) → a ≡ true → (r.0 == lnum) ≡ true → is_role kind.Leaf r.1 ≡ true
-        → (((cond (is_role kind.Leaf r.1 && not a && not v) (r.0, kind.Free) r).0 == lnum) && is_role kind.Leaf (cond (is_role kind.Leaf r.1 && not a && not v) (r.0, kind.Free) r).1) ≡ true
-    same true v e n role =
-        ap (λ (b : Bool). ((cond b (r.0, kind.Free) r).0 == lnum) && is_role kind.Leaf (cond b (r.0, kind.Free) r).1) (gate (is_role kind.Leaf r.1) v)
+    same : (r.0 == lnum) ≡ true → is_role kind.Leaf r.1 ≡ true → (((freed_row m r).0 == lnum) && is_role kind.Leaf (freed_row m r).1) ≡ true
+    same n role =
+        ap (λ (b : Bool). ((cond b (r.0, kind.Free) r).0 == lnum) && is_role kind.Leaf (cond b (r.0, kind.Free) r).1)
+        (gate (is_role kind.Leaf r.1) (has_leaf m r.0) (is_victim_of m.moving r.0) (subst (λ (k : ℕ). is_freed m k ≡ false) (sym (eqb-true r.0 lnum n)) stays))
         ∙ and_from (r.0 == lnum) (is_role kind.Leaf r.1) n role
-    same false v e n role = absurd (false≢true e)
 
     by : (has_row kind.Leaf rs lnum ≡ true → has_row kind.Leaf (map (freed_row m) rs) lnum ≡ true) → (((r.0 == lnum) && is_role kind.Leaf r.1) ≡ true) ⊎ (has_row kind.Leaf rs lnum ≡ true) → has_row kind.Leaf (map (freed_row m) (r ∷ rs)) lnum ≡ true
     by rest (inl e) =
         let p = and_parts (r.0 == lnum) (is_role kind.Leaf r.1) e in
-        or_left (((freed_row m r).0 == lnum) && is_role kind.Leaf (freed_row m r).1) Rest
-        (same (has_leaf m r.0) (is_victim_of m.moving r.0) (subst (λ (n : ℕ). has_leaf m n ≡ true) (sym (eqb-true r.0 lnum p.0)) leaf) p.0 p.1)
+        or_left (((freed_row m r).0 == lnum) && is_role kind.Leaf (freed_row m r).1) Rest (same p.0 p.1)
     by rest (inr e) = or_right (((freed_row m r).0 == lnum) && is_role kind.Leaf (freed_row m r).1) Rest (rest e)
+
+with_leaf : (a v : Bool) → a ≡ true → (not a && not v) ≡ false
+with_leaf true v e = refl
+with_leaf false v e = absurd (false≢true e)
+
+as_victim : (a v : Bool) → v ≡ true → (not a && not v) ≡ false
+as_victim true v e = refl
+as_victim false true e = refl
+as_victim false false e = absurd (false≢true e)
+
+victim_stays : (m : Store) (rs : List Row) (moving : Option Moving) → m.moving ≡ moving → victim_row rs moving ≡ true → victim_row (map (freed_row m) rs) moving ≡ true
+victim_stays m rs None e h = refl
+victim_stays m rs (Some moving) e h =
+    let is : is_victim_of m.moving moving.victim ≡ true = ap (λ (o : Option Moving). is_victim_of o moving.victim) e ∙ eq-eqb moving.victim moving.victim refl in
+    leaf_stays m rs moving.victim (as_victim (has_leaf m moving.victim) (is_victim_of m.moving moving.victim) is) h
 
 -- each live leaf's LEB has a leaf
 one_more : (x : Kept) (all xs : List Kept) → list_all (λ y. list_any (stands_in y.leaf.lnum) all) xs ≡ true → list_all (λ y. list_any (stands_in y.leaf.lnum) (x ∷ all)) xs ≡ true
 one_more x all xs h = all_weaker (λ y. list_any (stands_in y.leaf.lnum) all) (λ y. list_any (stands_in y.leaf.lnum) (x ∷ all)) (λ y e. or_right (x.leaf.lnum == y.leaf.lnum) (list_any (stands_in y.leaf.lnum) all) e) xs h
 
-all_stand : (xs : List Kept) → list_all (λ y. list_any (stands_in y.leaf.lnum) xs) xs ≡ true
+pub all_stand : (xs : List Kept) → list_all (λ y. list_any (stands_in y.leaf.lnum) xs) xs ≡ true
 all_stand [] = refl
 all_stand (x ∷ xs) =
     and_from (list_any (stands_in x.leaf.lnum) (x ∷ xs)) (list_all (λ y. list_any (stands_in y.leaf.lnum) (x ∷ xs)) xs)
     (or_left (x.leaf.lnum == x.leaf.lnum) (list_any (stands_in x.leaf.lnum) xs) (eq-eqb x.leaf.lnum x.leaf.lnum refl)) (one_more x xs xs (all_stand xs))
 
-both_all : {X : Type 0} (p q r : X → Bool) → ((x : X) → p x ≡ true → q x ≡ true → r x ≡ true) → (xs : List X) → list_all p xs ≡ true → list_all q xs ≡ true → list_all r xs ≡ true
+pub both_all : {X : Type 0} (p q r : X → Bool) → ((x : X) → p x ≡ true → q x ≡ true → r x ≡ true) → (xs : List X) → list_all p xs ≡ true → list_all q xs ≡ true → list_all r xs ≡ true
 both_all p q r both [] h g = refl
 both_all p q r both (x ∷ xs) h g =
     let a = and_parts (p x) (list_all p xs) h in
@@ -104,6 +120,7 @@ pub record HasFewer (m k : Store) : Type 0 where
   pub buds : k.now.buds ≡ m.now.buds
   pub places : k.now.places ≡ m.now.places
   pub next : is_some k.next ≡ is_some m.next
+  pub moving : k.moving ≡ m.moving
 
 freed_use : (m k : Store) → HasFewer m k → (r : Row) → is_used m r.0 r.1 ≡ true → is_used (tidied k) (freed_row k r).0 (freed_row k r).1 ≡ true
 freed_use m k f (n, kind.Free) h = not_more (has_leaf m n) (has_leaf k n) (f.none n) h
@@ -129,6 +146,7 @@ tidied_apart m k a f ends = from_rows (tidied k) (subst (AreRows (tidied k)) (sy
       (all_weaker (λ (place : Place). has_row kind.Index rs place.lnum) (λ place. has_row kind.Index new place.lnum) (λ place h. row_kept kind.Index (freed_row k) (freed_number k) (keeps_index k) rs place.lnum h) m.now.places r.index);
   leaves = both_all (λ (x : Kept). has_row kind.Leaf rs x.leaf.lnum || has_row kind.Bud rs x.leaf.lnum) (λ x. list_any (stands_in x.leaf.lnum) k.live) (λ x. has_row kind.Leaf new x.leaf.lnum || has_row kind.Bud new x.leaf.lnum)
       (λ x h g. leaf x h g) k.live (f.live (λ n. has_row kind.Leaf rs n || has_row kind.Bud rs n) r.leaves) (all_stand k.live);
+  victim = victim_stays k rs k.moving refl (ap (victim_row rs) f.moving ∙ r.victim);
 })) ends
   where
     rs : List Row
@@ -147,7 +165,7 @@ tidied_apart m k a f ends = from_rows (tidied k) (subst (AreRows (tidied k)) (sy
         by : (has_row kind.Leaf rs x.leaf.lnum ≡ true) ⊎ (has_row kind.Bud rs x.leaf.lnum ≡ true) → (has_row kind.Leaf new x.leaf.lnum || has_row kind.Bud new x.leaf.lnum) ≡ true
         by (inl e) =
             or_left (has_row kind.Leaf new x.leaf.lnum) (has_row kind.Bud new x.leaf.lnum)
-            (leaf_stays k rs x.leaf.lnum (or_left (list_any (stands_in x.leaf.lnum) k.live) (list_any (stands_in x.leaf.lnum) k.held) g) e)
+            (leaf_stays k rs x.leaf.lnum (with_leaf (has_leaf k x.leaf.lnum) (is_victim_of k.moving x.leaf.lnum) (or_left (list_any (stands_in x.leaf.lnum) k.live) (list_any (stands_in x.leaf.lnum) k.held) g)) e)
         by (inr e) = or_right (has_row kind.Leaf new x.leaf.lnum) (has_row kind.Bud new x.leaf.lnum) (row_kept kind.Bud (freed_row k) (freed_number k) (keeps_bud k) rs x.leaf.lnum e)
 
 -- ---- a sync
@@ -159,7 +177,7 @@ pub all_padded : (geo : RawGeometry) (lebs : List Leb) (ends : List (Option At))
 all_padded geo lebs [] = refl
 all_padded geo lebs (at ∷ ends) = all_padded geo (padded geo lebs at) ends ∙ padded_rows geo lebs at
 
-filled_ends : (geo : RawGeometry) (buds : List Bud) (k : ℕ) (ends : List (Option At)) → AreAtBuds buds k ends → AreAtBuds buds k (map (option_map (filled_up geo)) ends)
+pub filled_ends : (geo : RawGeometry) (buds : List Bud) (k : ℕ) (ends : List (Option At)) → AreAtBuds buds k ends → AreAtBuds buds k (map (option_map (filled_up geo)) ends)
 filled_ends geo buds k [] are = tt
 filled_ends geo buds k (None ∷ ends) are = filled_ends geo buds (k + 1) ends are
 filled_ends geo buds k (Some at ∷ ends) are = (are.0, filled_ends geo buds (k + 1) ends are.1)
@@ -181,6 +199,7 @@ sync_fewer m = record {
   buds = refl;
   places = refl;
   next = refl;
+  moving = refl;
 }
 
 pub sync_apart : (m : Store) → AreApart m → AreApart (sync m)

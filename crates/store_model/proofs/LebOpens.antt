@@ -15,7 +15,7 @@ use Rattle.store_model.specs.Legal.{are_distinct}
 use Rattle.store_model.specs.Store.{At, Bud, Leb, Moving, Place, Store}
 use Rattle.store_model.proofs.LebFrees.{padded_rows}
 use Rattle.store_model.proofs.LebPuts.{other_leb, some_map}
-use Rattle.store_model.proofs.LebRows.{AreRows, Row, Uses, all_in, all_weaker, from_rows, has_row, numbers_kept, numbers_of, role_row, rows, to_rows, used_follows, used_kept}
+use Rattle.store_model.proofs.LebRows.{AreRows, Row, Uses, all_in, all_weaker, from_rows, has_row, numbers_kept, numbers_of, role_row, rows, to_rows, used_follows, used_kept, victim_row}
 use Rattle.store_model.proofs.RecoveryCopies.{either_of}
 use Rattle.store_model.proofs.RecoveryOrder.{or_left, or_right}
 
@@ -87,7 +87,7 @@ later_ends head lnum k buds (Some at ∷ ends) below are = (last_open head lnum 
     is_other : (a b : ℕ) → a < b → (a == b) ≡ false
     is_other a b h = grind (arith)
 
-open_ends : (head lnum k i : ℕ) (at : At) (buds : List Bud) (ends : List (Option At)) → head ≡ k + i → at.lnum ≡ lnum → AreAtBuds buds k ends
+pub open_ends : (head lnum k i : ℕ) (at : At) (buds : List Bud) (ends : List (Option At)) → head ≡ k + i → at.lnum ≡ lnum → AreAtBuds buds k ends
     → AreAtBuds (buds ++ new_bud head lnum 0 ∷ []) k (changed_end i (λ old. Some at) ends)
 open_ends head lnum k i at buds [] same is are = tt
 open_ends head lnum k zero at buds (old ∷ ends) same is are = (last_open head lnum k buds ∙ rw (here head k (omega (arith, same))) (ap Some (sym is)), later_ends head lnum (k + 1) buds ends (omega (arith, same)) (tail old are))
@@ -127,6 +127,7 @@ open_apart m head lnum empty a = from_rows k (subst (AreRows k) (sym (open_lebs 
       (and_from (has_row kind.Bud new lnum) true (opened_bud kind.Free lnum rs free) refl);
   index = all_weaker (λ (place : Place). has_row kind.Index rs place.lnum) (λ place. has_row kind.Index new place.lnum) (λ place h. open_keeps kind.Index lnum place.lnum rs r.numbers free refl h) m.now.places r.index;
   leaves = all_weaker (λ (x : Kept). has_row kind.Leaf rs x.leaf.lnum || has_row kind.Bud rs x.leaf.lnum) (λ x. has_row kind.Leaf new x.leaf.lnum || has_row kind.Bud new x.leaf.lnum) leaf m.live r.leaves;
+  victim = opened_victim m.moving r.victim;
 })) (open_ends head lnum 0 head (record { lnum = lnum; offs = 0; written = 0 }) m.now.buds m.ends (omega arith) refl a.ends)
   where
     k : Store
@@ -143,6 +144,14 @@ open_apart m head lnum empty a = from_rows k (subst (AreRows k) (sym (open_lebs 
 
     free : has_row kind.Free rs lnum ≡ true
     free = sym (role_row kind.Free m.lebs lnum) ∙ empty
+
+    opened_victim : (moving : Option Moving) → victim_row rs moving ≡ true → victim_row new (option_map (opened_for head) moving) ≡ true
+    opened_victim None h = refl
+    opened_victim (Some moving) h = by (head == 0)
+      where
+        by : (b : Bool) → has_row kind.Leaf new (cond b (record moving { opened = true }) moving).victim ≡ true
+        by true = open_keeps kind.Leaf lnum moving.victim rs r.numbers free refl h
+        by false = open_keeps kind.Leaf lnum moving.victim rs r.numbers free refl h
 
     uses : (n : ℕ) (role : LebKind) → Uses m k n role
     uses n role = record {

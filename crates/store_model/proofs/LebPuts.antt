@@ -153,6 +153,7 @@ part_apart m part is a = by (end_at m.ends part.head) refl is.fits
           buds = buds_pass (λ b. has_row kind.Bud rs b.lnum) (λ b groups. refl) part.head part.group m.now.buds ∙ r.buds;
           index = r.index;
           leaves = group_all (λ n. has_row kind.Leaf rs n || has_row kind.Bud rs n) at.lnum part.group held in_leb (or_right (has_row kind.Leaf rs at.lnum) (has_row kind.Bud rs at.lnum) bud) r.leaves;
+          victim = r.victim;
         }))
         (ends_go_on m.now.buds k.now.buds 0 part.head (moved_on m.geo (nodes_len (map (λ c. c.placed) part.group))) m.ends (λ n. last_put n part.head part.group m.now.buds) (λ at. refl) a.ends)
 
@@ -168,5 +169,5 @@ put_apart p m are a = by p.payment (parts_apart p.parts m are a)
     end = fold after_part m p.parts
 
     by : (payment : Payment) → AreApart end → AreApart (record (paid payment end) { index = p.index })
-    by credit a = record { numbers = a.numbers; used = a.used; buds = a.buds; ends = a.ends; index = a.index; leaves = a.leaves }
-    by granted a = record { numbers = a.numbers; used = a.used; buds = a.buds; ends = a.ends; index = a.index; leaves = a.leaves }
+    by credit a = record { numbers = a.numbers; used = a.used; buds = a.buds; ends = a.ends; index = a.index; leaves = a.leaves; victim = a.victim }
+    by granted a = record { numbers = a.numbers; used = a.used; buds = a.buds; ends = a.ends; index = a.index; leaves = a.leaves; victim = a.victim }

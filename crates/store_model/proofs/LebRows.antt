@@ -1,14 +1,14 @@
 -- What LEBs are for is a matter of their numbers and roles alone.
-use Rattle.std.proofs.Common.{◌≡◌, ℕ, Bool, true, false, not, List, [], ◌∷◌, map, refl, sym, ap, subst, ◌∙◌, inl, inr, ◌⊎◌}
+use Rattle.std.proofs.Common.{Option, Some, None, ◌≡◌, ℕ, Bool, true, false, not, List, [], ◌∷◌, map, refl, sym, ap, subst, ◌∙◌, inl, inr, ◌⊎◌}
 use Rattle.std.specs.Prelude.{◌==◌, ◌&&◌, ◌||◌, is_some}
 use Rattle.std.specs.List.{AllByRecursion, list_all, list_any}
 use Rattle.std.proofs.lemmas.Bool.{and_parts, and_from, eqb-true, eq-eqb, false≢true}
 use Rattle.media_lpt.specs.declared.leb_kind.LebKind.{LebKind}
 use Rattle.media_lpt.specs.declared.leb_kind.LebKind.TheVariants as kind
-use Rattle.store_model.specs.Invariant.{AreApart, AreAtBuds, is_used}
+use Rattle.store_model.specs.Invariant.{AreApart, AreAtBuds, has_victim, is_used}
 use Rattle.store_model.specs.Lebs.{has_leaf, has_role, is_role, is_victim_of}
 use Rattle.store_model.specs.Legal.{are_distinct}
-use Rattle.store_model.specs.Store.{Leb, Store}
+use Rattle.store_model.specs.Store.{Leb, Moving, Store}
 use Rattle.store_model.proofs.RecoveryCopies.{either_of, not_true}
 use Rattle.store_model.proofs.RecoveryOrder.{or_left, or_right}
 
@@ -25,12 +25,18 @@ has_row role rs lnum = list_any (λ r. (r.0 == lnum) && is_role role r.1) rs
 abbrev pub numbers_of : List Row → List ℕ
 numbers_of rs = map (λ r. r.0) rs
 
+-- a collection's victim, among the rows
+abbrev pub victim_row : List Row → Option Moving → Bool
+victim_row rs None = true
+victim_row rs (Some moving) = has_row kind.Leaf rs moving.victim
+
 pub record AreRows (m : Store) (rs : List Row) : Type 0 where
   pub numbers : are_distinct (numbers_of rs) ≡ true
   pub used : list_all (λ r. is_used m r.0 r.1) rs ≡ true
   pub buds : list_all (λ bud. has_row kind.Bud rs bud.lnum) m.now.buds ≡ true
   pub index : list_all (λ place. has_row kind.Index rs place.lnum) m.now.places ≡ true
   pub leaves : list_all (λ x. has_row kind.Leaf rs x.leaf.lnum || has_row kind.Bud rs x.leaf.lnum) m.live ≡ true
+  pub victim : victim_row rs m.moving ≡ true
 
 pub role_row : (role : LebKind) (lebs : List Leb) (lnum : ℕ) → has_role role lebs lnum ≡ has_row role (rows lebs) lnum
 role_row role [] lnum = refl
@@ -48,6 +54,10 @@ pub all_same : {X : Type 0} (p q : X → Bool) → ((x : X) → p x ≡ q x) →
 all_same p q same [] = refl
 all_same p q same (x ∷ xs) = ap (λ b. b && list_all p xs) (same x) ∙ ap (λ b. q x && b) (all_same p q same xs)
 
+row_victim : (lebs : List Leb) (moving : Option Moving) → has_victim lebs moving ≡ victim_row (rows lebs) moving
+row_victim lebs None = refl
+row_victim lebs (Some moving) = role_row kind.Leaf lebs moving.victim
+
 pub to_rows : (m : Store) → AreApart m → AreRows m (rows m.lebs)
 to_rows m a = record {
   numbers = ap are_distinct (sym (row_numbers m.lebs)) ∙ a.numbers;
@@ -57,6 +67,7 @@ to_rows m a = record {
   leaves = sym (all_same (λ x. has_role kind.Leaf m.lebs x.leaf.lnum || has_role kind.Bud m.lebs x.leaf.lnum) (λ x. has_row kind.Leaf (rows m.lebs) x.leaf.lnum || has_row kind.Bud (rows m.lebs) x.leaf.lnum)
       (λ x. ap (λ b. b || has_role kind.Bud m.lebs x.leaf.lnum) (role_row kind.Leaf m.lebs x.leaf.lnum) ∙ ap (λ b. has_row kind.Leaf (rows m.lebs) x.leaf.lnum || b) (role_row kind.Bud m.lebs x.leaf.lnum)) m.live)
       ∙ a.leaves;
+  victim = sym (row_victim m.lebs m.moving) ∙ a.victim;
 }
 
 pub from_rows : (m : Store) → AreRows m (rows m.lebs) → AreAtBuds m.now.buds 0 m.ends → AreApart m
@@ -69,6 +80,7 @@ from_rows m a ends = record {
   leaves = all_same (λ x. has_role kind.Leaf m.lebs x.leaf.lnum || has_role kind.Bud m.lebs x.leaf.lnum) (λ x. has_row kind.Leaf (rows m.lebs) x.leaf.lnum || has_row kind.Bud (rows m.lebs) x.leaf.lnum)
       (λ x. ap (λ b. b || has_role kind.Bud m.lebs x.leaf.lnum) (role_row kind.Leaf m.lebs x.leaf.lnum) ∙ ap (λ b. has_row kind.Leaf (rows m.lebs) x.leaf.lnum || b) (role_row kind.Bud m.lebs x.leaf.lnum)) m.live
       ∙ a.leaves;
+  victim = row_victim m.lebs m.moving ∙ a.victim;
 }
 
 -- ---- roles

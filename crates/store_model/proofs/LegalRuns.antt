@@ -1,5 +1,5 @@
 -- The events of a whole commit with a put inside, and of a whole collection, meet their conditions.
-use Rattle.std.proofs.Common.{arith, refl, inl, [], ◌∷◌}
+use Rattle.std.proofs.Common.{arith, refl, inl, inr, [], ◌∷◌}
 use Rattle.ubifs_base.specs.R5.{r5_of}
 use Rattle.index_tree.specs.Order.{key_rank}
 use Rattle.index_tree.specs.Removal.{same_leaf}
@@ -78,7 +78,7 @@ ready = after (Open 0 24) begun
 root_moves : CanMove ready moving_root
 unfolding key_rank r5_of same_leaf
 root_moves = record {
-  live = refl;
+  live = inl refl;
   victim = refl;
   node_is = refl;
   sqnum = refl;
@@ -92,7 +92,7 @@ half = after (Move moving_root) ready
 file_moves : CanMove half moving_file
 unfolding key_rank r5_of same_leaf
 file_moves = record {
-  live = refl;
+  live = inr (inl refl);
   victim = refl;
   node_is = refl;
   sqnum = refl;

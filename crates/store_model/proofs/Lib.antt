@@ -1,10 +1,13 @@
 mod Apart
 mod BackingCalls
+mod BackingEnds
 mod BackingPuts
 mod BackingStarts
 mod Bytes
 mod Drops
+mod EventFiles
 mod Further
+mod LebCollections
 mod LebCounts
 mod LebDrops
 mod LebFrees
@@ -15,6 +18,7 @@ mod LebRows
 mod LebTaking
 mod LegalPut
 mod LegalRuns
+mod Moves
 mod Numbers
 mod Opens
 mod PassSums
@@ -28,6 +32,7 @@ mod RecoveryListed
 mod RecoveryOrder
 mod RecoverySafe
 mod RecoveryTrees
+mod Since
 mod Sorting
 mod Syncs
 mod Views

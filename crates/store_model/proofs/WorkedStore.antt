@@ -74,8 +74,9 @@ is_store = record {
   whole_or_left = (whole, tt);
   orphans = ((refl, tt), tt);
   nameless_are = refl;
-  apart = record { numbers = refl; used = refl; buds = refl; ends = tt; index = refl; leaves = refl };
+  apart = record { numbers = refl; used = refl; buds = refl; ends = tt; index = refl; leaves = refl; victim = refl };
   taking = tt;
+  since = tt;
   weight = (omega arith, tt);
   covered = record { fits = omega arith };
   settled = record { empty = omega arith; index = omega arith };

@@ -1,5 +1,5 @@
 -- What is always so of a store.
-use Rattle.std.specs.Prelude.{◌≡◌, ◌⊎◌, ℕ, ◌+◌, ◌≤◌, ◌==◌, ◌&&◌, ◌||◌, nat_le, IsTrue, not, Bool, true, false, if◌then◌else◌, List, [], ◌∷◌, length, map, Option, Some, None, is_some}
+use Rattle.std.specs.Prelude.{◌≡◌, ◌⊎◌, ℕ, ◌+◌, ◌≤◌, ◌==◌, ◌&&◌, ◌||◌, nat_le, IsTrue, not, Bool, true, false, if◌then◌else◌, List, [], ◌∷◌, ◌++◌, length, map, get_or, Option, Some, None, is_some}
 use Rattle.std.specs.List.{flat_map, list_all, list_any, AllByRecursion}
 use Rattle.std.specs.Option.{option_or}
 use Rattle.std.specs.Ordering.{nat_cmp}
@@ -25,7 +25,7 @@ use Rattle.store_model.specs.Fits.{AreLeft, Faced, faced_now, named_by}
 use Rattle.store_model.specs.Heads.{copies_of, counts_of, groups_of, heads_of, numbered, synced_since}
 use Rattle.store_model.specs.Legal.{are_distinct, IsCarried}
 use Rattle.store_model.specs.Lebs.{has_leaf, has_role, is_among, is_victim_of, IsStoreSettled, space_of, weight_of}
-use Rattle.store_model.specs.Store.{At, Bud, Carried, Item, leaf, branching, gap, Leb, Next, Store, View}
+use Rattle.store_model.specs.Store.{At, Bud, Carried, Item, leaf, branching, gap, Leb, Moving, Next, Store, View}
 
 -- ---- both views
 -- what a running commit's master will lead to, whose list is the one that the medium has then
@@ -140,6 +140,11 @@ is_used m lnum kind.Index = not (has_leaf m lnum)
 is_used m lnum kind.Bud = list_any (λ bud. bud.lnum == lnum) m.now.buds
 is_used m lnum kind.Taken = not (has_leaf m lnum) && is_some m.next
 
+-- the victim of a collection is a leaf LEB
+abbrev pub has_victim : List Leb → Option Moving → Bool
+has_victim lebs None = true
+has_victim lebs (Some moving) = has_role kind.Leaf lebs moving.victim
+
 -- a head stands in its last bud, or has none
 abbrev pub last_bud : List Bud → ℕ → Option ℕ
 last_bud [] head = None
@@ -159,6 +164,7 @@ pub record AreApart (m : Store) : Type 0 where
   pub ends : AreAtBuds m.now.buds 0 m.ends
   pub index : IsTrue (list_all (λ place. has_role kind.Index m.lebs place.lnum) m.now.places)
   pub leaves : IsTrue (list_all (λ x. has_role kind.Leaf m.lebs x.leaf.lnum || has_role kind.Bud m.lebs x.leaf.lnum) m.live)
+  pub victim : IsTrue (has_victim m.lebs m.moving)
 
 -- the LEBs that a running commit took, and where its index is to stand
 abbrev pub IsTaking : Store → Option Next → Type 0
@@ -167,6 +173,24 @@ IsTaking m (Some next) =
     IsTrue (list_all (has_role kind.Taken m.lebs) next.taken)
     × IsTrue (list_all (λ place. has_role kind.Index m.lebs place.lnum || is_among next.taken place.lnum) next.view.places)
     × (next.written ≤ length next.taken)
+
+-- ---- what came since a commit began
+-- of all that a head got these came last, and all before them is synced
+pub record CameSince {X : Type 0} (all last : List X) (synced : ℕ) : Type 0 where
+  pub before : List X
+  pub is : all ≡ before ++ last
+  pub all_synced : length before ≤ synced
+
+-- What the buds of a running commit's view have came since it began, and all before is synced. The open heads stand in its buds too.
+pub record IsSince (m : Store) (view : View) : Type 0 where
+  pub copies : CameSince (copies_of m.now.buds) (copies_of view.buds) (get_or m.synced 0 0)
+  pub base : CameSince (groups_of 1 m.now.buds) (groups_of 1 view.buds) (get_or m.synced 1 0)
+  pub data_nodes : CameSince (groups_of 2 m.now.buds) (groups_of 2 view.buds) (get_or m.synced 2 0)
+  pub ends : AreAtBuds view.buds 0 m.ends
+
+abbrev pub HasSince : Store → Option Next → Type 0
+HasSince m None = Unit {0}
+HasSince m (Some next) = IsSince m next.view
 
 -- ---- the weight
 abbrev pub IsLight : Store → Faced → Type 0
@@ -210,6 +234,8 @@ pub record IsStore (m : Store) : Type 0 where
   -- what each LEB is for
   pub apart : AreApart m
   pub taking : IsTaking m m.next
+  -- what came since a running commit began
+  pub since : HasSince m m.next
   -- the index weighs no more than the views allow
   pub weight : OfBoth m (IsLight m)
   -- what was granted is covered, and a commit has LEBs

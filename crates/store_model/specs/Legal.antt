@@ -3,7 +3,6 @@ use Rattle.std.specs.Prelude.{◌≡◌, ◌⊎◌, ℕ, ◌+◌, ◌<◌, ◌�
 use Rattle.std.specs.List.{flat_map, list_all, list_any, AllByRecursion}
 use Rattle.media_leaf.specs.LeafNode.{IsLeaf}
 use Rattle.media_lpt.specs.declared.leb_kind.LebKind.TheVariants as kind
-use Rattle.index_tree.specs.Removal.{same_leaf}
 use Rattle.index_tree.specs.Shape.{Shape, done, leaf, node, contents, node_count, shape_weight}
 use Rattle.index_tree.specs.Listing.{height}
 use Rattle.fs_model.specs.declared.space.Class.TheVariants.{Removal}
@@ -143,9 +142,14 @@ IfMoving m P = by m.moving
     by None = ⊥
     by (Some moving) = P moving
 
+-- a leaf, with its node and number, is one of these
+abbrev pub IsLeafOf : List Kept → Kept → Type 0
+IsLeafOf [] x = ⊥
+IsLeafOf (first ∷ kept) x = (first ≡ x) ⊎ IsLeafOf kept x
+
 -- The leaf is live and stands in the victim, and the copy is its node with its number, at the end of head 0.
 pub record CanMove (m : Store) (c : Copying) : Type 0 where
-  pub live : IsTrue (list_any (λ x. same_leaf x.leaf c.leaf.leaf) m.live)
+  pub live : IsLeafOf m.live c.leaf
   pub victim : IfMoving m (λ moving. c.leaf.leaf.lnum ≡ moving.victim)
   pub node_is : c.copy.node ≡ c.leaf.node
   pub sqnum : c.copy.sqnum ≡ c.leaf.sqnum

@@ -1,16 +1,16 @@
 // Laws of a store as a backing: its events are what a backing's clauses say of its calls.
 
-ghost use Rattle.std.specs.Prelude.{◌≡◌, ℕ, List, ◌∷◌, []};
+ghost use Rattle.std.specs.Prelude.{◌≡◌, ℕ, List, Some, ◌∷◌, []};
 ghost use Rattle.fs_model.specs.declared.backing_answers.Started.TheVariants.{Began};
 ghost use Rattle.fs_model.specs.declared.page_node.PageNode.{PageNode as AnyPage};
-ghost use Rattle.fs_model.specs.Backing.{IsDropped, IsGroupPut, IsPagePut, IsStarted, IsSynced, KeepsCommit, KeepsFiles, page_puts};
+ghost use Rattle.fs_model.specs.Backing.{IsCommitted, IsDropped, IsGroupPut, IsPagePut, IsStarted, IsSynced, KeepsCommit, KeepsFiles, page_puts};
 ghost use Rattle.fs_model.specs.Journal.{Leaves};
 ghost use Rattle.store_model.specs.Backing.{Outside, backing_of, journal_of, puts_of};
-ghost use Rattle.store_model.specs.Events.{after, credit, Drop, granted, Open, Part, Put, Putting, Start, Sync};
+ghost use Rattle.store_model.specs.Events.{after, credit, Drop, End, granted, Open, Part, Put, Putting, Start, Sync};
 ghost use Rattle.store_model.specs.Heads.{changes_of};
-ghost use Rattle.store_model.specs.Invariant.{AreApart, HasNumbers};
+ghost use Rattle.store_model.specs.Invariant.{AreApart, HasNumbers, HasSince};
 ghost use Rattle.store_model.specs.Legal.{IsLegalEvent};
-ghost use Rattle.store_model.specs.Store.{Index as AnyIndex, Store as AnyStore};
+ghost use Rattle.store_model.specs.Store.{Index as AnyIndex, Next as AnyNext, Store as AnyStore};
 
 /// A put is a backing's: a group of one head that its grant pays is a group that was put, two groups that a credit pays are a page.
 /// A put's groups stand last in the journal, so a cut keeps what was synced before and leaves whole groups alone.
@@ -49,4 +49,10 @@ pub fn a_commits_start_is_a_backings()
     ensures started { (m : AnyStore) (taken : List ℕ) (outside : Outside) → IsLegalEvent m (Start taken) → IsStarted (backing_of m outside) (backing_of (after (Start taken) m) outside) Began }
     ensures files { (m : AnyStore) (taken : List ℕ) (outside : Outside) → KeepsFiles (backing_of m outside) (backing_of (after (Start taken) m) outside) }
     ensures cut { (m : AnyStore) (taken : List ℕ) → Leaves (journal_of m) (journal_of (after (Start taken) m)) [] }
+{}
+
+/// A commit's end is a backing's: what it began on is committed, and of each head those groups stay that came since. The files stay.
+pub fn a_commits_end_is_a_backings()
+    ensures ended { (m : AnyStore) (next : AnyNext) (outside : Outside) → m.next ≡ Some next → HasSince m m.next → IsCommitted (backing_of m outside) (backing_of (after End m) outside) }
+    ensures files { (m : AnyStore) (outside : Outside) → KeepsFiles (backing_of m outside) (backing_of (after End m) outside) }
 {}

@@ -1,16 +1,19 @@
 // Laws of the events: what each keeps of the invariant.
 
-ghost use Rattle.std.specs.Prelude.{◌≡◌, ℕ, ◌+◌, ◌≤◌, List, None, Some};
+ghost use Rattle.std.specs.Prelude.{◌≡◌, ℕ, ◌+◌, ◌≤◌, List, map, None, Some};
+ghost use Rattle.index_tree.specs.Distinct.{AreDistinct};
 ghost use Rattle.fs_model.specs.declared.space.Grant.{Grant as AnyGrant};
 ghost use Rattle.space_sums.specs.Spaces.{IsAfterGroup, IsAfterPage};
 ghost use Rattle.store_model.specs.Backing.{Outside, backing_of};
-ghost use Rattle.store_model.specs.Events.{after, Begin, credit, Drop, Free, granted, nodes_len, Open, Put, Putting, Start, Sync};
+ghost use Rattle.store_model.specs.Events.{after, Begin, credit, Drop, Event, Free, granted, nodes_len, Open, Put, Putting, Start, Sync};
 ghost use Rattle.store_model.specs.Invariant.{HasFiles, HasNumbers, HasViews};
 ghost use Rattle.store_model.specs.Lebs.{IsStoreSettled, lent, space_of};
 ghost use Rattle.store_model.specs.Legal.{IsAllSynced, IsLegalEvent, need_of, nodes_of};
 ghost use Rattle.store_model.specs.Store.{Index as AnyIndex, Store as AnyStore};
 
-use leaf_map::{a_change_of_leaves_is_one_of_the_tree, bytes_of_leaves_add_up};
+use leaf_map::{
+    a_change_of_leaves_is_one_of_the_tree, a_copy_changes_no_tree, bytes_of_leaves_add_up,
+};
 
 /// A put keeps the files: its leaves show the tree after its changes, and the index has them. It keeps the numbers: those of its
 /// groups are the next ones. What was committed stays whole, and its nodes carry its changes.
@@ -47,6 +50,16 @@ pub fn a_drop_keeps_the_files()
     ensures views { (m : AnyStore) (ino : ℕ) (index : AnyIndex) → IsLegalEvent m (Drop ino index) → HasViews m → HasViews (after (Drop ino index) m) }
 {
     a_change_of_leaves_is_one_of_the_tree();
+}
+
+/// Each event keeps the files: a put and a drop change them as told, and all others leave them. A collection's copies stand for the
+/// leaves that they are copies of, under the same keys.
+pub fn each_event_keeps_the_files()
+    ensures { (m : AnyStore) (event : Event) → IsLegalEvent m event → AreDistinct (map (λ x. x.leaf) m.live) → HasFiles m → HasFiles (after event m) }
+{
+    a_copy_changes_no_tree();
+    a_put_keeps_the_files();
+    a_drop_keeps_the_files();
 }
 
 /// A put and a LEB that is opened leave a store from which a commit can start and end.

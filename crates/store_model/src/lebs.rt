@@ -1,8 +1,8 @@
 // Laws of LEBs: what each is for.
 
 ghost use Rattle.std.specs.Prelude.{◌≡◌, ◌≤◌, ◌+◌, ℕ};
-ghost use Rattle.store_model.specs.Events.{after, Drop, Open, Put, Putting, Sync};
-ghost use Rattle.store_model.specs.Invariant.{AreApart, IsTaking};
+ghost use Rattle.store_model.specs.Events.{after, Begin, Drop, Free, Open, Put, Putting, Sync};
+ghost use Rattle.store_model.specs.Invariant.{AreApart, HasSince, IsTaking};
 ghost use Rattle.store_model.specs.Lebs.{space_of};
 ghost use Rattle.store_model.specs.Legal.{IsLegalEvent};
 ghost use Rattle.store_model.specs.Store.{Index as AnyIndex, Store as AnyStore};
@@ -16,6 +16,12 @@ pub fn lebs_keep_what_they_are_for()
     ensures dropped { (m : AnyStore) (ino : ℕ) (index : AnyIndex) → IsLegalEvent m (Drop ino index) → AreApart m → AreApart (after (Drop ino index) m) }
 {}
 
+/// A collection's begin and the freeing of its victim leave each LEB for one thing, too: the victim is a leaf LEB until it is empty.
+pub fn a_collection_keeps_what_lebs_are_for()
+    ensures begun { (m : AnyStore) (victim : ℕ) → IsLegalEvent m (Begin victim) → AreApart m → AreApart (after (Begin victim) m) }
+    ensures freed { (m : AnyStore) → IsLegalEvent m Free → AreApart m → AreApart (after Free m) }
+{}
+
 /// A commit that runs keeps the LEBs that it took, through each of them, and its index is to stand in these and in those of the
 /// committed one.
 pub fn a_running_commit_keeps_its_lebs()
@@ -23,6 +29,14 @@ pub fn a_running_commit_keeps_its_lebs()
     ensures open { (m : AnyStore) (head lnum : ℕ) → IsLegalEvent m (Open head lnum) → AreApart m → IsTaking m m.next → IsTaking (after (Open head lnum) m) (after (Open head lnum) m).next }
     ensures sync { (m : AnyStore) → IsTaking m m.next → IsTaking (after Sync m) (after Sync m).next }
     ensures dropped { (m : AnyStore) (ino : ℕ) (index : AnyIndex) → IsTaking m m.next → IsTaking (after (Drop ino index) m) (after (Drop ino index) m).next }
+{}
+
+/// What came since a running commit began stays told: its buds get what the heads get, and all before is synced.
+pub fn a_running_commit_gets_what_is_put()
+    ensures put { (m : AnyStore) (p : Putting) → IsLegalEvent m (Put p) → AreApart m → HasSince m m.next → HasSince (after (Put p) m) (after (Put p) m).next }
+    ensures open { (m : AnyStore) (head lnum : ℕ) → HasSince m m.next → HasSince (after (Open head lnum) m) (after (Open head lnum) m).next }
+    ensures sync { (m : AnyStore) → HasSince m m.next → HasSince (after Sync m) (after Sync m).next }
+    ensures dropped { (m : AnyStore) (ino : ℕ) (index : AnyIndex) → HasSince m m.next → HasSince (after (Drop ino index) m) (after (Drop ino index) m).next }
 {}
 
 /// The numbers of admission count roles. A put opens no LEB, a LEB that is opened was empty, a sync empties some, and none of

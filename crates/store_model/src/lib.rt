@@ -14,15 +14,17 @@ mod recovery;
 mod worked;
 
 pub use crate::backing::{
-    a_commits_start_is_a_backings, a_drop_is_a_backings, a_put_is_a_backings, a_sync_is_a_backings,
-    an_opened_leb_is_no_backings,
+    a_commits_end_is_a_backings, a_commits_start_is_a_backings, a_drop_is_a_backings,
+    a_put_is_a_backings, a_sync_is_a_backings, an_opened_leb_is_no_backings,
 };
 pub use crate::law::{
     a_drop_keeps_the_files, a_lent_leb_comes_back, a_put_keeps_the_files,
     a_put_leaves_room_for_a_commit, a_put_spends_what_was_granted, a_sync_comes_first,
     a_sync_keeps_the_files, an_opened_leb_keeps_the_files, bytes_follow_the_leaves,
+    each_event_keeps_the_files,
 };
 pub use crate::lebs::{
+    a_collection_keeps_what_lebs_are_for, a_running_commit_gets_what_is_put,
     a_running_commit_keeps_its_lebs, lebs_are_counted, lebs_keep_what_they_are_for,
 };
 pub use crate::passes::a_collection_gains;
