@@ -1,11 +1,10 @@
 -- What was read of LEBs, and of others behind them.
-use Rattle.std.proofs.Common.{◌≡◌, ℕ, max, List, [], ◌∷◌, ◌++◌, map, fold, refl, ap, sym, ◌∙◌, append_assoc, append-nil}
+use Rattle.std.proofs.Common.{◌≡◌, List, [], ◌∷◌, ◌++◌, map, refl, ap, sym, ◌∙◌, append_assoc, append-nil}
 use Rattle.std.proofs.lemmas.List.{map-append}
-use Rattle.std.proofs.lemmas.List.Sums.{fold-append}
 use Rattle.leaf_map.specs.Kept.{Placed}
 use Rattle.journal_scan.specs.Content.{told}
 use Rattle.journal_scan.specs.Gathered.{AreGathered, IsOneMore}
-use Rattle.journal_scan.specs.Journal.{BudRead, copies_in, greatest, nodes_in}
+use Rattle.journal_scan.specs.Journal.{BudRead, copies_in, greatest_in, nodes_in}
 use Rattle.journal_scan.specs.declared.bud_text.BudText.{BudText}
 use Rattle.journal_scan.specs.declared.journal_node.JournalNode.{JournalNode}
 use Rattle.journal_scan.specs.declared.journal_read.JournalRead.{JournalRead}
@@ -14,7 +13,7 @@ pub gathered_none : (read : JournalRead) → AreGathered [] [] read read
 gathered_none read = record {
   of_buds = refl;
   texts = tt;
-  behind = record { nodes = sym (append-nil read.nodes.items); copies = sym (append-nil read.copies.items); tails = sym (append-nil read.tails.items) };
+  behind = record { nodes = sym (append-nil read.nodes.items); copies = sym (append-nil read.copies.items); sqnum = refl; tails = sym (append-nil read.tails.items) };
 }
 
 -- two lists of nodes, one behind the other
@@ -31,21 +30,7 @@ gathered_more bud buds one reads old mid new first rest = record {
   behind = record {
     nodes = joined old.nodes.items mid.nodes.items new.nodes.items _ (nodes_in reads) first.behind.nodes rest.behind.nodes;
     copies = joined old.copies.items mid.copies.items new.copies.items _ (copies_in reads) first.behind.copies rest.behind.copies;
+    sqnum = rest.behind.sqnum ∙ ap (λ n. greatest_in n reads) first.behind.sqnum;
     tails = rest.behind.tails ∙ ap (λ zs. zs ++ map (λ (x : BudRead). x.tail) reads) first.behind.tails ∙ append_assoc old.tails.items (one.tail ∷ []) (map (λ (x : BudRead). x.tail) reads);
   };
 }
-
-greatest_told : (low : ℕ) (xs : List Placed) → fold (λ (n : ℕ) (x : JournalNode). max n x.sqnum) low (map told xs) ≡ fold (λ (n : ℕ) (x : Placed). max n x.sqnum) low xs
-greatest_told low [] = refl
-greatest_told low (x ∷ xs) = greatest_told (max low x.sqnum) xs
-
-greatest_of : (low : ℕ) (nodes : List JournalNode) (xs : List Placed) → nodes ≡ map told xs → fold (λ (n : ℕ) (x : JournalNode). max n x.sqnum) low nodes ≡ fold (λ (n : ℕ) (x : Placed). max n x.sqnum) low xs
-greatest_of low nodes xs is = ap (λ zs. fold (λ (n : ℕ) (x : JournalNode). max n x.sqnum) low zs) is ∙ greatest_told low xs
-
--- the greatest number of copies and nodes
-pub greatest_all : (xs ys : List Placed) (nodes copies : List JournalNode) (sqnum most : ℕ) → nodes ≡ map told xs → copies ≡ map told ys
-    → most ≡ fold (λ (n : ℕ) (x : JournalNode). max n x.sqnum) 0 copies → sqnum ≡ fold (λ (n : ℕ) (x : JournalNode). max n x.sqnum) most nodes → sqnum ≡ greatest (ys ++ xs)
-greatest_all xs ys nodes copies sqnum most nodes_are copies_are most_is sqnum_is =
-    sqnum_is ∙ greatest_of most nodes xs nodes_are
-    ∙ ap (λ (m : ℕ). fold (λ (n : ℕ) (x : Placed). max n x.sqnum) m xs) (most_is ∙ greatest_of 0 copies ys copies_are)
-    ∙ sym (fold-append (λ (n : ℕ) (x : Placed). max n x.sqnum) 0 ys xs)

@@ -3,3 +3,7 @@ pub mod Groups
 pub mod Seen
 pub mod Ordered
 pub mod Gathering
+pub mod Contents
+pub mod Whole
+pub mod Numbers
+pub mod Placing

@@ -1,27 +1,40 @@
 -- What a leaf node says, without its data.
-use Rattle.std.specs.Prelude.{true, false, Option, Some, None}
-use Rattle.media_leaf.specs.LeafNode.{LeafNode}
-use Rattle.fs_model.specs.declared.change.Change.{Change}
-use Rattle.fs_model.specs.declared.change.Change.TheVariants.{SetInode, SetEntry, DropEntry, SetBlock, CutBlocks, DropInode}
-use Rattle.change_nodes.specs.Nodes.{change_of}
+use Rattle.std.specs.Prelude.{ℕ, ◌==◌, not, is_some, true, if◌then◌else◌, max, List, fold}
+use Rattle.media_leaf.specs.LeafNode.{LeafNode, inode, block, entry, truncation}
+use Rattle.media_leaf.specs.declared.dent_node.DentNode.{DentNode}
+use Rattle.media_leaf.specs.declared.ino_node.InoNode.{InoNode}
+use Rattle.change_nodes.specs.Nodes.{bits_of, kind_of_bits}
 use Rattle.leaf_map.specs.Kept.{Placed}
 use Rattle.journal_scan.specs.declared.node_content.NodeContent.{NodeContent}
-use Rattle.journal_scan.specs.declared.node_content.NodeContent.TheVariants.{Inode, Block, Entry, Truncation, Nothing}
+use Rattle.journal_scan.specs.declared.node_content.NodeContent.TheVariants.{Inode, Block, Entry, Truncation, Unknown}
 use Rattle.journal_scan.specs.declared.journal_node.JournalNode.{JournalNode}
 
--- what is told of a change: all but the data, the attributes and the inode that a name stands for
-abbrev pub content_by : Option Change → NodeContent
-content_by None = Nothing
-content_by (Some (SetInode ino inode)) = Inode ino true
-content_by (Some (DropInode ino)) = Inode ino false
-content_by (Some (SetEntry e)) = Entry e.dir e.name true
-content_by (Some (DropEntry dir name)) = Entry dir name false
-content_by (Some (SetBlock ino number bytes)) = Block ino number
-content_by (Some (CutBlocks ino old_size new_size)) = Truncation ino new_size
+-- what is told of an inode's node: its number, and whether it has links
+abbrev pub inode_content : InoNode → NodeContent
+inode_content node = if is_some (kind_of_bits (bits_of node.mode)) then Inode node.ino (not (node.nlink == 0)) else Unknown node.ino (not (node.nlink == 0))
 
--- what is told of a leaf node: of the change that it carries
+-- what is told of an entry's node: its directory and name, and whether an inode stands for the name; of an attribute its inode
+abbrev pub entry_content : DentNode → NodeContent
+entry_content node = if node.attribute then Unknown node.dir true else Entry node.dir node.name (not (node.inum == 0))
+
+-- what is told of a leaf node: all but the data, the attributes and the inode that a name stands for
 abbrev pub content_of : LeafNode → NodeContent
-content_of node = content_by (change_of node)
+content_of (inode node) = inode_content node
+content_of (block node) = Block node.ino node.block
+content_of (entry node) = entry_content node
+content_of (truncation node) = Truncation node.ino node.new_size
+
+-- the inode number of the key of a node of which this is told
+abbrev pub number_told : NodeContent → ℕ
+number_told (Inode ino linked) = ino
+number_told (Block ino number) = ino
+number_told (Entry dir name linked) = dir
+number_told (Truncation ino new_size) = ino
+number_told (Unknown ino linked) = ino
+
+-- the greatest of these numbers, or 0
+abbrev pub highest_told : List JournalNode → ℕ
+highest_told nodes = fold (λ n x. max n (number_told x.content)) 0 nodes
 
 -- what is told of a leaf node where it stands
 abbrev pub told : Placed → JournalNode

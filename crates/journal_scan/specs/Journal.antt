@@ -9,8 +9,8 @@ use Rattle.leb_scan.specs.Text.{IsText, StandsAt, leaf, system, nodes_of}
 use Rattle.leb_scan.specs.declared.found.Found.{Found}
 use Rattle.leb_scan.specs.declared.item.Item.{Item}
 use Rattle.leb_scan.specs.declared.tail.Tail.{Tail}
-use Rattle.leaf_map.specs.Kept.{Placed}
-use Rattle.leaf_map.specs.Recovered.{in_order}
+use Rattle.leaf_map.specs.Kept.{Placed, node_key}
+use Rattle.leaf_map.specs.Recovered.{highest_key, in_order}
 use Rattle.journal_scan.specs.Content.{told}
 use Rattle.journal_scan.specs.declared.bud_text.BudText.{BudText}
 use Rattle.journal_scan.specs.declared.journal_read.JournalRead.{JournalRead}
@@ -37,10 +37,15 @@ abbrev pub AreLeaves : BudText → List Found → List Placed → Type 0
 AreLeaves bud [] nodes = nodes ≡ []
 AreLeaves bud (found ∷ founds) nodes = (own : List Placed) × (rest : List Placed) × IsLeafAt bud found own × AreLeaves bud founds rest × (nodes ≡ own ++ rest)
 
--- a LEB that the log names, with the leaf nodes of its text and its tail
+-- the greatest sequence number of nodes of any kind, or 0
+abbrev pub greatest_found : List Found → ℕ
+greatest_found founds = fold (λ n x. max n x.sqnum) 0 founds
+
+-- a LEB that the log names, with the leaf nodes of its text, the greatest number of all its nodes, and its tail
 pub record BudRead : Type 0 where
   pub bud : BudText
   pub nodes : List Placed
+  pub sqnum : ℕ
   pub tail : Tail
 
 -- They are those of the LEB's text from the offset on that the log names.
@@ -49,6 +54,7 @@ pub record IsBudRead (read : BudRead) : Type 0 where
   pub end : ℕ
   pub text : IsText read.bud.bytes read.bud.from items end read.tail
   pub leaves : AreLeaves read.bud (nodes_of items) read.nodes
+  pub sqnum : read.sqnum ≡ greatest_found (nodes_of items)
 
 -- ---- whole groups
 -- whether no node of these is the last of a group, or a group by itself
@@ -88,9 +94,9 @@ abbrev pub nodes_in : List BudRead → List Placed
 nodes_in [] = []
 nodes_in (x ∷ reads) = if_changes x.bud.head (taken x.bud.head x.nodes) ++ nodes_in reads
 
--- the greatest sequence number of nodes, or 0
-abbrev pub greatest : List Placed → ℕ
-greatest nodes = fold (λ n x. max n x.sqnum) 0 nodes
+-- the greatest sequence number of all nodes of texts, also of those that are dropped, or the one beside them
+abbrev pub greatest_in : ℕ → List BudRead → ℕ
+greatest_in low reads = fold (λ n x. max n x.sqnum) low reads
 
 -- This is what these LEBs say. The nodes are told in order of number; those of one number stay in order of the log, and in one LEB in that of their offsets.
 pub record IsJournalRead (buds : List BudText) (read : JournalRead) : Type 0 where
@@ -99,5 +105,6 @@ pub record IsJournalRead (buds : List BudText) (read : JournalRead) : Type 0 whe
   pub texts : AllByRecursion IsBudRead reads
   pub nodes : read.nodes.items ≡ map told (in_order (nodes_in reads))
   pub copies : read.copies.items ≡ map told (copies_in reads)
-  pub sqnum : read.sqnum ≡ greatest (copies_in reads ++ nodes_in reads)
+  pub highest : read.highest ≡ highest_key 0 (map (λ x. node_key x.node) (in_order (nodes_in reads)))
+  pub sqnum : read.sqnum ≡ greatest_in 0 reads
   pub tails : read.tails.items ≡ map (λ x. x.tail) reads

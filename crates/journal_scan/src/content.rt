@@ -1,42 +1,145 @@
 // What the bytes of a leaf node say.
 
-ghost use Rattle.std.specs.Prelude.{◌≡◌, ℕ, IfOk};
-ghost use Rattle.media_leaf.specs.LeafNode.{LeafNode, IsLeafNode};
-ghost use Rattle.journal_scan.specs.Content.{content_by, content_of};
+ghost use Rattle.std.specs.Prelude.{◌≡◌, ℕ, IfOk, is_some};
+ghost use Rattle.media_leaf.specs.LeafNode.{LeafNode, IsLeafNode, inode, block, entry, truncation};
+ghost use Rattle.media_leaf.specs.declared.data_node.DataNode.{DataNode};
+ghost use Rattle.media_leaf.specs.declared.dent_node.DentNode.{DentNode};
+ghost use Rattle.media_leaf.specs.declared.ino_node.InoNode.{InoNode};
+ghost use Rattle.media_leaf.specs.declared.trun_node.TrunNode.{TrunNode};
+ghost use Rattle.leb_scan.specs.Text.{leaf_type};
+ghost use Rattle.change_nodes.specs.Nodes.{bits_of, kind_of_bits};
+ghost use Rattle.journal_scan.specs.Content.{content_of, inode_content, entry_content};
 
 use crate::node_content::NodeContent;
-use change_nodes::read_change;
-use fs_model::Change;
+use media_leaf::{DentNode, InoNode, TrunNode, one_node};
+use node_fields::u32_at;
 use std::alloc::Global;
-use ubifs_base::Memory;
+use ubifs_base::{Memory, NodeType};
 
-// What a leaf node says, of which the bytes are all.
-pub(crate) fn read_content(alloc: Global, bytes: &[u8]) -> Result<NodeContent, Memory>
-    ensures { IfOk result (λ content. (sqnum group : ℕ) (node : LeafNode) → IsLeafNode bytes.now sqnum group node → content ≡ content_of node) }
+// What a leaf node of a type says, of which the bytes are all.
+pub(crate) fn read_content(
+    alloc: Global,
+    kind: NodeType,
+    bytes: &[u8],
+) -> Result<NodeContent, Memory>
+    ensures { IfOk result (λ content. (sqnum group : ℕ) (node : LeafNode) → IsLeafNode bytes.now sqnum group node → kind ≡ leaf_type node → content ≡ content_of node) }
 {
-    let read = read_change(alloc, bytes)?;
-    Ok(content_by(read))
+    match kind {
+        NodeType::Inode => read_inode(alloc, bytes),
+        NodeType::Data => Ok(read_block(bytes)),
+        NodeType::Entry => read_entry(alloc, bytes),
+        NodeType::Attribute => read_entry(alloc, bytes),
+        NodeType::Truncation => read_truncation(alloc, bytes),
+        _ => Ok(NO_NODE),
+    }
 }
 
-// What is told of a change, without its data.
-fn content_by(read: Option<Change>) -> NodeContent
-    ensures { result ≡ content_by read }
+// Where a node's key stands, and where its two words end.
+const KEY_PLACE: usize = 24;
+
+const KEY_END: usize = 32;
+
+// What is told where there is no node.
+const NO_NODE: NodeContent = NodeContent::Unknown {
+    ino: 0,
+    linked: true,
+};
+
+// What an inode's node says.
+fn read_inode(alloc: Global, bytes: &[u8]) -> Result<NodeContent, Memory>
+    ensures { IfOk result (λ content. (sqnum group : ℕ) (node : InoNode) → IsLeafNode bytes.now sqnum group (inode node) → content ≡ content_of (inode node)) }
 {
-    match read {
-        None => NodeContent::Nothing,
-        Some(Change::SetInode { ino, .. }) => NodeContent::Inode { ino, linked: true },
-        Some(Change::DropInode { ino }) => NodeContent::Inode { ino, linked: false },
-        Some(Change::SetEntry { entry }) => NodeContent::Entry {
-            dir: entry.dir,
-            name: entry.name,
-            linked: true,
-        },
-        Some(Change::DropEntry { dir, name }) => NodeContent::Entry {
-            dir,
-            name,
-            linked: false,
-        },
-        Some(Change::SetBlock { ino, block, .. }) => NodeContent::Block { ino, block },
-        Some(Change::CutBlocks { ino, new_size, .. }) => NodeContent::Truncation { ino, new_size },
+    one_node();
+    let Some(node) = InoNode::decode(alloc, bytes)? else {
+        return Ok(NO_NODE);
+    };
+    Ok(content_of_inode(&node))
+}
+
+fn content_of_inode(node: &InoNode) -> NodeContent
+    ensures { result ≡ inode_content node.now }
+{
+    let ino = node.ino;
+    let linked = node.nlink != 0;
+    if has_kind(node.mode) {
+        NodeContent::Inode { ino, linked }
+    } else {
+        NodeContent::Unknown { ino, linked }
     }
+}
+
+// Whether a mode names a kind.
+fn has_kind(mode: u32) -> bool
+    ensures { result ≡ is_some (kind_of_bits (bits_of mode)) }
+{
+    is_kind(mode / 0o10000 % 0o20 * 0o10000)
+}
+
+fn is_kind(bits: u32) -> bool
+    ensures { result ≡ is_some (kind_of_bits bits) }
+{
+    match bits {
+        0o100000 => true,
+        0o040000 => true,
+        0o120000 => true,
+        0o060000 => true,
+        0o020000 => true,
+        0o010000 => true,
+        0o140000 => true,
+        _ => false,
+    }
+}
+
+// What a block's node says. Its checksum was compared when it was found, and its data stays where it is.
+fn read_block(bytes: &[u8]) -> NodeContent
+    ensures { (sqnum group : ℕ) (node : DataNode) → IsLeafNode bytes.now sqnum group (block node) → result ≡ content_of (block node) }
+{
+    if bytes.len() < KEY_END {
+        return NO_NODE;
+    }
+    NodeContent::Block {
+        ino: u32_at(bytes, KEY_PLACE),
+        block: u32_at(bytes, KEY_PLACE + 4) % (1 << 29),
+    }
+}
+
+// What an entry's node says.
+fn read_entry(alloc: Global, bytes: &[u8]) -> Result<NodeContent, Memory>
+    ensures { IfOk result (λ content. (sqnum group : ℕ) (node : DentNode) → IsLeafNode bytes.now sqnum group (entry node) → content ≡ content_of (entry node)) }
+{
+    one_node();
+    let Some(node) = DentNode::decode(alloc, bytes)? else {
+        return Ok(NO_NODE);
+    };
+    Ok(content_of_entry(node))
+}
+
+fn content_of_entry(node: DentNode) -> NodeContent
+    ensures { result ≡ entry_content node }
+{
+    if node.attribute {
+        return NodeContent::Unknown {
+            ino: node.dir,
+            linked: true,
+        };
+    }
+    NodeContent::Entry {
+        dir: node.dir,
+        name: node.name,
+        linked: node.inum != 0,
+    }
+}
+
+// What a truncation's node says.
+fn read_truncation(alloc: Global, bytes: &[u8]) -> Result<NodeContent, Memory>
+    ensures { IfOk result (λ content. (sqnum group : ℕ) (node : TrunNode) → IsLeafNode bytes.now sqnum group (truncation node) → content ≡ content_of (truncation node)) }
+{
+    one_node();
+    let Some(node) = TrunNode::decode(alloc, bytes)? else {
+        return Ok(NO_NODE);
+    };
+    Ok(NodeContent::Truncation {
+        ino: node.ino,
+        new_size: node.new_size,
+    })
 }

@@ -1,13 +1,13 @@
 // The leaf nodes of one LEB.
 
-ghost use Rattle.std.specs.Prelude.{◌≡◌, ◌≤◌, ◌%◌, ◌^◌, ◌<◌, List, length, map, take, IfOk, IfSome, IfNone};
+ghost use Rattle.std.specs.Prelude.{◌≡◌, ◌<◌, List, map, take, IfOk, IfSome, IfNone};
 ghost use Rattle.std.specs.List.{AllByRecursion};
 ghost use Rattle.media_leaf.specs.LeafNode.{LeafNode};
 ghost use Rattle.media_sys.specs.SystemNode.{SystemNode};
-ghost use Rattle.leb_scan.specs.Text.{AnyNode, StandsAt, leaf, system};
+ghost use Rattle.leb_scan.specs.Text.{StandsAt, leaf, system};
 ghost use Rattle.leaf_map.specs.Kept.{Placed};
 ghost use Rattle.journal_scan.specs.Content.{told};
-ghost use Rattle.journal_scan.specs.Journal.{AreLeaves, IsBudRead, IsReadable, placed_at, taken, whole_groups};
+ghost use Rattle.journal_scan.specs.Journal.{AreLeaves, IsBudRead, IsReadable, greatest_found, placed_at, taken, whole_groups};
 ghost use Rattle.journal_scan.specs.Stands.{HasNode, is_leaf_type};
 
 use crate::bud_text::BudText;
@@ -21,6 +21,7 @@ use ubifs_base::{JournalHead, Memory, NodeType};
 #[derive(Debug, Drop)]
 pub(crate) struct BudNodes {
     pub(crate) nodes: Vec<JournalNode>,
+    pub(crate) sqnum: u64,
     pub(crate) tail: Tail,
 }
 
@@ -37,13 +38,25 @@ const IN_GROUP: u8 = 1;
 // The nodes that a mount takes of a LEB that the log names.
 pub(crate) fn read_bud(alloc: Global, bud: &BudText) -> Result<BudNodes, Memory>
     requires { IsReadable bud.now }
-    ensures { IfOk result (λ r. (nodes : List Placed) × IsBudRead (record { bud = bud.now; nodes = nodes; tail = r.tail }) × (r.nodes.items ≡ map told (taken bud.now.head nodes))) }
+    ensures { IfOk result (λ r. (nodes : List Placed) × IsBudRead (record { bud = bud.now; nodes = nodes; sqnum = r.sqnum; tail = r.tail }) × (r.nodes.items ≡ map told (taken bud.now.head nodes))) }
 {
     let text = scan(alloc, bud.bytes.as_slice(), bud.from)?;
     let tail = text.tail;
+    let sqnum = greatest(&text.nodes);
     let leaves = leaves_of(alloc, bud, text.nodes)?;
     let nodes = whole_of(bud.head, leaves);
-    Ok(BudNodes { nodes, tail })
+    Ok(BudNodes { nodes, sqnum, tail })
+}
+
+// The greatest sequence number of what was found, or 0.
+fn greatest(founds: &[Found]) -> u64
+    ensures { result ≡ greatest_found founds.now }
+{
+    let mut most = 0;
+    for found in founds {
+        most = most.max(found.sqnum);
+    }
+    most
 }
 
 // The nodes of whole groups, or all in the collector's head.
@@ -86,7 +99,7 @@ fn leaf_at(alloc: Global, bud: &BudText, found: Found) -> Result<Option<JournalN
         return Ok(None);
     }
     let bytes = bud.bytes.as_slice().split_at(found.offs as usize).1;
-    let content = read_content(alloc, bytes.split_at(found.len as usize).0)?;
+    let content = read_content(alloc, found.kind, bytes.split_at(found.len as usize).0)?;
     Ok(Some(JournalNode {
         content,
         sqnum: found.sqnum,

@@ -1,10 +1,10 @@
 // All LEBs that a log names.
 
-ghost use Rattle.std.specs.Prelude.{◌≡◌, ℕ, max, fold, List, map, IfOk, OnOk};
+ghost use Rattle.std.specs.Prelude.{◌≡◌, List, map, IfOk, OnOk};
 ghost use Rattle.std.specs.List.{AllByRecursion};
-ghost use Rattle.leaf_map.specs.Kept.{Placed};
-ghost use Rattle.leaf_map.specs.Recovered.{in_order};
-ghost use Rattle.journal_scan.specs.Content.{told};
+ghost use Rattle.leaf_map.specs.Kept.{Placed, node_key};
+ghost use Rattle.leaf_map.specs.Recovered.{highest_key, in_order};
+ghost use Rattle.journal_scan.specs.Content.{highest_told, number_told, told};
 ghost use Rattle.journal_scan.specs.Gathered.{AreGathered, IsOneMore};
 ghost use Rattle.journal_scan.specs.Journal.{BudRead, IsJournalRead, IsReadable};
 
@@ -12,6 +12,7 @@ use crate::bud_text::BudText;
 use crate::journal_node::JournalNode;
 use crate::journal_read::JournalRead;
 use crate::leaves::read_bud;
+use crate::node_content::NodeContent;
 use std::alloc::Global;
 use ubifs_base::{JournalHead, Memory};
 
@@ -24,14 +25,44 @@ pub fn read_journal(alloc: Global, buds: &[BudText]) -> Result<JournalRead, Memo
     let mut read = JournalRead {
         nodes: Vec::new(alloc),
         copies: Vec::new(alloc),
+        highest: 0,
         sqnum: 0,
         tails: Vec::new(alloc),
     };
     gather(alloc, buds, &mut read)?;
-    let most = greatest(&read.copies, 0);
-    read.sqnum = greatest(&read.nodes, most);
     sort_nodes(&mut read.nodes)?;
+    read.highest = highest_in(&read.nodes);
     Ok(read)
+}
+
+// The greatest inode number in the keys of nodes, or 0.
+fn highest_in(nodes: &[JournalNode]) -> u32
+    ensures { (xs : List Placed) → nodes.now ≡ map told xs → result ≡ highest_key 0 (map (λ x. node_key x.node) xs) }
+{
+    highest_told(nodes)
+}
+
+fn highest_told(nodes: &[JournalNode]) -> u32
+    ensures { result ≡ highest_told nodes.now }
+{
+    let mut most = 0;
+    for node in nodes {
+        most = most.max(number_told(&node.content));
+    }
+    most
+}
+
+// The inode number of a node's key.
+fn number_told(content: &NodeContent) -> u32
+    ensures { result ≡ number_told content.now }
+{
+    match content {
+        NodeContent::Inode { ino, .. } => *ino,
+        NodeContent::Block { ino, .. } => *ino,
+        NodeContent::Entry { dir, .. } => *dir,
+        NodeContent::Truncation { ino, .. } => *ino,
+        NodeContent::Unknown { ino, .. } => *ino,
+    }
 }
 
 // Puts what LEBs say behind what was read.
@@ -53,23 +84,13 @@ fn gather_one(alloc: Global, bud: &BudText, read: &mut JournalRead) -> Result<()
     ensures { OnOk result ((one : BudRead) × IsOneMore bud.now one read.old read.new) }
 {
     let mut one = read_bud(alloc, bud)?;
+    read.sqnum = read.sqnum.max(one.sqnum);
     read.tails.push(one.tail)?;
     match bud.head {
         JournalHead::Collector => read.copies.append(&mut one.nodes)?,
         JournalHead::Base | JournalHead::Data => read.nodes.append(&mut one.nodes)?,
     }
     Ok(())
-}
-
-// The greatest sequence number of nodes, and of a number beside them.
-fn greatest(nodes: &[JournalNode], low: u64) -> u64
-    ensures { result ≡ fold (λ (n : ℕ) x. max n x.sqnum) low nodes.now }
-{
-    let mut most = low;
-    for node in nodes {
-        most = most.max(node.sqnum);
-    }
-    most
 }
 
 // Puts nodes in order of number. Those of one number keep their order.

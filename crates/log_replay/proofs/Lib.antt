@@ -1,3 +1,4 @@
+mod Applied
 mod Distinct
 mod Finding
 mod First
@@ -10,3 +11,4 @@ mod Orphans
 mod Rounds
 mod Tests
 mod Things
+mod Places

@@ -1,6 +1,6 @@
 -- What is kept of the leaves that were found is what they show.
 use Rattle.std.proofs.Common.{◌≡◌, ℕ, Bool, true, false, cond, not, List, [], ◌∷◌, ◌++◌, map, append_assoc, append-nil, refl, sym, ap, subst, ◌∙◌, Option, Some, None}
-use Rattle.std.specs.Prelude.{◌==◌}
+use Rattle.std.specs.Prelude.{◌==◌, is_some}
 use Rattle.std.specs.BTreeMap.{is_at}
 use Rattle.std.specs.List.{AllByRecursion, find}
 use Rattle.std.specs.Option.{option_map}
@@ -10,28 +10,29 @@ use Rattle.ubifs_base.specs.R5.{r5_of}
 use Rattle.ubifs_base.specs.declared.key.Key.{Key}
 use Rattle.ubifs_base.specs.declared.key.Key.TheVariants.{Dent}
 use Rattle.media_leaf.specs.LeafNode.{LeafNode, inode, block, entry, truncation}
+use Rattle.media_leaf.specs.declared.dent_node.DentNode.{DentNode}
 use Rattle.media_leaf.specs.declared.ino_node.InoNode.{InoNode}
 use Rattle.index_tree.specs.declared.leaf.Leaf.{Leaf}
 use Rattle.fs_model.specs.declared.change.Change.{Change}
-use Rattle.fs_model.specs.declared.change.Change.TheVariants.{SetInode, SetEntry, SetBlock, DropInode}
+use Rattle.fs_model.specs.declared.change.Change.TheVariants.{SetInode, SetEntry, SetBlock, DropEntry}
 use Rattle.fs_model.specs.declared.inode.Entry.{Entry as AnEntry}
 use Rattle.fs_model.specs.declared.inode.Inode.{Inode as AnInode}
 use Rattle.fs_model.specs.declared.inode.Kind.{Kind}
 use Rattle.fs_model.specs.Files.{name_cmp}
-use Rattle.change_nodes.specs.Nodes.{bits_of, inode_of, kind_of_bits}
+use Rattle.change_nodes.specs.Nodes.{bits_of, inode_of, kind_of_bits, kind_of_type}
 use Rattle.leaf_map.specs.After.{is_inode}
 use Rattle.leaf_map.specs.Kept.{Kept, shown, shown_by}
 use Rattle.leaf_map.specs.LeafMap.{HasKeyOf, IsKeyed}
-use Rattle.journal_scan.specs.Content.{content_by, content_of}
+use Rattle.journal_scan.specs.Content.{content_of}
 use Rattle.journal_scan.specs.declared.node_content.NodeContent.{NodeContent}
-use Rattle.journal_scan.specs.declared.node_content.NodeContent.TheVariants.{Inode, Block, Entry}
+use Rattle.journal_scan.specs.declared.node_content.NodeContent.TheVariants.{Inode, Block, Entry, Unknown}
 use Rattle.journal_scan.specs.declared.journal_node.JournalNode.{JournalNode}
 use Rattle.log_replay.specs.declared.application.Place.{Place}
 use Rattle.log_replay.specs.declared.standing.Standing.{Standing}
 use Rattle.log_replay.specs.Noting.{Notes, NotesBy, Says}
 use Rattle.log_replay.specs.Standing.{is_linked, is_name, leaf_at, links_of, place_of}
 use Rattle.log_replay.specs.Told.{told_leaf}
-use Rattle.log_replay.proofs.OneNode.{linked_node, same_links, same_places}
+use Rattle.log_replay.proofs.OneNode.{same_links, same_places}
 use Rattle.log_replay.proofs.Tests.{key, key_other, key_same, name_here, name_other, number_other, number_same, other_number}
 
 -- ---- what is told of a leaf that shows an inode, a block or a name
@@ -39,20 +40,32 @@ abbrev number_of : Option Change → ℕ
 number_of (Some (SetInode ino set)) = ino
 number_of other = 0
 
-inode_told : (node : InoNode) (ino : ℕ) (set : AnInode) (z : Bool) (k : Option Kind) → (node.nlink == 0) ≡ z → option_map (λ kind. SetInode node.ino (inode_of node kind)) k ≡ Some (SetInode ino set)
-    → content_by (cond z (Some (DropInode node.ino)) (option_map (λ kind. SetInode node.ino (inode_of node kind)) k)) ≡ Inode ino (is_linked (Some (SetInode ino set)))
-inode_told node ino set z None h e = absurd cc
-inode_told node ino set true (Some kind) h e =
-    let bare : false ≡ is_linked (Some (SetInode ino set)) = sym (ap not h) ∙ ap is_linked e in
-    ap (λ (i : ℕ). Inode i false) (ap number_of e) ∙ ap (λ (b : Bool). Inode ino b) bare
-inode_told node ino set false (Some kind) h e =
-    let linked : true ≡ is_linked (Some (SetInode ino set)) = sym (ap not h) ∙ ap is_linked e in
-    ap content_by e ∙ ap (λ (b : Bool). Inode ino b) linked
+inode_told : (node : InoNode) (ino : ℕ) (set : AnInode) (k : Option Kind) → option_map (λ kind. SetInode node.ino (inode_of node kind)) k ≡ Some (SetInode ino set)
+    → cond (is_some k) (Inode node.ino (not (node.nlink == 0))) (Unknown node.ino (not (node.nlink == 0))) ≡ Inode ino (is_linked (Some (SetInode ino set)))
+inode_told node ino set None e = absurd cc
+inode_told node ino set (Some kind) e = ap (λ (i : ℕ). Inode i (not (node.nlink == 0))) (ap number_of e) ∙ ap (λ (b : Bool). Inode ino b) (ap is_linked e)
+
+-- an entry's node shows a name, if anything
+abbrev may_be_name : Option Change → Bool
+may_be_name None = true
+may_be_name (Some (SetEntry e)) = true
+may_be_name (Some (DropEntry dir name)) = true
+may_be_name (Some change) = false
+
+entry_shows : (node : DentNode) (a z : Bool) (k : Option Kind)
+    → may_be_name (cond a None (cond z (Some (DropEntry node.dir node.name)) (option_map (λ kind. SetEntry (record { dir = node.dir; name = node.name; ino = node.inum; kind = kind })) k))) ≡ true
+entry_shows node true z k = refl
+entry_shows node false true k = refl
+entry_shows node false false None = refl
+entry_shows node false false (Some kind) = refl
+
+entry_named : (node : DentNode) (s : Option Change) → shown (entry node) ≡ s → may_be_name s ≡ false → ⊥
+entry_named node s e h = false≢true (sym h ∙ sym (ap may_be_name e) ∙ entry_shows node node.attribute (node.inum == 0) (kind_of_type node.kind))
 
 content_inode : (node : LeafNode) (ino : ℕ) (set : AnInode) → shown node ≡ Some (SetInode ino set) → content_of node ≡ Inode ino (is_linked (Some (SetInode ino set)))
-content_inode (inode node) ino set e = inode_told node ino set (node.nlink == 0) (kind_of_bits (bits_of node.mode)) refl e
+content_inode (inode node) ino set e = inode_told node ino set (kind_of_bits (bits_of node.mode)) e
 content_inode (block node) ino set e = absurd cc
-content_inode (entry node) ino set e = ap content_by e ∙ ap (λ (b : Bool). Inode ino b) (sym (linked_node (entry node) ino set e))
+content_inode (entry node) ino set e = absurd (entry_named node (Some (SetInode ino set)) e refl)
 content_inode (truncation node) ino set e = absurd cc
 
 abbrev is_set_inode : Change → Bool
@@ -67,17 +80,35 @@ no_set : (node : InoNode) (change : Change) (k : Option Kind) → option_map (λ
 no_set node change None e h = absurd cc
 no_set node change (Some kind) e h = false≢true (sym h ∙ sym (ap tested e))
 
+-- the name that is shown
+abbrev name_told : Option Change → NodeContent
+name_told (Some (SetEntry e)) = Entry e.dir e.name true
+name_told other = Unknown 0 true
+
+entry_told : (node : DentNode) (q : AnEntry) (a z : Bool) (k : Option Kind) → (node.inum == 0) ≡ z
+    → cond a None (cond z (Some (DropEntry node.dir node.name)) (option_map (λ kind. SetEntry (record { dir = node.dir; name = node.name; ino = node.inum; kind = kind })) k)) ≡ Some (SetEntry q)
+    → cond a (Unknown node.dir true) (Entry node.dir node.name (not (node.inum == 0))) ≡ Entry q.dir q.name true
+entry_told node q true z k h e = absurd cc
+entry_told node q false true k h e = absurd cc
+entry_told node q false false None h e = absurd cc
+entry_told node q false false (Some kind) h e = ap (λ (b : Bool). Entry node.dir node.name (not b)) h ∙ ap name_told e
+
 content_entry : (node : LeafNode) (q : AnEntry) → shown node ≡ Some (SetEntry q) → content_of node ≡ Entry q.dir q.name true
 content_entry (inode node) q e = absurd (no_set node (SetEntry q) (kind_of_bits (bits_of node.mode)) e refl)
-content_entry (block node) q e = ap content_by e
-content_entry (entry node) q e = ap content_by e
-content_entry (truncation node) q e = ap content_by e
+content_entry (block node) q e = absurd cc
+content_entry (entry node) q e = entry_told node q node.attribute (node.inum == 0) (kind_of_type node.kind) refl e
+content_entry (truncation node) q e = absurd cc
+
+-- the block that is shown
+abbrev block_told : Option Change → NodeContent
+block_told (Some (SetBlock ino number bytes)) = Block ino number
+block_told other = Unknown 0 true
 
 content_block : (node : LeafNode) (ino number : ℕ) (bytes : List ℕ) → shown node ≡ Some (SetBlock ino number bytes) → content_of node ≡ Block ino number
 content_block (inode node) ino number bytes e = absurd (no_set node (SetBlock ino number bytes) (kind_of_bits (bits_of node.mode)) e refl)
-content_block (block node) ino number bytes e = ap content_by e
-content_block (entry node) ino number bytes e = ap content_by e
-content_block (truncation node) ino number bytes e = ap content_by e
+content_block (block node) ino number bytes e = ap block_told e
+content_block (entry node) ino number bytes e = absurd (entry_named node (Some (SetBlock ino number bytes)) e refl)
+content_block (truncation node) ino number bytes e = absurd cc
 
 -- ---- one leaf more
 number_at : (a b : ℕ) → (a == b) ≡ is_at (nat_cmp a) b

@@ -1,10 +1,11 @@
 -- One node makes of an index and its maps those of the leaves after it.
-use Rattle.std.proofs.Common.{◌≡◌, ℕ, Bool, true, false, cond, not, List, refl, sym, ap, subst, ◌∙◌, Option, Some, None}
+use Rattle.std.proofs.Common.{◌≡◌, ℕ, zero, suc, ◌≤◌, arith, Bool, true, false, cond, not, List, refl, sym, ap, subst, ◌∙◌, Option, Some, None}
 use Rattle.std.specs.Prelude.{◌==◌, is_some}
 use Rattle.std.specs.BTreeMap.{BTreeMap, get, is_at}
 use Rattle.std.specs.List.{find}
 use Rattle.std.specs.Option.{MatchOption, option_map}
 use Rattle.std.specs.Ordering.{nat_cmp}
+use Rattle.std.proofs.lemmas.Bool.{false≢true}
 use Rattle.ubifs_base.specs.R5.{r5_of}
 use Rattle.ubifs_base.specs.declared.key.Key.{Key}
 use Rattle.ubifs_base.specs.declared.key.Key.TheVariants.{Ino, Block, Dent}
@@ -26,8 +27,9 @@ use Rattle.leaf_map.specs.After.{Carries, has_inode, is_gone, is_idle, is_inode,
 use Rattle.leaf_map.specs.Follows.{block_key_from, last_block_key, with_leaf, without_old}
 use Rattle.leaf_map.specs.Kept.{Kept, Placed, kept_at, node_key, shown, shown_by}
 use Rattle.leaf_map.specs.LeafMap.{IsLeafMap}
-use Rattle.journal_scan.specs.Content.{content_by, told}
+use Rattle.journal_scan.specs.Content.{content_of, told}
 use Rattle.journal_scan.specs.declared.journal_node.JournalNode.{JournalNode}
+use Rattle.journal_scan.specs.declared.node_content.NodeContent.TheVariants.{Inode as InodeNode, Entry as EntryNode, Unknown}
 use Rattle.log_replay.specs.declared.application.Place.{Place}
 use Rattle.log_replay.specs.declared.standing.Standing.{Standing}
 use Rattle.log_replay.specs.Changes.{CutsBlocks, Does, DoesBy, DropsInode, DropsName, IsOfKey, PutsBlock, SetsBlock, SetsInode, SetsName, first_of, put_over, taken_out}
@@ -94,7 +96,7 @@ linked_inode node ino set true k h e = absurd cc
 linked_inode node ino set false None h e = absurd cc
 linked_inode node ino set false (Some kind) h e = sym (ap is_linked e) ∙ ap not h
 
-pub linked_node : (node : LeafNode) (ino : ℕ) (set : Inode) → change_of node ≡ Some (SetInode ino set) → is_linked (Some (SetInode ino set)) ≡ true
+linked_node : (node : LeafNode) (ino : ℕ) (set : Inode) → change_of node ≡ Some (SetInode ino set) → is_linked (Some (SetInode ino set)) ≡ true
 linked_node (inode node) ino set e = linked_inode node ino set (node.nlink == 0) (kind_of_bits (bits_of node.mode)) refl e
 linked_node (block node) ino set e = absurd cc
 linked_node (entry node) ino set e = linked_entry node ino set node.attribute (node.inum == 0) (kind_of_type node.kind) e
@@ -222,10 +224,51 @@ name_dropped L dir name new kept s t e leaf st d =
     }
 
 -- ---- all of them
+-- what a node does that carries this
+abbrev ByChange : Option Change → Place → Standing → Standing → Type 0
+ByChange None place s t = t ≡ s
+ByChange (Some (SetInode ino set)) place s t = SetsInode ino (leaf_at (Ino ino) place) s t
+ByChange (Some (DropInode ino)) place s t = DropsInode ino s t
+ByChange (Some (SetEntry q)) place s t = SetsName (key q) (leaf_at (Dent q.dir (r5_of q.name)) place) s t
+ByChange (Some (DropEntry dir name)) place s t = DropsName (dir, name) s t
+ByChange (Some (SetBlock ino number bytes)) place s t = SetsBlock ino (leaf_at (Block ino number) place) s t
+ByChange (Some (CutBlocks ino old_size new_size)) place s t = CutsBlocks ino new_size s t
+
+inode_does : (node : InoNode) (place : Place) (s t : Standing) (z : Bool) (k : Option Kind) → DoesBy (cond (is_some k) (InodeNode node.ino (not z)) (Unknown node.ino (not z))) place s t
+    → ByChange (cond z (Some (DropInode node.ino)) (option_map (λ kind. SetInode node.ino (inode_of node kind)) k)) place s t
+inode_does node place s t true (Some kind) d = d
+inode_does node place s t true None d = d
+inode_does node place s t false (Some kind) d = d
+inode_does node place s t false None d = d
+
+entry_does : (node : DentNode) (place : Place) (s t : Standing) (a z : Bool) (k : Option Kind) → is_some k ≡ true → DoesBy (cond a (Unknown node.dir true) (EntryNode node.dir node.name (not z))) place s t
+    → ByChange (cond a None (cond z (Some (DropEntry node.dir node.name)) (option_map (λ kind. SetEntry (record { dir = node.dir; name = node.name; ino = node.inum; kind = kind })) k))) place s t
+entry_does node place s t true z k h d = d
+entry_does node place s t false true k h d = d
+entry_does node place s t false false (Some kind) h d = d
+entry_does node place s t false false None h d = absurd (false≢true h)
+
+-- an entry's node is of a known kind
+known : (k : ℕ) → k ≤ 6 → is_some (kind_of_type k) ≡ true
+known zero h = refl
+known (suc zero) h = refl
+known (suc (suc zero)) h = refl
+known (suc (suc (suc zero))) h = refl
+known (suc (suc (suc (suc zero)))) h = refl
+known (suc (suc (suc (suc (suc zero))))) h = refl
+known (suc (suc (suc (suc (suc (suc zero)))))) h = refl
+known (suc (suc (suc (suc (suc (suc (suc k))))))) h = absurd (omega (arith, h))
+
+does_change : (node : LeafNode) (place : Place) (s t : Standing) → IsLeaf node → DoesBy (content_of node) place s t → ByChange (change_of node) place s t
+does_change (inode node) place s t leaf d = inode_does node place s t (node.nlink == 0) (kind_of_bits (bits_of node.mode)) d
+does_change (block node) place s t leaf d = d
+does_change (entry node) place s t leaf d = entry_does node place s t node.attribute (node.inum == 0) (kind_of_type node.kind) (known node.kind leaf.kind_known) d
+does_change (truncation node) place s t leaf d = d
+
 told_stands : Laws → (new : Placed) (kept : List Kept) (s t : Standing) → IsLeaf new.node → IsFresh kept new → Stands kept s → Does (told new) s t → Stands (kept_after kept new) t
-told_stands L new kept s t leaf fresh st d = by (change_of new.node) refl d
+told_stands L new kept s t leaf fresh st d = by (change_of new.node) refl (does_change new.node (at new) s t leaf d)
   where
-    by : (c : Option Change) → change_of new.node ≡ c → DoesBy (content_by c) (at new) s t → Stands (read c new kept) t
+    by : (c : Option Change) → change_of new.node ≡ c → ByChange c (at new) s t → Stands (read c new kept) t
     by None e m = subst (Stands kept) (sym m) st
     by (Some (SetInode ino set)) e m = inode_set L ino set new kept s t e leaf st m
     by (Some (DropInode ino)) e m = inode_dropped L ino new kept s t e leaf st m

@@ -16,7 +16,7 @@ use Rattle.index_tree.specs.Tree.{shape}
 use Rattle.fs_model.specs.Files.{name_cmp}
 use Rattle.leaf_map.specs.Follows.{last_block_key}
 use Rattle.journal_scan.specs.declared.node_content.NodeContent.{NodeContent}
-use Rattle.journal_scan.specs.declared.node_content.NodeContent.TheVariants.{Inode, Block as BlockNode, Entry, Truncation, Nothing}
+use Rattle.journal_scan.specs.declared.node_content.NodeContent.TheVariants.{Inode, Block as BlockNode, Entry, Truncation, Unknown}
 use Rattle.journal_scan.specs.declared.journal_node.JournalNode.{JournalNode}
 use Rattle.log_replay.specs.declared.application.Place.{Place}
 use Rattle.log_replay.specs.declared.standing.Standing.{Standing}
@@ -108,7 +108,8 @@ DoesBy (BlockNode ino number) place s t = SetsBlock ino (leaf_at (Block ino numb
 DoesBy (Entry dir name true) place s t = SetsName (dir, name) (leaf_at (Dent dir (r5_of name)) place) s t
 DoesBy (Entry dir name false) place s t = DropsName (dir, name) s t
 DoesBy (Truncation ino size) place s t = CutsBlocks ino size s t
-DoesBy Nothing place s t = t ≡ s
+DoesBy (Unknown ino true) place s t = t ≡ s
+DoesBy (Unknown ino false) place s t = DropsInode ino s t
 
 -- what a node makes of them
 abbrev pub Does : JournalNode → Standing → Standing → Type 0
@@ -123,4 +124,4 @@ HasBlockKey node = by node.content
     by (Inode ino linked) = Unit {0}
     by (Entry dir name linked) = Unit {0}
     by (Truncation ino size) = Unit {0}
-    by Nothing = Unit {0}
+    by (Unknown ino linked) = Unit {0}

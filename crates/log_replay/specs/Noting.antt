@@ -8,7 +8,7 @@ use Rattle.index_tree.specs.declared.leaf.Leaf.{Leaf}
 use Rattle.fs_model.specs.Files.{name_cmp}
 use Rattle.leaf_map.specs.Kept.{Kept}
 use Rattle.journal_scan.specs.declared.node_content.NodeContent.{NodeContent}
-use Rattle.journal_scan.specs.declared.node_content.NodeContent.TheVariants.{Inode, Block, Entry, Truncation, Nothing}
+use Rattle.journal_scan.specs.declared.node_content.NodeContent.TheVariants.{Inode, Block, Entry, Truncation, Unknown}
 use Rattle.journal_scan.specs.declared.journal_node.JournalNode.{JournalNode}
 use Rattle.log_replay.specs.Changes.{place_of_node}
 use Rattle.log_replay.specs.declared.application.Place.{Place}
@@ -37,7 +37,7 @@ NotesBy (Entry dir name true) place s t = NotesName (dir, name) (leaf_at (Dent d
 NotesBy (Entry dir name false) place s t = t ≡ s
 NotesBy (Block ino number) place s t = t ≡ s
 NotesBy (Truncation ino size) place s t = t ≡ s
-NotesBy Nothing place s t = t ≡ s
+NotesBy (Unknown ino linked) place s t = t ≡ s
 
 -- what is kept of a leaf
 abbrev pub Notes : JournalNode → Standing → Standing → Type 0

@@ -6,11 +6,13 @@ use Rattle.index_tree.specs.declared.index.Index.{Index}
 use Rattle.index_tree.specs.Distinct.{AreDistinct}
 use Rattle.index_tree.specs.Shape.{contents}
 use Rattle.index_tree.specs.Tree.{shape}
+use Rattle.leaf_map.specs.Allowed.{FitsLeaves}
 use Rattle.leaf_map.specs.Kept.{Kept, Placed}
 use Rattle.leaf_map.specs.LeafMap.{IsLeafMap}
 use Rattle.leaf_map.specs.Parts.{Parts}
 use Rattle.leaf_map.specs.Recovered.{in_order, leaves_found, without_orphan}
 use Rattle.journal_scan.specs.Content.{content_of, told}
+use Rattle.journal_scan.specs.Places.{HavePlaces}
 use Rattle.journal_scan.specs.declared.journal_node.JournalNode.{JournalNode}
 use Rattle.log_replay.specs.Standing.{AreFresh, leaves, names_in}
 
@@ -35,8 +37,17 @@ pub record AreNodesOf (kept : List Kept) (placed : List Placed) (nodes : List Jo
 abbrev pub without_orphans : List Kept → List ℕ → List Kept
 without_orphans kept listed = fold without_orphan kept listed
 
+-- What was read is that of a journal: own nodes and copies are nodes of committed leaves, of which no two are one; and all nodes stand at places of their own, which the log names.
+pub record IsOfJournal (parts : Parts) : Type 0 where
+  pub kept : List Kept
+  pub fits : FitsLeaves parts kept
+  pub distinct : AreDistinct (map (λ c. c.leaf) parts.committed)
+  pub places : HavePlaces parts.named parts.copies parts.nodes
+
 -- This is told of what a mount has read: an index of the leaves that were found, what is said of each, the nodes in order of number, and the list.
 pub record IsToldBy (parts : Parts) (index : Index) (found nodes : List JournalNode) (listed : List ℕ) : Type 0 where
-  pub of_leaves : AreLeavesOf (leaves_found parts) index found
-  pub of_nodes : AreNodesOf (leaves_found parts) (in_order parts.nodes) nodes
+  pub journal : IsOfJournal parts
+  pub in_index : contents (shape index.root) ≡ leaves (leaves_found parts)
+  pub of_leaves : found ≡ map told_leaf (leaves_found parts)
+  pub of_nodes : nodes ≡ map told (in_order parts.nodes)
   pub of_list : listed ≡ parts.listed

@@ -66,7 +66,11 @@ pub(crate) fn apply(alloc: Global, standing: &mut Standing, node: JournalNode) -
             cut_blocks(standing, ino, new_size);
             Ok(())
         }
-        NodeContent::Nothing => Ok(()),
+        NodeContent::Unknown { linked: true, .. } => Ok(()),
+        NodeContent::Unknown { ino, linked: false } => {
+            drop_inode(standing, ino);
+            Ok(())
+        }
     }
 }
 

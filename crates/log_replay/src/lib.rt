@@ -9,10 +9,12 @@
 
 mod application;
 mod index_calls;
+mod laws;
 mod listed;
 mod nodes;
 mod noting;
 mod replay;
 mod standing;
 
+pub use crate::laws::journals_can_be_applied;
 pub use crate::replay::replay_nodes;

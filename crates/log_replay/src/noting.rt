@@ -75,6 +75,6 @@ fn note_leaf(standing: &mut Standing, node: JournalNode) -> Result<(), Memory>
         NodeContent::Entry { linked: false, .. }
         | NodeContent::Block { .. }
         | NodeContent::Truncation { .. }
-        | NodeContent::Nothing => Ok(()),
+        | NodeContent::Unknown { .. } => Ok(()),
     }
 }

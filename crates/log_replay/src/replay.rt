@@ -15,6 +15,7 @@ use crate::nodes::apply_nodes;
 use crate::noting::stand;
 use index_tree::Index;
 use journal_scan::JournalNode;
+use leaf_map::found_leaves_are_of_an_index;
 use std::alloc::Global;
 use ubifs_base::Memory;
 
@@ -33,6 +34,7 @@ pub fn replay_nodes(
     ensures weight { IfOk result (λ made. shape_weight index.fanout (shape made.root) ≤ shape_weight index.fanout (shape index.root) + length nodes.items) }
     ensures fanout { IfOk result (λ made. made.fanout ≡ index.fanout) }
 {
+    found_leaves_are_of_an_index();
     let mut standing = stand(alloc, index, found)?;
     apply_nodes(alloc, &mut standing, nodes)?;
     drop_listed(&mut standing, listed);

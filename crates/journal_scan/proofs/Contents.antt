@@ -1,0 +1,107 @@
+-- What the bytes of a leaf node say.
+use Rattle.std.proofs.Common.{◌≡◌, ℕ, ◌+◌, ◌*◌, ◌%◌, ◌^◌, ◌<◌, ◌≤◌, Bool, true, false, List, length, drop, length-drop, drop-drop, slice_index, Option, Some, None, IfSome, IfNone, Result, Ok, Err, IfOk, sym, ◌∙◌, ap, subst, arith}
+use Rattle.std.specs.Prelude.{if◌then◌else◌}
+use Rattle.byteorder.specs.Endian.{little_number}
+use Rattle.ubifs_base.specs.NodeLaws.{IsBytes}
+use Rattle.ubifs_base.specs.declared.node_type.NodeType.{NodeType}
+use Rattle.ubifs_base.specs.declared.node_type.NodeType.TheVariants as types
+use Rattle.node_fields.specs.FieldLaws.{IsRead, reads_back}
+use Rattle.node_fields.specs.Form.{IsBody}
+use Rattle.node_fields.specs.FormLaws.{body_in}
+use Rattle.media_leaf.specs.Data.{data_fields}
+use Rattle.media_leaf.specs.LeafNode.{LeafNode, inode, block, entry, truncation, leaf_form, IsLeafNode}
+use Rattle.media_leaf.specs.declared.data_node.DataNode.{DataNode}
+use Rattle.media_leaf.specs.declared.dent_node.DentNode.{DentNode}
+use Rattle.media_leaf.specs.declared.ino_node.InoNode.{InoNode}
+use Rattle.media_leaf.specs.declared.trun_node.TrunNode.{TrunNode}
+use Rattle.leb_scan.specs.Text.{leaf_type}
+use Rattle.journal_scan.specs.Content.{content_of}
+use Rattle.journal_scan.specs.declared.node_content.NodeContent.{NodeContent}
+use Rattle.journal_scan.specs.declared.node_content.NodeContent.TheVariants.{Block}
+
+-- bytes are at most one node
+abbrev pub OneNode : Type 0
+OneNode = (bytes : List ℕ) (s1 g1 s2 g2 : ℕ) (n1 n2 : LeafNode) → IsBytes bytes → IsLeafNode bytes s1 g1 n1 → IsLeafNode bytes s2 g2 n2 → (s1 ≡ s2) × (g1 ≡ g2) × (n1 ≡ n2)
+
+-- the bytes are this node
+abbrev pub Are : List ℕ → LeafNode → Type 0
+Are bytes node = (sqnum : ℕ) × (group : ℕ) × IsLeafNode bytes sqnum group node
+
+pub some_is : {X : Type 0} (o : Option X) (x : X) (P : X → Type 0) → o ≡ Some x → IfSome o P → P x
+some_is {X} o x P is h = let Q : Option X → Type 0 = λ r. IfSome r P in subst Q is h
+
+pub none_is : {X : Type 0} (o : Option X) (P : Type 0) → o ≡ None → IfNone o P → P
+none_is {X} o P is h = let Q : Option X → Type 0 = λ r. IfNone r P in subst Q is h
+
+pub ok_map : {X E : Type 0} (r : Result X E) (P Q : X → Type 0) → ((x : X) → P x → Q x) → IfOk r P → IfOk r Q
+ok_map (Ok x) P Q f h = f x h
+ok_map (Err e) P Q f h = tt
+
+-- what is told of the node that was read is told of the one that stands there
+pub told_one : OneNode → (bytes : List ℕ) (content : NodeContent) (read : LeafNode) → IsBytes bytes → Are bytes read → content ≡ content_of read
+    → (sqnum group : ℕ) (node : LeafNode) → IsLeafNode bytes sqnum group node → content ≡ content_of node
+told_one law bytes content read fits h is sqnum group node there = is ∙ ap content_of (law bytes h.0 h.1 sqnum group read node fits h.2 there).2
+
+-- ---- a block's key
+second_word : (n number : ℕ) → n ≡ 1 * 2 ^ 29 + number → number < 2 ^ 29 → n % 2 ^ 29 ≡ number
+second_word n number e h = omega (arith, e, h)
+
+module _ (bytes : List ℕ) (fits : IsBytes bytes) (sqnum group : ℕ) (node : DataNode) (h : IsLeafNode bytes sqnum group (block node)) where
+  body : IsBody leaf_form (slice_index bytes 20) (drop 24 bytes) (block node)
+  body = body_in leaf_form bytes sqnum group (block node) fits h
+
+  fields : IsRead 0 (data_fields node) node.bytes (drop 24 bytes)
+  fields = reads_back 0 (data_fields node) node.bytes (drop 24 bytes) (omega arith) body.spelled
+
+  pub block_long : 32 ≤ length bytes
+  block_long =
+      let long = fields.long in
+      let less = length-drop 24 bytes in
+      omega (arith, long, less)
+
+  pub block_told : (ino second : ℕ) → ino ≡ little_number 4 (drop 24 bytes) → second ≡ little_number 4 (drop 28 bytes) → Block ino (second % 2 ^ 29) ≡ content_of (block node)
+  block_told ino second i s =
+      let first : ino ≡ node.ino = i ∙ fields.numbers.0 in
+      let other : second ≡ 1 * 2 ^ 29 + node.block = s ∙ ap (little_number 4) (sym (drop-drop 4 24 bytes)) ∙ fields.numbers.1.0 in
+      ap (λ a. Block a (second % 2 ^ 29)) first ∙ ap (Block node.ino) (second_word second node.block other body.is.block_fits)
+
+-- ---- the kind of a node
+no_entry : (attribute : Bool) (type : NodeType) → (type ≡ types.Entry → ⊥) → (type ≡ types.Attribute → ⊥) → type ≡ (if attribute then types.Attribute else types.Entry) → ⊥
+no_entry true type e a is = a is
+no_entry false type e a is = e is
+
+-- where only nodes of one kind are told, those of another aren't asked for
+pub of_inode : (bytes : List ℕ) (content : NodeContent) → ((sqnum group : ℕ) (node : InoNode) → IsLeafNode bytes sqnum group (inode node) → content ≡ content_of (inode node))
+    → (sqnum group : ℕ) (node : LeafNode) → IsLeafNode bytes sqnum group node → types.Inode ≡ leaf_type node → content ≡ content_of node
+of_inode bytes content f sqnum group (inode node) h k = f sqnum group node h
+of_inode bytes content f sqnum group (block node) h k = absurd cc
+of_inode bytes content f sqnum group (entry node) h k = absurd (no_entry node.attribute types.Inode (λ e. absurd cc) (λ e. absurd cc) k)
+of_inode bytes content f sqnum group (truncation node) h k = absurd cc
+
+pub of_block : (bytes : List ℕ) (content : NodeContent) → ((sqnum group : ℕ) (node : DataNode) → IsLeafNode bytes sqnum group (block node) → content ≡ content_of (block node))
+    → (sqnum group : ℕ) (node : LeafNode) → IsLeafNode bytes sqnum group node → types.Data ≡ leaf_type node → content ≡ content_of node
+of_block bytes content f sqnum group (inode node) h k = absurd cc
+of_block bytes content f sqnum group (block node) h k = f sqnum group node h
+of_block bytes content f sqnum group (entry node) h k = absurd (no_entry node.attribute types.Data (λ e. absurd cc) (λ e. absurd cc) k)
+of_block bytes content f sqnum group (truncation node) h k = absurd cc
+
+pub of_entry : (bytes : List ℕ) (content : NodeContent) → ((sqnum group : ℕ) (node : DentNode) → IsLeafNode bytes sqnum group (entry node) → content ≡ content_of (entry node))
+    → (sqnum group : ℕ) (node : LeafNode) → IsLeafNode bytes sqnum group node → types.Entry ≡ leaf_type node → content ≡ content_of node
+of_entry bytes content f sqnum group (inode node) h k = absurd cc
+of_entry bytes content f sqnum group (block node) h k = absurd cc
+of_entry bytes content f sqnum group (entry node) h k = f sqnum group node h
+of_entry bytes content f sqnum group (truncation node) h k = absurd cc
+
+pub of_attribute : (bytes : List ℕ) (content : NodeContent) → ((sqnum group : ℕ) (node : DentNode) → IsLeafNode bytes sqnum group (entry node) → content ≡ content_of (entry node))
+    → (sqnum group : ℕ) (node : LeafNode) → IsLeafNode bytes sqnum group node → types.Attribute ≡ leaf_type node → content ≡ content_of node
+of_attribute bytes content f sqnum group (inode node) h k = absurd cc
+of_attribute bytes content f sqnum group (block node) h k = absurd cc
+of_attribute bytes content f sqnum group (entry node) h k = f sqnum group node h
+of_attribute bytes content f sqnum group (truncation node) h k = absurd cc
+
+pub of_truncation : (bytes : List ℕ) (content : NodeContent) → ((sqnum group : ℕ) (node : TrunNode) → IsLeafNode bytes sqnum group (truncation node) → content ≡ content_of (truncation node))
+    → (sqnum group : ℕ) (node : LeafNode) → IsLeafNode bytes sqnum group node → types.Truncation ≡ leaf_type node → content ≡ content_of node
+of_truncation bytes content f sqnum group (inode node) h k = absurd cc
+of_truncation bytes content f sqnum group (block node) h k = absurd cc
+of_truncation bytes content f sqnum group (entry node) h k = absurd (no_entry node.attribute types.Truncation (λ e. absurd cc) (λ e. absurd cc) k)
+of_truncation bytes content f sqnum group (truncation node) h k = f sqnum group node h
