@@ -1,0 +1,201 @@
+//! Times a replay. Without a word it prints how many nodes a replay of three pages and their inodes applies. With a word it
+//! replays a thousand pages and their inodes over an index that has them already, 25 times, and the checksum of the same bytes
+//! in turns with it. Then it prints the weight of the index, the nanoseconds of the best replay and those of the best checksum,
+//! and a sum of the checksums.
+#![tactic(auto)]
+
+ghost use Rattle.std.specs.Prelude.{◌≡◌, IfOk};
+ghost use Rattle.std.specs.List.{AllByRecursion};
+ghost use Rattle.journal_scan.specs.Journal.{IsReadable};
+
+use index_tree::{Index, Leaf};
+use journal_scan::{BudText, JournalNode, NodeContent, read_journal};
+use log_replay::{journals_can_be_applied, replay_nodes};
+use media_leaf::{DataNode, InoNode};
+use std::alloc::Global;
+use std::env;
+use std::time::{Duration, Instant};
+use ubifs_base::{Bytes, JournalHead, Key, Memory, crc32};
+
+/// How many pages there are.
+const MANY: u32 = 1000;
+
+/// How many without a word.
+const FEW: u32 = 3;
+
+/// How often each is done.
+const TURNS: u32 = 25;
+
+/// The bytes of the node of a page.
+const BLOCK: usize = 4144;
+
+/// The bytes of an inode's node.
+const INODE: usize = 160;
+
+/// The most bytes of a text.
+const MOST: usize = 8_388_608;
+
+/// The fanout that `mkfs.ubifs` takes.
+const FANOUT: u32 = 8;
+
+// An index, and what is said of its leaves.
+#[derive(Drop)]
+struct Standing {
+    index: Index,
+    found: Vec<JournalNode>,
+}
+
+fn main(rt: HostRuntime) -> anyhow::Result<()> {
+    let mut words = env::args(&rt)?;
+    words.next();
+    if words.next().is_none() {
+        let buds = buds_of(rt.alloc(), FEW)?;
+        let standing = standing_of(rt.alloc(), FEW)?;
+        println!(rt; "{}", replayed(rt.alloc(), &buds, standing)?)?;
+        return Ok(());
+    }
+    let buds = buds_of(rt.alloc(), MANY)?;
+    let mut weight = 0;
+    let mut ours = Duration::MAX;
+    let mut sum = 0u32;
+    let mut summed = Duration::MAX;
+    for _ in 0..TURNS {
+        let standing = standing_of(rt.alloc(), MANY)?;
+        let start = Instant::now(&rt)?;
+        weight = replayed(rt.alloc(), &buds, standing)?;
+        ours = ours.min(start.elapsed(&rt)?);
+        let start = Instant::now(&rt)?;
+        sum = sum.wrapping_add(checksums(&buds));
+        summed = summed.min(start.elapsed(&rt)?);
+    }
+    println!(rt;
+        "{weight} {} {} {sum:08x}",
+        ours.as_nanos(),
+        summed.as_nanos()
+    )?;
+    Ok(())
+}
+
+// The weight of the index after a replay.
+fn replayed(alloc: Global, buds: &[BudText], standing: Standing) -> Result<u64, Memory>
+    requires { AllByRecursion IsReadable buds.now }
+{
+    journals_can_be_applied();
+    let read = read_journal(alloc, buds)?;
+    let index = replay_nodes(alloc, standing.index, standing.found, read.nodes, &[])?;
+    Ok(index.weight())
+}
+
+// The checksums of the bytes of texts.
+fn checksums(buds: &[BudText]) -> u32 {
+    let mut sum = 0u32;
+    for bud in buds {
+        sum = sum.wrapping_add(crc32(bud.bytes.as_slice()));
+    }
+    sum
+}
+
+// A text of pages, and one of their inodes.
+fn buds_of(alloc: Global, n: u32) -> Result<[BudText; 2], Memory>
+    ensures { IfOk result (λ buds. AllByRecursion IsReadable buds) }
+{
+    let data = bud_of(JournalHead::Data, 20, pages(alloc, n)?);
+    let base = bud_of(JournalHead::Base, 21, inodes(alloc, n)?);
+    Ok([data, base])
+}
+
+fn bud_of(head: JournalHead, lnum: u32, bytes: Vec<u8>) -> BudText
+    ensures { IsReadable result }
+{
+    let mut bytes = bytes;
+    bytes.truncate(MOST);
+    BudText {
+        head,
+        lnum,
+        from: 0,
+        bytes: Bytes::from_vec(bytes),
+    }
+}
+
+// The nodes of so many pages, each the first of its inode.
+fn pages(alloc: Global, n: u32) -> Result<Vec<u8>, Memory> {
+    let mut bytes = Vec::new(alloc);
+    for i in 0..n {
+        let node = DataNode {
+            ino: number(i),
+            block: 0,
+            bytes: Bytes::from_slice(alloc, &[7; 4096])?,
+        };
+        let mut out = [0; BLOCK];
+        node.encode(u64::from(i), 0, &mut out);
+        bytes.extend_from_slice(&out)?;
+    }
+    Ok(bytes)
+}
+
+// The nodes of so many inodes.
+fn inodes(alloc: Global, n: u32) -> Result<Vec<u8>, Memory> {
+    let mut bytes = Vec::new(alloc);
+    for i in 0..n {
+        let node = InoNode {
+            ino: number(i),
+            size: 4096,
+            atime: 1,
+            ctime: 2,
+            mtime: 3,
+            nlink: 1,
+            uid: 1000,
+            gid: 100,
+            mode: 0o100_644,
+            flags: 0,
+            xattr_cnt: 0,
+            xattr_size: 0,
+            xattr_names: 0,
+            bytes: Bytes::from_vec(Vec::new(alloc)),
+        };
+        let mut out = [0; INODE];
+        node.encode(u64::from(i), 0, &mut out);
+        bytes.extend_from_slice(&out)?;
+    }
+    Ok(bytes)
+}
+
+// The number of an inode.
+fn number(i: u32) -> u32 {
+    i.wrapping_add(65)
+}
+
+// An index that has these inodes and pages already, and what is said of its leaves.
+fn standing_of(alloc: Global, n: u32) -> Result<Standing, Memory> {
+    let mut index = Index::new(FANOUT)?;
+    let mut found = Vec::new(alloc);
+    for i in 0..n {
+        let ino = number(i);
+        index.insert(alloc, leaf_at(Key::Ino { ino }, i))?;
+        found.push(told(NodeContent::Inode { ino, linked: true }, i))?;
+        index.insert(alloc, leaf_at(Key::Block { ino, block: 0 }, i))?;
+        found.push(told(NodeContent::Block { ino, block: 0 }, i))?;
+    }
+    Ok(Standing { index, found })
+}
+
+fn leaf_at(key: Key, i: u32) -> Leaf
+    ensures { result.key ≡ key }
+{
+    Leaf {
+        key,
+        lnum: 10,
+        offs: i,
+        len: 160,
+    }
+}
+
+fn told(content: NodeContent, i: u32) -> JournalNode {
+    JournalNode {
+        content,
+        sqnum: 1,
+        lnum: 10,
+        offs: i,
+        len: 160,
+    }
+}
