@@ -1,7 +1,7 @@
 -- An insertion by keys of branches puts the leaf in order among the leaves.
-use Rattle.std.proofs.Common.{◌≡◌, ℕ, ◌+◌, ◌-◌, ◌<◌, ◌≤◌, true, false, List, [], ◌∷◌, ◌++◌, refl, ap, sym, ◌∙◌, subst, arith, inl, inr, append-nil, append_assoc}
-use Rattle.std.specs.Prelude.{Option, Some, ⊤, nat_le, ◌==◌}
-use Rattle.std.proofs.lemmas.Bool.{cases_Bool, leb-true, leb-false, le-leb, lt-leb}
+use Rattle.std.proofs.Common.{◌≡◌, ℕ, ◌+◌, ◌-◌, ◌<◌, ◌≤◌, false, List, [], ◌∷◌, ◌++◌, refl, ap, sym, ◌∙◌, subst, arith, inl, inr, append-nil, append_assoc}
+use Rattle.std.specs.Prelude.{Option, Some, nat_le, ◌==◌}
+use Rattle.std.proofs.lemmas.Bool.{cases_Bool, leb-false, le-leb, lt-leb}
 use Rattle.ubifs_base.specs.declared.key.Key.{Key}
 use Rattle.index_tree.specs.Order.{key_rank, leaf_rank, starts_within, placed}
 use Rattle.index_tree.specs.Shape.{Shape, done, leaf, node, contents, count, lone, front, back, left_half, parted}
@@ -9,10 +9,10 @@ use Rattle.index_tree.specs.declared.leaf.Leaf.{Leaf}
 use Rattle.index_media.specs.Insertion.{starts_by, keyed_parted, lowered, inserted_by_keys, with_leaf_by_keys}
 use Rattle.index_media.specs.KeyedKeys.{key_before, AreKeysBounded}
 use Rattle.index_media.specs.KeyedRow.{KeyedRow, no_more, leaf_in, node_in, bare, all_clean}
-use Rattle.index_media.specs.Keys.{branch_rank, IsAtMost, bound_before, AreBounded}
+use Rattle.index_media.specs.Keys.{branch_rank, bound_before, AreBounded}
 use Rattle.index_media.specs.PlacedRow.{PlacedRow, ended, leaf_at, node_at}
-use Rattle.index_media.proofs.Inserting.{parted_bare}
-use Rattle.index_media.proofs.Ordered.{AreAtMost, most_append, most_weaken, lower_at_most}
+use Rattle.index_media.specs.InsertionLaws.{parted_bare}
+use Rattle.index_media.specs.KeyedBounds.{AreAtMost, most_weaken, keyed_at_most, AreAtLeast, least_append, keyed_at_least, within_start}
 
 -- a row that stands on a medium is bounded, whichever way it is kept
 clean_before : (most : Option ℕ) (row : PlacedRow) → key_before (all_clean row) most ≡ bound_before row most
@@ -27,37 +27,6 @@ clean_bounded least most (node_at b c rest) h =
     let P : Option ℕ → Type 0 = λ m. AreKeysBounded (branch_rank b) m (all_clean c) in
     (h.0, h.1, subst P (sym (clean_before most rest)) (clean_bounded (branch_rank b) (bound_before rest most) c h.2), clean_bounded (branch_rank b) most rest h.3)
 
-pub before_within : (least : ℕ) (most : Option ℕ) (rest : KeyedRow) → AreKeysBounded least most rest → (n : ℕ) → IsAtMost n (key_before rest most) → IsAtMost n most
-before_within least most no_more h n l = l
-before_within least most (leaf_in x rest) h n l = lower_at_most n (leaf_rank x) most l h.1
-before_within least most (node_in key place c rest) h n l = lower_at_most n (key_rank key) most l h.1
-
-keyed_at_most : (least : ℕ) (most : Option ℕ) (row : KeyedRow) → AreKeysBounded least most row → AreAtMost most (contents (bare row))
-keyed_at_most least most no_more h = tt
-keyed_at_most least most (leaf_in x rest) h = (h.1, keyed_at_most (leaf_rank x) most rest h.2)
-keyed_at_most least most (node_in key place c rest) h =
-    most_append most (contents (bare c)) (contents (bare rest))
-    (most_weaken (key_before rest most) most (contents (bare c)) (before_within (key_rank key) most rest h.3) (keyed_at_most (key_rank key) (key_before rest most) c h.2))
-    (keyed_at_most (key_rank key) most rest h.3)
-
--- no leaf's key is below
-abbrev pub AreAtLeast : ℕ → List Leaf → Type 0
-AreAtLeast least [] = ⊤
-AreAtLeast least (x ∷ xs) = (least ≤ leaf_rank x) × AreAtLeast least xs
-
-least_append : (least : ℕ) (xs ys : List Leaf) → AreAtLeast least xs → AreAtLeast least ys → AreAtLeast least (xs ++ ys)
-least_append least [] ys hx hy = hy
-least_append least (x ∷ xs) ys hx hy = (hx.0, least_append least xs ys hx.1 hy)
-
-keyed_at_least : (low least : ℕ) (most : Option ℕ) (row : KeyedRow) → low ≤ least → AreKeysBounded least most row → AreAtLeast low (contents (bare row))
-keyed_at_least low least most no_more l h = tt
-keyed_at_least low least most (leaf_in x rest) l h =
-    let first : low ≤ leaf_rank x = omega (arith, l, h.0) in
-    (first, keyed_at_least low (leaf_rank x) most rest first h.2)
-keyed_at_least low least most (node_in key place c rest) l h =
-    let first : low ≤ key_rank key = omega (arith, l, h.0) in
-    least_append low (contents (bare c)) (contents (bare rest)) (keyed_at_least low (key_rank key) (key_before rest most) c first h.2) (keyed_at_least low (key_rank key) most rest first h.3)
-
 starts_not : (rank least : ℕ) (xs : List Leaf) → rank < least → AreAtLeast least xs → starts_within rank xs ≡ false
 starts_not rank least [] l h = refl
 starts_not rank least (x ∷ xs) l h = lt-leb (leaf_rank x) rank (omega (arith, l, h.0))
@@ -70,12 +39,6 @@ leaves_behind rank least most (node_in key place c rest) h s =
     let same : key_rank key ≤ key_rank key = omega arith in
     starts_not rank (key_rank key) (contents (bare c) ++ contents (bare rest)) (leb-false (key_rank key) rank s)
     (least_append (key_rank key) (contents (bare c)) (contents (bare rest)) (keyed_at_least (key_rank key) (key_rank key) (key_before rest most) c same h.2) (keyed_at_least (key_rank key) (key_rank key) most rest same h.3))
-
--- where it does, what is in front is within the rank
-within_start : (rank : ℕ) (most : Option ℕ) (row : KeyedRow) → starts_by rank row ≡ true → (n : ℕ) → IsAtMost n (key_before row most) → IsAtMost n (Some rank)
-within_start rank most no_more s n l = absurd cc
-within_start rank most (leaf_in x rest) s n l = let first = leb-true (leaf_rank x) rank s in omega (arith, first, l)
-within_start rank most (node_in key place c rest) s n l = let first = leb-true (key_rank key) rank s in omega (arith, first, l)
 
 placed_behind : (new : Leaf) (xs ys : List Leaf) → AreAtMost (Some (leaf_rank new)) xs → placed new (xs ++ ys) ≡ xs ++ placed new ys
 placed_behind new [] ys h = refl

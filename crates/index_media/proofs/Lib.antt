@@ -5,6 +5,5 @@ pub mod Ordered
 pub mod Depths
 pub mod Lists
 pub mod Taken
-pub mod Inserting
 pub mod InsertedContents
-pub mod InsertedKeys
+pub mod Removing

@@ -1,29 +1,13 @@
 -- Keys that lie between those of branches put the leaves in order.
 use Rattle.std.proofs.Common.{◌≡◌, ℕ, ◌≤◌, true, List, [], ◌∷◌, ◌++◌, refl, sym, subst, arith, append-nil}
-use Rattle.std.specs.Prelude.{Option, Some, None, ⊤, nat_le}
+use Rattle.std.specs.Prelude.{Option, Some, nat_le}
 use Rattle.std.proofs.lemmas.Bool.{and_parts, and_from, leb-true, le-leb}
 use Rattle.index_tree.specs.Order.{leaf_rank, ordered_from}
 use Rattle.index_tree.specs.Shape.{contents}
 use Rattle.index_tree.specs.declared.leaf.Leaf.{Leaf}
+use Rattle.index_media.specs.KeyedBounds.{AreAtMost, most_append, most_weaken, lower_at_most}
 use Rattle.index_media.specs.Keys.{branch_rank, IsAtMost, bound_before, AreBounded}
 use Rattle.index_media.specs.PlacedRow.{PlacedRow, ended, leaf_at, node_at, plain}
-
--- no leaf's key is above
-abbrev pub AreAtMost : Option ℕ → List Leaf → Type 0
-AreAtMost most [] = ⊤
-AreAtMost most (x ∷ xs) = IsAtMost (leaf_rank x) most × AreAtMost most xs
-
-pub most_append : (most : Option ℕ) (xs ys : List Leaf) → AreAtMost most xs → AreAtMost most ys → AreAtMost most (xs ++ ys)
-most_append most [] ys hx hy = hy
-most_append most (x ∷ xs) ys hx hy = (hx.0, most_append most xs ys hx.1 hy)
-
-pub most_weaken : (m most : Option ℕ) (xs : List Leaf) → ((n : ℕ) → IsAtMost n m → IsAtMost n most) → AreAtMost m xs → AreAtMost most xs
-most_weaken m most [] w h = tt
-most_weaken m most (x ∷ xs) w h = (w (leaf_rank x) h.0, most_weaken m most xs w h.1)
-
-pub lower_at_most : (n rank : ℕ) (most : Option ℕ) → n ≤ rank → IsAtMost rank most → IsAtMost n most
-lower_at_most n rank None l h = tt
-lower_at_most n rank (Some m) l h = omega (arith, l, h)
 
 -- what bounds the keys before a row is within what bounds the row
 bound_within : (least : ℕ) (most : Option ℕ) (rest : PlacedRow) → AreBounded least most rest → (n : ℕ) → IsAtMost n (bound_before rest most) → IsAtMost n most

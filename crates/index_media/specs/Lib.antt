@@ -5,3 +5,8 @@ pub mod StoredList
 pub mod KeyedRow
 pub mod Insertion
 pub mod KeyedKeys
+pub mod KeyedBounds
+pub mod KeyedRemoval
+pub mod InsertionLaws
+pub mod InsertionKeys
+pub mod InsertionSound

@@ -1,17 +1,23 @@
 // Laws of the definitions: what makes a stored index, what keeps it, and what it is without its places.
 
 ghost use Rattle.std.specs.Prelude.{◌≡◌, ◌≤◌, ◌+◌, ◌*◌, ℕ, All, IsTrue, List, Option, None, map, length, take, drop};
+ghost use Rattle.ubifs_base.specs.Key.{IsKey};
 ghost use Rattle.ubifs_base.specs.NodeLaws.{IsBytes};
+ghost use Rattle.index_tree.specs.Levels.{levelled};
 ghost use Rattle.index_tree.specs.Listing.{listed};
-ghost use Rattle.index_tree.specs.Order.{placed};
+ghost use Rattle.index_tree.specs.Order.{leaf_rank, placed};
 ghost use Rattle.index_tree.specs.Rebuild.{IsIndex};
+ghost use Rattle.index_tree.specs.Removal.{without_leaf};
+ghost use Rattle.index_tree.specs.Replacement.{replaced};
 ghost use Rattle.media_sys.specs.Index.{Index as AnIndexNode};
-ghost use Rattle.index_tree.specs.Shape.{contents, fits, node_count, with_leaf};
+ghost use Rattle.index_tree.specs.Shape.{contents, count, fits, node_count, with_leaf};
 ghost use Rattle.index_tree.specs.declared.leaf.Leaf.{Leaf as ALeaf};
 ghost use Rattle.media_sys.specs.SystemNode.{IsSystemNode, index};
 ghost use Rattle.media_sys.specs.declared.branch.Branch.{Branch as ABranch};
-ghost use Rattle.index_media.specs.Insertion.{with_leaf_by_keys};
+ghost use Rattle.index_media.specs.Insertion.{inserted_by_keys, with_leaf_by_keys};
+ghost use Rattle.index_media.specs.InsertionSound.{AreKeys};
 ghost use Rattle.index_media.specs.KeyedKeys.{AreKeysBounded};
+ghost use Rattle.index_media.specs.KeyedRemoval.{without_leaf_by_keys, replaced_by_keys};
 ghost use Rattle.index_media.specs.Keys.{AreBounded};
 ghost use Rattle.index_media.specs.KeyedRow.{KeyedRow, bare, all_clean, HaveFirstKeys};
 ghost use Rattle.index_media.specs.PlacedRow.{Stretch, stretch_of, PlacedRow, ended, node_at, plain, branches_of, all_nodes, lebs_of, node_end, bytes_taken, is_apart_from, are_disjoint};
@@ -95,4 +101,29 @@ pub fn an_insertion_goes_by_the_keys_of_branches()
     ensures keys { (fanout : ℕ) (new : ALeaf) (row : KeyedRow) → 1 ≤ fanout → AreKeysBounded 0 None row → AreKeysBounded 0 None (with_leaf_by_keys fanout new row) }
     ensures bounded { (least : ℕ) (most : Option ℕ) (row : PlacedRow) → AreBounded least most row → AreKeysBounded least most (all_clean row) }
     ensures clean { (row : PlacedRow) → bare (all_clean row) ≡ plain row }
+{}
+
+/// An insertion into a row of an index keeps what its nodes are: they have 1 to fanout children, leaves stand on the lowest
+/// level, and keys are keys.
+pub fn an_insertion_keeps_what_nodes_are()
+    ensures children { (fanout : ℕ) (new : ALeaf) (row : KeyedRow) → 3 ≤ fanout → IsTrue (fits fanout (bare row))
+        → IsTrue (fits fanout (bare (inserted_by_keys fanout new row))) }
+    ensures levels { (fanout levels : ℕ) (new : ALeaf) (row : KeyedRow) → IsTrue (fits fanout (bare row)) → (count (bare row) ≡ 0 → levels ≡ 0)
+        → IsTrue (levelled levels (bare row)) → IsTrue (levelled levels (bare (inserted_by_keys fanout new row))) }
+    ensures keys { (fanout : ℕ) (new : ALeaf) (row : KeyedRow) → IsKey new.key → AreKeys row → AreKeys (inserted_by_keys fanout new row) }
+{}
+
+/// A removal makes the shape that it makes without keys and places. Keys lie between those of branches again, though a
+/// branch's key may now be lower than its first leaf's.
+pub fn a_removal_leaves_the_keys_of_branches()
+    ensures same { (gone : ALeaf) (row : KeyedRow) → bare (without_leaf_by_keys gone row) ≡ without_leaf gone (bare row) }
+    ensures keys { (gone : ALeaf) (row : KeyedRow) → AreKeysBounded 0 None row → AreKeysBounded 0 None (without_leaf_by_keys gone row) }
+{}
+
+/// A replacement by a leaf of the same key makes the shape that it makes without keys and places, and keys lie between those of
+/// branches again.
+pub fn a_replacement_leaves_the_keys_of_branches()
+    ensures same { (old new : ALeaf) (row : KeyedRow) → bare (replaced_by_keys old new row) ≡ replaced old new (bare row) }
+    ensures keys { (old new : ALeaf) (least : ℕ) (most : Option ℕ) (row : KeyedRow) → leaf_rank new ≡ leaf_rank old → AreKeysBounded least most row
+        → AreKeysBounded least most (replaced_by_keys old new row) }
 {}

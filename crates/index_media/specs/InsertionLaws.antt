@@ -15,7 +15,7 @@ clean_bare ended = refl
 clean_bare (leaf_at x rest) = ap (leaf x) (clean_bare rest)
 clean_bare (node_at branch children rest) = rw (clean_bare children, clean_bare rest) refl
 
-front_bare : (n : ℕ) (row : KeyedRow) → bare (keyed_front n row) ≡ front n (bare row)
+pub front_bare : (n : ℕ) (row : KeyedRow) → bare (keyed_front n row) ≡ front n (bare row)
 front_bare n no_more = refl
 front_bare n (leaf_in x rest) = elim (cases_Bool (n == 0)) [
   | inl e ↦ rw e refl
@@ -26,7 +26,7 @@ front_bare n (node_in key place children rest) = elim (cases_Bool (n == 0)) [
   | inr e ↦ rw e (ap (node (bare children)) (front_bare (n - 1) rest))
 ]
 
-back_bare : (n : ℕ) (row : KeyedRow) → bare (keyed_back n row) ≡ back n (bare row)
+pub back_bare : (n : ℕ) (row : KeyedRow) → bare (keyed_back n row) ≡ back n (bare row)
 back_bare n no_more = refl
 back_bare n (leaf_in x rest) = elim (cases_Bool (n == 0)) [
   | inl e ↦ rw e refl

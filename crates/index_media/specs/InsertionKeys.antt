@@ -10,14 +10,7 @@ use Rattle.index_media.specs.Insertion.{starts_by, first_key, keyed_front, keyed
 use Rattle.index_media.specs.KeyedKeys.{key_before, AreKeysBounded}
 use Rattle.index_media.specs.KeyedRow.{KeyedRow, no_more, leaf_in, node_in, bare}
 use Rattle.index_media.specs.Keys.{IsAtMost}
-use Rattle.index_media.proofs.InsertedContents.{before_within}
-use Rattle.index_media.proofs.Ordered.{lower_at_most}
-
--- a lower least
-lower_least : (low least : ℕ) (most : Option ℕ) (row : KeyedRow) → low ≤ least → AreKeysBounded least most row → AreKeysBounded low most row
-lower_least low least most no_more l h = tt
-lower_least low least most (leaf_in x rest) l h = (omega (arith, l, h.0), h.1, h.2)
-lower_least low least most (node_in key place c rest) l h = (omega (arith, l, h.0), h.1, h.2, h.3)
+use Rattle.index_media.specs.KeyedBounds.{before_within, lower_at_most, lower_least, start_above}
 
 -- a higher one, up to the row's first key
 raise_least : (least high : ℕ) (most : Option ℕ) (row : KeyedRow) → IsAtMost high (key_before row most) → AreKeysBounded least most row → AreKeysBounded high most row
@@ -26,7 +19,7 @@ raise_least least high most (leaf_in x rest) l h = (l, h.1, h.2)
 raise_least least high most (node_in key place c rest) l h = (l, h.1, h.2, h.3)
 
 -- the halves of a row
-record HalvesBounded (low : ℕ) (most : Option ℕ) (n : ℕ) (key : Key) (row : KeyedRow) : Type 0 where
+pub record HalvesBounded (low : ℕ) (most : Option ℕ) (n : ℕ) (key : Key) (row : KeyedRow) : Type 0 where
   pub front : AreKeysBounded low (Some (key_rank (first_key key (keyed_back n row)))) (keyed_front n row)
   pub back : AreKeysBounded (key_rank (first_key key (keyed_back n row))) most (keyed_back n row)
   pub above : low ≤ key_rank (first_key key (keyed_back n row))
@@ -46,7 +39,7 @@ front_before n most key (node_in own place c rest) l = elim (cases_Bool (n == 0)
 less : (n c : ℕ) → (n == 0) ≡ false → n < c + 1 → n - 1 < c
 less n c e l = let other = eqb-false n 0 e in grind (arith, other, l)
 
-halves_bounded : (low : ℕ) (most : Option ℕ) (n : ℕ) (key : Key) (row : KeyedRow) → n < count (bare row) → AreKeysBounded low most row → HalvesBounded low most n key row
+pub halves_bounded : (low : ℕ) (most : Option ℕ) (n : ℕ) (key : Key) (row : KeyedRow) → n < count (bare row) → AreKeysBounded low most row → HalvesBounded low most n key row
 halves_bounded low most n key no_more l h = absurd (omega (arith, l))
 halves_bounded low most n key (leaf_in x rest) l h = elim (cases_Bool (n == 0)) [
   | inl e ↦ record { front = rw e tt; back = rw e (omega arith, h.1, h.2); above = rw e h.0; within = rw e h.1 }
@@ -122,13 +115,7 @@ leaf_before rank most no_more m s = m
 leaf_before rank most (leaf_in x rest) m s = let above = leb-false (leaf_rank x) rank s in omega (arith, above)
 leaf_before rank most (node_in key place c rest) m s = let above = leb-false (key_rank key) rank s in omega (arith, above)
 
--- and where it does, the keys in front of it are within the leaf's
-start_above : (least rank : ℕ) (most : Option ℕ) (row : KeyedRow) → AreKeysBounded least most row → starts_by rank row ≡ true → least ≤ rank
-start_above least rank most no_more h s = absurd cc
-start_above least rank most (leaf_in x rest) h s = let first = leb-true (leaf_rank x) rank s in omega (arith, first, h.0)
-start_above least rank most (node_in key place c rest) h s = let first = leb-true (key_rank key) rank s in omega (arith, first, h.0)
-
-inserted_bounded : (fanout : ℕ) (new : Leaf) (least : ℕ) (most : Option ℕ) (row : KeyedRow) → 1 ≤ fanout → least ≤ leaf_rank new → IsAtMost (leaf_rank new) most
+pub inserted_bounded : (fanout : ℕ) (new : Leaf) (least : ℕ) (most : Option ℕ) (row : KeyedRow) → 1 ≤ fanout → least ≤ leaf_rank new → IsAtMost (leaf_rank new) most
     → AreKeysBounded least most row → AreKeysBounded least most (inserted_by_keys fanout new row)
 inserted_bounded fanout new least most no_more some l m h = (l, m, tt)
 inserted_bounded fanout new least most (leaf_in x rest) some l m h = elim (cases_Bool (nat_le (leaf_rank x) (leaf_rank new))) [
