@@ -1,0 +1,42 @@
+-- What a node that is added leaves.
+use Rattle.std.proofs.Common.{◌≡◌, ℕ, List, [], ◌∷◌, ◌++◌, length, refl, ap, sym, ◌∙◌, subst, arith}
+use Rattle.std.specs.Prelude.{Option, None, Some, slice_get, Bool, true, false, if◌then◌else◌}
+use Rattle.std.proofs.lemmas.List.Elements.{All-push}
+use Rattle.std.proofs.lemmas.Option.{slice_get-get_or}
+use Rattle.ubifs_base.specs.declared.key.Key.{Key}
+use Rattle.index_media.specs.KeyedRow.{no_more, node_in}
+use Rattle.node_table.specs.NodeView.{node_before, row_of, view_of, stretch_at, views, tree_at, IsRootIn}
+use Rattle.node_table.specs.Sound.{IsSoundView, AreSoundViews}
+use Rattle.node_table.specs.declared.node.Root.{Root}
+use Rattle.node_table.specs.declared.node.TableNode.{TableNode}
+use Rattle.node_table.proofs.Viewing.{get_left, get_seam, views_push, views_length}
+
+pub pushed_sound : (fanout : ℕ) (nodes : List TableNode) (n : TableNode) → AreSoundViews fanout (views nodes) → IsSoundView fanout (view_of (views nodes) n)
+    → AreSoundViews fanout (views (nodes ++ n ∷ []))
+pushed_sound fanout nodes n s h = subst (λ v. AreSoundViews fanout v) (sym (views_push nodes n)) (All-push (λ v. IsSoundView fanout v) (views nodes) (view_of (views nodes) n) s h)
+
+pub pushed_kept : (nodes : List TableNode) (n : TableNode) (root : Option Root) → IsRootIn nodes root → tree_at (nodes ++ n ∷ []) root ≡ tree_at nodes root
+pushed_kept nodes n None h = refl
+pushed_kept nodes n (Some root) h =
+    let seen = views nodes in
+    let v = view_of seen n in
+    let long = views_length nodes in
+    let there = slice_get-get_or seen root.number v (omega (arith, h, long)) in
+    let after = ap (λ w. slice_get w root.number) (views_push nodes n) ∙ get_left seen (v ∷ []) root.number _ there in
+    ap (λ o. node_before root.key o no_more) (after ∙ sym there)
+
+pub pushed_made : (nodes : List TableNode) (n : TableNode) (key : Key) (number : ℕ) → number ≡ length nodes
+    → tree_at (nodes ++ n ∷ []) (Some (record { key = key; number = number })) ≡ node_in key (stretch_at n.place) (row_of (views nodes) n.links.items) no_more
+pushed_made nodes n key number e =
+    let seen = views nodes in
+    let v = view_of seen n in
+    let place : number ≡ length seen = e ∙ sym (views_length nodes) in
+    ap (λ o. node_before key o no_more) (ap (λ w. slice_get w number) (views_push nodes n) ∙ ap (λ k. slice_get (seen ++ v ∷ []) k) place ∙ get_seam seen v [])
+
+-- the table after a node that may have found no memory
+pub after_push : (fanout : ℕ) (nodes new : List TableNode) (n : TableNode) (b : Bool) → new ≡ (if b then nodes ++ n ∷ [] else nodes) → AreSoundViews fanout (views nodes)
+    → IsSoundView fanout (view_of (views nodes) n) → AreSoundViews fanout (views new)
+after_push fanout nodes new n true e s h = subst (λ v. AreSoundViews fanout (views v)) (sym e) (pushed_sound fanout nodes n s h)
+after_push fanout nodes new n false e s h = subst (λ v. AreSoundViews fanout (views v)) (sym e) s
+
+pub ruleset adding = (pushed_sound, pushed_kept, pushed_made, views_push)

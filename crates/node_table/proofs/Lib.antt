@@ -1,0 +1,5 @@
+pub mod Rows
+pub mod Viewing
+pub mod Following
+pub mod Finding
+pub mod Adding

@@ -1,0 +1,3 @@
+pub mod NodeView
+pub mod Sound
+pub mod Walk

@@ -1,0 +1,20 @@
+//! Nodes of an index in a table, named by number.
+//!
+//! A node has links: to leaves on the lowest level, and else to nodes that were added before it. No node is ever
+//! changed where it stands: a change adds nodes. So whoever holds a root goes on seeing its index, whatever is added.
+//! `specs/NodeView.antt` says what is seen of the nodes, from the first one on, and `specs/Sound.antt` what holds of each.
+#![tactic(auto)]
+
+mod after;
+mod bisect;
+mod find;
+mod link;
+mod node;
+mod opening;
+mod rank;
+mod scan;
+mod table;
+
+pub use crate::link::Link;
+pub use crate::node::{NodePlace, Root, TableNode};
+pub use crate::table::NodeTable;

@@ -1,0 +1,100 @@
+// The table.
+
+ghost use Rattle.std.specs.Prelude.{◌≡◌, ◌≤◌, IfOk, OnOk, OnErr, Option, Some, [], ◌∷◌, ◌++◌, filter, ◌==◌, length, slice_get};
+ghost use Rattle.index_tree.specs.Order.{key_rank, of_rank, first_after};
+ghost use Rattle.index_media.specs.KeyedRow.{no_more, node_in};
+ghost use Rattle.node_table.specs.NodeView.{views, view_of, row_of, stretch_at, tree_at, leaves_at, IsRootIn};
+ghost use Rattle.node_table.specs.Sound.{IsSoundView, AreSoundViews, sound_views-prop};
+ghost use Rattle.node_table.specs.declared.node.Root.{Root as ARoot};
+ghost use Rattle.ubifs_base.specs.declared.key.Key.{Key as AKey};
+
+use crate::node::{Root, TableNode};
+use crate::rank::rank;
+use index_tree::Leaf;
+use std::alloc::Global;
+use ubifs_base::{Key, Memory};
+
+/// Nodes, named by the order in which they were added, from 0 on.
+///
+/// Contracts see the index below a root as `tree_at self.nodes.items root`, and its leaves as `leaves_at`.
+#[derive(Drop)]
+pub struct NodeTable {
+    pub(crate) nodes: Vec<TableNode>,
+    pub(crate) fanout: u32,
+    ghost least: { 3 ≤ fanout },
+    ghost most: { fanout ≤ 256 },
+    ghost sound: { AreSoundViews fanout (views nodes.items) } by { sound_views-prop fanout (views nodes.items) },
+}
+
+impl NodeTable {
+    /// The table without nodes, for an index whose nodes have 1 to `fanout` children.
+    pub fn new(alloc: Global, fanout: u32) -> NodeTable
+        requires least { 3 ≤ fanout }
+        requires most { fanout ≤ 256 }
+        ensures empty { result.nodes.items ≡ [] }
+        ensures fanout { result.fanout ≡ fanout }
+    {
+        NodeTable {
+            nodes: Vec::new(alloc),
+            fanout,
+        }
+    }
+
+    /// Adds a node whose links lead to leaves or to nodes of the table, and answers its number. Below each root stands
+    /// what stood there.
+    ///
+    /// After `Memory` the table is as before.
+    #[tactic(auto, using(crate::proofs::Adding::adding))]
+    pub fn add(&mut self, node: TableNode) -> Result<u64, Memory>
+        requires sound { IsSoundView self.old.fanout (view_of (views self.old.nodes.items) node) }
+        ensures made { IfOk result (λ number. (key : AKey) → tree_at self.new.nodes.items (Some (record { key = key; number = number })) ≡ node_in key (stretch_at node.place) (row_of (views self.old.nodes.items) node.links.items) no_more) }
+        ensures added { OnOk result (self.new.nodes.items ≡ self.old.nodes.items ++ node ∷ []) }
+        ensures number { IfOk result (λ number. number ≡ length self.old.nodes.items) }
+        ensures kept { (root : Option ARoot) → IsRootIn self.old.nodes.items root → tree_at self.new.nodes.items root ≡ tree_at self.old.nodes.items root }
+        ensures fanout { self.new.fanout ≡ self.old.fanout }
+        ensures err { OnErr result (self.new.nodes.items ≡ self.old.nodes.items) }
+    {
+        let number = self.nodes.len() as u64;
+        self.nodes.push(node)?;
+        Ok(number)
+    }
+
+    /// The leaf of this key behind `nth` others of the same key, below a root; none where there are too few.
+    ///
+    /// It goes down one path, and where leaves of the key stand in several nodes, on to the next of them.
+    pub fn find(&self, root: Option<Root>, key: &Key, nth: u32) -> Option<Leaf>
+        ensures { result ≡ slice_get (of_rank (key_rank key.now) (leaves_at self.now.nodes.items root)) nth }
+    {
+        let top = root?;
+        self.nth_below(top.number, rank(key), nth)
+    }
+
+    /// The first leaf of a greater key below a root; none where there is none.
+    ///
+    /// It goes down one path, and at most one more.
+    pub fn after(&self, root: Option<Root>, key: &Key) -> Option<Leaf>
+        ensures { result ≡ first_after (key_rank key.now) (leaves_at self.now.nodes.items root) }
+    {
+        let top = root?;
+        self.after_below(top.number, rank(key))
+    }
+
+    /// The leaves below a root that stand in this LEB, in the order of the index. It looks at all leaves.
+    pub fn leaves_in(
+        &self,
+        alloc: Global,
+        root: Option<Root>,
+        lnum: u32,
+    ) -> Result<Vec<Leaf>, Memory>
+        ensures { IfOk result (λ leaves. leaves.items ≡ filter (λ x. x.lnum == lnum) (leaves_at self.now.nodes.items root)) }
+    {
+        let mut leaves = Vec::new(alloc);
+        match root {
+            None => Ok(leaves),
+            Some(top) => {
+                self.push_below(top.number, lnum, &mut leaves)?;
+                Ok(leaves)
+            }
+        }
+    }
+}
