@@ -3,3 +3,4 @@ pub mod Viewing
 pub mod Following
 pub mod Finding
 pub mod Adding
+pub mod HoldsLaws

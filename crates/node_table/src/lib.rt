@@ -8,6 +8,7 @@
 mod after;
 mod bisect;
 mod find;
+mod holding;
 mod link;
 mod node;
 mod opening;

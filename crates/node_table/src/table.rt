@@ -2,6 +2,7 @@
 
 ghost use Rattle.std.specs.Prelude.{◌≡◌, ◌≤◌, IfOk, OnOk, OnErr, Option, Some, [], ◌∷◌, ◌++◌, filter, ◌==◌, length, slice_get};
 ghost use Rattle.index_tree.specs.Order.{key_rank, of_rank, first_after};
+ghost use Rattle.index_tree.specs.Removal.{holds};
 ghost use Rattle.index_media.specs.KeyedRow.{no_more, node_in};
 ghost use Rattle.node_table.specs.NodeView.{views, view_of, row_of, stretch_at, tree_at, leaves_at, IsRootIn};
 ghost use Rattle.node_table.specs.Sound.{IsSoundView, AreSoundViews, sound_views-prop};
@@ -77,6 +78,18 @@ impl NodeTable {
     {
         let top = root?;
         self.after_below(top.number, rank(key))
+    }
+
+    /// Whether this leaf, with its key and its place, stands below a root.
+    ///
+    /// It goes down one path, and where leaves of the key stand in several nodes, on to the next of them.
+    pub fn holds(&self, root: Option<Root>, leaf: &Leaf) -> bool
+        ensures { result ≡ holds leaf.now (leaves_at self.now.nodes.items root) }
+    {
+        match root {
+            None => false,
+            Some(top) => self.holds_below(top.number, leaf),
+        }
     }
 
     /// The leaves below a root that stand in this LEB, in the order of the index. It looks at all leaves.

@@ -1,0 +1,90 @@
+// The walk to a leaf itself.
+
+ghost use Rattle.std.specs.Prelude.{◌≡◌, None, slice_get};
+ghost use Rattle.index_tree.specs.Order.{leaf_rank};
+ghost use Rattle.index_tree.specs.Removal.{holds, same_leaf};
+ghost use Rattle.index_tree.specs.Shape.{contents};
+ghost use Rattle.index_media.specs.KeyedKeys.{AreKeysBounded};
+ghost use Rattle.index_media.specs.KeyedRow.{bare};
+ghost use Rattle.node_table.specs.NodeView.{views, row_of, children_in};
+ghost use Rattle.node_table.specs.Walk.{inside};
+
+use crate::bisect::{begin_below, begin_within, lower_links_passed};
+use crate::link::Link;
+use crate::rank::rank;
+use crate::table::NodeTable;
+use index_tree::Leaf;
+
+/// Whether two leaves have the same key and the same place.
+#[tactic(auto, unfolding(index_tree::specs::Removal::same_leaf))]
+fn same(x: &Leaf, y: &Leaf) -> bool
+    ensures { result ≡ same_leaf x.now y.now }
+{
+    if rank(&x.key) != rank(&y.key) {
+        return false;
+    }
+    if x.lnum != y.lnum {
+        return false;
+    }
+    if x.offs != y.offs {
+        return false;
+    }
+    x.len == y.len
+}
+
+impl NodeTable {
+    /// Whether a leaf stands below a node.
+    #[cycle(holding)]
+    pub(crate) fn holds_below(&self, number: u64, sought: &Leaf) -> bool
+        ensures { result ≡ holds sought.now (contents (bare (children_in (slice_get (views self.now.nodes.items) number)))) }
+    {
+        match self.links_of(number) {
+            None => false,
+            Some(links) => {
+                let at = rank(&sought.key);
+                let (_, rest) = links.split_at(lower_links_passed(links, at));
+                self.holds_among(rest, at, sought)
+            }
+        }
+    }
+
+    /// The same of these links, for a leaf of this rank.
+    #[cycle(holding)]
+    fn holds_among(&self, links: &[Link], at: u128, sought: &Leaf) -> bool
+        requires rank { at ≡ leaf_rank sought.now }
+        requires bounded { AreKeysBounded 0 None (row_of (views self.now.nodes.items) links.now) }
+        ensures { result ≡ holds sought.now (contents (bare (row_of (views self.now.nodes.items) links.now))) }
+    {
+        match links.split_first() {
+            None => false,
+            Some((link, rest)) => {
+                if begin_below(rest, at) {
+                    return self.holds_among(rest, at, sought);
+                }
+                if self.holds_link(link, sought) {
+                    return true;
+                }
+                if begin_within(rest, at) {
+                    return self.holds_among(rest, at, sought);
+                }
+                false
+            }
+        }
+    }
+
+    /// The same of one link.
+    #[cycle(holding)]
+    fn holds_link(&self, link: &Link, sought: &Leaf) -> bool
+        ensures { result ≡ holds sought.now (contents (bare (inside (views self.now.nodes.items) link.now))) }
+    {
+        match *link {
+            Link::ToLeaf(leaf) => {
+                if same(&leaf, sought) {
+                    return true;
+                }
+                false
+            }
+            Link::ToNode { number, .. } => self.holds_below(number, sought),
+        }
+    }
+}
