@@ -17,7 +17,7 @@ use Rattle.store_model.proofs.BackingCalls.{heads_synced, length_map, same_furth
 use Rattle.store_model.proofs.Further.{further_left}
 
 -- buds of a new section have no groups yet
-no_groups : (head k : ℕ) (ends : List (Option At)) → groups_of head (open_buds k ends) ≡ []
+pub no_groups : (head k : ℕ) (ends : List (Option At)) → groups_of head (open_buds k ends) ≡ []
 no_groups head k [] = refl
 no_groups head k (None ∷ ends) = no_groups head (suc k) ends
 no_groups head k (Some at ∷ ends) = by (k == head) (no_groups head (suc k) ends)

@@ -169,7 +169,7 @@ all_put q old new (x ∷ xs) n h = let p = and_parts (q x) (list_all q xs) h in 
     by first rest more false true = and_from (q x) (list_all q (put_leaf old new xs)) first more
     by first rest more false false = and_from (q new) (list_all q (x ∷ xs)) n (and_from (q x) (list_all q xs) first rest)
 
-change_all : (q : Test) (c : Carried) (h : Held) → q (kept_at c.placed) ≡ true → list_all q h.live ≡ true → list_all q (after_change h c).live ≡ true
+pub change_all : (q : Test) (c : Carried) (h : Held) → q (kept_at c.placed) ≡ true → list_all q h.live ≡ true → list_all q (after_change h c).live ≡ true
 change_all q c h n a = by (is_idle h.live c.change) (is_set c.change)
   where
     by : (idle set : Bool) → list_all q (cond idle h.live (cond set (put_leaf (is_gone c.change) (kept_at c.placed) h.live) (filter (λ x. not (is_gone c.change x)) h.live))) ≡ true

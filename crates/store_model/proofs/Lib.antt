@@ -6,6 +6,7 @@ mod BackingStarts
 mod Bytes
 mod Drops
 mod EventFiles
+mod EventNumbers
 mod Further
 mod LebCollections
 mod LebCounts

@@ -69,7 +69,7 @@ no_less n (c ∷ changes) next =
     let p = and_parts (nat_lt n c.0) (list_all (λ d. nat_lt n d.0) changes) next.above in
     le_of_lt n c.0 (last_number c.0 changes) p.0 (no_less c.0 changes (record { ascending = tail c changes next.ascending; above = above_first c changes next.ascending }))
 
-none_greater : (n : ℕ) (changes : Numbered) → AreNext n changes → list_all (λ c. nat_le c.0 (last_number n changes)) changes ≡ true
+pub none_greater : (n : ℕ) (changes : Numbered) → AreNext n changes → list_all (λ c. nat_le c.0 (last_number n changes)) changes ≡ true
 none_greater n [] next = refl
 none_greater n (c ∷ changes) next =
     let rest : AreNext c.0 changes = record { ascending = tail c changes next.ascending; above = above_first c changes next.ascending } in
@@ -107,6 +107,12 @@ pub given_still : (n : ℕ) (old changes : Numbered) → are_given n old ≡ tru
 given_still n old changes given next =
     let p = and_parts (ascends nat_cmp (map (λ c. c.0) old)) (list_all (λ c. nat_le c.0 n) old) given in
     rw p.0 (weaker (λ k. nat_le k n) (λ k. nat_le k (last_number n changes)) (le_then n (last_number n changes) (no_less n changes next)) old p.1)
+
+-- numbers that were given, where more were
+pub given_up : (n k : ℕ) → nat_le n k ≡ true → (old : Numbered) → are_given n old ≡ true → are_given k old ≡ true
+given_up n k more old given =
+    let p = and_parts (ascends nat_cmp (map (λ c. c.0) old)) (list_all (λ c. nat_le c.0 n) old) given in
+    rw p.0 (weaker (λ j. nat_le j n) (λ j. nat_le j k) (le_then n k more) old p.1)
 
 -- leaves whose numbers were given
 pub kept_still : (n k : ℕ) → nat_le n k ≡ true → (kept : List Kept) → list_all (λ x. nat_le x.sqnum n) kept ≡ true → list_all (λ x. nat_le x.sqnum k) kept ≡ true

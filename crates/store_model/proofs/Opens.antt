@@ -94,5 +94,6 @@ opened_numbers m h lnum n = record {
     },
     next_more m h lnum m.next n.both.1,
   );
+  live = kept_more m.sqnum m.live n.live;
   synced = subst (λ counts. are_within m.synced counts ≡ true) (sym (counts_open h lnum m.now.buds)) n.synced;
 }

@@ -1,18 +1,19 @@
 -- A put keeps the numbers: its groups stand last at their heads, or a head without a bud gets none.
 use Rattle.std.proofs.Common.{◌≡◌, ℕ, ◌+◌, ◌⊎◌, true, List, [], ◌∷◌, length, refl, sym, subst, arith, inl, inr, Option, Some, None}
 use Rattle.std.specs.Prelude.{nat_le, fold}
-use Rattle.std.specs.List.{flat_map}
+use Rattle.std.specs.List.{flat_map, list_all}
 use Rattle.std.specs.Option.{option_map}
 use Rattle.std.proofs.lemmas.Bool.{and_parts}
 use Rattle.std.proofs.lemmas.List.{length-append}
 use Rattle.fs_model.specs.Journal.{AreNext, last_number}
-use Rattle.store_model.specs.Events.{after_part, credit, granted, in_next, paid, Part, Payment, Putting}
+use Rattle.store_model.specs.Events.{after_change, after_part, Held, credit, granted, in_next, paid, Part, Payment, Putting}
 use Rattle.store_model.specs.Heads.{copies_of, counts_of, groups_of, numbered, with_group}
 use Rattle.store_model.specs.Invariant.{AreNumbered, HasNumbers, OfNext, are_given, are_within, head_numbers}
 use Rattle.store_model.specs.Legal.{AreParts}
 use Rattle.store_model.specs.Store.{Bud, Carried, Next, Store}
 use Rattle.store_model.proofs.Apart.{apart_put}
-use Rattle.store_model.proofs.Numbers.{given_after, given_still, kept_still, no_less}
+use Rattle.store_model.proofs.LebLeaves.{change_all}
+use Rattle.store_model.proofs.Numbers.{given_after, given_still, kept_still, no_less, none_greater}
 use Rattle.store_model.proofs.PutGroups.{IsGrown, copies_put, groups_put, numbers_end}
 
 -- ---- numbers
@@ -36,7 +37,7 @@ le_self n = grind (arith)
 le_next : (n : ℕ) → nat_le n (n + 1) ≡ true
 le_next n = grind (arith)
 
-within_more : (s a b : List ℕ) → are_within s a ≡ true → are_within a b ≡ true → are_within s b ≡ true
+pub within_more : (s a b : List ℕ) → are_within s a ≡ true → are_within a b ≡ true → are_within s b ≡ true
 within_more [] a b h g = refl
 within_more (n ∷ s) [] b h g = absurd cc
 within_more (n ∷ s) (k ∷ a) [] h g = absurd cc
@@ -54,6 +55,14 @@ count_put head h group buds = by (groups_put head h group buds)
 
 counts_put : (h : ℕ) (group : List Carried) (buds : List Bud) → are_within (counts_of buds) (counts_of (with_group h group buds)) ≡ true
 counts_put h group buds = rw (copies_put h group buds, le_self (length (copies_of buds)), count_put 1 h group buds, count_put 2 h group buds) refl
+
+-- the live leaves after a group
+group_low : (n : ℕ) (group : List Carried) (h : Held) → list_all (λ c. nat_le c.0 n) (numbered group) ≡ true → list_all (λ x. nat_le x.sqnum n) h.live ≡ true
+    → list_all (λ x. nat_le x.sqnum n) (fold after_change h group).live ≡ true
+group_low n [] h low l = l
+group_low n (c ∷ group) h low l =
+    let p = and_parts (nat_le c.placed.sqnum n) (list_all (λ c. nat_le c.0 n) (numbered group)) low in
+    group_low n group (after_change h c) p.1 (change_all (λ x. nat_le x.sqnum n) c h p.0 l)
 
 -- ---- a group, and all of them
 part_next : (m : Store) (part : Part) (next : Option Next) → (part.head ≡ 1) ⊎ (part.head ≡ 2) → AreNext m.sqnum (numbered part.group) → OfNext m next (AreNumbered m)
@@ -77,6 +86,8 @@ part_numbers m part at follows n = record {
     },
     part_next m part m.next at follows n.both.1,
   );
+  live = group_low (last_number m.sqnum (numbered part.group)) part.group (record { live = m.live; held = m.held }) (none_greater m.sqnum (numbered part.group) follows)
+      (kept_still m.sqnum (last_number m.sqnum (numbered part.group)) (no_less m.sqnum (numbered part.group) follows) m.live n.live);
   synced = within_more m.synced (counts_of m.now.buds) (counts_of (with_group part.head part.group m.now.buds)) n.synced (counts_put part.head part.group m.now.buds);
 }
 
@@ -90,12 +101,13 @@ same_next : (m k : Store) (next : Option Next) → k.sqnum ≡ m.sqnum → OfNex
 same_next m k None same n = n
 same_next m k (Some next) same n = record { base = rw same n.base; data_nodes = rw same n.data_nodes; apart = n.apart; kept = rw same n.kept }
 
-pub same_numbers : (m k : Store) → k.sqnum ≡ m.sqnum → k.now ≡ m.now → k.next ≡ m.next → k.synced ≡ m.synced → HasNumbers m → HasNumbers k
-same_numbers m k sqnum now next synced n = record {
+pub same_numbers : (m k : Store) → list_all (λ x. nat_le x.sqnum k.sqnum) k.live ≡ true → k.sqnum ≡ m.sqnum → k.now ≡ m.now → k.next ≡ m.next → k.synced ≡ m.synced → HasNumbers m → HasNumbers k
+same_numbers m k live sqnum now next synced n = record {
   both = (
     record { base = rw (sqnum, now) n.both.0.base; data_nodes = rw (sqnum, now) n.both.0.data_nodes; apart = rw now n.both.0.apart; kept = rw (sqnum, now) n.both.0.kept },
     subst (λ other. OfNext k other (AreNumbered k)) (sym next) (same_next m k m.next sqnum n.both.1),
   );
+  live = live;
   synced = rw (synced, now) n.synced;
 }
 
@@ -104,5 +116,5 @@ pub paid_numbers : (p : Putting) (m : Store) → HasNumbers m → HasNumbers (re
 paid_numbers p m n = by p.payment
   where
     by : (payment : Payment) → HasNumbers (record (paid payment m) { index = p.index })
-    by credit = same_numbers m (record (paid credit m) { index = p.index }) refl refl refl refl n
-    by granted = same_numbers m (record (paid granted m) { index = p.index }) refl refl refl refl n
+    by credit = same_numbers m (record (paid credit m) { index = p.index }) n.live refl refl refl refl n
+    by granted = same_numbers m (record (paid granted m) { index = p.index }) n.live refl refl refl refl n

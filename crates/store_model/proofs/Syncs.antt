@@ -28,5 +28,6 @@ next_numbers m (Some next) n = record { base = n.base; data_nodes = n.data_nodes
 pub synced_numbers : (m : Store) → HasNumbers m → HasNumbers (sync m)
 synced_numbers m n = record {
   both = (record { base = n.both.0.base; data_nodes = n.both.0.data_nodes; apart = n.both.0.apart; kept = n.both.0.kept }, next_numbers m m.next n.both.1);
+  live = n.live;
   synced = within_self (counts_of m.now.buds);
 }

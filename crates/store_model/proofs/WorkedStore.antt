@@ -70,7 +70,7 @@ is_store = record {
   stands = (inl (refl, inl refl), tt);
   proper = (proper, tt);
   history = (refl, tt);
-  numbers = record { both = (record { base = refl; data_nodes = refl; apart = refl; kept = refl }, tt); synced = refl };
+  numbers = record { both = (record { base = refl; data_nodes = refl; apart = refl; kept = refl }, tt); live = refl; synced = refl };
   whole_or_left = (whole, tt);
   orphans = ((refl, tt), tt);
   nameless_are = refl;

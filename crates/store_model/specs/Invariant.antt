@@ -206,6 +206,7 @@ pub record HasFiles (m : Store) : Type 0 where
 -- Numbers ascend and were given; no more is synced than was put.
 pub record HasNumbers (m : Store) : Type 0 where
   pub both : OfBoth m (AreNumbered m)
+  pub live : IsTrue (list_all (λ x. nat_le x.sqnum m.sqnum) m.live)
   pub synced : IsTrue (are_within m.synced (counts_of m.now.buds))
 
 -- What was committed is whole, and the nodes that were put since carry their changes.

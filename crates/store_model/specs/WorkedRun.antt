@@ -76,11 +76,12 @@ second_commit =
     ∷ (Write ∷ []) ∷ (Offer ∷ End ∷ []) ∷ []
 
 -- ---- what is told of a state
--- the numbers of admission, the log's end, the number given last, the buds of both views, the places of live leaves, and the orphans listed and closed
+-- the numbers of admission, the log's end, the number given last, how much of each head is synced, the buds of both views, the places of live leaves, and the orphans listed and closed
 pub record Row : Type 0 where
   pub space : List ℕ
   pub log : ℕ × ℕ
   pub sqnum : ℕ
+  pub synced : List ℕ
   pub buds : List (ℕ × ℕ × ℕ)
   pub later : List (ℕ × ℕ × ℕ)
   pub live : List (ℕ × ℕ)
@@ -100,6 +101,7 @@ row_of m = record {
   space = numbers_of (space_of m);
   log = (m.log.leb, m.log.offs);
   sqnum = m.sqnum;
+  synced = m.synced;
   buds = named_rows m.now.buds;
   later = option_map_or (λ next. named_rows next.view.buds) m.next [];
   live = map (λ x. (x.leaf.lnum, x.leaf.offs)) m.live;
@@ -190,12 +192,12 @@ places_bb = (20, 0) ∷ (22, 0) ∷ (22, 224) ∷ (22, 64) ∷ (22, 288) ∷ []
 
 abbrev pub first_rows : List Row
 first_rows =
-    (record { space = 384 ∷ 0 ∷ 9 ∷ 1 ∷ 3 ∷ []; log = (0, 96); sqnum = 13; buds = (1, 22, 0) ∷ []; later = []; live = places_am; listed = []; closed = [] })
-    ∷ (record { space = 384 ∷ 0 ∷ 9 ∷ 1 ∷ 3 ∷ []; log = (0, 96); sqnum = 13; buds = (1, 22, 0) ∷ []; later = []; live = places_am; listed = []; closed = [] })
-    ∷ (record { space = 384 ∷ 0 ∷ 8 ∷ 1 ∷ 3 ∷ []; log = (1, 96); sqnum = 15; buds = (1, 22, 0) ∷ []; later = (1, 22, 224) ∷ []; live = places_am; listed = []; closed = [] })
-    ∷ (record { space = 608 ∷ 0 ∷ 8 ∷ 1 ∷ 5 ∷ []; log = (1, 96); sqnum = 17; buds = (1, 22, 0) ∷ []; later = (1, 22, 224) ∷ []; live = places_bb; listed = []; closed = [] })
-    ∷ (record { space = 608 ∷ 0 ∷ 8 ∷ 1 ∷ 5 ∷ []; log = (1, 96); sqnum = 18; buds = (1, 22, 0) ∷ []; later = (1, 22, 224) ∷ []; live = places_bb; listed = []; closed = [] })
-    ∷ (record { space = 608 ∷ 0 ∷ 9 ∷ 1 ∷ 4 ∷ []; log = (1, 96); sqnum = 21; buds = (1, 22, 224) ∷ []; later = []; live = places_bb; listed = []; closed = [] })
+    (record { space = 384 ∷ 0 ∷ 9 ∷ 1 ∷ 3 ∷ []; log = (0, 96); sqnum = 13; synced = 0 ∷ 0 ∷ 0 ∷ []; buds = (1, 22, 0) ∷ []; later = []; live = places_am; listed = []; closed = [] })
+    ∷ (record { space = 384 ∷ 0 ∷ 9 ∷ 1 ∷ 3 ∷ []; log = (0, 96); sqnum = 13; synced = 0 ∷ 1 ∷ 0 ∷ []; buds = (1, 22, 0) ∷ []; later = []; live = places_am; listed = []; closed = [] })
+    ∷ (record { space = 384 ∷ 0 ∷ 8 ∷ 1 ∷ 3 ∷ []; log = (1, 96); sqnum = 15; synced = 0 ∷ 1 ∷ 0 ∷ []; buds = (1, 22, 0) ∷ []; later = (1, 22, 224) ∷ []; live = places_am; listed = []; closed = [] })
+    ∷ (record { space = 608 ∷ 0 ∷ 8 ∷ 1 ∷ 5 ∷ []; log = (1, 96); sqnum = 17; synced = 0 ∷ 1 ∷ 0 ∷ []; buds = (1, 22, 0) ∷ []; later = (1, 22, 224) ∷ []; live = places_bb; listed = []; closed = [] })
+    ∷ (record { space = 608 ∷ 0 ∷ 8 ∷ 1 ∷ 5 ∷ []; log = (1, 96); sqnum = 18; synced = 0 ∷ 1 ∷ 0 ∷ []; buds = (1, 22, 0) ∷ []; later = (1, 22, 224) ∷ []; live = places_bb; listed = []; closed = [] })
+    ∷ (record { space = 608 ∷ 0 ∷ 9 ∷ 1 ∷ 4 ∷ []; log = (1, 96); sqnum = 21; synced = 0 ∷ 0 ∷ 0 ∷ []; buds = (1, 22, 224) ∷ []; later = []; live = places_bb; listed = []; closed = [] })
     ∷ []
 
 abbrev pub collection_rows : List Row
@@ -204,6 +206,7 @@ collection_rows =
       space = 608 ∷ 0 ∷ 9 ∷ 1 ∷ 4 ∷ [];
       log = (1, 160);
       sqnum = 22;
+      synced = 1 ∷ 1 ∷ 0 ∷ [];
       buds = (1, 22, 224) ∷ (0, 21, 0) ∷ [];
       later = [];
       live = (21, 0) ∷ (22, 0) ∷ (22, 224) ∷ (22, 64) ∷ (22, 288) ∷ [];
@@ -226,10 +229,10 @@ places_last = (21, 0) ∷ (22, 224) ∷ (22, 288) ∷ []
 
 abbrev pub second_rows : List Row
 second_rows =
-    (record { space = 544 ∷ 224 ∷ 9 ∷ 1 ∷ 6 ∷ []; log = (1, 160); sqnum = 24; buds = buds_old; later = []; live = places_open; listed = []; closed = [] })
-    ∷ (record { space = 544 ∷ 0 ∷ 9 ∷ 1 ∷ 6 ∷ []; log = (1, 160); sqnum = 24; buds = buds_old; later = []; live = places_open; listed = []; closed = [] })
-    ∷ (record { space = 544 ∷ 0 ∷ 8 ∷ 1 ∷ 6 ∷ []; log = (2, 160); sqnum = 27; buds = buds_old; later = buds_new; live = places_open; listed = []; closed = [] })
-    ∷ (record { space = 384 ∷ 0 ∷ 8 ∷ 1 ∷ 6 ∷ []; log = (2, 160); sqnum = 27; buds = buds_old; later = buds_new; live = places_last; listed = []; closed = 65 ∷ [] })
-    ∷ (record { space = 384 ∷ 0 ∷ 8 ∷ 1 ∷ 6 ∷ []; log = (2, 160); sqnum = 30; buds = buds_old; later = buds_new; live = places_last; listed = []; closed = 65 ∷ [] })
-    ∷ (record { space = 384 ∷ 0 ∷ 9 ∷ 1 ∷ 4 ∷ []; log = (2, 160); sqnum = 33; buds = buds_new; later = []; live = places_last; listed = 65 ∷ []; closed = 65 ∷ [] })
+    (record { space = 544 ∷ 224 ∷ 9 ∷ 1 ∷ 6 ∷ []; log = (1, 160); sqnum = 24; synced = 1 ∷ 1 ∷ 0 ∷ []; buds = buds_old; later = []; live = places_open; listed = []; closed = [] })
+    ∷ (record { space = 544 ∷ 0 ∷ 9 ∷ 1 ∷ 6 ∷ []; log = (1, 160); sqnum = 24; synced = 1 ∷ 2 ∷ 0 ∷ []; buds = buds_old; later = []; live = places_open; listed = []; closed = [] })
+    ∷ (record { space = 544 ∷ 0 ∷ 8 ∷ 1 ∷ 6 ∷ []; log = (2, 160); sqnum = 27; synced = 1 ∷ 2 ∷ 0 ∷ []; buds = buds_old; later = buds_new; live = places_open; listed = []; closed = [] })
+    ∷ (record { space = 384 ∷ 0 ∷ 8 ∷ 1 ∷ 6 ∷ []; log = (2, 160); sqnum = 27; synced = 1 ∷ 2 ∷ 0 ∷ []; buds = buds_old; later = buds_new; live = places_last; listed = []; closed = 65 ∷ [] })
+    ∷ (record { space = 384 ∷ 0 ∷ 8 ∷ 1 ∷ 6 ∷ []; log = (2, 160); sqnum = 30; synced = 1 ∷ 2 ∷ 0 ∷ []; buds = buds_old; later = buds_new; live = places_last; listed = []; closed = 65 ∷ [] })
+    ∷ (record { space = 384 ∷ 0 ∷ 9 ∷ 1 ∷ 4 ∷ []; log = (2, 160); sqnum = 33; synced = 0 ∷ 0 ∷ 0 ∷ []; buds = buds_new; later = []; live = places_last; listed = 65 ∷ []; closed = 65 ∷ [] })
     ∷ []

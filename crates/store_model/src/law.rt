@@ -62,6 +62,17 @@ pub fn each_event_keeps_the_files()
     a_drop_keeps_the_files();
 }
 
+/// Each event keeps the numbers: groups ascend and were given, none stands at two heads, and no more is synced than was put. At
+/// a commit's end that is so of what came since it began.
+pub fn each_event_keeps_the_numbers()
+    ensures { (m : AnyStore) (event : Event) → IsLegalEvent m event → HasNumbers m → HasNumbers (after event m) }
+{
+    a_put_keeps_the_files();
+    a_sync_keeps_the_files();
+    an_opened_leb_keeps_the_files();
+    a_drop_keeps_the_files();
+}
+
 /// A put and a LEB that is opened leave a store from which a commit can start and end.
 pub fn a_put_leaves_room_for_a_commit()
     ensures put { (m : AnyStore) (p : Putting) → IsLegalEvent m (Put p) → IsStoreSettled (after (Put p) m) }

@@ -21,7 +21,7 @@ pub use crate::law::{
     a_drop_keeps_the_files, a_lent_leb_comes_back, a_put_keeps_the_files,
     a_put_leaves_room_for_a_commit, a_put_spends_what_was_granted, a_sync_comes_first,
     a_sync_keeps_the_files, an_opened_leb_keeps_the_files, bytes_follow_the_leaves,
-    each_event_keeps_the_files,
+    each_event_keeps_the_files, each_event_keeps_the_numbers,
 };
 pub use crate::lebs::{
     a_collection_keeps_what_lebs_are_for, a_running_commit_gets_what_is_put,
