@@ -18,6 +18,10 @@ pub before_now : (before now : Bool) → (before ≡ false → now ≡ false) �
 before_now true now h is = refl
 before_now false now h is = absurd (false≢true (sym (h refl) ∙ is))
 
+pub was_there : (b : Bool) → false ≡ not b → b ≡ true
+was_there true h = refl
+was_there false h = h
+
 module _ {K V : Type 0} (q : K → Bool) where
   head_tail : (e : K × V) (es : List (K × V)) → IsNone (lookup q (e ∷ es)) → (q e.0 ≡ false) × IsNone (lookup q es)
   head_tail e es h = (elim (q e.0) as (λ b. q e.0 ≡ b → (q e.0 ≡ false) × IsNone (lookup q es)) [
@@ -83,6 +87,11 @@ module _ {K V : Type 0} (q : K → Bool) where
       → IsNone (lookup q (option_map_or (λ e. (e.0, v) ∷ remove_entry test es) o ((k, v) ∷ take n es)))
   placed test es n k v None is t h = put_head (k, v) (take n es) t (absent_front n es h)
   placed test es n k v (Some e) is t h = put_head (e.0, v) (remove_entry test es) (other_key test es e is h) (absent_without test es h)
+
+-- nothing is taken out where there is no such page
+pub removed_absent : {K V : Type 0} (test : K → Bool) (es : List (K × V)) → IsNone (lookup test es) → remove_entry test es ≡ es
+removed_absent test [] h = refl
+removed_absent test (e ∷ es) h = let r = head_tail test e es h in rw r.0 (ap (λ l. e ∷ l) (removed_absent test es r.1))
 
 -- a page that was taken out isn't there
 pub absent_removed : {V : Type 0} (name : ℕ × ℕ) (es : List ((ℕ × ℕ) × V)) → IsDistinct is_page (keys_of es) → IsNone (lookup (is_page name) (remove_entry (is_page name) es))

@@ -2,5 +2,7 @@ pub mod Apart
 pub mod Counted
 pub mod Lists
 pub mod Names
+pub mod OnePage
 pub mod Putting
+pub mod Reading
 pub mod Turning

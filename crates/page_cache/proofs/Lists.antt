@@ -34,7 +34,7 @@ module _ {K V : Type 0} (test : K → Bool) where
   ]) refl
 
   -- what a key's entry is, the look-up finds
-  value_of : (es : List (K × V)) (e : K × V) → lookup_entry test es ≡ Some e → (test e.0 ≡ true) × (lookup test es ≡ Some e.1)
+  pub value_of : (es : List (K × V)) (e : K × V) → lookup_entry test es ≡ Some e → (test e.0 ≡ true) × (lookup test es ≡ Some e.1)
   value_of [] e h = absurd cc
   value_of (f ∷ es) e h = (elim (test f.0) as (λ b. test f.0 ≡ b → (test e.0 ≡ true) × (lookup test (f ∷ es) ≡ Some e.1)) [
     | true ↦ λ t. let h' = rw t at h in let same : f ≡ e = cc in (subst (λ g. test g.0 ≡ true) same t, rw t (ap (λ g. Some g.1) same))

@@ -1,8 +1,8 @@
 // The pages that are kept in memory.
 
-ghost use Rattle.std.specs.Prelude.{◌≡◌, ◌<◌, ℕ, List, ◌++◌, not, [], IfOk, OnOk, OnErr, IsOk, is_some, IsSome, IsNone, length, take, if◌then◌else◌};
+ghost use Rattle.std.specs.Prelude.{◌≡◌, ◌<◌, ℕ, List, ◌++◌, not, [], IfOk, OnOk, OnErr, IsOk, is_some, IsSome, IsNone, length, slice_get, take, if◌then◌else◌};
 ghost use Rattle.std.specs.List.{AllByRecursion};
-ghost use Rattle.std.specs.Option.{option_copied};
+ghost use Rattle.std.specs.Option.{option_copied, option_map};
 ghost use Rattle.page_cache.specs.Pages.{IsCache, dirty_at, bytes_at, with_dirty, with_all_dirty, new_pages, old_pages, with_clean, with_used, IsTakenBack, oldest_of, next_of, ticket_of, tickets_of, is_current, without_dirty, without_cut, cut_count};
 
 use crate::dirty_page::DirtyPage;
@@ -68,10 +68,14 @@ impl Cache {
             version,
         };
         match self.dirty.put_last((ino, block), page) {
-            Ok(new) => {
+            Ok(true) => {
                 self.clean.remove((ino, block));
                 self.calls = version;
-                Ok(new)
+                Ok(true)
+            }
+            Ok(false) => {
+                self.calls = version;
+                Ok(false)
             }
             Err(fault) => Err(fault),
         }
@@ -88,10 +92,29 @@ impl Cache {
         ensures ok { OnOk result (self.new ≡ with_all_dirty (with_all_dirty self.old ino (new_pages self.old ino pages.items)) ino (old_pages self.old ino pages.items)) }
         ensures err { OnErr result (IsTakenBack self.old self.new ino pages.items) }
     {
+        if pages.len() == 1 {
+            return self.put_only(ino, pages);
+        }
         let (new, old) = self.parted(alloc, ino, pages)?;
         self.put_new(ino, new)?;
         self.put_old(ino, old);
         Ok(())
+    }
+
+    // The same as `put_all`, of one page.
+    #[tactic(auto, using(crate::proofs::OnePage::put_one, crate::proofs::OnePage::taken_back))]
+    fn put_only(&mut self, ino: u32, mut pages: Vec<(u32, Bytes)>) -> Result<(), Memory>
+        requires { length pages.items ≡ 1 }
+        ensures ok { OnOk result (self.new ≡ with_all_dirty (with_all_dirty self.old ino (new_pages self.old ino pages.items)) ino (old_pages self.old ino pages.items)) }
+        ensures err { OnErr result (IsTakenBack self.old self.new ino pages.items) }
+    {
+        match pages.pop() {
+            Some((block, bytes)) => {
+                self.put_dirty(ino, block, bytes)?;
+                Ok(())
+            }
+            None => Ok(()),
+        }
     }
 
     // The pages that become dirty, and the others.
@@ -171,28 +194,37 @@ impl Cache {
         ensures* used { sem 𝓛 (follows_so the_row the_row self.entry.ghost_name none (λ _ _. ⊤) (λ pages. pages ≡ with_used self.old ino block)) }
         ensures bytes { option_copied result ≡ bytes_at self.old ino block }
     {
-        self.use_page(ino, block);
-        self.peek(ino, block)
+        let clean = self.use_page(ino, block);
+        self.peek(ino, block, clean)
     }
 
-    // A clean page was used last.
-    #[tactic(auto, using(crate::proofs::Lists::found_promoted))]
-    fn use_page(&mut self, ino: u32, block: u32)
+    // A clean page was used last. Answers whether there is one, which is the first then.
+    #[tactic(auto, using(crate::proofs::Lists::found_promoted, crate::proofs::Reading::read_dirty, crate::proofs::Reading::read_clean))]
+    fn use_page(&mut self, ino: u32, block: u32) -> bool
         ensures used { self.new ≡ with_used self.old ino block }
         ensures bytes { bytes_at self.new ino block ≡ bytes_at self.old ino block }
+        ensures place { bytes_at self.new ino block ≡ (if result then option_map (λ e. e.1) (slice_get self.new.clean 0) else option_map (λ page. page.bytes) (dirty_at self.new ino block)) }
     {
         if !self.dirty.contains((ino, block)) {
-            self.clean.promote((ino, block));
+            return self.clean.promote((ino, block));
         }
+        false
     }
 
-    // The bytes of a page.
-    fn peek(&self, ino: u32, block: u32) -> Option<&Bytes>
+    // The bytes of a page, which is the first of the clean ones or a dirty one.
+    fn peek(&self, ino: u32, block: u32, clean: bool) -> Option<&Bytes>
+        requires { bytes_at self.now ino block ≡ (if clean then option_map (λ e. e.1) (slice_get self.now.clean 0) else option_map (λ page. page.bytes) (dirty_at self.now ino block)) }
         ensures { option_copied result ≡ bytes_at self.now ino block }
     {
+        if clean {
+            return match self.clean.first() {
+                Some((_, bytes)) => Some(bytes),
+                None => None,
+            };
+        }
         match self.dirty.get((ino, block)) {
             Some(page) => Some(&page.bytes),
-            None => self.clean.get((ino, block)),
+            None => None,
         }
     }
 

@@ -1,6 +1,6 @@
 // Pages by name, in an order.
 
-ghost use Rattle.std.specs.Prelude.{◌≡◌, ◌-◌, ◌^◌, ◌<◌, ◌≤◌, ℕ, true, false, not, List, [], ◌∷◌, ◌++◌, if◌then◌else◌, IfOk, OnOk, OnErr, IsOk, is_some, IsSome, IsNone, length, map, slice_get, take};
+ghost use Rattle.std.specs.Prelude.{◌≡◌, ◌-◌, ◌^◌, ◌<◌, ◌≤◌, ℕ, true, false, not, List, [], ◌∷◌, ◌++◌, if◌then◌else◌, IfOk, OnOk, OnErr, IsOk, IfSome, is_some, IsSome, IsNone, length, map, slice_get, take};
 ghost use Rattle.std.specs.Option.{option_map, option_copied};
 ghost use Rattle.std.specs.NonZero.{non_zero_usize_get};
 ghost use Rattle.std.specs.Map.{lookup, remove_entry, set_value};
@@ -86,19 +86,22 @@ impl<V: Drop> PageList<V> {
         ensures err { OnErr result (self.new ≡ self.old) }
         ensures succeeds { IsSome (lookup (is_page name) self.old.entries) → IsOk result }
     {
-        if self.contains(name) {
-            self.set(name, page);
-            return Ok(false);
+        match self.set(name, page) {
+            None => Ok(false),
+            Some(page) => {
+                self.add_last(name, page)?;
+                Ok(true)
+            }
         }
-        self.add_last(name, page)?;
-        Ok(true)
     }
 
-    // Sets the page of a name, at its place.
-    fn set(&mut self, name: (u32, u32), page: V)
-        ensures { self.new ≡ lru_cache (set_value (is_page name) self.old.entries page) self.old.cap }
+    // Sets the page of a name, at its place. Where there is none the new one is given back.
+    fn set(&mut self, name: (u32, u32), page: V) -> Option<V>
+        ensures set { self.new ≡ lru_cache (set_value (is_page name) self.old.entries page) self.old.cap }
+        ensures found { is_some result ≡ not (is_some (lookup (is_page name) self.old.entries)) }
+        ensures back { IfSome result (λ back. (back ≡ page) × (self.new ≡ self.old)) }
     {
-        set_page(&mut self.pages, name, page);
+        set_page(&mut self.pages, name, page)
     }
 
     // Adds a page of a new name at the end. Where there is no memory all is as it was.
@@ -131,11 +134,12 @@ impl<V: Drop> PageList<V> {
         }
     }
 
-    /// Moves the page of a name to the front. Takes no memory.
-    pub(crate) fn promote(&mut self, name: (u32, u32))
-        ensures { self.new ≡ lru_cache (promoted (is_page name) self.old.entries) self.old.cap }
+    /// Moves the page of a name to the front, and answers whether there is one. Takes no memory.
+    pub(crate) fn promote(&mut self, name: (u32, u32)) -> bool
+        ensures there { result ≡ is_some (lookup (is_page name) self.old.entries) }
+        ensures list { self.new ≡ lru_cache (promoted (is_page name) self.old.entries) self.old.cap }
     {
-        self.pages.promote(&name);
+        self.pages.promote(&name)
     }
 
     /// Takes the page of a name out. Takes no memory.
@@ -236,16 +240,18 @@ pub(crate) fn tickets_of(
     Ok(tickets)
 }
 
-// Sets the page of a name, at its place, and answers whether there is one.
-fn set_page<V: Drop>(pages: &mut LruCache<(u32, u32), V>, name: (u32, u32), page: V) -> bool
-    ensures { pages.new ≡ lru_cache (set_value (is_page name) pages.old.entries page) pages.old.cap }
+// Sets the page of a name, at its place. Where there is none the new one is given back.
+fn set_page<V: Drop>(pages: &mut LruCache<(u32, u32), V>, name: (u32, u32), page: V) -> Option<V>
+    ensures set { pages.new ≡ lru_cache (set_value (is_page name) pages.old.entries page) pages.old.cap }
+    ensures found { is_some result ≡ not (is_some (lookup (is_page name) pages.old.entries)) }
+    ensures back { IfSome result (λ back. (back ≡ page) × (pages.new ≡ pages.old)) }
 {
     match pages.peek_mut(&name) {
         Some(place) => {
             *place = page;
-            true
+            None
         }
-        None => false,
+        None => Some(page),
     }
 }
 
