@@ -164,7 +164,7 @@ impl<B: Backing> Fs<B> {
     pub fn walk(&mut self, path: &Name) -> Result<Entry, Refusal>
         requires ready { IsReady (B.state self.old.backing) self.old.kept }
         ensures ready { IsReady (B.state self.new.backing) self.new.kept }
-        ensures kept { self.new.kept ≡ self.old.kept }
+        ensures still { self.new ≡ record self.old { backing = self.new.backing } }
         ensures found { IfOk result (λ entry. walked (present (B.state self.old.backing).tree self.old.kept).tree path.now ≡ Ok entry) }
         ensures refused { IfErr result (IsRefused (B.state self.old.backing) (B.state self.new.backing) (walked (present (B.state self.old.backing).tree self.old.kept).tree path.now)) }
         ensures looks { Looks (B.outlook self.old.backing) (B.outlook self.new.backing) (B.state self.old.backing) (B.state self.new.backing) }
@@ -176,7 +176,7 @@ impl<B: Backing> Fs<B> {
     pub fn entries(&mut self, dir: u32) -> Result<Vec<Entry>, StoreFault>
         requires ready { IsReady (B.state self.old.backing) self.old.kept }
         ensures ready { IsReady (B.state self.new.backing) self.new.kept }
-        ensures kept { self.new.kept ≡ self.old.kept }
+        ensures still { self.new ≡ record self.old { backing = self.new.backing } }
         ensures found { IfOk result (λ entries. entries.items ≡ entries_in (present (B.state self.old.backing).tree self.old.kept).tree dir) }
         ensures reads { Reads (B.state self.old.backing) (B.state self.new.backing) }
         ensures cause { HasCause (B.state self.old.backing) (B.state self.new.backing) result }
@@ -189,7 +189,7 @@ impl<B: Backing> Fs<B> {
     pub fn lookup(&mut self, dir: u32, name: &Name) -> Result<Option<Entry>, StoreFault>
         requires ready { IsReady (B.state self.old.backing) self.old.kept }
         ensures ready { IsReady (B.state self.new.backing) self.new.kept }
-        ensures kept { self.new.kept ≡ self.old.kept }
+        ensures still { self.new ≡ record self.old { backing = self.new.backing } }
         ensures found { IfOk result (λ found. found ≡ entry_at (present (B.state self.old.backing).tree self.old.kept).tree dir name.now) }
         ensures reads { Reads (B.state self.old.backing) (B.state self.new.backing) }
         ensures cause { HasCause (B.state self.old.backing) (B.state self.new.backing) result }
@@ -202,7 +202,7 @@ impl<B: Backing> Fs<B> {
     pub fn inode(&mut self, ino: u32) -> Result<Option<Inode>, StoreFault>
         requires ready { IsReady (B.state self.old.backing) self.old.kept }
         ensures ready { IsReady (B.state self.new.backing) self.new.kept }
-        ensures kept { self.new.kept ≡ self.old.kept }
+        ensures still { self.new ≡ record self.old { backing = self.new.backing } }
         ensures found { IfOk result (λ found. found ≡ inode_at (present (B.state self.old.backing).tree self.old.kept).tree ino) }
         ensures reads { Reads (B.state self.old.backing) (B.state self.new.backing) }
         ensures cause { HasCause (B.state self.old.backing) (B.state self.new.backing) result }
