@@ -4,3 +4,6 @@ pub mod Following
 pub mod Finding
 pub mod Adding
 pub mod HoldsLaws
+pub mod Staged
+pub mod Inserted
+pub mod Rooted

@@ -59,7 +59,7 @@ views_more seen (n ∷ ns) =
     let p = views_more (seen ++ view_of seen n ∷ []) ns in
     (view_of seen n ∷ p.0, p.1 ∙ append_assoc seen (view_of seen n ∷ []) p.0)
 
-views_append : (seen : List NodeView) (xs ys : List TableNode) → views_behind seen (xs ++ ys) ≡ views_behind (views_behind seen xs) ys
+pub views_append : (seen : List NodeView) (xs ys : List TableNode) → views_behind seen (xs ++ ys) ≡ views_behind (views_behind seen xs) ys
 views_append seen [] ys = refl
 views_append seen (x ∷ xs) ys = views_append (seen ++ view_of seen x ∷ []) xs ys
 

@@ -1,3 +1,4 @@
 pub mod NodeView
 pub mod Sound
 pub mod Walk
+pub mod Staging

@@ -9,10 +9,12 @@ mod after;
 mod bisect;
 mod find;
 mod holding;
+mod insertion;
 mod link;
 mod node;
 mod opening;
 mod rank;
+mod rooting;
 mod scan;
 mod table;
 

@@ -11,7 +11,7 @@ use crate::table::NodeTable;
 
 impl NodeTable {
     /// The node of this number; none where there is no such node.
-    fn node_at(&self, number: u64) -> Option<&TableNode>
+    pub(crate) fn node_at(&self, number: u64) -> Option<&TableNode>
         ensures some { IfSome result (λ node. slice_get self.now.nodes.items number ≡ Some node.now) }
         ensures none { IfNone result (length self.now.nodes.items ≤ number) }
     {

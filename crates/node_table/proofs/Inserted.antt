@@ -1,0 +1,141 @@
+-- What the links that an insertion pushes lead to.
+use Rattle.std.proofs.Common.{◌≡◌, ℕ, ◌<◌, ◌≤◌, true, false, List, [], ◌∷◌, ◌++◌, length, refl, arith, ap, sym, ◌∙◌, subst}
+use Rattle.std.specs.Prelude.{Option, None, Some, slice_get}
+use Rattle.std.proofs.lemmas.Option.{slice_get-get_or}
+use Rattle.ubifs_base.specs.Key.{IsKey}
+use Rattle.ubifs_base.specs.declared.key.Key.{Key}
+use Rattle.index_tree.specs.Shape.{fits, left_half}
+use Rattle.index_tree.specs.declared.leaf.Leaf.{Leaf}
+use Rattle.index_media.specs.Insertion.{first_key, keyed_front, keyed_back, keyed_parted, lowered, inserted_by_keys}
+use Rattle.index_media.specs.KeyedRow.{KeyedRow, no_more, leaf_in, node_in, bare}
+use Rattle.node_table.specs.NodeView.{NodeView, node_before, row_of, views, children_in, tree_at, IsRootIn}
+use Rattle.node_table.specs.Sound.{IsSoundView}
+use Rattle.node_table.specs.Staging.{row_before, IsLinkIn, AreLinksIn, insertion_passes, IsAdded, IsGrownRow}
+use Rattle.node_table.specs.declared.link.Link.{Link}
+use Rattle.node_table.specs.declared.link.Link.TheVariants.{ToLeaf, ToNode}
+use Rattle.node_table.specs.declared.node.Root.{Root}
+use Rattle.node_table.specs.declared.node.TableNode.{TableNode}
+use Rattle.node_table.proofs.Staged.{Halved, link_there, views_added, links_kept, links_there, before_none, before_append, link_passed, leaf_before, node_inside, grown_row}
+use Rattle.node_table.proofs.Viewing.{views_length, get_left, children_fit}
+
+empty_of : (links : List Link) → length links ≡ 0 → links ≡ []
+empty_of [] h = refl
+empty_of (x ∷ xs) h = absurd (omega (arith, h))
+
+pub among_none : (seen : List NodeView) (f : ℕ) (new : Leaf) (links made : List Link) → length links ≡ 0
+    → row_before seen (made ++ ToLeaf new ∷ []) no_more ≡ row_before seen made (inserted_by_keys f new (row_of seen links))
+among_none seen f new links made e =
+    before_append seen made (ToLeaf new ∷ []) no_more ∙ ap (λ v. row_before seen made (inserted_by_keys f new (row_of seen v))) (sym (empty_of links e))
+
+pub among_passed : (seen : List NodeView) (f : ℕ) (new : Leaf) (link : Link) (rest links made : List Link) → links ≡ link ∷ rest → insertion_passes new link rest ≡ true
+    → row_before seen (made ++ link ∷ []) (inserted_by_keys f new (row_of seen rest)) ≡ row_before seen made (inserted_by_keys f new (row_of seen links))
+among_passed seen f new link rest links made e s =
+    before_append seen made (link ∷ []) (inserted_by_keys f new (row_of seen rest)) ∙ ap (row_before seen made) (sym (link_passed f seen new link rest s))
+    ∙ ap (λ v. row_before seen made (inserted_by_keys f new (row_of seen v))) (sym e)
+
+pub among_leaf : (seen : List NodeView) (f : ℕ) (new x : Leaf) (rest links made : List Link) → links ≡ ToLeaf x ∷ rest → insertion_passes new (ToLeaf x) rest ≡ false
+    → row_before seen ((made ++ ToLeaf new ∷ []) ++ links) no_more ≡ row_before seen made (inserted_by_keys f new (row_of seen links))
+among_leaf seen f new x rest links made e s =
+    before_append seen (made ++ ToLeaf new ∷ []) links no_more ∙ before_append seen made (ToLeaf new ∷ []) (row_before seen links no_more)
+    ∙ ap (λ r. row_before seen made (leaf_in new r)) (before_none seen links ∙ ap (row_of seen) e) ∙ ap (row_before seen made) (sym (leaf_before f seen new x rest s))
+    ∙ ap (λ v. row_before seen made (inserted_by_keys f new (row_of seen v))) (sym e)
+
+there_old : (f : ℕ) (old : List TableNode) (links : List Link) → fits f (bare (row_of (views old) links)) ≡ true → AreLinksIn (length old) links
+there_old f old links h = subst (λ n. AreLinksIn n links) (views_length old) (links_there f (views old) links h)
+
+-- the links behind the first one are there too
+pub rest_there : (f : ℕ) (old : List TableNode) (link : Link) (rest links : List Link) → links ≡ link ∷ rest → fits f (bare (row_of (views old) links)) ≡ true → AreLinksIn (length old) rest
+rest_there f old link rest links e h =
+    let P : List Link → Type 0 = λ v. fits f (bare (row_of (views old) v)) ≡ true in
+    (there_old f old (link ∷ rest) (subst P e h)).1
+
+pub all_there : (f : ℕ) (old : List TableNode) (links : List Link) → fits f (bare (row_of (views old) links)) ≡ true → AreLinksIn (length old) links
+all_there f old links h = there_old f old links h
+
+pub among_node : (f : ℕ) (old now : List TableNode) (new : Leaf) (key : Key) (number : ℕ) (rest links made more : List Link) → links ≡ ToNode key number ∷ rest → IsAdded old now
+    → fits f (bare (row_of (views old) links)) ≡ true → insertion_passes new (ToNode key number) rest ≡ false
+    → ((r : KeyedRow) → row_before (views now) more r ≡ row_before (views old) made (keyed_parted f (lowered new key) (inserted_by_keys f new (children_in (slice_get (views old) number))) r))
+    → row_before (views now) (more ++ rest) no_more ≡ row_before (views old) made (inserted_by_keys f new (row_of (views old) links))
+among_node f old now new key number rest links made more e a h s m =
+    let kept = links_kept old now rest no_more a (rest_there f old (ToNode key number) rest links e h) in
+    before_append (views now) more rest no_more ∙ m (row_before (views now) rest no_more)
+    ∙ ap (λ r. row_before (views old) made (keyed_parted f (lowered new key) (inserted_by_keys f new (children_in (slice_get (views old) number))) r)) (kept ∙ before_none (views old) rest)
+    ∙ ap (row_before (views old) made) (sym (node_inside f (views old) new key number rest s))
+    ∙ ap (λ v. row_before (views old) made (inserted_by_keys f new (row_of (views old) v))) (sym e)
+
+-- the row that was made among the links of a node
+pub made_row : (old now : List TableNode) (made links : List Link) (row : KeyedRow) → made ≡ [] → row_before (views now) links no_more ≡ row_before (views old) made row → row_of (views now) links ≡ row
+made_row old now made links row e h = sym (before_none (views now) links) ∙ h ∙ ap (λ v. row_before (views old) v row) e
+
+pub below_made : (f f' : ℕ) (old now : List TableNode) (new : Leaf) (key low : Key) (made links : List Link) (row children rest : KeyedRow) → f' ≡ f → IsAdded old now → AreLinksIn (length old) made
+    → low ≡ lowered new key → row_of (views now) links ≡ inserted_by_keys f new row → children ≡ row
+    → row_before (views now) made (keyed_parted f' low (row_of (views now) links) rest) ≡ row_before (views old) made (keyed_parted f (lowered new key) (inserted_by_keys f new children) rest)
+below_made f f' old now new key low made links row children rest e a h k r c =
+    links_kept old now made (keyed_parted f' low (row_of (views now) links) rest) a h
+    ∙ ap (λ n. row_before (views old) made (keyed_parted n low (row_of (views now) links) rest)) e
+    ∙ ap (λ n. row_before (views old) made (keyed_parted f n (row_of (views now) links) rest)) k
+    ∙ ap (λ v. row_before (views old) made (keyed_parted f (lowered new key) v rest)) r
+    ∙ ap (λ v. row_before (views old) made (keyed_parted f (lowered new key) (inserted_by_keys f new v) rest)) (sym c)
+
+pub below_grown : (f f' level : ℕ) (new : Leaf) (row made : KeyedRow) → 3 ≤ f → f' ≡ f → IsKey new.key → IsSoundView f (record { level = level; place = None; children = row })
+    → made ≡ inserted_by_keys f new row → IsGrownRow f' level made
+below_grown f f' level new row made three e own s r =
+    let g = grown_row f level new (record { level = level; place = None; children = row }) three own s refl in
+    let P : KeyedRow → Type 0 = λ v. IsGrownRow f level v in
+    subst (λ n. IsGrownRow n level made) (sym e) (subst P (sym r) g)
+
+-- each root goes on showing its index
+pub tree_kept : (old now : List TableNode) (root : Option Root) → IsAdded old now → IsRootIn old root → tree_at now root ≡ tree_at old root
+tree_kept old now None a h = refl
+tree_kept old now (Some root) a h =
+    let p = views_added old now a in
+    let v : NodeView = record { level = 0; place = None; children = no_more } in
+    let there = slice_get-get_or (views old) root.number v (subst (λ n. root.number < n) (sym (views_length old)) h) in
+    ap (λ o. node_before root.key o no_more) (ap (λ w. slice_get w root.number) p.1 ∙ get_left (views old) p.0 root.number _ there ∙ sym there)
+
+-- the row that an insertion below a root makes
+pub top_made : (f : ℕ) (old now : List TableNode) (new : Leaf) (root : Root) (none made : List Link) → none ≡ []
+    → row_before (views now) made no_more ≡ row_before (views old) none (keyed_parted f (lowered new root.key) (inserted_by_keys f new (children_in (slice_get (views old) root.number))) no_more)
+    → row_of (views now) made ≡ inserted_by_keys f new (tree_at old (Some root))
+top_made f old now new root none made e h =
+    made_row old now none made _ e h ∙ sym (node_inside f (views old) new root.key root.number [] refl)
+
+-- a row whose nodes have children is the same over more nodes
+pub row_kept : (f : ℕ) (old now : List TableNode) (links : List Link) → IsAdded old now → fits f (bare (row_of (views old) links)) ≡ true → row_of (views now) links ≡ row_of (views old) links
+row_kept f old now links a h = sym (before_none (views now) links) ∙ links_kept old now links no_more a (all_there f old links h) ∙ before_none (views old) links
+
+-- so is the second half of a node once the first half stands
+pub back_row_kept : (f level : ℕ) (old now : List TableNode) (back : List Link) (half : KeyedRow) → IsAdded old now → row_of (views old) back ≡ half
+    → IsSoundView f (record { level = level; place = None; children = half }) → row_of (views now) back ≡ half
+back_row_kept f level old now back half a e s =
+    let P : KeyedRow → Type 0 = λ r. fits f (bare r) ≡ true in
+    row_kept f old now back a (subst P (sym e) (children_fit f (record { level = level; place = None; children = half }) s)) ∙ e
+
+pub back_sound : (f f' level : ℕ) (old now : List TableNode) (back : List Link) (half : KeyedRow) → f' ≡ f → IsAdded old now → row_of (views old) back ≡ half
+    → IsSoundView f (record { level = level; place = None; children = half }) → IsSoundView f' (record { level = level; place = None; children = row_of (views now) back })
+back_sound f f' level old now back half g a e s =
+    let P : KeyedRow → Type 0 = λ r. IsSoundView f (record { level = level; place = None; children = r }) in
+    let Q : ℕ → Type 0 = λ n. IsSoundView n (record { level = level; place = None; children = row_of (views now) back }) in
+    subst Q (sym g) (subst P (sym (back_row_kept f level old now back half a e s)) s)
+
+-- two halves are what stands for a node
+pub parted_two : (seen : List NodeView) (made : List Link) (f level : ℕ) (key : Key) (row : KeyedRow) → Halved f level key row → (front back : KeyedRow) (second : Key) (rest : KeyedRow)
+    → front ≡ keyed_front (left_half f) row → back ≡ keyed_back (left_half f) row → second ≡ first_key key (keyed_back (left_half f) row)
+    → row_before seen made (node_in key None front (node_in second None back rest)) ≡ row_before seen made (keyed_parted f key row rest)
+parted_two seen made f level key row h front back second rest a b k =
+    ap (λ r. row_before seen made (node_in key None r (node_in second None back rest))) a
+    ∙ ap (λ r. row_before seen made (node_in key None (keyed_front (left_half f) row) (node_in second None r rest))) b
+    ∙ ap (λ s. row_before seen made (node_in key None (keyed_front (left_half f) row) (node_in s None (keyed_back (left_half f) row) rest))) k
+    ∙ ap (row_before seen made) (sym (h.parts rest))
+
+-- what is known of the links behind the first one
+pub rest_fits : (f : ℕ) (seen : List NodeView) (link : Link) (rest links : List Link) → links ≡ link ∷ rest → fits f (bare (row_of seen links)) ≡ true
+    → (IsLinkIn (length seen) link) × (fits f (bare (row_of seen rest)) ≡ true)
+rest_fits f seen link rest links e h =
+    let P : List Link → Type 0 = λ v. fits f (bare (row_of seen v)) ≡ true in
+    link_there f seen link (row_of seen rest) (subst P e h)
+
+pub first_there : (f : ℕ) (old : List TableNode) (link : Link) (rest links : List Link) → links ≡ link ∷ rest → fits f (bare (row_of (views old) links)) ≡ true → IsLinkIn (length old) link
+first_there f old link rest links e h =
+    let P : List Link → Type 0 = λ v. fits f (bare (row_of (views old) v)) ≡ true in
+    (there_old f old (link ∷ rest) (subst P e h)).0

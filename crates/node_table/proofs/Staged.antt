@@ -1,0 +1,276 @@
+-- What is staged leaves what stands, and makes what an insertion makes.
+use Rattle.std.proofs.Common.{◌≡◌, ℕ, ◌+◌, ◌-◌, ◌<◌, ◌≤◌, true, false, List, [], ◌∷◌, ◌++◌, length, take, drop, zero, suc, refl, ap, sym, ◌∙◌, subst, arith, append-nil, append_assoc, length-append}
+use Rattle.std.specs.Prelude.{Option, None, Some, nat_le, ◌==◌, slice_get}
+use Rattle.std.proofs.lemmas.Bool.{lt-leb, le-leb}
+use Rattle.std.proofs.lemmas.Bool.Decides.{nat_tests}
+use Rattle.std.proofs.lemmas.Option.{slice_get-get_or, slice_get_within}
+use Rattle.ubifs_base.specs.Key.{IsKey}
+use Rattle.ubifs_base.specs.declared.key.Key.{Key}
+use Rattle.index_tree.specs.Levels.{levelled}
+use Rattle.index_tree.specs.Order.{leaf_rank, key_rank}
+use Rattle.index_tree.specs.Shape.{Shape, node, done, count, fits, front, back, left_half}
+use Rattle.index_tree.specs.declared.leaf.Leaf.{Leaf}
+use Rattle.index_media.specs.Insertion.{starts_by, first_key, keyed_front, keyed_back, keyed_parted, lowered, inserted_by_keys}
+use Rattle.index_media.specs.InsertionKeys.{halves_bounded, inserted_bounded}
+use Rattle.index_media.specs.InsertionLaws.{front_bare, back_bare}
+use Rattle.index_media.specs.InsertionSound.{fit_node, fits_node, front_count, back_count, front_fits, back_fits, front_levelled, back_levelled, front_keys, back_keys, inserted_grown, inserted_levelled, inserted_keys}
+use Rattle.index_media.specs.KeyedBounds.{lower_least}
+use Rattle.index_media.specs.KeyedKeys.{AreKeysBounded}
+use Rattle.index_media.specs.KeyedRow.{KeyedRow, no_more, leaf_in, node_in, bare}
+use Rattle.node_table.specs.NodeView.{NodeView, link_key, stretch_at, node_before, linked_before, row_of, view_of, views, children_in}
+use Rattle.node_table.specs.Sound.{IsSoundView}
+use Rattle.node_table.specs.Staging.{row_before, IsLinkIn, AreLinksIn, insertion_passes, IsAdded, IsGrownRow}
+use Rattle.node_table.specs.declared.link.Link.{Link}
+use Rattle.node_table.specs.declared.link.Link.TheVariants.{ToLeaf, ToNode}
+use Rattle.node_table.specs.declared.node.TableNode.{TableNode}
+use Rattle.node_table.proofs.Rows.{begins_by}
+use Rattle.node_table.proofs.Viewing.{get_left, get_seam, views_more, views_append, views_push, views_length}
+
+-- what is seen of more nodes begins with what was seen
+pub views_added : (old new : List TableNode) → IsAdded old new → (more : List NodeView) × (views new ≡ views old ++ more)
+views_added old new a =
+    let p = views_more (views old) a.more in
+    (p.0, ap views a.is ∙ views_append [] old a.more ∙ p.1)
+
+pub added_none : (nodes new : List TableNode) → new ≡ nodes → IsAdded nodes new
+added_none nodes new e = record { more = []; is = e ∙ sym (append-nil nodes) }
+
+pub added_both : (a b c : List TableNode) → IsAdded a b → IsAdded b c → IsAdded a c
+added_both a b c x y = record { more = x.more ++ y.more; is = y.is ∙ ap (λ (v : List TableNode). v ++ y.more) x.is ∙ append_assoc a x.more y.more }
+
+added_longer : (old new : List TableNode) → IsAdded old new → length old ≤ length new
+added_longer old new a = let both = ap length a.is in let sum = length-append old a.more in omega (arith, both, sum)
+
+-- links that lead to the nodes that were there lead to the same
+link_kept : (seen more : List NodeView) (link : Link) (rest : KeyedRow) → IsLinkIn (length seen) link → linked_before (seen ++ more) link rest ≡ linked_before seen link rest
+link_kept seen more (ToLeaf x) rest h = refl
+link_kept seen more (ToNode key number) rest h =
+    let v : NodeView = record { level = 0; place = None; children = no_more } in
+    let there = slice_get-get_or seen number v h in
+    ap (λ o. node_before key o rest) (get_left seen more number _ there ∙ sym there)
+
+kept_seen : (seen more : List NodeView) (links : List Link) (rest : KeyedRow) → AreLinksIn (length seen) links → row_before (seen ++ more) links rest ≡ row_before seen links rest
+kept_seen seen more [] rest h = refl
+kept_seen seen more (link ∷ links) rest h =
+    ap (linked_before (seen ++ more) link) (kept_seen seen more links rest h.1) ∙ link_kept seen more link (row_before seen links rest) h.0
+
+pub links_kept : (old new : List TableNode) (links : List Link) (rest : KeyedRow) → IsAdded old new → AreLinksIn (length old) links
+    → row_before (views new) links rest ≡ row_before (views old) links rest
+links_kept old new links rest a h =
+    let p = views_added old new a in
+    let long = views_length old in
+    ap (λ v. row_before v links rest) p.1 ∙ kept_seen (views old) p.0 links rest (subst (λ n. AreLinksIn n links) (sym long) h)
+
+link_later : (m n : ℕ) (link : Link) → m ≤ n → IsLinkIn m link → IsLinkIn n link
+link_later m n (ToLeaf x) l h = tt
+link_later m n (ToNode key number) l h = omega (arith, l, h)
+
+links_later : (m n : ℕ) (links : List Link) → m ≤ n → AreLinksIn m links → AreLinksIn n links
+links_later m n [] l h = tt
+links_later m n (link ∷ links) l h = (link_later m n link l h.0, links_later m n links l h.1)
+
+pub links_in_added : (old new : List TableNode) (links : List Link) → IsAdded old new → AreLinksIn (length old) links → AreLinksIn (length new) links
+links_in_added old new links a h = links_later (length old) (length new) links (added_longer old new a) h
+
+pub links_in_append : (n : ℕ) (xs ys : List Link) → AreLinksIn n xs → AreLinksIn n ys → AreLinksIn n (xs ++ ys)
+links_in_append n [] ys a b = b
+links_in_append n (x ∷ xs) ys a b = (a.0, links_in_append n xs ys a.1 b)
+
+-- the links of a row whose nodes have children are those of nodes that are there
+node_there_in : (f : ℕ) (seen : List NodeView) (key : Key) (number : ℕ) (o : Option NodeView) (rest : KeyedRow) → slice_get seen number ≡ o → fits f (bare (node_before key o rest)) ≡ true
+    → (number < length seen) × (fits f (bare rest) ≡ true)
+node_there_in f seen key number None rest e h = absurd cc
+node_there_in f seen key number (Some v) rest e h = (slice_get_within seen number v e, (fit_node f (bare v.children) (bare rest) h).others)
+
+pub link_there : (f : ℕ) (seen : List NodeView) (link : Link) (rest : KeyedRow) → fits f (bare (linked_before seen link rest)) ≡ true → IsLinkIn (length seen) link × (fits f (bare rest) ≡ true)
+link_there f seen (ToLeaf x) rest h = (tt, h)
+link_there f seen (ToNode key number) rest h = node_there_in f seen key number (slice_get seen number) rest refl h
+
+pub links_there : (f : ℕ) (seen : List NodeView) (links : List Link) → fits f (bare (row_of seen links)) ≡ true → AreLinksIn (length seen) links
+links_there f seen [] h = tt
+links_there f seen (link ∷ links) h =
+    let p = link_there f seen link (row_of seen links) h in
+    (p.0, links_there f seen links p.1)
+
+-- links before nothing, and before others
+pub before_none : (seen : List NodeView) (links : List Link) → row_before seen links no_more ≡ row_of seen links
+before_none seen [] = refl
+before_none seen (link ∷ links) = ap (linked_before seen link) (before_none seen links)
+
+pub before_append : (seen : List NodeView) (xs ys : List Link) (rest : KeyedRow) → row_before seen (xs ++ ys) rest ≡ row_before seen xs (row_before seen ys rest)
+before_append seen [] ys rest = refl
+before_append seen (x ∷ xs) ys rest = ap (linked_before seen x) (before_append seen xs ys rest)
+
+-- where an insertion passes a link, and where it doesn't
+node_passed : (f : ℕ) (new : Leaf) (key : Key) (o : Option NodeView) (rest : KeyedRow) → starts_by (leaf_rank new) rest ≡ true
+    → inserted_by_keys f new (node_before key o rest) ≡ node_before key o (inserted_by_keys f new rest)
+node_passed f new key None rest s = rw s refl
+node_passed f new key (Some v) rest s = rw s refl
+
+pub link_passed : (f : ℕ) (seen : List NodeView) (new : Leaf) (link : Link) (links : List Link) → insertion_passes new link links ≡ true
+    → inserted_by_keys f new (row_of seen (link ∷ links)) ≡ linked_before seen link (inserted_by_keys f new (row_of seen links))
+link_passed f seen new (ToLeaf x) links s = rw s refl
+link_passed f seen new (ToNode key number) links s = node_passed f new key (slice_get seen number) (row_of seen links) (begins_by seen (leaf_rank new) links ∙ s)
+
+pub leaf_before : (f : ℕ) (seen : List NodeView) (new x : Leaf) (links : List Link) → insertion_passes new (ToLeaf x) links ≡ false
+    → inserted_by_keys f new (row_of seen (ToLeaf x ∷ links)) ≡ leaf_in new (row_of seen (ToLeaf x ∷ links))
+leaf_before f seen new x links s = rw s refl
+
+node_grows : (f : ℕ) (new : Leaf) (key : Key) (o : Option NodeView) (rest : KeyedRow) → starts_by (leaf_rank new) rest ≡ false
+    → inserted_by_keys f new (node_before key o rest) ≡ keyed_parted f (lowered new key) (inserted_by_keys f new (children_in o)) rest
+node_grows f new key None rest s = rw s refl
+node_grows f new key (Some v) rest s = rw s refl
+
+pub node_inside : (f : ℕ) (seen : List NodeView) (new : Leaf) (key : Key) (number : ℕ) (links : List Link) → insertion_passes new (ToNode key number) links ≡ false
+    → inserted_by_keys f new (row_of seen (ToNode key number ∷ links)) ≡ keyed_parted f (lowered new key) (inserted_by_keys f new (children_in (slice_get seen number))) (row_of seen links)
+node_inside f seen new key number links s = node_grows f new key (slice_get seen number) (row_of seen links) (begins_by seen (leaf_rank new) links ∙ s)
+
+-- the row that an insertion into a sound node makes
+pub grown_row : (f level : ℕ) (new : Leaf) (v : NodeView) → 3 ≤ f → IsKey new.key → IsSoundView f v → v.level ≡ level → IsGrownRow f level (inserted_by_keys f new v.children)
+grown_row f level new v three own s e =
+    let n = fit_node f (bare v.children) done s.0 in
+    let g = inserted_grown f new v.children three n.children in
+    let some = n.least in
+    let most = n.most in
+    let more = g.one_more in
+    let L : ℕ → Type 0 = λ k. levelled k (bare (inserted_by_keys f new v.children)) ≡ true in
+    record {
+      some = g.some;
+      most = omega (arith, most, more);
+      sound = g.sound;
+      levels = subst L e (inserted_levelled f v.level new v.children n.children (λ z. absurd (omega (arith, some, z))) s.1);
+      bounded = inserted_bounded f new 0 None v.children (omega (arith, three)) (omega arith) tt s.2;
+      keys = inserted_keys f new v.children own s.3;
+    }
+
+-- such a row is a node's where it isn't too long
+pub whole_sound : (f level : ℕ) (row : KeyedRow) → IsGrownRow f level row → count (bare row) ≤ f → IsSoundView f (record { level = level; place = None; children = row })
+whole_sound f level row g short = (fits_node f (bare row) done g.some short g.sound refl, g.levels, g.bounded, g.keys)
+
+pub whole_stays : (f : ℕ) (key : Key) (row rest : KeyedRow) → count (bare row) ≤ f → keyed_parted f key row rest ≡ node_in key None row rest
+unfolding keyed_parted
+whole_stays f key row rest short = let e : nat_le (f + 1) (count (bare row)) ≡ false = lt-leb (f + 1) (count (bare row)) (omega (arith, short)) in rw e refl
+
+-- and its halves are nodes' where it is
+pub record Halved (f level : ℕ) (key : Key) (row : KeyedRow) : Type 0 where
+  pub front : IsSoundView f (record { level = level; place = None; children = keyed_front (left_half f) row })
+  pub back : IsSoundView f (record { level = level; place = None; children = keyed_back (left_half f) row })
+  pub parts : (rest : KeyedRow) → keyed_parted f key row rest ≡ node_in key None (keyed_front (left_half f) row) (node_in (first_key key (keyed_back (left_half f) row)) None (keyed_back (left_half f) row) rest)
+
+halves_part : (f : ℕ) (key : Key) (row rest : KeyedRow) → f + 1 ≤ count (bare row)
+    → keyed_parted f key row rest ≡ node_in key None (keyed_front (left_half f) row) (node_in (first_key key (keyed_back (left_half f) row)) None (keyed_back (left_half f) row) rest)
+unfolding keyed_parted
+halves_part f key row rest long = let e : nat_le (f + 1) (count (bare row)) ≡ true = le-leb (f + 1) (count (bare row)) long in rw e refl
+
+-- no bound above
+pub no_most : (least : ℕ) (most : Option ℕ) (row : KeyedRow) → AreKeysBounded least most row → AreKeysBounded least None row
+no_most least most no_more h = tt
+no_most least most (leaf_in x rest) h = (h.0, tt, no_most (leaf_rank x) most rest h.2)
+no_most least most (node_in key place c no_more) h = (h.0, tt, no_most (key_rank key) most c h.2, tt)
+no_most least most (node_in key place c (leaf_in x rest)) h = (h.0, tt, h.2, no_most (key_rank key) most (leaf_in x rest) h.3)
+no_most least most (node_in key place c (node_in own p d rest)) h = (h.0, tt, h.2, no_most (key_rank key) most (node_in own p d rest) h.3)
+
+pub halved : (f level : ℕ) (key : Key) (row : KeyedRow) → 3 ≤ f → IsGrownRow f level row → f < count (bare row) → Halved f level key row
+halved f level key row three g long =
+    let n = left_half f in
+    let s = bare row in
+    let most = g.most in
+    let left = front_count n s in
+    let right = back_count n s in
+    let F : Shape → Type 0 = λ t. (fits f (node t done) ≡ true) × (levelled level t ≡ true) in
+    let b = halves_bounded 0 None n key row (omega (arith, three, long)) g.bounded in
+    let low = fits_node f (front n s) done (omega (arith, left, long, three)) (omega (arith, left, most, three)) (front_fits f n s g.sound) refl in
+    let high = fits_node f (back n s) done (omega (arith, right, long, three)) (omega (arith, right, most, three)) (back_fits f n s g.sound) refl in
+    let first = subst F (sym (front_bare n row)) (low, front_levelled level n s g.levels) in
+    let second = subst F (sym (back_bare n row)) (high, back_levelled level n s g.levels) in
+    record {
+      front = (first.0, first.1, no_most 0 _ (keyed_front n row) b.front, front_keys n row g.keys);
+      back = (second.0, second.1, lower_least 0 _ None (keyed_back n row) (omega arith) b.back, back_keys n row g.keys);
+      parts = λ rest. halves_part f key row rest (omega (arith, long));
+    }
+
+-- the first n links, and those behind them
+front_none : (row : KeyedRow) → keyed_front 0 row ≡ no_more
+front_none no_more = refl
+front_none (leaf_in x rest) = refl
+front_none (node_in key place c rest) = refl
+
+back_none : (row : KeyedRow) → keyed_back 0 row ≡ row
+back_none no_more = refl
+back_none (leaf_in x rest) = refl
+back_none (node_in key place c rest) = refl
+
+node_front : (key : Key) (o : Option NodeView) (n : ℕ) (rest : KeyedRow) → (n == 0) ≡ false → keyed_front n (node_before key o rest) ≡ node_before key o (keyed_front (n - 1) rest)
+node_front key None n rest e = rw e refl
+node_front key (Some v) n rest e = rw e refl
+
+link_front : (seen : List NodeView) (n : ℕ) (link : Link) (rest : KeyedRow) → (n == 0) ≡ false → keyed_front n (linked_before seen link rest) ≡ linked_before seen link (keyed_front (n - 1) rest)
+link_front seen n (ToLeaf x) rest e = rw e refl
+link_front seen n (ToNode key number) rest e = node_front key (slice_get seen number) n rest e
+
+node_back : (key : Key) (o : Option NodeView) (n : ℕ) (rest : KeyedRow) → (n == 0) ≡ false → keyed_back n (node_before key o rest) ≡ keyed_back (n - 1) rest
+node_back key None n rest e = rw e refl
+node_back key (Some v) n rest e = rw e refl
+
+link_back : (seen : List NodeView) (n : ℕ) (link : Link) (rest : KeyedRow) → (n == 0) ≡ false → keyed_back n (linked_before seen link rest) ≡ keyed_back (n - 1) rest
+link_back seen n (ToLeaf x) rest e = rw e refl
+link_back seen n (ToNode key number) rest e = node_back key (slice_get seen number) n rest e
+
+above_none : (m : ℕ) → (suc m == 0) ≡ false
+above_none m = grind (arith, nat_tests)
+
+pub front_row : (seen : List NodeView) (n : ℕ) (links : List Link) → row_of seen (take n links) ≡ keyed_front n (row_of seen links)
+front_row seen zero links = sym (front_none (row_of seen links))
+front_row seen (suc m) [] = refl
+front_row seen (suc m) (link ∷ links) =
+    let same : suc m - 1 ≡ m = omega arith in
+    ap (linked_before seen link) (front_row seen m links ∙ ap (λ k. keyed_front k (row_of seen links)) (sym same)) ∙ sym (link_front seen (suc m) link (row_of seen links) (above_none m))
+
+pub back_row : (seen : List NodeView) (n : ℕ) (links : List Link) → row_of seen (drop n links) ≡ keyed_back n (row_of seen links)
+back_row seen zero links = sym (back_none (row_of seen links))
+back_row seen (suc m) [] = refl
+back_row seen (suc m) (link ∷ links) =
+    let same : suc m - 1 ≡ m = omega arith in
+    back_row seen m links ∙ ap (λ k. keyed_back k (row_of seen links)) (sym same) ∙ sym (link_back seen (suc m) link (row_of seen links) (above_none m))
+
+-- how many links there are
+node_counted : (key : Key) (o : Option NodeView) (rest : KeyedRow) → count (bare (node_before key o rest)) ≡ count (bare rest) + 1
+node_counted key None rest = refl
+node_counted key (Some v) rest = refl
+
+pub link_counted : (seen : List NodeView) (link : Link) (rest : KeyedRow) → count (bare (linked_before seen link rest)) ≡ count (bare rest) + 1
+link_counted seen (ToLeaf x) rest = refl
+link_counted seen (ToNode key number) rest = node_counted key (slice_get seen number) rest
+
+pub links_counted : (seen : List NodeView) (links : List Link) → length links ≡ count (bare (row_of seen links))
+links_counted seen [] = refl
+links_counted seen (link ∷ links) = let one = link_counted seen link (row_of seen links) in let more = links_counted seen links in omega (arith, one, more)
+
+-- a link's key is the first of its row
+node_first : (key own : Key) (o : Option NodeView) (rest : KeyedRow) → own ≡ first_key key (node_before own o rest)
+node_first key own None rest = refl
+node_first key own (Some v) rest = refl
+
+pub link_first : (seen : List NodeView) (key : Key) (link : Link) (links : List Link) → link_key link ≡ first_key key (row_of seen (link ∷ links))
+link_first seen key (ToLeaf x) links = refl
+link_first seen key (ToNode own number) links = node_first key own (slice_get seen number) (row_of seen links)
+
+-- a node that is added, and a link to it
+pub node_pushed : (old new : List TableNode) (n : TableNode) (number : ℕ) (key : Key) (made : List Link) (rest : KeyedRow) → new ≡ old ++ n ∷ [] → number ≡ length old → AreLinksIn (length old) made
+    → row_before (views new) (made ++ ToNode key number ∷ []) rest ≡ row_before (views old) made (node_in key (stretch_at n.place) (row_of (views old) n.links.items) rest)
+node_pushed old new n number key made rest e k h =
+    let a : IsAdded old new = record { more = n ∷ []; is = e } in
+    let v = view_of (views old) n in
+    let there : slice_get (views new) number ≡ Some v =
+    ap (λ w. slice_get (views w) number) e ∙ ap (λ w. slice_get w number) (views_push old n) ∙ ap (λ j. slice_get (views old ++ v ∷ []) j) (k ∙ sym (views_length old)) ∙ get_seam (views old) v [] in
+    before_append (views new) made (ToNode key number ∷ []) rest ∙ links_kept old new made (linked_before (views new) (ToNode key number) rest) a h
+    ∙ ap (row_before (views old) made) (ap (λ o. node_before key o rest) there)
+
+pub links_in_pushed : (old new : List TableNode) (n : TableNode) (number : ℕ) (key : Key) (made : List Link) → new ≡ old ++ n ∷ [] → number ≡ length old → AreLinksIn (length old) made
+    → AreLinksIn (length new) (made ++ ToNode key number ∷ [])
+links_in_pushed old new n number key made e k h =
+    let a : IsAdded old new = record { more = n ∷ []; is = e } in
+    let both = ap length e in
+    let sum = length-append old (n ∷ []) in
+    let own : number < length new = omega (arith, both, sum, k) in
+    links_in_append (length new) made (ToNode key number ∷ []) (links_in_added old new made a h) (own, tt)

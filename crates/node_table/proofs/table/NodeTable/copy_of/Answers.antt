@@ -1,0 +1,21 @@
+use Rattle.std.proofs.Common.{None, List, ap, sym, subst, ◌∙◌}
+use Rattle.node_table.specs.NodeView.{views, view_of, row_of}
+use Rattle.node_table.specs.Sound.{IsSoundView}
+use Rattle.node_table.specs.declared.link.Link.{Link}
+use Rattle.node_table.proofs.Viewing.{opened, opened_node, sound_at}
+use Rattle.node_table.proofs.table.NodeTable.copy_of.Goals as goal
+
+pub returns-in_ok-links-in-Some-clause-children : goal.returns-in_ok-links-in-Some-clause-children
+returns-in_ok-links-in-Some-clause-children c =
+    let nodes = c.args.self.now.nodes.items in
+    let o = opened_node c.args.self.now.fanout nodes c.args.number c.in-Some.node.now c.args.self.now.sound c.in-Some.ensures.some in
+    o.children ∙ ap (λ v. row_of (views nodes) v) (sym (c.in_ok-links-in-Some.ensures ∙ c.as_slice.ensures.value))
+
+pub returns-in_ok-links-in-Some-clause-sound : goal.returns-in_ok-links-in-Some-clause-sound
+returns-in_ok-links-in-Some-clause-sound c =
+    let nodes = c.args.self.now.nodes.items in
+    let f = c.args.self.now.fanout in
+    let node = c.in-Some.node.now in
+    let there = opened f nodes c.args.number node c.args.self.now.sound c.in-Some.ensures.some in
+    let P : List Link → Type 0 = λ v. IsSoundView f (record { level = node.level; place = None; children = row_of (views nodes) v }) in
+    subst P (sym (c.in_ok-links-in-Some.ensures ∙ c.as_slice.ensures.value)) (sound_at f (views nodes) c.args.number (view_of (views nodes) node) c.args.self.now.sound there)

@@ -1,0 +1,55 @@
+use Rattle.std.proofs.Common.{None, Some, ap, sym, ◌∙◌}
+use Rattle.index_media.specs.Insertion.{first_key}
+use Rattle.node_table.specs.NodeView.{views, row_of, tree_at}
+use Rattle.node_table.specs.Staging.{only_root}
+use Rattle.node_table.specs.declared.node.Root.{Root}
+use Rattle.node_table.specs.declared.node.TableNode.{TableNode}
+use Rattle.node_table.proofs.Rooted.{row_sound, root_sound, only_made, only_there, raised_made, row_fits, pushed_there}
+use Rattle.node_table.proofs.table.NodeTable.insert.Goals as goal
+
+pub add-requires : goal.add-requires
+add-requires c = record {
+  sound = row_sound c.args.self.now.fanout c.insert_row.new.self.fanout c.in_ok-level.level c.args.leaf (tree_at c.args.self.now.nodes.items c.args.root)
+      (row_of (views c.insert_row.new.self.nodes.items) c.in_ok-links.links.items) c.args.self.now.least c.in_ok-links.ensures.fanout c.requires.key c.in_ok-level.ensures c.in_ok-links.ensures.made;
+}
+
+pub returns-in-Some-clause-made : goal.returns-in-Some-clause-made
+returns-in-Some-clause-made c =
+    only_made c.args.self.now.fanout c.insert_row.new.self.nodes.items c.args.leaf (tree_at c.args.self.now.nodes.items c.args.root) c.in_ok-links.links.items c.in-Some.top c.in_ok-links.ensures.made
+    (ap only_root (sym c.as_slice.ensures.value) ∙ sym c.in-Some.ensures)
+
+pub returns-in-Some-clause-root : goal.returns-in-Some-clause-root
+returns-in-Some-clause-root c =
+    let f = c.args.self.now.fanout in
+    let now = c.insert_row.new.self.nodes.items in
+    let row = tree_at c.args.self.now.nodes.items c.args.root in
+    let links = c.in_ok-links.links.items in
+    let only = ap only_root (sym c.as_slice.ensures.value) ∙ sym c.in-Some.ensures in
+    root_sound f c.in_ok-level.level c.args.leaf row now c.in-Some.top c.args.self.now.least c.requires.key c.in_ok-level.ensures
+    (only_there f now links c.in-Some.top (row_fits f c.args.leaf row (row_of (views now) links) c.args.self.now.least c.in_ok-level.ensures.sound c.in_ok-links.ensures.made) only)
+    (only_made f now c.args.leaf row links c.in-Some.top c.in_ok-links.ensures.made only)
+
+pub returns-in_ok-number-in-None-clause-made : goal.returns-in_ok-number-in-None-clause-made
+returns-in_ok-number-in-None-clause-made c =
+    let seen = views c.insert_row.new.self.nodes.items in
+    let key = c.first_key-key.result in
+    raised_made c.args.self.now.fanout seen c.args.leaf (tree_at c.args.self.now.nodes.items c.args.root) _ c.in_ok-links.links.items key c.in_ok-links.ensures.made
+    (ap only_root (sym c.as_slice.ensures.value) ∙ sym c.in-None.ensures)
+    (c.first_key-key.ensures seen ∙ ap (λ v. first_key c.args.leaf.key (row_of seen v)) c.as_slice-in-None.ensures.value)
+    (c.in_ok-number-in-None.ensures.made key)
+
+pub returns-in_ok-number-in-None-clause-root : goal.returns-in_ok-number-in-None-clause-root
+returns-in_ok-number-in-None-clause-root c =
+    let f = c.args.self.now.fanout in
+    let now = c.insert_row.new.self.nodes.items in
+    let seen = views now in
+    let row = tree_at c.args.self.now.nodes.items c.args.root in
+    let key = c.first_key-key.result in
+    let root : Root = record { key = key; number = c.in_ok-number-in-None.number } in
+    let node : TableNode = record { level = c.in_ok-level.level; place = None; links = c.in_ok-links.links } in
+    root_sound f c.in_ok-level.level c.args.leaf row c.add.new.self.nodes.items root c.args.self.now.least c.requires.key c.in_ok-level.ensures
+    (pushed_there now c.add.new.self.nodes.items node c.in_ok-number-in-None.number c.in_ok-number-in-None.ensures.added c.in_ok-number-in-None.ensures.number)
+    (raised_made f seen c.args.leaf row (tree_at c.add.new.self.nodes.items (Some root)) c.in_ok-links.links.items key c.in_ok-links.ensures.made
+    (ap only_root (sym c.as_slice.ensures.value) ∙ sym c.in-None.ensures)
+    (c.first_key-key.ensures seen ∙ ap (λ v. first_key c.args.leaf.key (row_of seen v)) c.as_slice-in-None.ensures.value)
+    (c.in_ok-number-in-None.ensures.made key))

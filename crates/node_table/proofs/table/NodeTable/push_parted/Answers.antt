@@ -1,0 +1,72 @@
+use Rattle.std.proofs.Common.{None, List, ◌≡◌, ap, sym, subst, ◌∙◌, arith}
+use Rattle.std.specs.Prelude.{OnOk}
+use Rattle.index_tree.specs.Shape.{left_half}
+use Rattle.index_media.specs.Insertion.{first_key}
+use Rattle.index_media.specs.KeyedRow.{KeyedRow, node_in}
+use Rattle.node_table.specs.NodeView.{views, row_of}
+use Rattle.node_table.specs.Sound.{IsSoundView}
+use Rattle.node_table.specs.Staging.{row_before}
+use Rattle.node_table.specs.declared.link.Link.{Link}
+use Rattle.node_table.proofs.Inserted.{back_sound, back_row_kept, parted_two}
+use Rattle.node_table.proofs.Staged.{whole_sound, whole_stays, halved, front_row, back_row, links_counted}
+use Rattle.node_table.proofs.table.NodeTable.push_parted.Goals as goal
+
+pub push_node-requires-clause-sound : goal.push_node-requires-clause-sound
+push_node-requires-clause-sound c =
+    let seen = views c.args.self.now.nodes.items in
+    let f = c.args.self.now.fanout in
+    let row = row_of seen c.args.links.now in
+    let number = links_counted seen c.args.links.now in
+    let P : List Link → Type 0 = λ v. IsSoundView f (record { level = c.args.level; place = None; children = row_of seen v }) in
+    subst P (sym c.in_ok-whole.ensures) (whole_sound f c.args.level row c.requires.grown (omega (arith, number, c.if-links-self.true)))
+
+pub returns-then-links-self-clause-made : goal.returns-then-links-self-clause-made
+returns-then-links-self-clause-made c = λ rest.
+    let seen = views c.args.self.now.nodes.items in
+    let f = c.args.self.now.fanout in
+    let row = row_of seen c.args.links.now in
+    let number = links_counted seen c.args.links.now in
+    let Q : KeyedRow → Type 0 = λ r. OnOk c.push_node.result (row_before (views c.push_node.new.self.nodes.items) c.push_node.new.made.items rest ≡ row_before seen c.args.made.now.items r) in
+    subst Q (ap (λ v. node_in c.args.key None (row_of seen v) rest) c.in_ok-whole.ensures ∙ sym (whole_stays f c.args.key row rest (omega (arith, number, c.if-links-self.true))))
+    (c.push_node.ensures.made rest)
+
+pub push_node-requires-2-clause-sound : goal.push_node-requires-2-clause-sound
+push_node-requires-2-clause-sound c =
+    let seen = views c.args.self.now.nodes.items in
+    let f = c.args.self.now.fanout in
+    let row = row_of seen c.args.links.now in
+    let number = links_counted seen c.args.links.now in
+    let h = halved f c.args.level c.args.key row c.args.self.now.least c.requires.grown (omega (arith, number, c.if-links-self.false)) in
+    let P : KeyedRow → Type 0 = λ r. IsSoundView f (record { level = c.args.level; place = None; children = r }) in
+    subst P (sym (ap (λ v. row_of seen v) (c.in_ok-front.ensures ∙ c.split_at.ensures.front) ∙ front_row seen (left_half f) c.args.links.now)) h.front
+
+pub push_node-requires-3-clause-sound : goal.push_node-requires-3-clause-sound
+push_node-requires-3-clause-sound c =
+    let old = c.args.self.now.nodes.items in
+    let seen = views old in
+    let f = c.args.self.now.fanout in
+    let row = row_of seen c.args.links.now in
+    let number = links_counted seen c.args.links.now in
+    let h = halved f c.args.level c.args.key row c.args.self.now.least c.requires.grown (omega (arith, number, c.if-links-self.false)) in
+    let back = ap (λ v. row_of seen v) (c.in_ok-back.ensures ∙ c.split_at.ensures.back) ∙ back_row seen (left_half f) c.args.links.now in
+    back_sound f c.push_node-2.new.self.fanout c.args.level old c.push_node-2.new.self.nodes.items c.in_ok-back.back.items _ c.in_ok-push_node.ensures.fanout c.in_ok-push_node.ensures.added back h.back
+
+pub returns-clause-made : goal.returns-clause-made
+returns-clause-made c = λ rest.
+    let old = c.args.self.now.nodes.items in
+    let mid = c.push_node-2.new.self.nodes.items in
+    let seen = views old in
+    let f = c.args.self.now.fanout in
+    let key = c.args.key in
+    let row = row_of seen c.args.links.now in
+    let number = links_counted seen c.args.links.now in
+    let h = halved f c.args.level key row c.args.self.now.least c.requires.grown (omega (arith, number, c.if-links-self.false)) in
+    let front = ap (λ v. row_of seen v) (c.in_ok-front.ensures ∙ c.split_at.ensures.front) ∙ front_row seen (left_half f) c.args.links.now in
+    let right = ap (λ v. row_of seen v) c.split_at.ensures.back ∙ back_row seen (left_half f) c.args.links.now in
+    let back = ap (λ v. row_of seen v) c.in_ok-back.ensures ∙ right in
+    let kept = back_row_kept f c.args.level old mid c.in_ok-back.back.items _ c.in_ok-push_node.ensures.added back h.back in
+    let first = c.first_key.ensures seen ∙ ap (λ (r : KeyedRow). first_key key r) right in
+    let Q : KeyedRow → Type 0 = λ r. OnOk c.push_node-3.result (row_before (views c.push_node-3.new.self.nodes.items) c.push_node-3.new.made.items rest ≡ r) in
+    subst Q (c.in_ok-push_node.ensures.made (node_in c.first_key.result None (row_of (views mid) c.in_ok-back.back.items) rest)
+    ∙ parted_two seen c.args.made.now.items f c.args.level key row h (row_of seen c.in_ok-front.front.items) (row_of (views mid) c.in_ok-back.back.items) c.first_key.result rest front kept first)
+    (c.push_node-3.ensures.made rest)

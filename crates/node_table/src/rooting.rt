@@ -1,0 +1,86 @@
+// An insertion answers another root, and the old one goes on showing the old index.
+
+ghost use Rattle.std.specs.Prelude.{◌≡◌, ◌+◌, IfOk, Option, Some};
+ghost use Rattle.index_media.specs.Insertion.{with_leaf_by_keys};
+ghost use Rattle.node_table.specs.NodeView.{tree_at, IsRootIn};
+ghost use Rattle.node_table.specs.Staging.{only_root, IsSoundRoot, IsTopRow};
+ghost use Rattle.node_table.specs.declared.node.Root.{Root as ARoot};
+ghost use Rattle.ubifs_base.specs.Key.{IsKey};
+
+use crate::insertion::first_key;
+use crate::link::Link;
+use crate::node::{Root, TableNode};
+use crate::table::NodeTable;
+use index_tree::Leaf;
+use std::alloc::Global;
+use ubifs_base::Memory;
+
+/// The node that links lead to, if they are one link to a node.
+fn only_node(links: &[Link]) -> Option<Root>
+    ensures { result ≡ only_root links.now }
+{
+    match links.split_first() {
+        None => None,
+        Some((link, rest)) => {
+            if !rest.is_empty() {
+                return None;
+            }
+            match *link {
+                Link::ToLeaf(_) => None,
+                Link::ToNode { key, number } => Some(Root { key, number }),
+            }
+        }
+    }
+}
+
+/// The level over this one; no level is above 65,535.
+fn level_over(level: u16) -> Result<u16, Memory>
+    ensures { IfOk result (λ above. above ≡ level + 1) }
+{
+    if level == u16::MAX {
+        return Err(Memory);
+    }
+    Ok(level + 1)
+}
+
+impl NodeTable {
+    /// The level of a node above a root.
+    fn level_above(&self, root: Option<Root>) -> Result<u16, Memory>
+        requires root { IsSoundRoot self.now.nodes.items root }
+        ensures { IfOk result (λ level. IsTopRow self.now.fanout level (tree_at self.now.nodes.items root)) }
+    {
+        match root {
+            None => Ok(0),
+            Some(top) => match self.node_at(top.number) {
+                None => Err(Memory),
+                Some(node) => level_over(node.level),
+            },
+        }
+    }
+
+    /// Stages an insertion: puts the leaf after all leaves whose key isn't greater, by the keys of branches, and answers the
+    /// new root. Below each root stands what stood there, after `Memory` too.
+    pub fn insert(&mut self, alloc: Global, root: Option<Root>, leaf: Leaf) -> Result<Root, Memory>
+        requires root { IsSoundRoot self.old.nodes.items root }
+        requires key { IsKey leaf.key }
+        ensures made { IfOk result (λ made. tree_at self.new.nodes.items (Some made) ≡ with_leaf_by_keys self.old.fanout leaf (tree_at self.old.nodes.items root)) }
+        ensures root { IfOk result (λ made. IsSoundRoot self.new.nodes.items (Some made)) }
+        ensures kept { (other : Option ARoot) → IsRootIn self.old.nodes.items other → tree_at self.new.nodes.items other ≡ tree_at self.old.nodes.items other }
+        ensures fanout { self.new.fanout ≡ self.old.fanout }
+    {
+        let level = self.level_above(root)?;
+        let links = self.insert_row(alloc, root, leaf)?;
+        match only_node(links.as_slice()) {
+            Some(top) => Ok(top),
+            None => {
+                let key = first_key(leaf.key, links.as_slice());
+                let number = self.add(TableNode {
+                    level,
+                    place: None,
+                    links,
+                })?;
+                Ok(Root { key, number })
+            }
+        }
+    }
+}
