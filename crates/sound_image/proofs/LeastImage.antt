@@ -1,0 +1,198 @@
+-- The least image is sound.
+use Rattle.std.proofs.Common.{◌≡◌, ℕ, zero, suc, ◌+◌, ◌-◌, ◌*◌, ◌^◌, ◌<◌, ◌≤◌, nat_lt, Bool, true, false, List, [], ◌∷◌, Some, None, slice_get, drop, refl, ap, sym, ◌∙◌, subst, inl, inr, arith}
+use Rattle.std.specs.Prelude.{◌≢◌, ◌⊎◌, All, cond, map}
+use Rattle.std.specs.Int.Count.{count_leading_zeros, ones}
+use Rattle.std.proofs.Math.Nat.{le_refl}
+use Rattle.std.proofs.lemmas.Bool.{leb-true, ltb-false, ltb-true}
+use Rattle.std.proofs.lemmas.List.Elements.{All-nil, All-cons}
+use Rattle.ubifs_base.specs.Geometry.{IsGeometry}
+use Rattle.ubifs_base.specs.Properties.{fls, height_from, tree_height, tree_len}
+use Rattle.ubifs_base.specs.R5.{r5_of}
+use Rattle.ubifs_base.specs.declared.key.Key.TheVariants.{Ino}
+use Rattle.media_lpt.specs.declared.lprop.Lprop.{Lprop}
+use Rattle.index_tree.specs.Order.{key_rank}
+use Rattle.index_tree.specs.Removal.{same_leaf}
+use Rattle.index_tree.specs.declared.leaf.Leaf.{Leaf}
+use Rattle.index_media.specs.PlacedRow.{branch_to, ended, leaf_at, are_disjoint}
+use Rattle.index_media.specs.Stored.{AreStored}
+use Rattle.media_sys.specs.SystemNode.{commit_start, written}
+use Rattle.small_areas.specs.Addresses.{addresses_of, first_past}
+use Rattle.leb_scan.specs.Text.{is_blank}
+use Rattle.leb_scan.specs.TextLaws.{blank_later}
+use Rattle.leb_scan.specs.declared.tail.Tail.TheVariants.{Clean}
+use Rattle.bud_log.specs.LogText.{LogText}
+use Rattle.leaf_map.specs.Kept.{Kept}
+use Rattle.leaf_map.specs.Parts.{Parts}
+use Rattle.leaf_map.specs.Recovered.{recovered_of, spare_copies, tree_found}
+use Rattle.sound_image.specs.Image.{parts_of}
+use Rattle.sound_image.specs.Index.{HasIndex}
+use Rattle.sound_image.specs.Leaves.{HasItsNode, HasLeaves, IsReplaced, IsSoundLeaf, lost_leaves}
+use Rattle.sound_image.specs.OrphanLists.{HasOrphanNodes}
+use Rattle.sound_image.specs.Properties.{is_marked_index, prop_of}
+use Rattle.sound_image.specs.Space.{committed_bytes}
+use Rattle.sound_image.specs.Sound.{SoundImage}
+use Rattle.sound_image.specs.Tree.{HasLinks, HasTree, ShowsItsNode}
+use Rattle.sound_image.specs.Worked.{IsLeastVolume, least_geometry, least_image, least_index, least_master, least_props, least_super, root_kept, root_leaf, root_placed}
+use Rattle.sound_image.proofs.AloneTexts.{blank_orphans}
+use Rattle.sound_image.proofs.FreshLog.{has_fresh_log, start_text}
+use Rattle.sound_image.proofs.KnownNodes.{plain_known}
+
+least_tree_len : tree_len least_geometry ≡ 36
+unfolding fls count_leading_zeros tree_height height_from
+least_tree_len = refl
+
+in_range : IsGeometry least_geometry
+unfolding ones
+in_range = record {
+  min_io = (refl, leb-true 8 8 refl, leb-true 8 16384 refl);
+  leb_size = (leb-true 15360 16384 refl, leb-true 16384 2097152 refl, refl, ltb-true 5296 16384 refl);
+  log_lebs = (leb-true 3 4 refl, leb-true 4 1024 refl);
+  lpt_lebs = (leb-true 2 2 refl, leb-true 2 1024 refl);
+  orph_lebs = (leb-true 1 1 refl, leb-true 1 1024 refl);
+  leb_cnt = (ltb-true 10 12 refl, leb-true 12 12 refl);
+  max_leb_cnt = leb-true (12 * 16384) (2 ^ 30) refl;
+  one_leb = let P : ℕ → Type 0 = λ len. len ≤ 16384 in subst P (sym least_tree_len) (leb-true 36 16384 refl);
+  fanout = (leb-true 3 8 refl, leb-true 8 256 refl);
+}
+
+least_placed : first_past (addresses_of least_geometry least_master) ≡ None
+unfolding fls count_leading_zeros
+least_placed = refl
+
+-- ---- the index
+least_stored : (contents : ℕ → List ℕ) → IsLeastVolume contents → AreStored contents 1 least_index
+unfolding AreStored
+least_stored contents h = (ltb-true 0 1 refl, h.index, (refl, tt), tt)
+
+has_index : (contents : ℕ → List ℕ) → IsLeastVolume contents → HasIndex contents least_geometry least_master least_props least_index
+unfolding key_rank
+has_index contents h = record {
+  key = root_leaf.key;
+  index = record {
+    children = leaf_at root_leaf ended;
+    whole = refl;
+    levels = 1;
+    stored = least_stored contents h;
+    fits = refl;
+    bounded = (leb-true 0 (key_rank (Ino 1)) refl, tt, (le_refl (key_rank (Ino 1)), tt, tt), tt);
+  };
+  first = refl;
+  marked = All-cons (λ (lnum : ℕ). is_marked_index least_geometry least_props lnum ≡ true) 11 [] refl (All-nil (λ (lnum : ℕ). is_marked_index least_geometry least_props lnum ≡ true));
+}
+
+-- ---- what is recovered
+least_kept : (recovered_of (parts_of (least_image []))).kept ≡ root_kept ∷ []
+unfolding key_rank same_leaf r5_of
+least_kept = refl
+
+nothing_lost : lost_leaves [] (spare_copies (parts_of (least_image []))) (least_image []).committed ≡ []
+unfolding key_rank same_leaf r5_of
+nothing_lost = refl
+
+root_node : (contents : ℕ → List ℕ) → IsLeastVolume contents → HasItsNode contents root_leaf
+root_node contents h = record {
+  node = root_placed;
+  placed = record { lnum = refl; offs = refl; len = refl };
+  stands = h.leaf;
+  key = refl;
+  known = plain_known contents root_placed (h.bytes 10) h.leaf (refl, refl);
+}
+
+has_leaves : (contents : ℕ → List ℕ) (log : List LogText) → IsLeastVolume contents → parts_of (least_image log) ≡ parts_of (least_image []) → HasLeaves contents (least_image log)
+has_leaves contents log h same =
+    let P : Kept → Type 0 = λ x. IsSoundLeaf contents least_geometry least_props x.leaf in
+    let kept : (recovered_of (parts_of (least_image log))).kept ≡ root_kept ∷ [] = ap (λ (parts : Parts). (recovered_of parts).kept) same ∙ least_kept in
+    let Q : List Kept → Type 0 = λ xs. All P xs in
+    let D : List Kept → Type 0 = λ xs. are_disjoint (map (λ x. branch_to x.leaf) xs) ≡ true in
+    let R : Parts → Type 0 = λ parts. All (IsReplaced parts.nodes) (lost_leaves parts.named (spare_copies parts) (least_image []).committed) in
+    let N : List Leaf → Type 0 = λ xs. All (IsReplaced []) xs in
+    let none : R (parts_of (least_image [])) = subst N (sym nothing_lost) (All-nil (IsReplaced [])) in
+    record {
+      committed = (refl, (record { lnum = refl; offs = refl; len = refl }, h.leaf), tt);
+      listed = ([], [], refl, record { items = []; end = 0; tail = Clean; is_text = record { stand = refl; ends = h.orphans }; listed = refl }, refl);
+      sound = subst Q (sym kept) (All-cons P root_kept [] (root_node contents h, refl) (All-nil P));
+      replaced = subst R (sym same) none;
+      apart = subst D (sym kept) refl;
+    }
+
+-- ---- the tree
+has_tree : (contents : ℕ → List ℕ) → IsLeastVolume contents → HasTree contents (parts_of (least_image []))
+unfolding key_rank same_leaf r5_of
+has_tree contents h = record {
+  shown = All-cons (ShowsItsNode contents) root_kept [] (record { sqnum = 2; group = 0; is = h.leaf.is; shown = refl }) (All-nil (ShowsItsNode contents));
+  apart = refl;
+  root = refl;
+  entries = refl;
+  dirs = refl;
+}
+
+has_links : HasLinks (tree_found (parts_of (least_image [])))
+unfolding key_rank same_leaf r5_of
+has_links = refl
+
+-- ---- the sums of both main LEBs
+prop_same : (a b : Lprop) → Some a ≡ Some b → a ≡ b
+prop_same a b e = cc
+
+-- the properties of a LEB are those of LEB 10 or of LEB 11
+abbrev IsOneOfBoth : ℕ → Lprop → Type 0
+IsOneOfBoth lnum prop = ((lnum ≡ 10) × (record { free = 16208; dirty = 16; index = false } ≡ prop)) ⊎ ((lnum ≡ 11) × (record { free = 16336; dirty = 0; index = true } ≡ prop))
+
+both_at : (i lnum : ℕ) (prop : Lprop) → 10 ≤ lnum → lnum - 10 ≡ i → slice_get least_props i ≡ Some prop → IsOneOfBoth lnum prop
+both_at zero lnum prop low e has = inl (omega (arith, low, e), prop_same _ prop has)
+both_at (suc zero) lnum prop low e has = inr (omega (arith, low, e), prop_same _ prop has)
+both_at (suc (suc i)) lnum prop low e has = absurd cc
+
+both_by : (lnum : ℕ) (prop : Lprop) (below : Bool) → nat_lt lnum 10 ≡ below → cond below None (slice_get least_props (lnum - 10)) ≡ Some prop → IsOneOfBoth lnum prop
+both_by lnum prop true e has = absurd cc
+both_by lnum prop false e has = both_at (lnum - 10) lnum prop (ltb-false lnum 10 e) refl has
+
+one_of_both : (lnum : ℕ) (prop : Lprop) → prop_of least_geometry least_props lnum ≡ Some prop → IsOneOfBoth lnum prop
+one_of_both lnum prop has = both_by lnum prop (nat_lt lnum 10) refl has
+
+has_sums : (lnum : ℕ) (prop : Lprop) → prop_of least_geometry least_props lnum ≡ Some prop → prop.free + prop.dirty + committed_bytes least_index lnum ≡ 16384
+has_sums lnum prop has = elim (one_of_both lnum prop has) [
+  | inl (here, is) ↦
+      let P : ℕ → Type 0 = λ k. prop.free + prop.dirty + committed_bytes least_index k ≡ 16384 in
+      let Q : Lprop → Type 0 = λ p. p.free + p.dirty + committed_bytes least_index 10 ≡ 16384 in
+      subst P (sym here) (subst Q is refl)
+  | inr (here, is) ↦
+      let P : ℕ → Type 0 = λ k. prop.free + prop.dirty + committed_bytes least_index k ≡ 16384 in
+      let Q : Lprop → Type 0 = λ p. p.free + p.dirty + committed_bytes least_index 11 ≡ 16384 in
+      subst P (sym here) (subst Q is refl)
+]
+
+has_ends : (contents : ℕ → List ℕ) → IsLeastVolume contents → (lnum : ℕ) (prop : Lprop) → prop_of least_geometry least_props lnum ≡ Some prop → lnum ≢ 11 → is_blank (drop (16384 - prop.free) (contents lnum)) ≡ true
+has_ends contents h lnum prop has other = elim (one_of_both lnum prop has) [
+  | inl (here, is) ↦
+      let P : ℕ → Type 0 = λ k. is_blank (drop (16384 - prop.free) (contents k)) ≡ true in
+      let Q : Lprop → Type 0 = λ p. is_blank (drop (16384 - p.free) (contents 10)) ≡ true in
+      subst P (sym here) (subst Q is (blank_later (contents 10) 160 176 h.behind (omega arith)))
+  | inr (here, is) ↦ absurd (other here)
+]
+
+orphans_at : (contents : ℕ → List ℕ) → IsLeastVolume contents → (lnum : ℕ) → 9 ≤ lnum → lnum < 10 → HasOrphanNodes (contents lnum)
+orphans_at contents h lnum low high =
+    let here : lnum ≡ 9 = omega (arith, low, high) in
+    let P : ℕ → Type 0 = λ k. HasOrphanNodes (contents k) in
+    subst P (sym here) (blank_orphans (contents 9) h.orphans)
+
+pub least_is_sound : (contents : ℕ → List ℕ) → IsLeastVolume contents → (log : List LogText) × SoundImage contents (least_image log)
+least_is_sound contents h =
+    let text : LogText = start_text 3 (written 1 0 (commit_start (record { cmt_no = 0 }))) 1 0 h.log.start.gap in (
+      text ∷ [],
+      record {
+        superblock = record { node = least_super; begins = h.super; known = refl; geometry = refl; in_range = in_range };
+        masters = record { is_latest = h.masters; in_areas = least_placed };
+        properties = h.properties;
+        index = has_index contents h;
+        log = has_fresh_log contents least_geometry least_master 1 (leb-true 3 4 refl) (ltb-true 1 (2 ^ 64) refl) (ltb-true 0 (2 ^ 64) refl) h.log;
+        buds = record { of_buds = refl; sound = tt };
+        leaves = has_leaves contents (text ∷ []) h refl;
+        sums = has_sums;
+        ends = λ no_bud lnum prop has some not_all other. has_ends contents h lnum prop has other;
+        orphans = orphans_at contents h;
+        tree = has_tree contents h;
+        links = has_links;
+      },
+    )

@@ -1,0 +1,154 @@
+-- The least image, by hand: two main LEBs, the root directory's inode in one, an index of one node in the other.
+use Rattle.std.specs.Prelude.{ℕ, IsTrue, true, false, List, [], ◌∷◌, Some, drop, replicate}
+use Rattle.ubifs_base.specs.Geometry.{plain_geometry}
+use Rattle.ubifs_base.specs.NodeLaws.{IsBytes}
+use Rattle.ubifs_base.specs.declared.key.Key.TheVariants.{Ino}
+use Rattle.ubifs_base.specs.declared.raw_geometry.RawGeometry.{RawGeometry}
+use Rattle.media_leaf.specs.LeafNode.{inode}
+use Rattle.media_leaf.specs.declared.ino_node.InoNode.{InoNode}
+use Rattle.media_lpt.specs.declared.lprop.Lprop.{Lprop}
+use Rattle.media_sys.specs.declared.branch.Branch.{Branch}
+use Rattle.media_sys.specs.declared.master.Master.{Master}
+use Rattle.media_sys.specs.declared.super_node.Super.{Super}
+use Rattle.small_areas.specs.Masters.{IsLatest}
+use Rattle.small_areas.specs.declared.placed_master.PlacedMaster.{PlacedMaster}
+use Rattle.leb_scan.specs.Text.{is_blank}
+use Rattle.index_tree.specs.declared.leaf.Leaf.{Leaf}
+use Rattle.index_media.specs.PlacedRow.{PlacedRow, ended, leaf_at, node_at, branch_to}
+use Rattle.index_media.specs.Stored.{IsIndexNodeAt}
+use Rattle.bud_log.specs.LogText.{LogText}
+use Rattle.leaf_map.specs.Kept.{Kept, Placed}
+use Rattle.sound_image.specs.Image.{Image}
+use Rattle.sound_image.specs.Index.{root_branch}
+use Rattle.sound_image.specs.Laid.{IsFreshLog}
+use Rattle.sound_image.specs.Leaves.{IsPlacedIn}
+use Rattle.sound_image.specs.Properties.{HasProperties}
+use Rattle.sound_image.specs.Superblock.{BeginsWithSuper}
+
+-- LEBs of 16,384 bytes; the main LEBs are 10 and 11
+abbrev pub least_geometry : RawGeometry
+least_geometry = plain_geometry 16384 8 2 8
+
+abbrev pub least_super : Super
+least_super = record {
+  key_hash = 0;
+  key_fmt = 0;
+  flags = 0;
+  min_io_size = 8;
+  leb_size = 16384;
+  leb_cnt = 12;
+  max_leb_cnt = 12;
+  max_bud_bytes = 131072;
+  log_lebs = 4;
+  lpt_lebs = 2;
+  orph_lebs = 1;
+  jhead_cnt = 1;
+  fanout = 8;
+  lsave_cnt = 256;
+  fmt_version = 4;
+  default_compr = 0;
+  rp_uid = 0;
+  rp_gid = 0;
+  rp_size = 0;
+  time_gran = 1000000000;
+  uuid = replicate 16 0;
+  ro_compat_version = 0;
+}
+
+abbrev pub least_master : Master
+least_master = record {
+  highest_inum = 64;
+  cmt_no = 0;
+  flags = 2;
+  log_lnum = 3;
+  root_lnum = 11;
+  root_offs = 0;
+  root_len = 48;
+  gc_lnum = 10;
+  ihead_lnum = 11;
+  ihead_offs = 48;
+  index_size = 48;
+  total_free = 32544;
+  total_dirty = 16;
+  total_used = 160;
+  total_dead = 0;
+  total_dark = 0;
+  lpt_lnum = 7;
+  lpt_offs = 15;
+  nhead_lnum = 7;
+  nhead_offs = 40;
+  ltab_lnum = 7;
+  ltab_offs = 26;
+  lsave_lnum = 0;
+  lsave_offs = 0;
+  lscan_lnum = 7;
+  empty_lebs = 0;
+  idx_lebs = 1;
+  leb_cnt = 12;
+}
+
+abbrev pub least_latest : PlacedMaster
+least_latest = record { lnum = 1; offs = 0; sqnum = 4; master = least_master }
+
+-- the inode of the root directory, at the start of LEB 10
+abbrev pub root_inode : InoNode
+root_inode = record {
+  ino = 1;
+  size = 160;
+  atime = 0;
+  ctime = 0;
+  mtime = 0;
+  nlink = 2;
+  uid = 0;
+  gid = 0;
+  mode = 0o040755;
+  flags = 0;
+  xattr_cnt = 0;
+  xattr_size = 0;
+  xattr_names = 0;
+  bytes = [];
+}
+
+abbrev pub root_leaf : Leaf
+root_leaf = record { key = Ino 1; lnum = 10; offs = 0; len = 160 }
+
+abbrev pub root_placed : Placed
+root_placed = record { node = inode root_inode; sqnum = 2; group = 0; lnum = 10; offs = 0; len = 160 }
+
+abbrev pub root_kept : Kept
+root_kept = record { leaf = root_leaf; sqnum = 2; node = inode root_inode }
+
+-- the index's one node, at the start of LEB 11
+abbrev pub least_branch : Branch
+least_branch = root_branch least_master (Ino 1)
+
+abbrev pub least_index : PlacedRow
+least_index = node_at least_branch (leaf_at root_leaf ended) ended
+
+abbrev pub least_props : List Lprop
+least_props = record { free = 16208; dirty = 16; index = false } ∷ record { free = 16336; dirty = 0; index = true } ∷ []
+
+-- what such an image says, whatever the text of its log is
+abbrev pub least_image : List LogText → Image
+least_image log = record {
+  geo = least_geometry;
+  latest = least_latest;
+  props = least_props;
+  placed = least_index;
+  log = log;
+  buds = [];
+  committed = record { leaf = root_leaf; found = Some root_placed } ∷ [];
+  listed = [];
+}
+
+-- contents in which its nodes stand, and nothing else is written
+pub record IsLeastVolume (contents : ℕ → List ℕ) : Type 0 where
+  pub bytes : (lnum : ℕ) → IsBytes (contents lnum)
+  pub super : BeginsWithSuper (contents 0) least_super
+  pub masters : IsLatest (contents 1) (contents 2) least_latest
+  pub log : IsFreshLog contents least_geometry 3 1 0
+  pub properties : HasProperties contents least_geometry least_master least_props
+  pub orphans : IsTrue (is_blank (contents 9))
+  pub leaf : IsPlacedIn contents root_placed
+  pub behind : IsTrue (is_blank (drop 160 (contents 10)))
+  pub index : IsIndexNodeAt contents least_branch (record { level = 0; branches = branch_to root_leaf ∷ [] })

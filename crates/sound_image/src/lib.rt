@@ -1,0 +1,19 @@
+//! Which bytes are a sound image, and what is wrong first with those that aren't?
+//!
+//! An image is contents: bytes by LEB. There are twelve rules, each a relation between contents and what they say: from the
+//! superblock on, one part leads to the next. `specs/Image.antt` has the parts, a file of `specs/` has each rule, and
+//! `SoundImage` of `specs/Sound.antt` has one field for each. `specs/Breaches.antt` says what breaks a rule, and where. The
+//! idea: whoever writes, mounts or checks an image cites the same twelve definitions, so that they can't disagree.
+#![tactic(auto)]
+
+mod breach;
+mod laws;
+mod rule;
+
+pub use crate::breach::Breach;
+pub use crate::laws::{
+    a_fresh_log_meets_the_rule, contents_say_one_thing, plain_nodes_need_no_feature,
+    the_least_image_is_sound, the_tree_of_a_sound_image_hangs_together,
+    what_is_written_meets_the_rules, what_is_wrong_breaks_a_rule,
+};
+pub use crate::rule::Rule;
