@@ -1,12 +1,12 @@
 -- Each event keeps the numbers.
-use Rattle.std.proofs.Common.{◌≡◌, ◌≤◌, ℕ, ◌+◌, ◌-◌, arith, Bool, true, false, cond, not, List, [], ◌∷◌, ◌++◌, length, map, refl, sym, ap, subst, ◌∙◌, length-append, Option, Some, None}
-use Rattle.std.specs.Prelude.{◌==◌, ◌&&◌, get_or, nat_le}
-use Rattle.std.specs.List.{flat_map, list_all}
+use Rattle.std.proofs.Common.{◌≡◌, ◌≤◌, ℕ, ◌+◌, ◌-◌, arith, Bool, true, false, cond, not, List, [], ◌∷◌, ◌++◌, length, map, refl, ap, subst, length-append, Option, Some, None}
+use Rattle.std.specs.Prelude.{◌==◌, ◌&&◌, nat_le}
+use Rattle.std.specs.List.{list_all}
 use Rattle.std.specs.Option.{option_map}
 use Rattle.std.proofs.lemmas.Bool.{and_from, and_parts, false≢true, le-leb, leb-true}
 use Rattle.index_tree.specs.Removal.{same_leaf}
 use Rattle.leaf_map.specs.Kept.{Kept, Placed, kept_at}
-use Rattle.store_model.specs.Events.{at_copy, begin, Copying, end_commit, free_victim, in_next, move, offer, offered, open_buds, start, view_now, write_index}
+use Rattle.store_model.specs.Events.{at_copy, begin, Copying, end_commit, free_victim, in_next, move, offer, offered, start, write_index}
 use Rattle.store_model.specs.Heads.{copies_of, counts_of, groups_of, has_bud, less, with_copy}
 use Rattle.store_model.specs.Fits.{Faced, faced_now}
 use Rattle.store_model.specs.Invariant.{AreNumbered, HasNumbers, OfNext, are_within, faced_later, head_numbers}

@@ -15,7 +15,7 @@ use Rattle.store_model.specs.Lebs.{freed, has_leaf, is_role, is_victim_of, stand
 use Rattle.store_model.specs.Store.{At, Bud, Leb, Moving, Place, Store}
 use Rattle.store_model.proofs.LebLeaves.{or_none}
 use Rattle.store_model.proofs.LebPuts.{text_rows}
-use Rattle.store_model.proofs.LebRows.{AreRows, Row, all_in, all_weaker, from_rows, has_row, not_more, numbers_kept, row_kept, rows, to_rows, used_kept, victim_row}
+use Rattle.store_model.proofs.LebRows.{AreRows, Row, all_in, all_weaker, from_rows, has_row, not_more, numbers_kept, numbers_of, row_kept, rows, to_rows, used_kept, victim_row}
 use Rattle.store_model.proofs.RecoveryCopies.{either_of}
 use Rattle.store_model.proofs.RecoveryOrder.{or_left, or_right}
 use Rattle.store_model.proofs.Sorting.{or_false}
@@ -41,7 +41,7 @@ freed_number m r = by (is_role kind.Leaf r.1 && not (has_leaf m r.0) && not (is_
     by true = refl
     by false = refl
 
-keeps_bud : (m : Store) (r : Row) → is_role kind.Bud r.1 ≡ true → is_role kind.Bud (freed_row m r).1 ≡ true
+pub keeps_bud : (m : Store) (r : Row) → is_role kind.Bud r.1 ≡ true → is_role kind.Bud (freed_row m r).1 ≡ true
 keeps_bud m (n, kind.Bud) h = refl
 keeps_bud m (n, role) h = absurd (false≢true h)
 
@@ -122,41 +122,55 @@ pub record HasFewer (m k : Store) : Type 0 where
   pub next : is_some k.next ≡ is_some m.next
   pub moving : k.moving ≡ m.moving
 
-freed_use : (m k : Store) → HasFewer m k → (r : Row) → is_used m r.0 r.1 ≡ true → is_used (tidied k) (freed_row k r).0 (freed_row k r).1 ≡ true
-freed_use m k f (n, kind.Free) h = not_more (has_leaf m n) (has_leaf k n) (f.none n) h
-freed_use m k f (n, kind.Index) h = not_more (has_leaf m n) (has_leaf k n) (f.none n) h
-freed_use m k f (n, kind.Bud) h = subst (λ (buds : List Bud). list_any (λ bud. bud.lnum == n) buds ≡ true) (sym f.buds) h
-freed_use m k f (n, kind.Taken) h =
-    let p = and_parts (not (has_leaf m n)) (is_some m.next) h in
-    and_from (not (has_leaf k n)) (is_some k.next) (not_more (has_leaf m n) (has_leaf k n) (f.none n) p.0) (f.next ∙ p.1)
-freed_use m k f (n, kind.Leaf) h = by (has_leaf k n) (is_victim_of k.moving n) refl refl
+-- rows that are as an invariant wants them, but for leaf LEBs without a leaf
+pub record AreNearly (m : Store) (rs : List Row) : Type 0 where
+  pub numbers : are_distinct (numbers_of rs) ≡ true
+  pub used : list_all (λ r. is_used m r.0 r.1 || is_role kind.Leaf r.1) rs ≡ true
+  pub buds : list_all (λ bud. has_row kind.Bud rs bud.lnum) m.now.buds ≡ true
+  pub index : list_all (λ place. has_row kind.Index rs place.lnum) m.now.places ≡ true
+  pub leaves : list_all (λ x. has_row kind.Leaf rs x.leaf.lnum || has_row kind.Bud rs x.leaf.lnum) m.live ≡ true
+  pub victim : victim_row rs m.moving ≡ true
+
+or_nothing : (a : Bool) → (a || false) ≡ true → a ≡ true
+or_nothing true h = h
+or_nothing false h = h
+
+freed_use : (k : Store) (r : Row) → (is_used k r.0 r.1 || is_role kind.Leaf r.1) ≡ true → is_used (tidied k) (freed_row k r).0 (freed_row k r).1 ≡ true
+freed_use k (n, kind.Free) h = or_nothing (not (has_leaf k n)) h
+freed_use k (n, kind.Index) h = or_nothing (not (has_leaf k n)) h
+freed_use k (n, kind.Bud) h = or_nothing (list_any (λ bud. bud.lnum == n) k.now.buds) h
+freed_use k (n, kind.Taken) h = or_nothing (not (has_leaf k n) && is_some k.next) h
+freed_use k (n, kind.Leaf) h = by (has_leaf k n) (is_victim_of k.moving n) refl refl
   where
-    by : (a v : Bool) → has_leaf k n ≡ a → is_victim_of k.moving n ≡ v → is_used (tidied k) (cond {A = Row} (not a && not v) (n, kind.Free) (n, kind.Leaf)).0 (cond {A = Row} (not a && not v) (n, kind.Free) (n, kind.Leaf)).1 ≡ true
+    by : (a v : Bool) → has_leaf k n ≡ a → is_victim_of k.moving n ≡ v
+        → is_used (tidied k) (cond {A = Row} (not a && not v) (n, kind.Free) (n, kind.Leaf)).0 (cond {A = Row} (not a && not v) (n, kind.Free) (n, kind.Leaf)).1 ≡ true
     by true v e g = or_left (has_leaf k n) (is_victim_of k.moving n) e
     by false true e g = or_right (has_leaf k n) (is_victim_of k.moving n) g
     by false false e g = ap not e
 
-pub tidied_apart : (m k : Store) → AreApart m → HasFewer m k → AreAtBuds k.now.buds 0 k.ends → AreApart (tidied k)
-tidied_apart m k a f ends = from_rows (tidied k) (subst (AreRows (tidied k)) (sym (freed_rows k k.lebs ∙ ap (map (freed_row k)) f.lebs)) (record {
+all_freed : (k : Store) (rs : List Row) → list_all (λ r. is_used k r.0 r.1 || is_role kind.Leaf r.1) rs ≡ true → list_all (λ r. is_used (tidied k) r.0 r.1) (map (freed_row k) rs) ≡ true
+all_freed k [] h = refl
+all_freed k (r ∷ rs) h =
+    let p = and_parts (is_used k r.0 r.1 || is_role kind.Leaf r.1) (list_all (λ r. is_used k r.0 r.1 || is_role kind.Leaf r.1) rs) h in
+    and_from (is_used (tidied k) (freed_row k r).0 (freed_row k r).1) (list_all (λ r. is_used (tidied k) r.0 r.1) (map (freed_row k) rs)) (freed_use k r p.0) (all_freed k rs p.1)
+
+-- leaf LEBs without a leaf are empty then
+pub tidied_from : (k : Store) → AreNearly k (rows k.lebs) → AreAtBuds k.now.buds 0 k.ends → AreApart (tidied k)
+tidied_from k r ends = from_rows (tidied k) (subst (AreRows (tidied k)) (sym (freed_rows k k.lebs)) (record {
   numbers = ap are_distinct (numbers_kept (freed_row k) (freed_number k) rs) ∙ r.numbers;
-  used = used_kept m (tidied k) (freed_row k) rs (λ row there h. freed_use m k f row h) rs (all_in rs) r.used;
-  buds = subst (λ (buds : List Bud). list_all (λ bud. has_row kind.Bud new bud.lnum) buds ≡ true) (sym f.buds)
-      (all_weaker (λ (bud : Bud). has_row kind.Bud rs bud.lnum) (λ bud. has_row kind.Bud new bud.lnum) (λ bud h. row_kept kind.Bud (freed_row k) (freed_number k) (keeps_bud k) rs bud.lnum h) m.now.buds r.buds);
-  index = subst (λ (places : List Place). list_all (λ place. has_row kind.Index new place.lnum) places ≡ true) (sym f.places)
-      (all_weaker (λ (place : Place). has_row kind.Index rs place.lnum) (λ place. has_row kind.Index new place.lnum) (λ place h. row_kept kind.Index (freed_row k) (freed_number k) (keeps_index k) rs place.lnum h) m.now.places r.index);
+  used = all_freed k rs r.used;
+  buds = all_weaker (λ (bud : Bud). has_row kind.Bud rs bud.lnum) (λ bud. has_row kind.Bud new bud.lnum) (λ bud h. row_kept kind.Bud (freed_row k) (freed_number k) (keeps_bud k) rs bud.lnum h) k.now.buds r.buds;
+  index = all_weaker (λ (place : Place). has_row kind.Index rs place.lnum) (λ place. has_row kind.Index new place.lnum) (λ place h. row_kept kind.Index (freed_row k) (freed_number k) (keeps_index k) rs place.lnum h) k.now.places r.index;
   leaves = both_all (λ (x : Kept). has_row kind.Leaf rs x.leaf.lnum || has_row kind.Bud rs x.leaf.lnum) (λ x. list_any (stands_in x.leaf.lnum) k.live) (λ x. has_row kind.Leaf new x.leaf.lnum || has_row kind.Bud new x.leaf.lnum)
-      (λ x h g. leaf x h g) k.live (f.live (λ n. has_row kind.Leaf rs n || has_row kind.Bud rs n) r.leaves) (all_stand k.live);
-  victim = victim_stays k rs k.moving refl (ap (victim_row rs) f.moving ∙ r.victim);
+      (λ x h g. leaf x h g) k.live r.leaves (all_stand k.live);
+  victim = victim_stays k rs k.moving refl r.victim;
 })) ends
   where
     rs : List Row
-    rs = rows m.lebs
+    rs = rows k.lebs
 
     new : List Row
     new = map (freed_row k) rs
-
-    r : AreRows m rs
-    r = to_rows m a
 
     leaf : (x : Kept) → (has_row kind.Leaf rs x.leaf.lnum || has_row kind.Bud rs x.leaf.lnum) ≡ true → list_any (stands_in x.leaf.lnum) k.live ≡ true
         → (has_row kind.Leaf new x.leaf.lnum || has_row kind.Bud new x.leaf.lnum) ≡ true
@@ -167,6 +181,32 @@ tidied_apart m k a f ends = from_rows (tidied k) (subst (AreRows (tidied k)) (sy
             or_left (has_row kind.Leaf new x.leaf.lnum) (has_row kind.Bud new x.leaf.lnum)
             (leaf_stays k rs x.leaf.lnum (with_leaf (has_leaf k x.leaf.lnum) (is_victim_of k.moving x.leaf.lnum) (or_left (list_any (stands_in x.leaf.lnum) k.live) (list_any (stands_in x.leaf.lnum) k.held) g)) e)
         by (inr e) = or_right (has_row kind.Leaf new x.leaf.lnum) (has_row kind.Bud new x.leaf.lnum) (row_kept kind.Bud (freed_row k) (freed_number k) (keeps_bud k) rs x.leaf.lnum e)
+
+fewer_use : (m k : Store) → HasFewer m k → (r : Row) → is_used m r.0 r.1 ≡ true → (is_used k r.0 r.1 || is_role kind.Leaf r.1) ≡ true
+fewer_use m k f (n, kind.Free) h = or_left (not (has_leaf k n)) false (not_more (has_leaf m n) (has_leaf k n) (f.none n) h)
+fewer_use m k f (n, kind.Index) h = or_left (not (has_leaf k n)) false (not_more (has_leaf m n) (has_leaf k n) (f.none n) h)
+fewer_use m k f (n, kind.Bud) h =
+    or_left (list_any (λ bud. bud.lnum == n) k.now.buds) false (subst (λ (buds : List Bud). list_any (λ bud. bud.lnum == n) buds ≡ true) (sym f.buds) h)
+fewer_use m k f (n, kind.Taken) h =
+    let p = and_parts (not (has_leaf m n)) (is_some m.next) h in
+    or_left (not (has_leaf k n) && is_some k.next) false (and_from (not (has_leaf k n)) (is_some k.next) (not_more (has_leaf m n) (has_leaf k n) (f.none n) p.0) (f.next ∙ p.1))
+fewer_use m k f (n, kind.Leaf) h = or_right (has_leaf k n || is_victim_of k.moving n) true refl
+
+pub tidied_apart : (m k : Store) → AreApart m → HasFewer m k → AreAtBuds k.now.buds 0 k.ends → AreApart (tidied k)
+tidied_apart m k a f ends = tidied_from k (subst (AreNearly k) (sym f.lebs) (record {
+  numbers = r.numbers;
+  used = all_weaker (λ (row : Row). is_used m row.0 row.1) (λ row. is_used k row.0 row.1 || is_role kind.Leaf row.1) (fewer_use m k f) rs r.used;
+  buds = subst (λ (buds : List Bud). list_all (λ bud. has_row kind.Bud rs bud.lnum) buds ≡ true) (sym f.buds) r.buds;
+  index = subst (λ (places : List Place). list_all (λ place. has_row kind.Index rs place.lnum) places ≡ true) (sym f.places) r.index;
+  leaves = f.live (λ n. has_row kind.Leaf rs n || has_row kind.Bud rs n) r.leaves;
+  victim = ap (victim_row rs) f.moving ∙ r.victim;
+})) ends
+  where
+    rs : List Row
+    rs = rows m.lebs
+
+    r : AreRows m rs
+    r = to_rows m a
 
 -- ---- a sync
 pub padded_rows : (geo : RawGeometry) (lebs : List Leb) (at : Option At) → rows (padded geo lebs at) ≡ rows lebs

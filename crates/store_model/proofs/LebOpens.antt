@@ -41,7 +41,7 @@ open_number lnum r = by (r.0 == lnum)
     by false = refl
 
 -- the LEB is a bud
-opened_bud : (role : LebKind) (lnum : ℕ) (rs : List Row) → has_row role rs lnum ≡ true → has_row kind.Bud (map (open_row lnum) rs) lnum ≡ true
+pub opened_bud : (role : LebKind) (lnum : ℕ) (rs : List Row) → has_row role rs lnum ≡ true → has_row kind.Bud (map (open_row lnum) rs) lnum ≡ true
 opened_bud role lnum [] h = h
 opened_bud role lnum (r ∷ rs) h = by (opened_bud role lnum rs) (r.0 == lnum) refl h
   where

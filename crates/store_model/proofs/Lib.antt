@@ -11,11 +11,13 @@ mod Further
 mod LebCollections
 mod LebCounts
 mod LebDrops
+mod LebEnds
 mod LebFrees
 mod LebLeaves
 mod LebOpens
 mod LebPuts
 mod LebRows
+mod LebStarts
 mod LebTaking
 mod LegalPut
 mod LegalRuns

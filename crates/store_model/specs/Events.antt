@@ -334,15 +334,15 @@ abbrev pub offer : Store → Store
 offer m = record m { next = option_map offered m.next; sqnum = m.sqnum + 2 }
 
 -- what a LEB is for once a commit has ended that leads to this view
+abbrev pub role_then : View → Leb → LebKind → Leb
+role_then view leb kind.Free = leb
+role_then view leb kind.Leaf = leb
+role_then view leb kind.Index = if has_node view.places leb.lnum then leb else emptied leb
+role_then view leb kind.Bud = if list_any (λ bud. bud.lnum == leb.lnum) view.buds then leb else record leb { role = kind.Leaf }
+role_then view leb kind.Taken = record leb { role = kind.Index }
+
 abbrev pub role_after : View → Leb → Leb
-role_after view leb = by leb.role
-  where
-    by : LebKind → Leb
-    by kind.Free = leb
-    by kind.Leaf = leb
-    by kind.Index = if has_node view.places leb.lnum then leb else emptied leb
-    by kind.Bud = if list_any (λ bud. bud.lnum == leb.lnum) view.buds then leb else record leb { role = kind.Leaf }
-    by kind.Taken = record leb { role = kind.Index }
+role_after view leb = role_then view leb leb.role
 
 abbrev pub end_commit : Store → Option Next → Store
 end_commit m None = m

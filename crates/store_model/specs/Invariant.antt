@@ -166,13 +166,14 @@ pub record AreApart (m : Store) : Type 0 where
   pub leaves : IsTrue (list_all (λ x. has_role kind.Leaf m.lebs x.leaf.lnum || has_role kind.Bud m.lebs x.leaf.lnum) m.live)
   pub victim : IsTrue (has_victim m.lebs m.moving)
 
--- the LEBs that a running commit took, and where its index is to stand
+-- the LEBs that a running commit took, where its index is to stand, and its view's buds
 abbrev pub IsTaking : Store → Option Next → Type 0
 IsTaking m None = Unit {0}
 IsTaking m (Some next) =
     IsTrue (list_all (has_role kind.Taken m.lebs) next.taken)
     × IsTrue (list_all (λ place. has_role kind.Index m.lebs place.lnum || is_among next.taken place.lnum) next.view.places)
     × (next.written ≤ length next.taken)
+    × IsTrue (list_all (λ bud. has_role kind.Bud m.lebs bud.lnum) next.view.buds)
 
 -- ---- what came since a commit began
 -- of all that a head got these came last, and all before them is synced

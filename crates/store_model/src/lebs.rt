@@ -1,7 +1,7 @@
 // Laws of LEBs: what each is for.
 
-ghost use Rattle.std.specs.Prelude.{◌≡◌, ◌≤◌, ◌+◌, ℕ};
-ghost use Rattle.store_model.specs.Events.{after, Begin, Drop, Free, Open, Put, Putting, Sync};
+ghost use Rattle.std.specs.Prelude.{◌≡◌, ◌≤◌, ◌+◌, ℕ, List};
+ghost use Rattle.store_model.specs.Events.{after, Begin, Drop, End, Free, Offer, Open, Put, Putting, Start, Sync, Write};
 ghost use Rattle.store_model.specs.Invariant.{AreApart, HasSince, IsTaking};
 ghost use Rattle.store_model.specs.Lebs.{space_of};
 ghost use Rattle.store_model.specs.Legal.{IsLegalEvent};
@@ -20,6 +20,15 @@ pub fn lebs_keep_what_they_are_for()
 pub fn a_collection_keeps_what_lebs_are_for()
     ensures begun { (m : AnyStore) (victim : ℕ) → IsLegalEvent m (Begin victim) → AreApart m → AreApart (after (Begin victim) m) }
     ensures freed { (m : AnyStore) → IsLegalEvent m Free → AreApart m → AreApart (after Free m) }
+{}
+
+/// So do a commit's steps: what it takes was empty, and at its end its LEBs are the index's, those of the old index that hold none of
+/// its nodes are empty, and buds that the log names no longer hold leaves, or are empty.
+pub fn a_commit_keeps_what_lebs_are_for()
+    ensures started { (m : AnyStore) (taken : List ℕ) → IsLegalEvent m (Start taken) → AreApart m → AreApart (after (Start taken) m) }
+    ensures written { (m : AnyStore) → AreApart m → AreApart (after Write m) }
+    ensures offered { (m : AnyStore) → AreApart m → AreApart (after Offer m) }
+    ensures ended { (m : AnyStore) → IsTaking m m.next → HasSince m m.next → AreApart m → AreApart (after End m) }
 {}
 
 /// A commit that runs keeps the LEBs that it took, through each of them, and its index is to stand in these and in those of the

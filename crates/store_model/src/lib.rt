@@ -24,8 +24,9 @@ pub use crate::law::{
     each_event_keeps_the_files, each_event_keeps_the_numbers,
 };
 pub use crate::lebs::{
-    a_collection_keeps_what_lebs_are_for, a_running_commit_gets_what_is_put,
-    a_running_commit_keeps_its_lebs, lebs_are_counted, lebs_keep_what_they_are_for,
+    a_collection_keeps_what_lebs_are_for, a_commit_keeps_what_lebs_are_for,
+    a_running_commit_gets_what_is_put, a_running_commit_keeps_its_lebs, lebs_are_counted,
+    lebs_keep_what_they_are_for,
 };
 pub use crate::passes::a_collection_gains;
 pub use crate::recovery::{a_store_is_recovered, what_fits_is_recovered, what_fits_loses_no_leaf};
