@@ -64,6 +64,13 @@ all_pass (page ∷ pages) = ap (λ n. suc n) (all_pass pages)
 pub all_new : (dirty : DirtyPages) (ino offs len : ℕ) → dirty ≡ [] → newly_dirty dirty ino offs len ≡ length (pages_of offs len)
 all_new dirty ino offs len none = ap (λ d. newly_dirty d ino offs len) none ∙ all_pass (pages_of offs len)
 
+-- and no fewer than where some are
+pub more_new : (before after : DirtyPages) (ino offs len : ℕ) → after ≡ [] → newly_dirty before ino offs len ≤ newly_dirty after ino offs len
+more_new before after ino offs len none =
+    let all = all_new after ino offs len none in
+    let few : newly_dirty before ino offs len ≤ length (pages_of offs len) = fewer _ (pages_of offs len) in
+    omega (arith, all, few)
+
 -- what a write asks for is so little that a backing takes the question
 pub modest_need : (dirty : DirtyPages) (ino offs len grant newly lacking : ℕ) (need : Need) → len ≤ 65536 → newly ≡ newly_dirty dirty ino offs len → lacking ≡ newly - grant → need ≡ credits_need lacking → IsModest need
 modest_need dirty ino offs len grant newly lacking need few counted less asks =

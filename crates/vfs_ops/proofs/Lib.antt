@@ -4,6 +4,7 @@ pub mod Closing
 pub mod Flushing
 pub mod Gone
 pub mod Groups
+pub mod Looking
 pub mod Named
 pub mod Nameless
 pub mod Orphans

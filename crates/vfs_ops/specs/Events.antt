@@ -21,7 +21,7 @@ use Rattle.vfs_ops.specs.declared.event.Event.{Event}
 use Rattle.vfs_ops.specs.declared.event.Event.TheVariants.{Call}
 use Rattle.vfs_ops.specs.declared.event.Outcome.{Outcome}
 use Rattle.vfs_ops.specs.declared.event.Outcome.TheVariants.{Replied}
-use Rattle.vfs_ops.specs.Steps.{IsAdmittedReply, IsAnswered, IsAtOnceReply}
+use Rattle.vfs_ops.specs.Steps.{IsAdmittedReply, IsAnswered, IsAtOnceReply, IsExact, Passage}
 use Rattle.vfs_ops.specs.Writing.{BuffersReply}
 
 -- any operation but a truncation, that gives bytes
@@ -40,6 +40,10 @@ group_in files (Call caller now grant op) = group_of files caller now op
 abbrev pub IsAnswer : BackingState → BackingState → Kept → Kept → List NoSpace → List NoSpace → Event → Outcome → Type 0
 IsAnswer old new before after refused_before refused_after (Call caller now grant op) (Replied reply left) =
     IsAnswered old new after (present old.tree before) caller now grant op reply refused_before refused_after × (left ≤ grant)
+
+-- how much of the grant a call leaves, and whether it only looks
+abbrev pub IsExactCall : Passage → Event → Outcome → Type 0
+IsExactCall p (Call caller now grant op) (Replied reply left) = IsExact p caller now grant op reply left
 
 -- what is left of the grant
 abbrev pub left_of : Outcome → ℕ

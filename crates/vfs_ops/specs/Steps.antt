@@ -1,11 +1,10 @@
 -- What a step of the file system answers and leaves, over any backing.
-use Rattle.std.specs.Prelude.{◌≡◌, ◌⊎◌, ℕ, ◌≤◌, ◌&&◌, Bool, true, false, if◌then◌else◌, Option, Some, None, Result, Ok, Err, List, [], ◌∷◌, ◌++◌, length}
+use Rattle.std.specs.Prelude.{◌≡◌, ◌⊎◌, ℕ, ◌-◌, ◌≤◌, Bool, true, false, if◌then◌else◌, Option, Some, None, Result, Ok, Err, List, [], ◌∷◌, ◌++◌, length}
 use Rattle.fs_model.specs.declared.backing_answers.Mode.{Mode}
 use Rattle.fs_model.specs.declared.backing_answers.Mode.TheVariants.{ReadWrite, ReadOnly}
 use Rattle.fs_model.specs.declared.op.Op.{Op}
 use Rattle.fs_model.specs.declared.op.Op.TheVariants.{OpenFile, Close, Read, Write, Fsync, Flush, List as ListDir, Stat, Readlink}
 use Rattle.fs_model.specs.declared.refusal.Cause.{Cause}
-use Rattle.fs_model.specs.declared.refusal.Cause.TheVariants.{Tight}
 use Rattle.fs_model.specs.declared.refusal.NoSpace.{NoSpace}
 use Rattle.fs_model.specs.declared.refusal.Refusal.{Refusal}
 use Rattle.fs_model.specs.declared.refusal.Refusal.TheVariants.{Enospc, Erofs}
@@ -25,9 +24,9 @@ use Rattle.cached_files.specs.Alike.{IsAlike}
 use Rattle.cached_files.specs.Calls.{IsNotEnospc, IsWithoutRoom}
 use Rattle.cached_files.specs.Present.{present, IsKept}
 use Rattle.vfs_plans.specs.Answers.{IsFault}
-use Rattle.vfs_ops.specs.Kinds.{IsStopped}
+use Rattle.vfs_ops.specs.Kinds.{IsStopped, OnlyLooks, is_late, is_question}
 use Rattle.vfs_ops.specs.Operations.{is_of_names}
-use Rattle.vfs_ops.specs.Writing.{HasGroupRoom, IsGroupAdmitted, WasPaid, write_need}
+use Rattle.vfs_ops.specs.Writing.{HasGroupRoom, IsGroupAdmitted, WasPaid, newly_by, write_need}
 
 -- What is kept fits the backing, each dirty page is paid, and the present files are sound.
 pub record IsReady (state : BackingState) (kept : Kept) : Type 0 where
@@ -135,3 +134,27 @@ no_space_from result = []
 abbrev pub HasOpen : {T : Type 0} → Mode → Result T Refusal → Type 0
 HasOpen ReadWrite result = Unit {0}
 HasOpen (ReadOnly cause) result = result ≡ Err (Erofs cause)
+
+-- a backing and what is kept in front of it, before and after a step
+pub record Passage : Type 0 where
+  pub old : BackingState
+  pub new : BackingState
+  pub before : Kept
+  pub after : Kept
+
+-- Done as the plain operation is: what is left is the grant less the pages that became dirty, and a question only looked.
+pub record WasDone (p : Passage) (caller now grant : ℕ) (op : Op) (reply : Reply) (left : ℕ) : Type 0 where
+  pub done : IsDone (allowed_on p.old (present p.old.tree p.before) caller now op) (present p.new.tree p.after) reply
+  pub given_back : left ≡ grant - newly_by p.before caller op
+  pub looked : is_question op ≡ true → OnlyLooks p.old p.new p.before p.after
+
+-- Refused: the whole grant is left. A question only looked, and so did a refusal that comes before anything is put.
+pub record WasRefused (p : Passage) (grant : ℕ) (op : Op) (reply : Reply) (left : ℕ) : Type 0 where
+  pub refusal : Refusal
+  pub told : reply ≡ Refused refusal
+  pub given_back : left ≡ grant
+  pub looked : (is_question op ≡ true) ⊎ (is_late refusal ≡ false) → OnlyLooks p.old p.new p.before p.after
+
+-- how much of its grant a step leaves, and which steps only look
+abbrev pub IsExact : Passage → ℕ → ℕ → ℕ → Op → Reply → ℕ → Type 0
+IsExact p caller now grant op reply left = WasDone p caller now grant op reply left ⊎ WasRefused p grant op reply left

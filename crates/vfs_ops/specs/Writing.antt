@@ -1,5 +1,8 @@
 -- What a caller's write asks of admission, and when it is kept in memory alone.
 use Rattle.std.specs.Prelude.{◌≡◌, ◌⊎◌, ℕ, ◌+◌, ◌-◌, ◌≤◌, Result, Err, OnOk, OnErr, Some, List, length}
+use Rattle.std.specs.BTreeMap.{is_at}
+use Rattle.std.specs.Map.{lookup}
+use Rattle.std.specs.Option.{option_map_or}
 use Rattle.fs_model.specs.declared.change.Change.{Change}
 use Rattle.fs_model.specs.declared.op.Op.{Op}
 use Rattle.fs_model.specs.declared.op.Op.TheVariants.{Write}
@@ -11,7 +14,7 @@ use Rattle.fs_model.specs.declared.space.Class.TheVariants.{Ordinary}
 use Rattle.fs_model.specs.declared.space.Need.{Need}
 use Rattle.fs_model.specs.Backing.{BackingState}
 use Rattle.fs_model.specs.Cover.{needed, room_for}
-use Rattle.fs_model.specs.Files.{handle_at, pages_of}
+use Rattle.fs_model.specs.Files.{handle_at, pages_of, pair_cmp}
 use Rattle.cached_files.specs.declared.kept.Kept.{Kept}
 use Rattle.cached_files.specs.Calls.{IsNotEnospc, WasCovered}
 use Rattle.cached_files.specs.Present.{newly_dirty, present}
@@ -23,6 +26,11 @@ credits_need credits = record { credits = credits; bytes = 0; nodes = 0; class =
 -- what a write asks for that brings credits of its own, where no page is dirty that it touches
 abbrev pub write_need : ℕ → ℕ → ℕ → Need
 write_need offs len grant = credits_need (length (pages_of offs len) - grant)
+
+-- how many pages an operation makes dirty that weren't: those of its slot's file that a write touches
+abbrev pub newly_by : Kept → ℕ → Op → ℕ
+newly_by kept caller (Write slot offs len byte) = option_map_or (λ ino. newly_dirty kept.pages.dirty ino offs len) (lookup (is_at (pair_cmp (caller, slot))) kept.handles) 0
+newly_by kept caller op = 0
 
 -- a write's own credits pay the pages that it makes dirty, or there is room for the credits that it lacks
 abbrev pub HasRoom : BackingState → Kept → ℕ → ℕ → ℕ → ℕ → Type 0

@@ -1,6 +1,6 @@
 // A caller's operation, from the mode of the backing on.
 
-ghost use Rattle.std.specs.Prelude.{◌≡◌, ◌⊎◌, ℕ, ◌+◌, ◌*◌, ◌≤◌, [], false, None, Ok, Err, IfOk, OnOk, OnErr, IfErr, length};
+ghost use Rattle.std.specs.Prelude.{◌≡◌, ◌⊎◌, ℕ, ◌+◌, ◌-◌, ◌*◌, ◌≤◌, [], false, None, Ok, Err, IfOk, OnOk, OnErr, IfErr, length};
 ghost use Rattle.fs_model.specs.declared.op.Op.TheVariants.{Fsync, Flush};
 ghost use Rattle.fs_model.specs.Backing.{Goes};
 ghost use Rattle.fs_model.specs.Files.{Tree};
@@ -11,8 +11,9 @@ ghost use Rattle.cached_files.specs.Calls.{SureGoes};
 ghost use Rattle.cached_files.specs.Present.{present};
 ghost use Rattle.vfs_plans.specs.Operations.{is_truncate};
 ghost use Rattle.vfs_ops.specs.Events.{HasSynced};
+ghost use Rattle.vfs_ops.specs.Kinds.{IsEarly, IsLookOnly, OnlyLooks};
 ghost use Rattle.vfs_ops.specs.Operations.{is_of_names};
-ghost use Rattle.vfs_ops.specs.Writing.{Buffers};
+ghost use Rattle.vfs_ops.specs.Writing.{Buffers, newly_by};
 ghost use Rattle.vfs_ops.specs.Steps.{IsReady, IsAtOnce, WasAdmitted, IsDone, IsTurnedDown, IsLast, IsRefusedFor, IsUnsynced, allowed_on, asked, is_write, read_only_cause};
 
 use crate::changes::change;
@@ -72,11 +73,12 @@ pub(crate) fn call<B: Backing>(
     ensures ready { IsReady (B.state backing.new) kept.new }
     ensures mode { OnOk result (read_only_cause (B.state backing.old).mode op.now ≡ None) }
     ensures done { IfOk result (λ r. IsDone (allowed_on (B.state backing.old) (present (B.state backing.old).tree kept.old) caller now op.now) (present (B.state backing.new).tree kept.new) r.0) }
-    ensures left { IfOk result (λ r. r.1 ≤ grant) }
+    ensures left { IfOk result (λ r. r.1 ≡ grant - newly_by kept.old caller op.now) }
     ensures same { OnErr result (IsAlike (present (B.state backing.old).tree kept.old) (present (B.state backing.new).tree kept.new)) }
     ensures refused { IfErr result (λ refusal. IsRefusedFor (read_only_cause (B.state backing.old).mode op.now) (B.state backing.old) (B.state backing.new) kept.new (present (B.state backing.old).tree kept.old) caller now grant op.now refusal) }
     ensures issued { IfOk result (λ r. (B.state backing.new).space.credits + length kept.old.pages.dirty + grant ≡ (B.state backing.old).space.credits + length kept.new.pages.dirty + r.1) }
     ensures still { OnErr result ((B.state backing.new).space.credits + length kept.old.pages.dirty ≡ (B.state backing.old).space.credits + length kept.new.pages.dirty) }
+    ensures looked { IsLookOnly op.now result → OnlyLooks (B.state backing.old) (B.state backing.new) kept.old kept.new }
     ensures written { IfOk result (λ r. HasSynced (B.state backing.old).mode (B.state backing.new) kept.old kept.new caller op.now r.0) }
     ensures admitted { OnOk result (WasAdmitted (B.state backing.old) (B.state backing.new) kept.old caller now grant op.now) }
     ensures at_once { IsAtOnce (B.state backing.old) kept.old caller now op.now result }
@@ -107,13 +109,14 @@ pub(crate) fn serve<B: Backing>(
     requires mode { read_only_cause (B.state backing.old).mode op.now ≡ None }
     ensures ready { IsReady (B.state backing.new) kept.new }
     ensures done { IfOk result (λ r. IsDone (allowed_on (B.state backing.old) (present (B.state backing.old).tree kept.old) caller now op.now) (present (B.state backing.new).tree kept.new) r.0) }
-    ensures left { IfOk result (λ r. r.1 ≤ grant) }
+    ensures left { IfOk result (λ r. r.1 ≡ grant - newly_by kept.old caller op.now) }
     ensures same { OnErr result (IsAlike (present (B.state backing.old).tree kept.old) (present (B.state backing.new).tree kept.new)) }
     ensures refused { IfErr result (λ refusal. (allowed_on (B.state backing.old) (present (B.state backing.old).tree kept.old) caller now op.now ≡ Err refusal)
         ⊎ (IsTurnedDown (B.state backing.old) (B.state backing.new) kept.new (asked (present (B.state backing.old).tree kept.old) caller now grant op.now) op.now refusal
         × IsLast (allowed_on (B.state backing.old) (present (B.state backing.old).tree kept.old) caller now op.now) refusal)) }
     ensures issued { IfOk result (λ r. (B.state backing.new).space.credits + length kept.old.pages.dirty + grant ≡ (B.state backing.old).space.credits + length kept.new.pages.dirty + r.1) }
     ensures still { OnErr result ((B.state backing.new).space.credits + length kept.old.pages.dirty ≡ (B.state backing.old).space.credits + length kept.new.pages.dirty) }
+    ensures looked { IsLookOnly op.now result → OnlyLooks (B.state backing.old) (B.state backing.new) kept.old kept.new }
     ensures written { IfOk result (λ r. HasSynced (B.state backing.old).mode (B.state backing.new) kept.old kept.new caller op.now r.0) }
     ensures admitted { OnOk result (WasAdmitted (B.state backing.old) (B.state backing.new) kept.old caller now grant op.now) }
     ensures at_once { IsAtOnce (B.state backing.old) kept.old caller now op.now result }
@@ -160,6 +163,7 @@ fn serve_without<B: Backing>(
         ⊎ (IsTurnedDown (B.state backing.old) (B.state backing.new) kept.new (asked (present (B.state backing.old).tree kept.old) caller now grant op.now) op.now refusal
         × IsLast (allowed_on (B.state backing.old) (present (B.state backing.old).tree kept.old) caller now op.now) refusal)) }
     ensures issued { (B.state backing.new).space.credits + length kept.old.pages.dirty ≡ (B.state backing.old).space.credits + length kept.new.pages.dirty }
+    ensures looked { IsLookOnly op.now result → OnlyLooks (B.state backing.old) (B.state backing.new) kept.old kept.new }
     ensures written { IfOk result (λ reply. HasSynced (B.state backing.old).mode (B.state backing.new) kept.old kept.new caller op.now reply) }
     ensures admitted { OnOk result (WasAdmitted (B.state backing.old) (B.state backing.new) kept.old caller now grant op.now) }
     ensures at_once { IsAtOnce (B.state backing.old) kept.old caller now op.now result }
@@ -229,6 +233,7 @@ fn synced<B: Backing>(
     ensures done { IfOk result (λ reply. (now : ℕ) → outcome_of (present (B.state backing.old).tree kept.old) caller now (Fsync slot) ≡ Ok (reply, present (B.state backing.old).tree kept.old)) }
     ensures same { IsAlike (present (B.state backing.old).tree kept.old) (present (B.state backing.new).tree kept.new) }
     ensures refused { IfErr result (λ refusal. ((now : ℕ) → outcome_of (present (B.state backing.old).tree kept.old) caller now (Fsync slot) ≡ Err refusal) ⊎ IsUnsynced (B.state backing.old) (B.state backing.new) refusal) }
+    ensures early { IsEarly result → OnlyLooks (B.state backing.old) (B.state backing.new) kept.old kept.new }
     ensures written { IfOk result (λ reply. HasSynced (B.state backing.old).mode (B.state backing.new) kept.old kept.new caller (Fsync slot) reply) }
     ensures issued { (B.state backing.new).space.credits + length kept.old.pages.dirty ≡ (B.state backing.old).space.credits + length kept.new.pages.dirty }
     ensures goes { Goes (2 * length kept.old.pages.dirty) (B.state backing.old) (B.state backing.new) }

@@ -13,6 +13,7 @@ ghost use Rattle.cached_files.specs.Alike.{IsAlike};
 ghost use Rattle.cached_files.specs.Calls.{IsNotEnospc, IsWithoutRoom, SureGoes};
 ghost use Rattle.cached_files.specs.Present.{present, IsKept};
 ghost use Rattle.vfs_plans.specs.Answers.{IsRefused};
+ghost use Rattle.vfs_ops.specs.Kinds.{IsEarly, OnlyLooks};
 ghost use Rattle.vfs_ops.specs.Operations.{is_of_names, is_orphaned, orphans};
 ghost use Rattle.vfs_ops.specs.Steps.{IsLast};
 ghost use Rattle.vfs_ops.specs.Writing.{HasGroupRoom, IsGroupAdmitted};
@@ -52,6 +53,7 @@ pub fn change<B: Backing>(
     ensures refused { IfErr result (λ refusal. IsRefused (B.state backing.old) (B.state backing.new) (within_orphans (orphan_room (B.state backing.old)) (B.state backing.old).orphan_limit (present (B.state backing.old).tree kept.old) (outcome_of (present (B.state backing.old).tree kept.old) caller now op.now)) refusal
         ⊎ (IsWithoutRoom (B.state backing.old) (B.state backing.new) kept.new (need_of (present (B.state backing.old).tree kept.old) caller now op.now) refusal
         × IsLast (within_orphans (orphan_room (B.state backing.old)) (B.state backing.old).orphan_limit (present (B.state backing.old).tree kept.old) (outcome_of (present (B.state backing.old).tree kept.old) caller now op.now)) refusal)) }
+    ensures early { IsEarly result → OnlyLooks (B.state backing.old) (B.state backing.new) kept.old kept.new }
     ensures admitted { OnOk result (IsGroupAdmitted (B.state backing.old) (B.state backing.new) kept.old (group_of (present (B.state backing.old).tree kept.old) caller now op.now) (need_of (present (B.state backing.old).tree kept.old) caller now op.now)) }
     ensures at_once { (done : AnyReply × Files) → outcome_of (present (B.state backing.old).tree kept.old) caller now op.now ≡ Ok done → HasGroupRoom (B.state backing.old) (need_of (present (B.state backing.old).tree kept.old) caller now op.now) → IsNotEnospc result }
     ensures issued { (B.state backing.new).space.credits + length kept.old.pages.dirty ≡ (B.state backing.old).space.credits + length kept.new.pages.dirty }

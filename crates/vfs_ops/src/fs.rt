@@ -17,8 +17,8 @@ ghost use Rattle.fs_model.specs.declared.refusal.Refusal.TheVariants.{Enomem, En
 ghost use Rattle.fs_model.specs.declared.reply.Reply.TheVariants.{Refused};
 ghost use Rattle.vfs_plans.specs.Answers.{IsRefused, Looks};
 ghost use Rattle.vfs_plans.specs.Operations.{is_truncate};
-ghost use Rattle.vfs_ops.specs.Events.{HasSynced, IsAdmittedCall, IsAnswer, IsAtOnceCall, IsBufferedCall, IsCalled, IsWrittenBack, grant_of, group_in, left_of};
-ghost use Rattle.vfs_ops.specs.Steps.{HasOpen, IsAdmittedReply, IsAnswered, IsAtOnceReply, IsReady, no_space_from, no_space_in};
+ghost use Rattle.vfs_ops.specs.Events.{HasSynced, IsAdmittedCall, IsAnswer, IsAtOnceCall, IsBufferedCall, IsCalled, IsExactCall, IsWrittenBack, grant_of, group_in, left_of};
+ghost use Rattle.vfs_ops.specs.Steps.{HasOpen, IsAdmittedReply, IsAnswered, IsAtOnceReply, IsExact, IsReady, no_space_from, no_space_in};
 ghost use Rattle.vfs_ops.specs.Writing.{BuffersReply};
 
 use crate::answers::call;
@@ -73,6 +73,7 @@ impl<B: Backing> Fs<B> {
         requires grant { length self.old.kept.pages.dirty + grant_of event.now ≤ (B.state self.old.backing).space.credits }
         ensures ready { IsReady (B.state self.new.backing) self.new.kept }
         ensures answered { IsAnswer (B.state self.old.backing) (B.state self.new.backing) self.old.kept self.new.kept self.old.refused.items self.new.refused.items event.now result }
+        ensures exact { IsExactCall (record { old = B.state self.old.backing; new = B.state self.new.backing; before = self.old.kept; after = self.new.kept }) event.now result }
         ensures issued { (B.state self.new.backing).space.credits + length self.old.kept.pages.dirty + grant_of event.now ≡ (B.state self.old.backing).space.credits + length self.new.kept.pages.dirty + left_of result }
         ensures written { IsWrittenBack (B.state self.old.backing).mode (B.state self.new.backing) self.old.kept self.new.kept event.now result }
         ensures admitted { IsAdmittedCall (B.state self.old.backing) (B.state self.new.backing) self.old.kept event.now result }
@@ -103,6 +104,7 @@ impl<B: Backing> Fs<B> {
         ensures ready { IsReady (B.state self.new.backing) self.new.kept }
         ensures answered { IsAnswered (B.state self.old.backing) (B.state self.new.backing) self.new.kept (present (B.state self.old.backing).tree self.old.kept) caller now grant op.now result.0 self.old.refused.items self.new.refused.items }
         ensures left { result.1 ≤ grant }
+        ensures exact { IsExact (record { old = B.state self.old.backing; new = B.state self.new.backing; before = self.old.kept; after = self.new.kept }) caller now grant op.now result.0 result.1 }
         ensures issued { (B.state self.new.backing).space.credits + length self.old.kept.pages.dirty + grant ≡ (B.state self.old.backing).space.credits + length self.new.kept.pages.dirty + result.1 }
         ensures written { HasSynced (B.state self.old.backing).mode (B.state self.new.backing) self.old.kept self.new.kept caller op.now result.0 }
         ensures admitted { IsAdmittedReply (B.state self.old.backing) (B.state self.new.backing) self.old.kept caller now grant op.now result.0 }

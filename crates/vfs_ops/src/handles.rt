@@ -13,6 +13,7 @@ ghost use Rattle.fs_laws.specs.Sound.{IsSound};
 ghost use Rattle.cached_files.specs.Calls.{SureGoes};
 ghost use Rattle.cached_files.specs.Present.{present, IsKept};
 ghost use Rattle.vfs_plans.specs.Answers.{IsFault, IsRefused, Looks};
+ghost use Rattle.vfs_ops.specs.Kinds.{IsEarly, OnlyLooks};
 
 use cached_files::{Kept, drop_orphan};
 use fs_laws::{a_closed_file_keeps_trees_proper, an_opened_file_keeps_trees_proper};
@@ -37,6 +38,7 @@ pub(crate) fn open<B: Backing>(
     ensures kept { IsKept (B.state backing.new).tree kept.new }
     ensures sound { IsSound (present (B.state backing.new).tree kept.new) }
     ensures pages { kept.new.pages ≡ kept.old.pages }
+    ensures inodes { kept.new.inodes ≡ kept.old.inodes }
     ensures done { IfOk result (λ reply. (now : ℕ) → outcome_of (present (B.state backing.old).tree kept.old) caller now (OpenFile path.now slot) ≡ Ok (reply, present (B.state backing.new).tree kept.new)) }
     ensures same { OnErr result (kept.new ≡ kept.old) }
     ensures refused { IfErr result (λ refusal. (now : ℕ) → IsRefused (B.state backing.old) (B.state backing.new) (outcome_of (present (B.state backing.old).tree kept.old) caller now (OpenFile path.now slot)) refusal) }
@@ -66,6 +68,7 @@ pub(crate) fn close<B: Backing>(
     ensures done { IfOk result (λ reply. (now : ℕ) → outcome_of (present (B.state backing.old).tree kept.old) caller now (Close slot) ≡ Ok (reply, present (B.state backing.new).tree kept.new)) }
     ensures same { OnErr result (kept.new ≡ kept.old) }
     ensures files { OnErr result (KeepsFiles (B.state backing.old) (B.state backing.new)) }
+    ensures early { IsEarly result → OnlyLooks (B.state backing.old) (B.state backing.new) kept.old kept.new }
     ensures refused { IfErr result (λ refusal. (now : ℕ) → IsRefused (B.state backing.old) (B.state backing.new) (outcome_of (present (B.state backing.old).tree kept.old) caller now (Close slot)) refusal) }
     ensures issued { (B.state backing.new).space.credits + length kept.old.pages.dirty ≡ (B.state backing.old).space.credits + length kept.new.pages.dirty }
     ensures goes { Goes 0 (B.state backing.old) (B.state backing.new) }

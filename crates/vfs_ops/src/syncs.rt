@@ -11,7 +11,7 @@ ghost use Rattle.fs_laws.specs.Sound.{IsSound};
 ghost use Rattle.cached_files.specs.Alike.{IsAlike};
 ghost use Rattle.cached_files.specs.Calls.{SureGoes};
 ghost use Rattle.cached_files.specs.Present.{dirty_of_others, has_dirty, present, IsKept};
-ghost use Rattle.vfs_ops.specs.Kinds.{IsStopped};
+ghost use Rattle.vfs_ops.specs.Kinds.{IsEarly, IsStopped, OnlyLooks};
 
 use cached_files::{Kept, present_files_are_sound, write_back, write_back_file};
 use fs_model::{Backing, Refusal, Reply};
@@ -64,6 +64,7 @@ pub(crate) fn fsync<B: Backing>(
     ensures sound { IsSound (present (B.state backing.new).tree kept.new) }
     ensures done { IfOk result (λ reply. (now : ℕ) → outcome_of (present (B.state backing.old).tree kept.old) caller now (Fsync slot) ≡ Ok (reply, present (B.state backing.old).tree kept.old)) }
     ensures same { IsAlike (present (B.state backing.old).tree kept.old) (present (B.state backing.new).tree kept.new) }
+    ensures early { IsEarly result → OnlyLooks (B.state backing.old) (B.state backing.new) kept.old kept.new }
     ensures synced { OnOk result (IsSynced (B.state backing.new)) }
     ensures pages { OnOk result ((ino : ℕ) → lookup (is_at (pair_cmp (caller, slot))) kept.old.handles ≡ Some ino → has_dirty kept.new.pages.dirty ino ≡ false) }
     ensures others { (ino : ℕ) → lookup (is_at (pair_cmp (caller, slot))) kept.old.handles ≡ Some ino → dirty_of_others kept.new.pages.dirty ino ≡ dirty_of_others kept.old.pages.dirty ino }

@@ -1,6 +1,6 @@
 // A caller's write.
 
-ghost use Rattle.std.specs.Prelude.{◌≡◌, ◌⊎◌, ◌+◌, ◌*◌, ◌^◌, ◌<◌, ◌≤◌, IsTrue, Some, Ok, IfOk, OnOk, OnErr, IfErr, length};
+ghost use Rattle.std.specs.Prelude.{◌≡◌, ◌⊎◌, ◌+◌, ◌-◌, ◌*◌, ◌^◌, ◌<◌, ◌≤◌, IsTrue, Some, Ok, IfOk, OnOk, OnErr, IfErr, length};
 ghost use Rattle.fs_model.specs.declared.inode.Inode.{Inode as AnyInode};
 ghost use Rattle.fs_model.specs.declared.inode.Kind.TheVariants.{File};
 ghost use Rattle.fs_model.specs.declared.op.Op.TheVariants.{Write};
@@ -14,8 +14,9 @@ ghost use Rattle.cached_files.specs.Alike.{IsAlike};
 ghost use Rattle.cached_files.specs.Calls.{IsCoveredAtLast, IsWithoutRoom, SureGoes};
 ghost use Rattle.cached_files.specs.Present.{IsKept, newly_dirty, present};
 ghost use Rattle.vfs_plans.specs.Answers.{IsFault, IsRefused, Looks};
+ghost use Rattle.vfs_ops.specs.Kinds.{IsEarly, OnlyLooks};
 ghost use Rattle.vfs_ops.specs.Steps.{IsLast};
-ghost use Rattle.vfs_ops.specs.Writing.{HasRoom, IsBuffered, IsCovered, WasPaid, credits_need, write_need};
+ghost use Rattle.vfs_ops.specs.Writing.{HasRoom, IsBuffered, IsCovered, WasPaid, credits_need, newly_by, write_need};
 
 use cached_files::{
     Kept, make_room, newly, present_files_are_sound, size, write as write_pages,
@@ -57,7 +58,8 @@ pub(crate) fn write<B: Backing>(
     ensures refused { IfErr result (λ refusal. IsRefused (B.state backing.old) (B.state backing.new) (outcome_of (present (B.state backing.old).tree kept.old) caller now (Write slot offs len byte)) refusal
         ⊎ (IsWithoutRoom (B.state backing.old) (B.state backing.new) kept.new (write_need offs len grant) refusal
         × IsLast (outcome_of (present (B.state backing.old).tree kept.old) caller now (Write slot offs len byte)) refusal)) }
-    ensures left { IfOk result (λ r. r.1 ≤ grant) }
+    ensures left { IfOk result (λ r. r.1 ≡ grant - newly_by kept.old caller (Write slot offs len byte)) }
+    ensures early { IsEarly result → OnlyLooks (B.state backing.old) (B.state backing.new) kept.old kept.new }
     ensures issued { IfOk result (λ r. (B.state backing.new).space.credits + length kept.old.pages.dirty + grant ≡ (B.state backing.old).space.credits + length kept.new.pages.dirty + r.1) }
     ensures still_issued { OnErr result ((B.state backing.new).space.credits + length kept.old.pages.dirty ≡ (B.state backing.old).space.credits + length kept.new.pages.dirty) }
     ensures admitted { OnOk result ((ino : _) → handle_at (present (B.state backing.old).tree kept.old) caller slot ≡ Some ino → WasPaid (B.state backing.old) (B.state backing.new) kept.old ino offs len grant) }
@@ -111,7 +113,7 @@ fn write_some<B: Backing>(
         → IsAlike (record (present (B.state backing.old).tree kept.old) { tree = tree_written (present (B.state backing.old).tree kept.old).tree ino inode now offs len byte }) (present (B.state backing.new).tree kept.new)) }
     ensures same { OnErr result (IsAlike (present (B.state backing.old).tree kept.old) (present (B.state backing.new).tree kept.new)) }
     ensures refused { IfErr result (λ refusal. IsFault (B.state backing.old) (B.state backing.new) refusal ⊎ IsWithoutRoom (B.state backing.old) (B.state backing.new) kept.new (write_need offs len grant) refusal) }
-    ensures left { IfOk result (λ left. left ≤ grant) }
+    ensures left { IfOk result (λ left. left ≡ grant - newly_dirty kept.old.pages.dirty ino offs len) }
     ensures issued { IfOk result (λ left. (B.state backing.new).space.credits + length kept.old.pages.dirty + grant ≡ (B.state backing.old).space.credits + length kept.new.pages.dirty + left) }
     ensures still_issued { OnErr result ((B.state backing.new).space.credits + length kept.old.pages.dirty ≡ (B.state backing.old).space.credits + length kept.new.pages.dirty) }
     ensures admitted { OnOk result (WasPaid (B.state backing.old) (B.state backing.new) kept.old ino offs len grant) }
@@ -148,7 +150,7 @@ fn cover<B: Backing>(
     requires range { offs + len ≤ 2 ^ 41 }
     ensures kept { IsKept (B.state backing.new).tree kept.new }
     ensures enough { IfOk result (λ have. newly_dirty kept.new.pages.dirty ino offs len ≤ have) }
-    ensures exact { IfOk result (λ have. (have ≡ grant) ⊎ (have ≡ newly_dirty kept.new.pages.dirty ino offs len)) }
+    ensures exact { IfOk result (λ have. have - newly_dirty kept.new.pages.dirty ino offs len ≡ grant - newly_dirty kept.old.pages.dirty ino offs len) }
     ensures more { IfOk result (λ have. grant ≤ have) }
     ensures issued { IfOk result (λ have. (B.state backing.new).space.credits + length kept.old.pages.dirty + grant ≡ (B.state backing.old).space.credits + length kept.new.pages.dirty + have) }
     ensures still_issued { OnErr result ((B.state backing.new).space.credits + length kept.old.pages.dirty ≡ (B.state backing.old).space.credits + length kept.new.pages.dirty) }
@@ -181,12 +183,13 @@ fn cover_again<B: Backing>(
 ) -> Result<u64, Refusal>
     requires kept { IsKept (B.state backing.old).tree kept.old }
     requires paid { length kept.old.pages.dirty + grant ≤ (B.state backing.old).space.credits }
+    requires lacking { grant < newly_dirty kept.old.pages.dirty ino offs len }
     requires some { 0 < len }
     requires few { len ≤ 65536 }
     requires range { offs + len ≤ 2 ^ 41 }
     ensures kept { IsKept (B.state backing.new).tree kept.new }
     ensures enough { IfOk result (λ have. newly_dirty kept.new.pages.dirty ino offs len ≤ have) }
-    ensures exact { IfOk result (λ have. (have ≡ grant) ⊎ (have ≡ newly_dirty kept.new.pages.dirty ino offs len)) }
+    ensures exact { IfOk result (λ have. have - newly_dirty kept.new.pages.dirty ino offs len ≡ grant - newly_dirty kept.old.pages.dirty ino offs len) }
     ensures more { IfOk result (λ have. grant ≤ have) }
     ensures issued { IfOk result (λ have. (B.state backing.new).space.credits + length kept.old.pages.dirty + grant ≡ (B.state backing.old).space.credits + length kept.new.pages.dirty + have) }
     ensures still_issued { OnErr result ((B.state backing.new).space.credits + length kept.old.pages.dirty ≡ (B.state backing.old).space.credits + length kept.new.pages.dirty) }

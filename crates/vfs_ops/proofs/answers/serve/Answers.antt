@@ -1,10 +1,12 @@
-use Rattle.std.proofs.Common.{ℕ, ap, subst, sym}
+use Rattle.std.proofs.Common.{◌≡◌, ℕ, ◌-◌, ap, refl, subst, sym}
 use Rattle.fs_model.specs.declared.reply.Reply.{Reply}
 use Rattle.fs_model.specs.declared.op.Op.{Op}
 use Rattle.vfs_ops.specs.Operations.{is_of_names}
 use Rattle.vfs_ops.specs.Steps.{WasAdmitted}
+use Rattle.vfs_ops.specs.Writing.{newly_by}
 use Rattle.vfs_ops.proofs.Admitted.{on_ok, other_at_once, retyped}
-use Rattle.vfs_ops.proofs.Serving.{none_buffered, not_write}
+use Rattle.vfs_ops.proofs.Looking.{only_early, whole_left}
+use Rattle.vfs_ops.proofs.Serving.{none_buffered, not_write, ok_map}
 use Rattle.vfs_ops.proofs.answers.serve.Goals as goal
 
 pub returns-in-Err : goal.returns-in-Err
@@ -16,6 +18,7 @@ returns-in-Err g c = let e = c.in-Err.ensures in record {
   refused = e.refused;
   issued = tt;
   still = e.issued;
+  looked = e.looked;
   written = tt;
   admitted = tt;
   at_once = λ is done out room. retyped Reply (Reply × ℕ) c.in-Err.refusal (e.at_once is done out room);
@@ -34,3 +37,16 @@ returns-in-Write-clause-admitted g c =
 pub returns-in-Write-clause-at_once : goal.returns-in-Write-clause-at_once
 returns-in-Write-clause-at_once g c =
     other_at_once _ (g.B.Backing.state c.args.backing.now) c.args.kept.now c.args.caller c.args.now c.args.op.now c.write.result (ap (λ (o : Op). is_of_names o) c.in-Write.is)
+
+pub returns-in-Ok-clause-left : goal.returns-in-Ok-clause-left
+returns-in-Ok-clause-left g c = whole_left c.args.kept.now c.args.caller c.args.grant c.args.op.now (not_write c.args.op.now c.in_default.not-Write)
+
+pub returns-in-Ok-clause-looked : goal.returns-in-Ok-clause-looked
+returns-in-Ok-clause-looked g c = c.in-Ok.ensures.looked
+
+pub returns-in-Write-clause-left : goal.returns-in-Write-clause-left
+returns-in-Write-clause-left g c =
+    ok_map c.write.result (λ r h. subst (λ (o : Op). r.1 ≡ c.args.grant - newly_by c.args.kept.now c.args.caller o) (sym c.in-Write.is) h) c.write.ensures.left
+
+pub returns-in-Write-clause-looked : goal.returns-in-Write-clause-looked
+returns-in-Write-clause-looked g c = only_early c.args.op.now _ c.write.result c.in-Write.is refl c.write.ensures.early

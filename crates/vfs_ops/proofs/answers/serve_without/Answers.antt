@@ -1,6 +1,7 @@
 use Rattle.std.proofs.Common.{inr, refl, sym, ◌∙◌}
 use Rattle.cached_files.specs.Present.{present}
 use Rattle.vfs_ops.proofs.Admitted.{after_ok, names_admitted, none_admitted, on_ok, other_at_once}
+use Rattle.vfs_ops.proofs.Looking.{names_early, only_early, opened_looks, unsynced_early}
 use Rattle.vfs_ops.proofs.Serving.{alike_self, done_on, refused_on, ok_map, err_map, at_now, names_synced, or_fault_last, or_unsynced_last, synced_on, unsynced_last}
 use Rattle.vfs_ops.proofs.answers.serve_without.Goals as goal
 
@@ -90,3 +91,19 @@ returns-in-Fsync-clause-at_once g c = other_at_once _ (g.B.Backing.state c.args.
 
 pub returns-in-Flush-clause-at_once : goal.returns-in-Flush-clause-at_once
 returns-in-Flush-clause-at_once g c = other_at_once _ (g.B.Backing.state c.args.backing.now) c.args.kept.now c.args.caller c.args.now c.args.op.now c.flushed.result (sym c.is_of_names.ensures ∙ c.if-is_of_names.false)
+
+pub returns-then-is_of_names-clause-looked : goal.returns-then-is_of_names-clause-looked
+returns-then-is_of_names-clause-looked g c = names_early c.args.op.now c.change.result (sym c.is_of_names.ensures ∙ c.if-is_of_names.true) c.change.ensures.early
+
+pub returns-in-OpenFile-clause-looked : goal.returns-in-OpenFile-clause-looked
+returns-in-OpenFile-clause-looked g c asks = opened_looks c.open.ensures.looks c.args.kept.now c.open.new.kept c.open.ensures.pages c.open.ensures.inodes
+
+pub returns-in-Close-clause-looked : goal.returns-in-Close-clause-looked
+returns-in-Close-clause-looked g c = only_early c.args.op.now _ c.close.result c.in-Close.is refl c.close.ensures.early
+
+pub returns-in-Fsync-clause-looked : goal.returns-in-Fsync-clause-looked
+returns-in-Fsync-clause-looked g c = only_early c.args.op.now _ c.synced.result c.in-Fsync.is refl c.synced.ensures.early
+
+pub returns-in-Flush-clause-looked : goal.returns-in-Flush-clause-looked
+returns-in-Flush-clause-looked g c =
+    only_early c.args.op.now _ c.flushed.result c.in-Flush.is refl (unsynced_early (g.B.Backing.state c.args.backing.now) (g.B.Backing.state c.flushed.new.backing) c.flushed.result c.flushed.ensures.refused)

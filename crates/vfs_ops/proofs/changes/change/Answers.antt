@@ -12,6 +12,7 @@ use Rattle.cached_files.specs.Present.{present}
 use Rattle.fs_model.specs.Orphan.{within_orphans}
 use Rattle.vfs_ops.proofs.Admitted.{group_admitted, plan_refused, room_looked}
 use Rattle.vfs_ops.proofs.Groups.{AreFitting, group_fits, leaves, names_of}
+use Rattle.vfs_ops.proofs.Looking.{looked, room_late}
 use Rattle.vfs_ops.proofs.Orphans.{within_none, within_full, within_done, done_alike, orphans_fit, orphan_room_on, orphan_limit_on}
 use Rattle.vfs_ops.proofs.States.{both, tree_on}
 use Rattle.vfs_ops.proofs.Takes.{alike_on, alike_sound, sound_done, sound_on, fits_on, goes_looked, goes_whole, group_is, need_whole, not_truncate, pays_whole, refused_whole, last_done}
@@ -220,3 +221,17 @@ returns-in_err-apply_group-clause-at_once g c done out room =
     let there = subst (λ need. HasGroupRoom b need) (sym is) (room_looked (both c.plan.ensures.looks c.need_of.ensures.looks) (need_of (present (g.B.Backing.state c.args.backing.now).tree c.args.kept.now) c.args.caller c.args.now c.args.op.now) room) in
     let never = c.in_err-apply_group.ensures.at_once there in
     search (rules, never)
+
+pub returns-in_err-reply-clause-early : goal.returns-in_err-reply-clause-early
+returns-in_err-reply-clause-early g c early = looked c.plan.ensures.looks c.args.kept.now c.args.kept.now refl
+
+pub returns-in_err-need-clause-early : goal.returns-in_err-need-clause-early
+returns-in_err-need-clause-early g c early = looked (both c.plan.ensures.looks c.need_of.ensures.looks) c.args.kept.now c.args.kept.now refl
+
+pub returns-then-lacks_orphan_room-clause-early : goal.returns-then-lacks_orphan_room-clause-early
+returns-then-lacks_orphan_room-clause-early g c early = looked c.plan.ensures.looks c.args.kept.now c.args.kept.now refl
+
+pub returns-in_err-apply_group-clause-early : goal.returns-in_err-apply_group-clause-early
+returns-in_err-apply_group-clause-early g c =
+    let late = room_late (g.B.Backing.state c.need_of.new.backing) (g.B.Backing.state c.apply_group.new.backing) c.apply_group.new.kept c.in_ok-need.need c.in_err-apply_group.field-0.0 c.in_err-apply_group.ensures.refused in
+    search (rules, late)

@@ -1,4 +1,4 @@
-use Rattle.std.proofs.Common.{sym, subst, ◌∙◌}
+use Rattle.std.proofs.Common.{rules, sym, subst, ◌∙◌}
 use Rattle.std.specs.BTreeMap.{is_at}
 use Rattle.std.specs.Map.{remove_entry}
 use Rattle.fs_model.specs.Change.{without_inode}
@@ -7,6 +7,7 @@ use Rattle.fs_model.specs.Proper.{IsProper}
 use Rattle.cached_files.specs.CallLaws.{Goes-then}
 use Rattle.cached_files.specs.Present.{covered, present}
 use Rattle.vfs_ops.proofs.Closing.{closed_sound, dropped_sound, handles_kept, handles_sound, lost_sound}
+use Rattle.vfs_ops.proofs.Looking.{store_late}
 use Rattle.vfs_ops.proofs.States.{tree_on}
 use Rattle.vfs_ops.proofs.handles.close.Goals as goal
 
@@ -49,3 +50,8 @@ returns-clause-sound g c =
     let law = c.a_closed_file_keeps_trees_proper.ensures files c.args.caller 0 c.args.slot c.requires.sound in
     let sound = closed_sound files c.args.caller c.args.slot c.in-Some.ino (sym c.is_bad_slot.ensures ∙ c.if-is_bad_slot.false) (sym c.get.ensures ∙ c.in-Some.is) (sym c.in_ok-is_lost.ensures.lost ∙ c.if-branch.false) law in
     handles_sound (g.B.Backing.state c.is_lost.new.backing).tree tree kept c.remove-2.new.self (remove_entry (is_at (pair_cmp (c.args.caller, c.args.slot))) kept.handles) (tree_on c.is_lost.ensures.looks) c.remove-2.ensures.gone sound
+
+pub returns-in_err-drop_orphan-clause-early : goal.returns-in_err-drop_orphan-clause-early
+returns-in_err-drop_orphan-clause-early g c =
+    let late = store_late c.in_err-drop_orphan.field-0.0 in
+    search (rules, late)

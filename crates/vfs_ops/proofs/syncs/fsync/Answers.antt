@@ -1,9 +1,10 @@
-use Rattle.std.proofs.Common.{◌≡◌, ℕ, ◌*◌, false, length, Some, Ok, refl, sym, ◌∙◌}
+use Rattle.std.proofs.Common.{◌≡◌, ℕ, ◌*◌, false, length, Some, Ok, refl, rules, sym, ◌∙◌}
 use Rattle.fs_model.specs.declared.reply.Reply.TheVariants.{Done}
 use Rattle.fs_model.specs.Files.{Files, handle_at}
 use Rattle.fs_model.specs.Handles.{is_bad_slot, synced}
 use Rattle.cached_files.specs.Present.{dirty_of_others, has_dirty, present}
 use Rattle.vfs_ops.proofs.Flushing.{goes_on, same_open}
+use Rattle.vfs_ops.proofs.Looking.{stopped_late}
 use Rattle.vfs_ops.proofs.Takes.{alike_sound, sound_on}
 use Rattle.vfs_ops.proofs.syncs.fsync.Goals as goal
 
@@ -55,3 +56,13 @@ returns-in_err-sync-clause-goes g c = goes_on (2 * length c.args.kept.now.pages.
 
 pub returns-clause-goes : goal.returns-clause-goes
 returns-clause-goes g c = goes_on (2 * length c.args.kept.now.pages.dirty) (g.B.Backing.state c.args.backing.now) (g.B.Backing.state c.put_file.new.backing) (g.B.Backing.state c.sync.new.backing) c.put_file.ensures.goes c.sync.ensures.goes
+
+pub returns-in_err-put_file-clause-early : goal.returns-in_err-put_file-clause-early
+returns-in_err-put_file-clause-early g c =
+    let late = stopped_late (g.B.Backing.state c.args.backing.now) (g.B.Backing.state c.put_file.new.backing) c.in_err-put_file.field-0.0 c.in_err-put_file.ensures.refused in
+    search (rules, late)
+
+pub returns-in_err-sync-clause-early : goal.returns-in_err-sync-clause-early
+returns-in_err-sync-clause-early g c =
+    let late = stopped_late (g.B.Backing.state c.put_file.new.backing) (g.B.Backing.state c.sync.new.backing) c.in_err-sync.field-0.0 c.in_err-sync.ensures.refused in
+    search (rules, late)

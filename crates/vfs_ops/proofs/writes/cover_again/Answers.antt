@@ -1,8 +1,8 @@
-use Rattle.std.proofs.Common.{◌≡◌, ◌*◌, length, refl, subst, sym}
+use Rattle.std.proofs.Common.{◌≡◌, ◌*◌, arith, length, refl, subst, sym}
 use Rattle.fs_model.specs.Backing.{BackingState, Goes, granted}
 use Rattle.cached_files.specs.CallLaws.{Goes-granted, Goes-none}
 use Rattle.vfs_ops.specs.Writing.{HasGroupRoom, write_need}
-use Rattle.vfs_ops.proofs.Buffering.{modest_need, no_room, whole_need}
+use Rattle.vfs_ops.proofs.Buffering.{modest_need, more_new, no_room, whole_need}
 use Rattle.vfs_ops.proofs.writes.cover_again.Goals as goal
 
 pub admit-requires-clause-modest : goal.admit-requires-clause-modest
@@ -29,3 +29,11 @@ returns-in-Ok-admit-clause-admitted g c =
       covered = subst (λ need. HasGroupRoom made need) whole (c.in-Ok-admit.ensures.covered.0 refl);
       since = subst (λ (s : BackingState). Goes 0 (granted made (write_need c.args.offs c.args.len c.args.grant)) s) (sym same) (Goes-none (granted made (write_need c.args.offs c.args.len c.args.grant)));
     }
+
+pub returns-in-Ok-admit-clause-exact : goal.returns-in-Ok-admit-clause-exact
+returns-in-Ok-admit-clause-exact g c =
+    let more = more_new c.args.kept.now.pages.dirty c.make_room.new.kept.pages.dirty c.args.ino c.args.offs c.args.len c.in-Ok.ensures.pages in
+    let counted = c.newly.ensures in
+    let all = c.saturating_sub-all.ensures in
+    let lacking = c.requires.lacking in
+    omega (arith, more, counted, all, lacking)

@@ -6,6 +6,7 @@ use Rattle.cached_files.specs.Present.{present}
 use Rattle.vfs_ops.specs.Writing.{WasPaid, write_need}
 use Rattle.vfs_ops.proofs.Admitted.{none_new}
 use Rattle.vfs_ops.proofs.Buffering.{at_hand, bad_len, bad_slot, none_written, open_file, some_written, sound_written, too_far}
+use Rattle.vfs_ops.proofs.Looking.{either_late, none_left, write_left}
 use Rattle.vfs_ops.proofs.Takes.{alike_on, alike_sound, last_done, refused_last}
 use Rattle.vfs_ops.proofs.writes.write.Goals as goal
 
@@ -86,3 +87,16 @@ returns-clause-admitted g c ino found =
     let one : Some c.in-Some.ino ≡ Some ino = sym (sym c.get.ensures ∙ c.in-Some.is) ∙ found in
     let same : c.in-Some.ino ≡ ino = cc one in
     subst (λ i. WasPaid (g.B.Backing.state c.args.backing.now) (g.B.Backing.state c.write_some.new.backing) c.args.kept.now i c.args.offs c.args.len c.args.grant) same c.in_ok-left.ensures.admitted
+
+pub returns-then-len-eq0-clause-left : goal.returns-then-len-eq0-clause-left
+returns-then-len-eq0-clause-left g c = none_left c.args.kept.now c.args.caller c.args.grant c.args.slot c.args.offs c.args.len c.args.byte c.if-len-eq0.true
+
+pub returns-clause-left : goal.returns-clause-left
+returns-clause-left g c =
+    write_left c.args.kept.now c.args.caller c.args.grant c.args.slot c.args.offs c.args.len c.args.byte c.in-Some.ino c.in_ok-left.left (sym c.get.ensures ∙ c.in-Some.is) c.in_ok-left.ensures.left
+
+pub returns-in_err-left-clause-early : goal.returns-in_err-left-clause-early
+returns-in_err-left-clause-early g c =
+    let need = write_need c.args.offs c.args.len c.args.grant in
+    let late = either_late (g.B.Backing.state c.args.backing.now) (g.B.Backing.state c.write_some.new.backing) c.write_some.new.kept need c.in_err-left.field-0.0 c.in_err-left.ensures.refused in
+    search (rules, late)

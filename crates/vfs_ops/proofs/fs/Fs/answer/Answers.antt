@@ -1,8 +1,9 @@
-use Rattle.std.proofs.Common.{ℕ, inr, refl}
+use Rattle.std.proofs.Common.{ℕ, arith, inl, inr, refl}
 use Rattle.fs_model.specs.declared.reply.Reply.{Reply}
 use Rattle.cached_files.specs.Present.{present}
 use Rattle.vfs_ops.specs.Steps.{read_only_cause}
 use Rattle.vfs_ops.proofs.Admitted.{told_at_once}
+use Rattle.vfs_ops.proofs.Looking.{noted_looks}
 use Rattle.vfs_ops.proofs.Serving.{done_buffered, noted_for, refused_buffered, refused_synced}
 use Rattle.vfs_ops.proofs.fs.Fs.answer.Goals as goal
 
@@ -38,3 +39,20 @@ returns-in-Err-clause-at_once g c =
 pub returns-in-Ok-clause-buffered : goal.returns-in-Ok-clause-buffered
 returns-in-Ok-clause-buffered g c =
     done_buffered _ (g.B.Backing.state c.args.self.now.backing) (g.B.Backing.state c.call.new.backing) c.args.self.now.kept c.call.new.kept c.args.self.now.refused.items c.args.caller c.args.grant c.args.op.now c.in-Ok.done c.in-Ok.done.0 c.in-Ok.ensures.buffered
+
+pub returns-in-Err-clause-exact : goal.returns-in-Err-clause-exact
+returns-in-Err-clause-exact g c =
+    inr (record {
+      refusal = c.noted-refusal.result;
+      told = refl;
+      given_back = refl;
+      looked = noted_looks (Reply × ℕ) c.args.op.now c.in-Err.refusal c.noted-refusal.result c.noted-refusal.ensures.refusal c.in-Err.ensures.looked;
+    })
+
+pub returns-in-Ok-clause-exact : goal.returns-in-Ok-clause-exact
+returns-in-Ok-clause-exact g c =
+    let e = c.in-Ok.ensures in
+    inl (record { done = e.done; given_back = e.left; looked = λ asks. e.looked (inl asks) })
+
+pub returns-in-Ok-clause-left : goal.returns-in-Ok-clause-left
+returns-in-Ok-clause-left g c = let e = c.in-Ok.ensures.left in omega (arith, e)
