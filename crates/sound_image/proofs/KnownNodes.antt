@@ -40,7 +40,7 @@ blank_known leb place blank what (inr (is, body, inl frame)) = no_frame leb body
 blank_known leb place blank what (inr (is, body, inr (frame, a))) = no_frame leb body place types.Inode blank frame
 
 -- ---- at one place one frame begins
-bytes_drop : (n : ℕ) (bytes : List ℕ) → IsBytes bytes → IsBytes (drop n bytes)
+pub bytes_drop : (n : ℕ) (bytes : List ℕ) → IsBytes bytes → IsBytes (drop n bytes)
 bytes_drop n bytes fits = λ i. rw get_or-drop (fits (n + i))
 
 -- two nodes from one place on, of which the first is no longer, have the same bytes
@@ -61,7 +61,7 @@ pair_same k1 k2 a b e =
 one_body : (bytes a b : List ℕ) (s1 s2 k1 k2 g1 g2 : ℕ) → IsBytes bytes → IsNode bytes s1 k1 g1 a → IsNode bytes s2 k2 g2 b → (k1 ≡ k2) × (a ≡ b)
 one_body bytes a b s1 s2 k1 k2 g1 g2 fits ha hb = pair_same k1 k2 a b (sym (node-opened bytes a s1 k1 g1 fits ha) ∙ node-opened bytes b s2 k2 g2 fits hb)
 
-one_frame : (bytes a b : List ℕ) (n m s1 s2 k1 k2 g1 g2 : ℕ) → IsBytes bytes → IsNode (take n bytes) s1 k1 g1 a → IsNode (take m bytes) s2 k2 g2 b → (k1 ≡ k2) × (a ≡ b)
+pub one_frame : (bytes a b : List ℕ) (n m s1 s2 k1 k2 g1 g2 : ℕ) → IsBytes bytes → IsNode (take n bytes) s1 k1 g1 a → IsNode (take m bytes) s2 k2 g2 b → (k1 ≡ k2) × (a ≡ b)
 one_frame bytes a b n m s1 s2 k1 k2 g1 g2 fits ha hb = elim (cases_lt n m) [
   | inl less ↦
       let P : List ℕ → Type 0 = λ x. IsNode x s1 k1 g1 a in

@@ -6,3 +6,4 @@ pub mod Hanging
 pub mod LeastImage
 pub mod Broken
 pub mod ListLebs
+pub mod PlainBuds

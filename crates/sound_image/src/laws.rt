@@ -1,6 +1,6 @@
 // Laws: what the rules promise, and that what is written meets them.
 
-ghost use Rattle.std.specs.Prelude.{◌≡◌, ◌<◌, ◌≤◌, ◌^◌, ℕ, IsTrue, List, None, [], drop, length};
+ghost use Rattle.std.specs.Prelude.{◌≡◌, All, ◌<◌, ◌≤◌, ◌^◌, ℕ, IsTrue, List, None, [], drop, length};
 ghost use Rattle.std.specs.List.{AllByRecursion, list_all};
 ghost use Rattle.ubifs_base.specs.Geometry.{IsGeometry};
 ghost use Rattle.ubifs_base.specs.NodeLaws.{IsBytes};
@@ -13,15 +13,19 @@ ghost use Rattle.small_areas.specs.Orphans.{IsListLeb, OrphanList, orphan_limit}
 ghost use Rattle.small_areas.specs.declared.placed_master.PlacedMaster.{PlacedMaster};
 ghost use Rattle.lpt_area.specs.Written.{IsTreeLeb};
 ghost use Rattle.lpt_area.specs.declared.lpt_at.LptAt.{LptAt};
-ghost use Rattle.leb_scan.specs.Text.{is_blank};
+ghost use Rattle.leb_scan.specs.Text.{is_blank, nodes_of};
+ghost use Rattle.leb_scan.specs.declared.found.Found.{Found};
+ghost use Rattle.leb_scan.specs.declared.tail.Tail.TheVariants.{Clean};
 ghost use Rattle.bud_log.specs.Log.{references_of};
 ghost use Rattle.bud_log.specs.LogText.{LogText};
 ghost use Rattle.index_media.specs.PlacedRow.{PlacedRow};
 ghost use Rattle.fs_model.specs.Proper.{has_kind, is_sound_inode};
 ghost use Rattle.fs_model.specs.declared.inode.Kind.TheVariants.{Dir};
+ghost use Rattle.journal_scan.specs.Journal.{BudRead, IsBudRead};
 ghost use Rattle.leaf_map.specs.Kept.{Placed};
 ghost use Rattle.leaf_map.specs.Recovered.{tree_found};
 ghost use Rattle.sound_image.specs.Breaches.{IsMisplaced, IsNoOrphan, IsWrittenEnd, IsWrongSum};
+ghost use Rattle.sound_image.specs.Buds.{IsSoundBud, MayStandInBud};
 ghost use Rattle.sound_image.specs.Frames.{IsKnownAt};
 ghost use Rattle.sound_image.specs.Image.{Image, parts_of};
 ghost use Rattle.sound_image.specs.Index.{HasIndex};
@@ -93,6 +97,12 @@ pub fn a_fresh_log_meets_the_rule()
 pub fn plain_nodes_need_no_feature()
     ensures blank { (leb : List ℕ) (place : ℕ) → IsTrue (is_blank (drop place leb)) → IsKnownAt leb place }
     ensures plain { (contents : ℕ → List ℕ) (x : Placed) → IsBytes (contents x.lnum) → IsPlacedIn contents x → IsPlainLeaf x.node → IsKnownAt (contents x.lnum) x.offs }
+{}
+
+/// What was read of a bud of padding and of leaf nodes without attributes is sound, if nothing is written behind its text.
+pub fn a_bud_of_plain_nodes_is_sound()
+    ensures { (x : BudRead) (h : IsBudRead x) → IsBytes x.bud.bytes → x.tail ≡ Clean → All (λ (found : Found). MayStandInBud found.kind) (nodes_of h.items)
+        → AllByRecursion (λ (p : Placed). IsPlainLeaf p.node) x.nodes → IsSoundBud x }
 {}
 
 /// The least image by hand is sound: each rule is met, and all together.
