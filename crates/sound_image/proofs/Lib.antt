@@ -7,3 +7,4 @@ pub mod LeastImage
 pub mod Broken
 pub mod ListLebs
 pub mod PlainBuds
+pub mod ReadLog

@@ -1,6 +1,6 @@
 // Laws: what the rules promise, and that what is written meets them.
 
-ghost use Rattle.std.specs.Prelude.{◌≡◌, All, ◌<◌, ◌≤◌, ◌^◌, ℕ, IsTrue, List, None, [], drop, length};
+ghost use Rattle.std.specs.Prelude.{◌≡◌, ◌⊎◌, ◌<◌, ◌≤◌, ◌^◌, ℕ, All, IsTrue, List, None, Some, [], ◌∷◌, drop, length};
 ghost use Rattle.std.specs.List.{AllByRecursion, list_all};
 ghost use Rattle.ubifs_base.specs.Geometry.{IsGeometry};
 ghost use Rattle.ubifs_base.specs.NodeLaws.{IsBytes};
@@ -16,8 +16,9 @@ ghost use Rattle.lpt_area.specs.declared.lpt_at.LptAt.{LptAt};
 ghost use Rattle.leb_scan.specs.Text.{is_blank, nodes_of};
 ghost use Rattle.leb_scan.specs.declared.found.Found.{Found};
 ghost use Rattle.leb_scan.specs.declared.tail.Tail.TheVariants.{Clean};
-ghost use Rattle.bud_log.specs.Log.{references_of};
-ghost use Rattle.bud_log.specs.LogText.{LogText};
+ghost use Rattle.bud_log.specs.Log.{IsLog, IsLogLeb, Log, references_of};
+ghost use Rattle.bud_log.specs.LogText.{LogText, begins_with, start_of};
+ghost use Rattle.bud_log.specs.Writing.{IsAmong, IsOlder};
 ghost use Rattle.index_media.specs.PlacedRow.{PlacedRow};
 ghost use Rattle.fs_model.specs.Proper.{has_kind, is_sound_inode};
 ghost use Rattle.fs_model.specs.declared.inode.Kind.TheVariants.{Dir};
@@ -31,7 +32,7 @@ ghost use Rattle.sound_image.specs.Image.{Image, parts_of};
 ghost use Rattle.sound_image.specs.Index.{HasIndex};
 ghost use Rattle.sound_image.specs.Laid.{IsFreshLog, IsPlainLeaf};
 ghost use Rattle.sound_image.specs.Leaves.{IsPlacedIn};
-ghost use Rattle.sound_image.specs.Log.{HasLog};
+ghost use Rattle.sound_image.specs.Log.{EndWhole, HasLog, NamesMain, ends_in_start};
 ghost use Rattle.sound_image.specs.Masters.{HasMasters};
 ghost use Rattle.sound_image.specs.OrphanLists.{HasOrphanLists, HasOrphanNodes};
 ghost use Rattle.sound_image.specs.Properties.{HasProperties};
@@ -91,6 +92,16 @@ pub fn what_is_written_meets_the_rules()
 pub fn a_fresh_log_meets_the_rule()
     ensures { (contents : ℕ → List ℕ) (geo : RawGeometry) (master : Master) (sqnum : ℕ) → 3 ≤ geo.log_lebs → sqnum < 2 ^ 64 → master.cmt_no < 2 ^ 64
         → IsFreshLog contents geo master.log_lnum sqnum master.cmt_no → (texts : List LogText) × (length texts ≡ 1) × (references_of texts ≡ []) × HasLog contents geo master texts }
+{}
+
+/// A log as it is read, which begins with the start of the master's commit, meets the rule on the log if its references name
+/// main LEBs, no text within has a torn tail, a LEB is spare, and none that isn't read begins with a greater number.
+pub fn a_log_that_was_read_meets_the_rule()
+    ensures { (contents : ℕ → List ℕ) (geo : RawGeometry) (master : Master) (log : Log) (h : IsLog contents geo master.log_lnum log) → log.commit ≡ Some master.cmt_no
+        → AllByRecursion (NamesMain geo) (references_of (h.first ∷ h.more)) → EndWhole (h.first ∷ h.more)
+        → (length (h.first ∷ h.more) < geo.log_lebs) ⊎ IsTrue (ends_in_start h.more)
+        → ((start lnum : ℕ) → start_of (begins_with h.first.nodes) ≡ Some start → IsLogLeb geo lnum → (IsAmong lnum (h.first ∷ h.more) → ⊥) → IsOlder start lnum (contents lnum))
+        → HasLog contents geo master (h.first ∷ h.more) }
 {}
 
 /// No unknown feature is needed where nothing is written, nor at a leaf node that says nothing of attributes.
