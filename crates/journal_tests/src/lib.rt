@@ -1,4 +1,4 @@
-//! Tests of what a journal's texts say.
+//! Tests of what a journal's texts say, and of what a mount makes of them.
 //!
 //! They stand above the crates whose public calls they make, since a crate that has tests is proved twice: by itself, and with its tests.
 #![tactic(auto)]
@@ -7,3 +7,5 @@
 mod journal_scan_tests;
 #[cfg(test)]
 mod log_replay_tests;
+#[cfg(test)]
+mod replay_tests;
