@@ -4,7 +4,7 @@
 //! and a sum of the checksums.
 #![tactic(auto)]
 
-ghost use Rattle.std.specs.Prelude.{◌≡◌, IfOk};
+ghost use Rattle.std.specs.Prelude.{◌≡◌, ◌≤◌, IfOk};
 ghost use Rattle.std.specs.List.{AllByRecursion};
 ghost use Rattle.journal_scan.specs.Journal.{IsReadable};
 
@@ -154,15 +154,17 @@ fn inodes(alloc: Global, n: u32) -> Result<Vec<u8>, Memory> {
             bytes: Bytes::from_vec(Vec::new(alloc)),
         };
         let mut out = [0; INODE];
-        node.encode(u64::from(i), 0, &mut out);
+        node.encode_with(&[], u64::from(i), 0, &mut out);
         bytes.extend_from_slice(&out)?;
     }
     Ok(bytes)
 }
 
-// The number of an inode.
-fn number(i: u32) -> u32 {
-    i.wrapping_add(65)
+// The number of an inode, which isn't 0.
+fn number(i: u32) -> u32
+    ensures { 1 ≤ result }
+{
+    i.wrapping_add(65).max(1)
 }
 
 // An index that has these inodes and pages already, and what is said of its leaves.
