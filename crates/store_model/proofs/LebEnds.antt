@@ -14,7 +14,7 @@ use Rattle.store_model.specs.Lebs.{changed_leb, has_leaf, has_node, has_role, is
 use Rattle.store_model.specs.Store.{Bud, Item, Leb, Moving, Next, Place, Store, View}
 use Rattle.store_model.proofs.LebFrees.{AreNearly, both_all, tidied_from}
 use Rattle.store_model.proofs.LebPuts.{some_map}
-use Rattle.store_model.proofs.LebRows.{AreRows, Row, Uses, all_in, all_weaker, from_rows, has_row, numbers_kept, numbers_of, role_row, rows, to_rows, used_follows, used_stays, victim_row}
+use Rattle.store_model.proofs.LebRows.{AreRows, Row, Uses, all_in, all_weaker, from_rows, has_row, numbers_kept, role_row, rows, to_rows, used_follows, used_stays, victim_row}
 use Rattle.store_model.proofs.RecoveryCopies.{either_of}
 use Rattle.store_model.proofs.RecoveryOrder.{or_left, or_right}
 

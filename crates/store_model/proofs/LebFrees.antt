@@ -15,7 +15,7 @@ use Rattle.store_model.specs.Lebs.{freed, has_leaf, is_role, is_victim_of, stand
 use Rattle.store_model.specs.Store.{At, Bud, Leb, Moving, Place, Store}
 use Rattle.store_model.proofs.LebLeaves.{or_none}
 use Rattle.store_model.proofs.LebPuts.{text_rows}
-use Rattle.store_model.proofs.LebRows.{AreRows, Row, all_in, all_weaker, from_rows, has_row, not_more, numbers_kept, numbers_of, row_kept, rows, to_rows, used_kept, victim_row}
+use Rattle.store_model.proofs.LebRows.{AreRows, Row, all_weaker, from_rows, has_row, not_more, numbers_kept, numbers_of, row_kept, rows, to_rows, victim_row}
 use Rattle.store_model.proofs.RecoveryCopies.{either_of}
 use Rattle.store_model.proofs.RecoveryOrder.{or_left, or_right}
 use Rattle.store_model.proofs.Sorting.{or_false}

@@ -1,8 +1,8 @@
 -- What a commit's start makes of LEBs: empty ones are taken.
 use Rattle.std.proofs.Common.{◌≡◌, ◌⊎◌, ℕ, Bool, true, false, cond, not, List, [], ◌∷◌, map, refl, sym, ap, subst, ◌∙◌, inl, inr, Option, Some, None}
 use Rattle.std.specs.Prelude.{◌==◌, ◌&&◌, ◌||◌, is_some}
-use Rattle.std.specs.List.{list_all, list_any}
-use Rattle.std.proofs.lemmas.Bool.{and_parts, and_from, eqb-true, eq-eqb, false≢true}
+use Rattle.std.specs.List.{list_all}
+use Rattle.std.proofs.lemmas.Bool.{and_parts, and_from, eqb-true, false≢true}
 use Rattle.media_lpt.specs.declared.leb_kind.LebKind.{LebKind}
 use Rattle.media_lpt.specs.declared.leb_kind.LebKind.TheVariants as kind
 use Rattle.leaf_map.specs.Kept.{Kept}
@@ -11,7 +11,7 @@ use Rattle.store_model.specs.Invariant.{AreApart, is_used}
 use Rattle.store_model.specs.Lebs.{has_leaf, has_role, is_among, is_role}
 use Rattle.store_model.specs.Legal.{are_distinct, CanStart}
 use Rattle.store_model.specs.Store.{Bud, Leb, Moving, Place, Store}
-use Rattle.store_model.proofs.LebRows.{AreRows, IsRowIn, Row, all_in, all_weaker, from_rows, has_row, numbers_kept, numbers_of, one_role, role_row, rows, self_role, to_rows, used_kept, victim_row}
+use Rattle.store_model.proofs.LebRows.{AreRows, IsRowIn, Row, all_in, all_weaker, from_rows, has_row, numbers_kept, numbers_of, one_role, role_row, rows, to_rows, used_kept, victim_row}
 use Rattle.store_model.proofs.RecoveryCopies.{either_of}
 use Rattle.store_model.proofs.RecoveryOrder.{or_left, or_right}
 
