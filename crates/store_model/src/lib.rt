@@ -2,7 +2,7 @@
 //!
 //! A store is one plain value over lists and whole numbers (`specs/Store.antt`): the files, the index and its leaves, what
 //! each master leads to, what the heads got, and what each main LEB is for. What it does are eleven events
-//! (`specs/Events.antt`), each with a condition (`specs/Legal.antt`), and each keeps an invariant (`specs/Invariant.antt`).
+//! (`specs/Events.antt`), each with a condition (`specs/Legal.antt`), and an invariant is to hold of it (`specs/Invariant.antt`).
 //! The idea: a commit that runs is a second view beside the first, so what a mount finds is one question of one view.
 #![tactic(auto)]
 
