@@ -7,15 +7,17 @@ use Rattle.ubifs_base.specs.declared.key.Key.{Key}
 use Rattle.index_tree.specs.Shape.{fits, left_half}
 use Rattle.index_tree.specs.declared.leaf.Leaf.{Leaf}
 use Rattle.index_media.specs.Insertion.{first_key, keyed_front, keyed_back, keyed_parted, lowered, inserted_by_keys}
+use Rattle.index_media.specs.InsertionSound.{AreKeys}
+use Rattle.index_media.specs.KeyedKeys.{AreKeysBounded}
 use Rattle.index_media.specs.KeyedRow.{KeyedRow, no_more, leaf_in, node_in, bare}
 use Rattle.node_table.specs.NodeView.{NodeView, node_before, row_of, views, children_in, tree_at, IsRootIn}
 use Rattle.node_table.specs.Sound.{IsSoundView}
-use Rattle.node_table.specs.Staging.{row_before, IsLinkIn, AreLinksIn, insertion_passes, IsAdded, IsGrownRow}
+use Rattle.node_table.specs.Staging.{row_before, IsLinkIn, AreLinksIn, insertion_passes, IsAdded, IsGrownRow, IsSoundRoot}
 use Rattle.node_table.specs.declared.link.Link.{Link}
 use Rattle.node_table.specs.declared.link.Link.TheVariants.{ToLeaf, ToNode}
 use Rattle.node_table.specs.declared.node.Root.{Root}
 use Rattle.node_table.specs.declared.node.TableNode.{TableNode}
-use Rattle.node_table.proofs.Staged.{Halved, link_there, views_added, links_kept, links_there, before_none, before_append, link_passed, leaf_before, node_inside, grown_row}
+use Rattle.node_table.proofs.Staged.{Halved, link_there, views_added, added_longer, links_kept, links_there, before_none, before_append, link_passed, leaf_before, node_inside, grown_row}
 use Rattle.node_table.proofs.Viewing.{views_length, get_left, children_fit}
 
 empty_of : (links : List Link) → length links ≡ 0 → links ≡ []
@@ -92,6 +94,18 @@ tree_kept old now (Some root) a h =
     let v : NodeView = record { level = 0; place = None; children = no_more } in
     let there = slice_get-get_or (views old) root.number v (subst (λ n. root.number < n) (sym (views_length old)) h) in
     ap (λ o. node_before root.key o no_more) (ap (λ w. slice_get w root.number) p.1 ∙ get_left (views old) p.0 root.number _ there ∙ sym there)
+
+-- and is one of the longer table, as sound as it was
+pub root_kept : (old now : List TableNode) (root : Option Root) → IsAdded old now → IsRootIn old root → IsRootIn now root
+root_kept old now None a h = tt
+root_kept old now (Some root) a h = let long = added_longer old now a in omega (arith, h, long)
+
+pub sound_kept : (old now : List TableNode) (root : Option Root) → IsAdded old now → IsSoundRoot old root → IsSoundRoot now root
+sound_kept old now root a r =
+    let same = tree_kept old now root a r.there in
+    let B : KeyedRow → Type 0 = λ v. AreKeysBounded 0 None v in
+    let K : KeyedRow → Type 0 = λ v. AreKeys v in
+    record { there = root_kept old now root a r.there; bounded = subst B (sym same) r.bounded; keys = subst K (sym same) r.keys }
 
 -- the row that an insertion below a root makes
 pub top_made : (f : ℕ) (old now : List TableNode) (new : Leaf) (root : Root) (none made : List Link) → none ≡ []

@@ -38,7 +38,7 @@ added_none nodes new e = record { more = []; is = e ∙ sym (append-nil nodes) }
 pub added_both : (a b c : List TableNode) → IsAdded a b → IsAdded b c → IsAdded a c
 added_both a b c x y = record { more = x.more ++ y.more; is = y.is ∙ ap (λ (v : List TableNode). v ++ y.more) x.is ∙ append_assoc a x.more y.more }
 
-added_longer : (old new : List TableNode) → IsAdded old new → length old ≤ length new
+pub added_longer : (old new : List TableNode) → IsAdded old new → length old ≤ length new
 added_longer old new a = let both = ap length a.is in let sum = length-append old a.more in omega (arith, both, sum)
 
 -- links that lead to the nodes that were there lead to the same

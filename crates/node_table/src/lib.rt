@@ -10,6 +10,7 @@ mod bisect;
 mod find;
 mod holding;
 mod insertion;
+mod laws;
 mod link;
 mod node;
 mod opening;
@@ -18,6 +19,7 @@ mod rooting;
 mod scan;
 mod table;
 
+pub use crate::laws::roots_stay;
 pub use crate::link::Link;
 pub use crate::node::{NodePlace, Root, TableNode};
 pub use crate::table::NodeTable;

@@ -3,7 +3,7 @@
 ghost use Rattle.std.specs.Prelude.{◌≡◌, ◌+◌, IfOk, Option, Some};
 ghost use Rattle.index_media.specs.Insertion.{with_leaf_by_keys};
 ghost use Rattle.node_table.specs.NodeView.{tree_at, IsRootIn};
-ghost use Rattle.node_table.specs.Staging.{only_root, IsSoundRoot, IsTopRow};
+ghost use Rattle.node_table.specs.Staging.{only_root, IsAdded, IsSoundRoot, IsTopRow};
 ghost use Rattle.node_table.specs.declared.node.Root.{Root as ARoot};
 ghost use Rattle.ubifs_base.specs.Key.{IsKey};
 
@@ -59,13 +59,14 @@ impl NodeTable {
     }
 
     /// Stages an insertion: puts the leaf after all leaves whose key isn't greater, by the keys of branches, and answers the
-    /// new root. Below each root stands what stood there, after `Memory` too.
+    /// new root. All nodes stay where they stood, and below each root stands what stood there, after `Memory` too.
     pub fn insert(&mut self, alloc: Global, root: Option<Root>, leaf: Leaf) -> Result<Root, Memory>
         requires root { IsSoundRoot self.old.nodes.items root }
         requires key { IsKey leaf.key }
         ensures made { IfOk result (λ made. tree_at self.new.nodes.items (Some made) ≡ with_leaf_by_keys self.old.fanout leaf (tree_at self.old.nodes.items root)) }
         ensures root { IfOk result (λ made. IsSoundRoot self.new.nodes.items (Some made)) }
         ensures kept { (other : Option ARoot) → IsRootIn self.old.nodes.items other → tree_at self.new.nodes.items other ≡ tree_at self.old.nodes.items other }
+        ensures added { IsAdded self.old.nodes.items self.new.nodes.items }
         ensures fanout { self.new.fanout ≡ self.old.fanout }
     {
         let level = self.level_above(root)?;
