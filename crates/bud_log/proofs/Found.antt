@@ -53,14 +53,14 @@ opens_ready : OneLog → (old new : VolumeState) (geo : RawGeometry) (from : ℕ
 opens_ready one old new geo from read r is = λ contents number log found h.
     let lebs = r.lebs in
     let keeps = r.keeps in
-    let same : (k : ℕ) → IsLogLeb geo k → contents k ≡ old.holds k = λ k in_log. (let high = in_log.high in sym (found.holds k (omega (arith, high, lebs)))) in
+    let same : (k : ℕ) → IsLogLeb geo k → contents k ≡ old.holds k = λ k in_log. sym (found.holds k in_log) in
     let there = IsLog-same contents old.holds geo from log r.ring same h.is_log in
     let e = one old.holds geo from log (log_of read) r.ring r.bytes there is in
     let P : Log → Type 0 = λ l. IsReady old geo from l.ends.lnum (offs_behind geo l.ends) number l.buds in
     let A : Log → Type 0 = λ l. IsAt old (opened_at geo from l.ends) in
     let ready = IsReady-same old new geo from read.lnum (offs_behind geo (log_of read).ends) number read.buds.items r.ring
     (λ k in_log. record { holds = keeps.holds k; written = keeps.written k; left = λ c. (keeps.left k c).0; mapped = λ c. (keeps.left_mapped k c).0 })
-    (subst P e (IsReadyIn-opens contents old geo from number log r.geometry r.ring lebs found h)) in
+    (subst P e (IsReadyIn-opens contents old geo from number log r.geometry r.ring found h)) in
     (sym e, ready, λ size unit. at_still old new (opened_at geo from (log_of read).ends) r.shape keeps (subst A e (IsReadyIn-at contents old geo from number log r.geometry r.ring lebs size unit r.long found h)))
 
 -- whatever is answered

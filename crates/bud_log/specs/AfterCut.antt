@@ -2,8 +2,8 @@
 use Rattle.std.specs.Prelude.{◌≡◌, ◌⊎◌, ℕ, ◌+◌, ◌%◌, ◌<◌, ◌≤◌, ◌==◌, if◌then◌else◌, IsTrue, Some, List, ◌∷◌, take, length, fold}
 use Rattle.ubifs_base.specs.declared.raw_geometry.RawGeometry.{RawGeometry}
 use Rattle.media_sys.specs.declared.ref_node.RefNode.{RefNode}
-use Rattle.ubi_volume.specs.Volume.{VolumeState}
-use Rattle.ubi_volume.specs.Loading.{IsFound}
+use Rattle.ubi_volume.specs.Volume.{VolumeState, Only}
+use Rattle.ubi_volume.specs.Loading.{IsWrittenPart}
 use Rattle.leb_scan.specs.Text.{is_blank}
 use Rattle.leb_scan.specs.declared.tail.Tail.{Tail}
 use Rattle.leb_scan.specs.declared.tail.Tail.TheVariants.{Clean, Torn}
@@ -60,11 +60,18 @@ IsLeftStarted contents at from number buds references =
     IsLeftReady contents at.geo from (lebs_to at.geo from at.lnum) (number + 1) buds
     ⊎ ((n : ℕ) × (0 < n) × (n ≤ length references) × IsLeftReady contents at.geo from (lebs_to at.geo from (next_leb at.geo at.lnum)) (number + 1 + n) (fold named buds (take n references)))
 
--- If what is read was found after a cut that left such a log, it is that log. Once it is opened it is ready for its next node, and nothing
--- is written where it goes on.
+-- The log's LEBs as they are found after a cut that left these contents: of each the part up to the last unit that isn't erased counts as
+-- written, and a cut leaves nothing else. Nothing is said of other LEBs, nor of calls that may fail.
+pub record IsFoundLog (contents : ℕ → List ℕ) (geo : RawGeometry) (state : VolumeState) : Type 0 where
+  pub holds : (k : ℕ) → IsLogLeb geo k → state.holds k ≡ contents k
+  pub written : (k : ℕ) → IsLogLeb geo k → IsWrittenPart state.min_io (state.holds k) (state.written k)
+  pub left : (k : ℕ) → IsLogLeb geo k → Only (state.holds k) (state.left_now k)
+
+-- If the log's LEBs were found after a cut that left such a log, what is read is that log. Once it is opened it is ready for its next node,
+-- and nothing is written where it goes on.
 abbrev pub OpensReady : VolumeState → VolumeState → RawGeometry → ℕ → LogRead → Type 0
 OpensReady old new geo from read =
-    (contents : ℕ → List ℕ) (number : ℕ) (log : Log) → IsFound contents old → IsReadyIn contents geo from number log
+    (contents : ℕ → List ℕ) (number : ℕ) (log : Log) → IsFoundLog contents geo old → IsReadyIn contents geo from number log
     → let at : LogAt = opened_at geo from (log_of read).ends in
     (log_of read ≡ log)
     × IsReady new geo from at.lnum at.offs number read.buds.items

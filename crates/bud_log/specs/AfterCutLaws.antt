@@ -10,12 +10,14 @@ use Rattle.ubifs_base.specs.NodeType.{type_number}
 use Rattle.ubifs_base.specs.declared.node_type.NodeType.TheVariants as types
 use Rattle.ubifs_base.specs.declared.raw_geometry.RawGeometry.{RawGeometry}
 use Rattle.ubi_volume.specs.Volume.{VolumeState}
-use Rattle.ubi_volume.specs.Loading.{IsFound}
+use Rattle.ubi_volume.specs.Frame.{IsSameLeb}
+use Rattle.ubi_volume.specs.Loading.{IsFound, IsWrittenPart}
+use Rattle.ubi_volume.specs.MemVolume.{without_fail}
 use Rattle.media_sys.specs.declared.ref_node.RefNode.{RefNode}
 use Rattle.leb_scan.specs.declared.found.Found.{Found}
 use Rattle.leb_scan.specs.declared.tail.Tail.{Tail}
 use Rattle.leb_scan.specs.declared.tail.Tail.TheVariants.{Clean, Torn}
-use Rattle.bud_log.specs.AfterCut.{IsReadyIn, IsLeftReady, lebs_to, offs_behind}
+use Rattle.bud_log.specs.AfterCut.{IsReadyIn, IsLeftReady, IsFoundLog, lebs_to, offs_behind}
 use Rattle.bud_log.specs.Below.{below_last}
 use Rattle.bud_log.specs.Buds.{buds_of}
 use Rattle.bud_log.specs.Chains.{past_free, chain_past, chain_more, among_added, references_added}
@@ -99,6 +101,30 @@ IsReady-left a geo from lnum offs number buds x f h left =
     let chain = chain_alike a.holds x geo from h.start h.past h.first h.more (λ k there. sym (h.settled k there (x k) (left k (among_log a.holds geo from h.start h.past k h.first h.more f h.chain there)))) h.chain in
     subst P (sym h.buds_are) (chain_ready x geo from h.start number h.past most h.first h.more f chain h.low h.below (λ k is none. h.spare k (x k) is none (left k is)) (lebs_same geo from (last_end h.first.ends h.more).lnum lnum (goes_lnum geo (last_end h.first.ends h.more) lnum offs h.last)))
 
+-- Where a volume was found after a cut, its log was.
+pub IsFound-log : (contents : ℕ → List ℕ) (geo : RawGeometry) (state : VolumeState) → lpt_first geo ≤ state.leb_cnt → IsFound contents state → IsFoundLog contents geo state
+IsFound-log contents geo state lebs found =
+    let inside : (k : ℕ) → IsLogLeb geo k → k < state.leb_cnt = λ k is. (let high = is.high in omega (arith, high, lebs)) in
+    record { holds = λ k is. found.holds k (inside k is); written = λ k is. found.written k (inside k is); left = λ k is. found.left k }
+
+-- even if a call is still armed to fail
+pub revived-log : (contents : ℕ → List ℕ) (geo : RawGeometry) (state : VolumeState) → lpt_first geo ≤ state.leb_cnt → IsFound contents (without_fail state) → IsFoundLog contents geo state
+revived-log contents geo state lebs found =
+    let log = IsFound-log contents geo (without_fail state) lebs found in
+    record { holds = log.holds; written = log.written; left = log.left }
+
+-- So it stays while its LEBs stay as they are: whatever is armed, and whatever becomes of other LEBs.
+pub IsFoundLog-same : (contents : ℕ → List ℕ) (geo : RawGeometry) (a b : VolumeState) → b.min_io ≡ a.min_io → ((k : ℕ) → IsLogLeb geo k → IsSameLeb a b k) → IsFoundLog contents geo a → IsFoundLog contents geo b
+IsFoundLog-same contents geo a b unit same found = record {
+  holds = λ k is. (same k is).holds ∙ found.holds k is;
+  written = λ k is.
+      let U : ℕ → Type 0 = λ u. IsWrittenPart u (b.holds k) (b.written k) in
+      let B : List ℕ → Type 0 = λ leb. IsWrittenPart a.min_io leb (b.written k) in
+      let W : ℕ → Type 0 = λ n. IsWrittenPart a.min_io (a.holds k) n in
+      subst U (sym unit) (subst B (sym (same k is).holds) (subst W (sym (same k is).written) (found.written k is)));
+  left = λ k is leb left. found.left k is leb ((same k is).left leb left) ∙ sym (same k is).holds;
+}
+
 -- What a cut left, once it is found, is ready for its next node.
 
 -- the texts up to the end that is told: all that are read, or all but a last one that is a commit start alone
@@ -166,7 +192,7 @@ pub goes_behind : (geo : RawGeometry) (ends : LogEnd) → 8 ≤ geo.min_io → G
 goes_behind geo ends some = goes_if geo ends.lnum ends.offs ends.tail some
 
 told_opens : (c : ℕ → List ℕ) (state : VolumeState) (geo : RawGeometry) (from number past : ℕ) (log : Log) (h : IsReadyIn c geo from number log) (told : IsTold c geo from h.start number (next_leb geo from) h.is_log.first.ends h.is_log.more) → 8 ≤ geo.min_io → IsLogLeb geo from
-    → ((k : ℕ) → IsLogLeb geo k → state.holds k ≡ c k) → ((k : ℕ) (leb : List ℕ) → state.left_now k leb → leb ≡ state.holds k) → IsReady state geo from log.ends.lnum (offs_behind geo log.ends) number log.buds
+    → ((k : ℕ) → IsLogLeb geo k → state.holds k ≡ c k) → ((k : ℕ) → IsLogLeb geo k → (leb : List ℕ) → state.left_now k leb → leb ≡ state.holds k) → IsReady state geo from log.ends.lnum (offs_behind geo log.ends) number log.buds
 told_opens c state geo from number past log h told some f holds only =
     let first = h.is_log.first in
     let all : List LogText = first ∷ told.told in
@@ -182,9 +208,9 @@ told_opens c state geo from number past log h told some f holds only =
       below = (h.below.0, told.below);
       buds_are = h.is_log.buds ∙ ap (λ (r : List RefNode). buds_of (first.references ++ r)) (sym told.references);
       last = subst G (sym (told.last ∙ sym h.is_log.ends)) (goes_behind geo log.ends some);
-      settled = λ k there leb left. only k leb left;
+      settled = λ k there leb left. only k (among_log c geo from h.start told.past k first told.told f chain there) leb left;
       spare = λ k leb is none left.
-          let same : leb ≡ c k = only k leb left ∙ holds k is in
+          let same : leb ≡ c k = only k is leb left ∙ holds k is in
           let P : List ℕ → Type 0 = λ bytes. IsPassedOver h.start number told.past k bytes in
           subst P (sym same) (elim (among_or k (first ∷ h.is_log.more)) [
             | inl (inl same_first) ↦ absurd (none (inl same_first))
@@ -200,12 +226,12 @@ further_run c geo from start (Some n) more e h =
     let P : ℕ → Type 0 = λ s. Run c geo from s (next_leb geo from) more h.0 in
     (h.0, subst P same h.1)
 
-pub IsReadyIn-opens : (contents : ℕ → List ℕ) (state : VolumeState) (geo : RawGeometry) (from number : ℕ) (log : Log) → IsGeometry geo → IsLogLeb geo from → lpt_first geo ≤ state.leb_cnt → IsFound contents state → IsReadyIn contents geo from number log
+pub IsReadyIn-opens : (contents : ℕ → List ℕ) (state : VolumeState) (geo : RawGeometry) (from number : ℕ) (log : Log) → IsGeometry geo → IsLogLeb geo from → IsFoundLog contents geo state → IsReadyIn contents geo from number log
     → IsReady state geo from log.ends.lnum (offs_behind geo log.ends) number log.buds
-IsReadyIn-opens contents state geo from number log geometry f lebs found h =
+IsReadyIn-opens contents state geo from number log geometry f found h =
     let run = further_run contents geo from h.start (start_of (begins_with h.is_log.first.nodes)) h.is_log.more h.starts h.is_log.are_further in
     let told = told_of contents geo from h.start number (next_leb geo from) run.0 h.is_log.first.ends h.is_log.more run.1 h.below.1 in
-    told_opens contents state geo from number run.0 log h told geometry.min_io.1 f (λ k is. (let high = is.high in found.holds k (omega (arith, high, lebs)))) (λ k leb left. found.left k leb left)
+    told_opens contents state geo from number run.0 log h told geometry.min_io.1 f found.holds found.left
 
 -- What was left stays such a log.
 

@@ -1,5 +1,5 @@
 -- A log that a cut left is opened where nothing is written.
-use Rattle.std.proofs.Common.{◌≡◌, inl, inr, ℕ, ◌+◌, ◌-◌, ◌%◌, ◌<◌, ◌≤◌, Bool, true, List, [], ◌∷◌, length, take, drop, replicate, refl, ap, sym, ◌∙◌, subst, arith, length-drop}
+use Rattle.std.proofs.Common.{◌≡◌, inl, inr, ℕ, ◌+◌, ◌-◌, ◌%◌, ◌≤◌, Bool, true, List, [], ◌∷◌, length, take, drop, replicate, refl, ap, sym, ◌∙◌, subst, arith, length-drop}
 use Rattle.std.specs.Prelude.{◌==◌, if◌then◌else◌, min}
 use Rattle.std.proofs.Math.Nat.{min-le_right}
 use Rattle.std.proofs.lemmas.Bool.{and_parts, cases_Bool, eqb-true, le-ltb}
@@ -8,13 +8,13 @@ use Rattle.ubifs_base.specs.Areas.{lpt_first}
 use Rattle.ubifs_base.specs.Geometry.{IsGeometry}
 use Rattle.ubifs_base.specs.declared.raw_geometry.RawGeometry.{RawGeometry}
 use Rattle.ubi_volume.specs.Volume.{VolumeState}
-use Rattle.ubi_volume.specs.Loading.{IsErased, IsFound}
+use Rattle.ubi_volume.specs.Loading.{IsErased}
 use Rattle.leb_scan.specs.Text.{Begins, behind, up_to_8, Stand, IsText, is_blank, IsTail}
 use Rattle.leb_scan.specs.declared.item.Item.{Item}
 use Rattle.leb_scan.specs.declared.item.Item.TheVariants.{Node, Padding, Word}
 use Rattle.leb_scan.specs.declared.tail.Tail.{Tail}
 use Rattle.leb_scan.specs.declared.tail.Tail.TheVariants.{Clean, Torn}
-use Rattle.bud_log.specs.AfterCut.{IsReadyIn, offs_behind, opened_at}
+use Rattle.bud_log.specs.AfterCut.{IsReadyIn, IsFoundLog, offs_behind, opened_at}
 use Rattle.bud_log.specs.AfterCutLaws.{further_run}
 use Rattle.bud_log.specs.Log.{Log, IsLogLeb, next_leb, Run, end_of}
 use Rattle.bud_log.specs.LogAt.{IsAt, steps_to}
@@ -91,16 +91,14 @@ from_itself geo from lnum = let none : steps_to geo from from ≡ from - from = 
 
 -- What a cut left, once it is found, is open for writing where the log goes on.
 pub IsReadyIn-at : (contents : ℕ → List ℕ) (state : VolumeState) (geo : RawGeometry) (from number : ℕ) (log : Log) → IsGeometry geo → IsLogLeb geo from → lpt_first geo ≤ state.leb_cnt → geo.leb_size ≡ state.leb_size → geo.min_io ≡ state.min_io
-    → ((k : ℕ) → IsLogLeb geo k → length (state.holds k) ≡ state.leb_size) → IsFound contents state → IsReadyIn contents geo from number log → IsAt state (opened_at geo from log.ends)
+    → ((k : ℕ) → IsLogLeb geo k → length (state.holds k) ≡ state.leb_size) → IsFoundLog contents geo state → IsReadyIn contents geo from number log → IsAt state (opened_at geo from log.ends)
 IsReadyIn-at contents state geo from number log geometry f lebs size unit long found h =
     let first = h.is_log.first in
     let run = further_run contents geo from h.start (start_of (begins_with first.nodes)) h.is_log.more h.starts h.is_log.are_further in
     let E : LogEnd → Type 0 = λ e. IsEndText contents geo e in
     let at = subst E (sym h.is_log.ends) (run_end_text contents geo from h.start (next_leb geo from) run.0 first.ends h.is_log.more (end_text contents geo from first f h.is_log.is_first) (next_in geo from f) run.1) in
     let lnum = log.ends.lnum in
-    let high = at.in_log.high in
-    let inside : lnum < state.leb_cnt = omega (arith, high, lebs) in
-    let holds = found.holds lnum inside in
+    let holds = found.holds lnum at.in_log in
     let T : LogEnd → Type 0 = λ e. IsText (contents lnum) 0 at.is_text.items e.offs e.tail in
     let text = subst T at.ends_are at.is_text.is_text in
     let len : length (contents lnum) ≡ geo.leb_size = ap length (sym holds) ∙ long lnum at.in_log ∙ sym size in
@@ -117,5 +115,5 @@ IsReadyIn-at contents state geo from number log geometry f lebs size unit long f
       on_the_way = from_itself geo from lnum;
       within = place.within;
       unit = place.whole;
-      is_open = (found.written lnum inside).least (offs_behind geo log.ends) (subst W unit place.whole) (subst B (sym holds) place.erased);
+      is_open = (found.written lnum at.in_log).least (offs_behind geo log.ends) (subst W unit place.whole) (subst B (sym holds) place.erased);
     }
