@@ -1,3 +1,4 @@
+pub mod AfterCut
 pub mod Lebs
 pub mod LebWork
 pub mod LoadedLebs

@@ -1,13 +1,15 @@
 -- LEBs that are loaded one after another.
 use Rattle.std.proofs.Common.{◌≡◌, ℕ, ◌+◌, ◌*◌, ◌≤◌, List, [], ◌∷◌, ◌++◌, ◌-◌, length, take, drop, replicate, min, Option, Some, None, get_or, subst, ap, sym, refl, ◌∙◌, arith, inl, inr, drop-drop, length-append, length-take}
-use Rattle.std.specs.Prelude.{◌⊎◌, slice_get, All, false}
+use Rattle.std.specs.Prelude.{◌⊎◌, slice_get, All, Bool, false, if◌then◌else◌}
 use Rattle.std.proofs.lemmas.List.{drop_all, take_all, length-replicate, get_or_append_left, get_or_push}
 use Rattle.std.proofs.lemmas.Option.{slice_get-get_or, slice_get_within, get_or_from_slice_get}
 use Rattle.std.proofs.lemmas.Bool.{cases_lt}
-use Rattle.ubi_volume.specs.Lebs.{IsLoadedLeb, AreLoaded, IsLeb, IsLeft, bytes_in, written_in}
+use Rattle.ubi_volume.specs.Lebs.{IsLoadedLeb, IsBlankLeb, AreLoaded, IsLeb, IsLeft, bytes_in, written_in, pending_in}
 use Rattle.ubi_volume.specs.Loading.{IsLoaded, IsWrittenPart, leb_of}
-use Rattle.ubi_volume.specs.Arming.{IsUnarmed}
-use Rattle.ubi_volume.specs.MemVolume.{state_of}
+use Rattle.ubi_volume.specs.Arming.{IsUnarmed, nothing_armed}
+use Rattle.ubi_volume.specs.Effects.{HasNoPast}
+use Rattle.ubi_volume.specs.declared.arming.Arming.{Arming}
+use Rattle.ubi_volume.specs.MemVolume.{state_of, mem_with}
 use Rattle.ubi_volume.specs.MemVolumeLaws.{leb_at}
 use Rattle.ubi_volume.specs.declared.mem_volume.MemVolume.{MemVolume}
 use Rattle.ubi_volume.specs.declared.leb.Leb.{Leb}
@@ -73,9 +75,28 @@ only_content (Some leb) c final (inl same) = same
 only_content (Some leb) c final (inr (undo, was)) = let never = final leb refl in grind (arith, undo, never)
 only_content None c final left = left
 
+-- where nothing is armed or counted, nothing is armed
+pub unarmed_at_first : (a : Arming) → a ≡ nothing_armed → IsUnarmed a
+unarmed_at_first a e = record { cut = ap (λ (x : Arming). x.cut_step) e; call = ap (λ (x : Arming). x.fail) e; whole = ap (λ (x : Arming). x.is_cut) e }
+
+-- LEBs of which no unmapping may be undone
+final_one : (o : Option Leb) → ((leb : Leb) → o ≡ Some leb → leb.undo ≡ false) → pending_in o ≡ None
+final_one (Some leb) final = ap (λ (b : Bool). if b then Some leb.before.items else None) (final leb refl)
+final_one None final = refl
+
+pub final_lebs : (lebs : List Leb) (arming : Arming) → arming ≡ nothing_armed → ((k : ℕ) (leb : Leb) → slice_get lebs k ≡ Some leb → leb.undo ≡ false) → HasNoPast (mem_with lebs arming)
+final_lebs lebs arming start final = record { arming = start; final = λ k. final_one (slice_get lebs k) (final k) }
+
+-- blank LEBs are so
+pub final_blank : (size : ℕ) (lebs : List Leb) → All (IsBlankLeb size) lebs → (k : ℕ) (leb : Leb) → slice_get lebs k ≡ Some leb → leb.undo ≡ false
+final_blank size lebs blank k leb there =
+    let P : Leb → Type 0 = λ l. l.undo ≡ false in
+    subst P (get_or_from_slice_get lebs k leb leb there) (blank k leb (slice_get_within lebs k leb there)).undo
+
 -- what loaded LEBs are as a volume
-pub loaded-state : (v : MemVolume) (image : List ℕ) → IsUnarmed v.arming → v.arming.faults ≡ 0 → AreLoaded v.shape.leb_size v.shape.min_io image v.lebs.items → IsLoaded v.shape image (state_of v)
-loaded-state v image unarmed none loaded =
+pub loaded-state : (v : MemVolume) (image : List ℕ) → v.arming ≡ nothing_armed → AreLoaded v.shape.leb_size v.shape.min_io image v.lebs.items → IsLoaded v.shape image (state_of v)
+loaded-state v image start loaded =
+    let unarmed = unarmed_at_first v.arming start in
     let size = v.shape.leb_size in
     let unit = v.shape.min_io in
     let lebs = v.lebs.items in
@@ -97,5 +118,5 @@ loaded-state v image unarmed none loaded =
         sure = unarmed;
         unbroken = unarmed.whole;
       };
-      faults = none;
+      faults = ap (λ (a : Arming). a.faults) start;
     }

@@ -5,6 +5,10 @@ use Rattle.ubi_volume.specs.declared.arming.Arming.{Arming}
 use Rattle.ubi_volume.specs.declared.arming.Fate.{Fate}
 use Rattle.ubi_volume.specs.declared.arming.Fate.TheVariants.{Runs, Refused, Struck}
 
+-- as at first: nothing is armed or counted, and no cut has struck
+abbrev pub nothing_armed : Arming
+nothing_armed = record { cut_step = 0; pattern = 0; is_cut = false; fail = 0; steps = 0; faults = 0 }
+
 -- nothing is armed, and no cut has struck
 pub record IsUnarmed (a : Arming) : Type 0 where
   pub cut : a.cut_step ≡ 0

@@ -5,7 +5,7 @@ use Rattle.ubifs_base.specs.declared.arm.Arm.{Arm}
 use Rattle.ubifs_base.specs.declared.arm.Arm.TheVariants.{Cut, Fail}
 use Rattle.ubi_volume.specs.Volume.{put, filled}
 use Rattle.ubi_volume.specs.Lebs.{LebView}
-use Rattle.ubi_volume.specs.Arming.{fate_of, after_call}
+use Rattle.ubi_volume.specs.Arming.{nothing_armed, fate_of, after_call}
 use Rattle.ubi_volume.specs.Patterns.{write_left}
 use Rattle.ubi_volume.specs.declared.arming.Arming.{Arming}
 use Rattle.ubi_volume.specs.declared.arming.Fate.{Fate}
@@ -17,6 +17,11 @@ use Rattle.ubi_volume.specs.declared.fault.VolFault.TheVariants.{Failed}
 pub record MemState : Type 0 where
   pub leb : ℕ → LebView
   pub arming : Arming
+
+-- as of a volume that was just made or loaded: nothing is armed or counted, no cut has struck, and no unmapping may be undone
+pub record HasNoPast (v : MemState) : Type 0 where
+  pub arming : v.arming ≡ nothing_armed
+  pub final : (k : ℕ) → (v.leb k).pending ≡ None
 
 -- what a call has for its LEB: its steps, what it makes of the LEB, and what of it a cut leaves behind so many steps, by its digit
 pub record Effect : Type 0 where
@@ -77,9 +82,10 @@ pub record HasEffect (old new : MemState) (lnum : ℕ) (effect : Effect) (result
   pub others : (k : ℕ) → k ≢ lnum → new.leb k ≡ old.leb k
   pub answer : result ≡ answer_of (fate_of old.arming effect.steps)
 
--- what is armed after arming this, in the place of what was armed of its kind; the steps are counted from a cut's arming on
+-- What is armed after arming this, in the place of what was armed of its kind; the steps are counted from a cut's arming on.
+-- A cut that has struck is what it is until the volume is revived: no other is armed then.
 abbrev pub armed : Arm → Arming → Arming
-armed (Cut cut) a = record a { cut_step = cut.step; pattern = cut.pattern; steps = 0 }
+armed (Cut cut) a = if a.is_cut then a else record a { cut_step = cut.step; pattern = cut.pattern; steps = 0 }
 armed (Fail call) a = record a { fail = call }
 
 -- this was armed, and nothing else changed

@@ -1,7 +1,7 @@
 // What a volume in memory is armed with, and what has struck.
 
 ghost use Rattle.std.specs.Prelude.{◌≡◌};
-ghost use Rattle.ubi_volume.specs.Arming.{IsUnarmed, IsFate, fate_of, after_call};
+ghost use Rattle.ubi_volume.specs.Arming.{IsUnarmed, IsFate, nothing_armed, fate_of, after_call};
 
 // Each of these calls is one step; a write has one for each unit, and a read none.
 pub(crate) const CHANGE_STEPS: u64 = 1;
@@ -35,8 +35,7 @@ pub(crate) enum Fate {
 impl Arming {
     // Nothing is armed, and nothing has struck.
     pub(crate) fn new() -> Arming
-        ensures unarmed { IsUnarmed result }
-        ensures faults { result.faults ≡ 0 }
+        ensures { result ≡ nothing_armed }
     {
         Arming {
             cut_step: 0,

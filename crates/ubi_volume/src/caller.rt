@@ -1,11 +1,13 @@
-// Callers of several calls, proved from the trait alone.
+// Callers of several calls, proved from the trait alone, and one of a volume in memory, from what its calls do exactly.
 
-ghost use Rattle.std.specs.Prelude.{◌≡◌, ◌⊎◌, ◌+◌, ◌<◌, ◌≤◌, ℕ, [], length, OnOk};
+ghost use Rattle.std.specs.Prelude.{◌≡◌, ◌⊎◌, ◌+◌, ◌%◌, ◌==◌, ◌<◌, ◌≤◌, if◌then◌else◌, ℕ, [], length, OnOk, IfErr};
 ghost use Rattle.ubi_volume.specs.Volume.{Only, filled, put, Torn, Leaves, AreUnits, SameShape};
+ghost use Rattle.ubi_volume.specs.Shape.{IsShape};
 ghost use Rattle.ubi_volume.specs.Faults.{HasCause, HasAreaCause, StaysSure, StaysSureArea};
 
-use crate::{AreaFault, VolFault, Volume};
+use crate::{AreaFault, MemVolume, VolFault, VolShape, Volume};
 use std::alloc::Global;
+use ubifs_base::Cut;
 
 /// Writes the bytes to LEB 1 and then to LEB 2. A cut at any moment leaves in each the old bytes or the new, whole,
 /// and never the new in LEB 2 beside the old in LEB 1.
@@ -103,5 +105,33 @@ pub fn unmap_all<V: Volume>(volume: &mut V) -> Result<(), VolFault>
     for lnum in 0..volume.leb_cnt() {
         volume.unmap(lnum)?;
     }
+    Ok(())
+}
+
+/// Writes the first bytes to LEB 0 of a volume of its own, lets a cut fall into its change to the second ones, and reads what
+/// was left once the volume is revived: the second bytes where the pattern's lowest digit is 1, else the first. Nothing but
+/// the change fails.
+pub fn read_after_cut(
+    alloc: Global,
+    shape: VolShape,
+    first: &[u8],
+    second: &[u8],
+    pattern: u64,
+    out: &mut [u8],
+) -> Result<(), AreaFault>
+    requires shape { IsShape shape }
+    requires lebs { 0 < shape.leb_cnt }
+    requires first { length first.now ≤ shape.leb_size × AreUnits shape.min_io 0 (length first.now) }
+    requires second { length second.now ≤ shape.leb_size × AreUnits shape.min_io 0 (length second.now) }
+    requires out { length out.old ≡ shape.leb_size }
+    ensures read { OnOk result (out.new ≡ filled shape.leb_size (if pattern % 4 == 1 then second.now else first.now)) }
+    ensures fault { IfErr result (λ fault. fault ≡ AreaFault.Memory) }
+{
+    let mut volume = MemVolume::new(alloc, shape)?;
+    volume.write(0, 0, first)?;
+    volume.arm_cut(Cut { step: 1, pattern });
+    let _struck = volume.change(0, second);
+    volume.revive();
+    volume.read(0, 0, out)?;
     Ok(())
 }

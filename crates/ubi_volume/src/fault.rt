@@ -60,6 +60,14 @@ impl From<VolFault> for AreaFault {
     }
 }
 
+impl From<Memory> for AreaFault {
+    ghost from_gives = { λ _ e. e ≡ Memory };
+
+    fn from(_fault: Memory) -> AreaFault {
+        AreaFault::Memory
+    }
+}
+
 impl From<AllocError> for AreaFault {
     ghost from_gives = { λ _ e. e ≡ Memory };
 

@@ -4,7 +4,8 @@ ghost use Rattle.std.specs.Prelude.{◌≡◌, ◌↔◌, ◌*◌, IfOk, IfErr, 
 ghost use Rattle.ubi_volume.specs.Loading.{Fits, IsLoaded, IsUnloaded, IsShort, IsLong};
 ghost use Rattle.ubi_volume.specs.Shape.{IsShape};
 ghost use Rattle.ubi_volume.specs.Volume.{image_of};
-ghost use Rattle.ubi_volume.specs.MemVolume.{state_of};
+ghost use Rattle.ubi_volume.specs.MemVolume.{state_of, mem_of};
+ghost use Rattle.ubi_volume.specs.Effects.{HasNoPast};
 
 use crate::loading::{is_erased, loaded_lebs};
 use crate::{LoadFault, MemVolume, VolShape};
@@ -23,6 +24,7 @@ pub fn save_image(alloc: Global, volume: &MemVolume) -> Result<Vec<u8>, Memory>
 pub fn load_image(alloc: Global, bytes: &[u8], shape: VolShape) -> Result<MemVolume, LoadFault>
     requires { IsShape shape }
     ensures loaded { IfOk result (λ volume. IsLoaded shape bytes.now (state_of volume)) }
+    ensures no_past { IfOk result (λ volume. HasNoPast (mem_of volume)) }
     ensures fits { IfOk result (λ _. Fits shape bytes.now) }
     ensures fault { IfErr result (IsUnloaded shape bytes.now) }
     ensures short { IsShort shape.leb_size bytes.now ↔ IsErrOf result (LoadFault.Short (length bytes.now)) }

@@ -37,14 +37,15 @@ impl MemVolume {
     ghost use Rattle.std.specs.Prelude.{◌≡◌, ℕ, false, None, IfOk};
     ghost use Rattle.ubi_volume.specs.Shape.{IsShape};
     ghost use Rattle.ubi_volume.specs.MemVolume.{state_of, mem_of, arming_of, contents_left, without_fail, IsBlank};
-    ghost use Rattle.ubi_volume.specs.Effects.{IsArmed};
+    ghost use Rattle.ubi_volume.specs.Effects.{IsArmed, HasNoPast};
     ghost use Rattle.ubi_volume.specs.Loading.{IsFound, IsLoaded};
     ghost use Rattle.ubi_volume.specs.Volume.{Each, Keeps, SameShape, image_of};
 
     /// A volume of which no LEB is written.
     pub fn new(alloc: Global, shape: VolShape) -> Result<MemVolume, Memory>
         requires { IsShape shape }
-        ensures { IfOk result (λ volume. IsBlank shape (state_of volume)) }
+        ensures blank { IfOk result (λ volume. IsBlank shape (state_of volume)) }
+        ensures no_past { IfOk result (λ volume. HasNoPast (mem_of volume)) }
     {
         let lebs = blank_lebs(alloc, shape.leb_size, shape.leb_cnt)?;
         Ok(MemVolume {
@@ -57,7 +58,8 @@ impl MemVolume {
     // A volume that holds the bytes, and unwritten ones behind them.
     pub(crate) fn loaded(alloc: Global, bytes: &[u8], shape: VolShape) -> Result<MemVolume, Memory>
         requires { IsShape shape }
-        ensures { IfOk result (λ volume. IsLoaded shape bytes.now (state_of volume)) }
+        ensures loaded { IfOk result (λ volume. IsLoaded shape bytes.now (state_of volume)) }
+        ensures no_past { IfOk result (λ volume. HasNoPast (mem_of volume)) }
     {
         let lebs = loaded_lebs(alloc, shape, bytes)?;
         Ok(MemVolume {
@@ -68,12 +70,16 @@ impl MemVolume {
     }
 
     /// Arms a power cut, in the place of one that is armed: it falls within the given step, counted from now. Each unit
-    /// written, change, unmapping and mapping is one step. From then on every call answers `Failed` until `revive`.
+    /// written, change, unmapping and mapping is one step. From then on every call answers `Failed` until `revive`, and no
+    /// other cut is armed, since the pattern of the one that has struck says what it left.
     pub fn arm_cut(&mut self, cut: Cut)
         ensures keeps { Keeps (state_of self.old) (state_of self.new) }
         ensures shape { SameShape (state_of self.old) (state_of self.new) }
         ensures armed { IsArmed (mem_of self.old) (mem_of self.new) (Arm.Cut cut) }
     {
+        if self.arming.is_cut {
+            return;
+        }
         self.arming.cut_step = cut.step;
         self.arming.pattern = cut.pattern;
         self.arming.steps = 0;

@@ -10,7 +10,7 @@ use Rattle.volume_tests.proofs.journal_heads_tests.each_head_writes_its_own_leb.
 pub put-requires-clause-open_there : goal.put-requires-clause-open_there
 put-requires-clause-open_there g c =
     let state = state_of c.in_ok-volume.volume in
-    let blank = c.in_ok-volume.ensures in
+    let blank = c.in_ok-volume.ensures.blank in
     let unit = c.in_ok-geo.geo.min_io in
     let size = c.in_ok-geo.geo.leb_size in
     let is_unit : unit ≡ 512 = ap (λ (r : RawGeometry). r.min_io) c.in_ok-geo.ensures.fields in
