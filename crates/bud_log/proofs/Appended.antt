@@ -19,7 +19,7 @@ use Rattle.bud_log.specs.Writing.{references_in, AreSpelled, IsAmong, IsOlder, I
 use Rattle.bud_log.specs.declared.head_at.HeadAt.{HeadAt}
 use Rattle.bud_log.specs.declared.log_end.LogEnd.{LogEnd}
 use Rattle.bud_log.specs.LogLaws.{among_log, chain_alike, below_more, passed-later}
-use Rattle.bud_log.specs.Chains.{last_among, last_first, last_more, Grows, chain_grown, references_grown, last_end_grown, among_grown, buds_behind}
+use Rattle.bud_log.specs.Chains.{last_among, last_first, last_more, Growth, Grows, chain_grown, references_grown, last_end_grown, among_grown, buds_behind}
 use Rattle.bud_log.specs.Grown.{grown, grown_text}
 use Rattle.bud_log.proofs.Parts.{part_first}
 use Rattle.bud_log.specs.References.{OneNode, some_references}
@@ -120,11 +120,12 @@ here_first one a geo from lnum offs number len buds node nodes h x other_type cl
       | inr torn ↦
           let some = some_references (x lnum) meant.items offs meant.end meant.is_text.stand in
           let part = part_first one (x lnum) (nodes_of meant.items) offs number (node ∷ nodes) some.0 spelled meant.part some.1 in
-          let grows : Grows a.holds x old (nodes_of meant.items) some.0 ends = λ text is e.
+          let growth : Growth = record { before = a.holds; after = x; behind = old; nodes = nodes_of meant.items; references = some.0; ends = ends } in
+          let grows : Grows growth = λ text is e.
           let E : LogEnd → Type 0 = λ z. take z.offs (a.holds lnum) ≡ take z.offs (x lnum) in
           let F : LogEnd → Type 0 = λ z. IsText (x lnum) z.offs meant.items meant.end meant.tail in
           grown (a.holds lnum) (x lnum) lnum meant.end meant.tail text meant.items some.0 is (subst E (sym e) (sym torn.front)) (sym torn.len) (subst F (sym e) meant.is_text) some.1 in
-          let chain = chain_grown a.holds x geo from h.start h.past h.first h.more (nodes_of meant.items) some.0 old ends f h.chain clean (λ k ne is. sym (h.settled k is (x k) (others k (in_log k is) ne))) grows in
+          let chain = chain_grown growth geo from h.start h.past h.first h.more f h.chain clean (λ k ne is. sym (h.settled k is (x k) (others k (in_log k is) ne))) grows in
           let g : LogText → LogText = λ t. grown_text t (nodes_of meant.items) some.0 ends in
           let same : (last_end h.first.ends h.more).lnum ≡ ends.lnum = ap (λ (e : LogEnd). e.lnum) clean in
           let low = h.low in

@@ -16,7 +16,8 @@ use Rattle.bud_log.specs.declared.head_at.HeadAt.{HeadAt}
 use Rattle.bud_log.specs.LogLaws.{chain_alike, next_in}
 use Rattle.bud_log.proofs.Appended.{IsQuiet, quiet_ready}
 use Rattle.bud_log.specs.Chains.{past_other}
-use Rattle.bud_log.proofs.Opened.{past_is, blank_older}
+use Rattle.bud_log.specs.HeldLaws.{IsReady-past}
+use Rattle.bud_log.proofs.Opened.{blank_older}
 use Rattle.bud_log.specs.RingRuns.{left_of}
 use Rattle.bud_log.proofs.Steps.{steps_next, steps_none, steps_small, same_steps, before_left}
 
@@ -102,7 +103,7 @@ ended_aside a at number k buds h f s l way is (inl same) =
 ended_aside a at number k buds h f s l way is (inr there) =
     let less = past_other a.holds at.geo at.section h.start (next_leb at.geo at.section) h.past k h.more s h.chain.run (next_in at.geo at.section s) there in
     let P : ℕ → Type 0 = λ n. left_of at.geo at.section n < left_of at.geo at.section k in
-    let again = subst P (past_is a at.geo at.section at.lnum at.offs number buds h) less in
+    let again = subst P (IsReady-past a at.geo at.section at.lnum at.offs number buds h) less in
     let other = before_left at.geo at.first at.section at.lnum k f s l is.in_log is.before way in
     absurd (omega (arith, again, other))
 

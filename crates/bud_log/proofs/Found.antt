@@ -1,5 +1,5 @@
--- A log that was read of a volume that was found after a cut.
-use Rattle.std.proofs.Common.{◌≡◌, ℕ, ◌≤◌, List, length, Result, Ok, Err, IfOk, sym, ◌∙◌, subst, arith}
+-- A log that was read of a volume that holds one.
+use Rattle.std.proofs.Common.{◌≡◌, ◌⊎◌, ℕ, ◌≤◌, List, length, Result, Ok, Err, IfOk, sym, ◌∙◌, subst, arith}
 use Rattle.ubifs_base.specs.Areas.{lpt_first}
 use Rattle.ubifs_base.specs.Geometry.{IsGeometry}
 use Rattle.ubifs_base.specs.NodeLaws.{IsBytes}
@@ -7,11 +7,11 @@ use Rattle.ubifs_base.specs.declared.raw_geometry.RawGeometry.{RawGeometry}
 use Rattle.ubi_volume.specs.Volume.{VolumeState, SameShape, Keeps}
 use Rattle.ubi_volume.specs.declared.fault.AreaFault.{AreaFault}
 use Rattle.bud_log.specs.AfterCut.{offs_behind, opened_at, OpensReady}
-use Rattle.bud_log.specs.AfterCutLaws.{IsReadyIn-opens}
+use Rattle.bud_log.specs.AfterCutLaws.{IsHeldLog-opens, IsHeldLog-next}
 use Rattle.bud_log.specs.Log.{IsLogLeb, Log, IsLog, log_of}
 use Rattle.bud_log.specs.LogAt.{LogAt, IsAt}
-use Rattle.bud_log.specs.LogLaws.{IsLog-same, IsReady-same}
-use Rattle.bud_log.specs.OpenedLaws.{IsReadyIn-at}
+use Rattle.bud_log.specs.LogLaws.{IsReady-same}
+use Rattle.bud_log.specs.OpenedLaws.{IsHeldLog-at}
 use Rattle.bud_log.specs.Writing.{IsReady}
 use Rattle.bud_log.specs.declared.log_read.LogRead.{LogRead}
 
@@ -48,20 +48,22 @@ pub record IsReading (old new : VolumeState) (geo : RawGeometry) (from : ℕ) : 
   pub shape : SameShape old new
   pub keeps : Keeps old new
 
--- so what was read is what the cut left
+-- so what was read is what it holds
 opens_ready : OneLog → (old new : VolumeState) (geo : RawGeometry) (from : ℕ) (read : LogRead) → IsReading old new geo from → IsLog old.holds geo from (log_of read) → OpensReady old new geo from read
-opens_ready one old new geo from read r is = λ contents number log found h.
+opens_ready one old new geo from read r is = λ number log held.
     let lebs = r.lebs in
     let keeps = r.keeps in
-    let same : (k : ℕ) → IsLogLeb geo k → contents k ≡ old.holds k = λ k in_log. sym (found.holds k in_log) in
-    let there = IsLog-same contents old.holds geo from log r.ring same h.is_log in
-    let e = one old.holds geo from log (log_of read) r.ring r.bytes there is in
-    let P : Log → Type 0 = λ l. IsReady old geo from l.ends.lnum (offs_behind geo l.ends) number l.buds in
-    let A : Log → Type 0 = λ l. IsAt old (opened_at geo from l.ends) in
-    let ready = IsReady-same old new geo from read.lnum (offs_behind geo (log_of read).ends) number read.buds.items r.ring
-    (λ k in_log. record { holds = keeps.holds k; written = keeps.written k; left = λ c. (keeps.left k c).0; mapped = λ c. (keeps.left_mapped k c).0 })
-    (subst P e (IsReadyIn-opens contents old geo from number log r.geometry r.ring found h)) in
-    (sym e, ready, λ size unit. at_still old new (opened_at geo from (log_of read).ends) r.shape keeps (subst A e (IsReadyIn-at contents old geo from number log r.geometry r.ring lebs size unit r.long found h)))
+    let e = one old.holds geo from log (log_of read) r.ring r.bytes held.ready.is_log is in
+    let A : Log → Type 0 = λ l. IsAt old (opened_at geo from l.ends) in (
+      sym e,
+      λ next most.
+          let P : Log → Type 0 = λ l. IsReady old geo from l.ends.lnum (offs_behind geo l.ends) next l.buds in
+          let N : Log → Type 0 = λ l. (number ≤ next) ⊎ (l.sqnum ≤ next) in
+          IsReady-same old new geo from read.lnum (offs_behind geo (log_of read).ends) next read.buds.items r.ring
+          (λ k in_log. record { holds = keeps.holds k; written = keeps.written k; left = λ c. (keeps.left k c).0; mapped = λ c. (keeps.left_mapped k c).0 })
+          (subst P e (IsHeldLog-opens old geo from next log r.geometry (IsHeldLog-next old geo from number next log (subst N (sym e) most) held))),
+      λ size unit is_open. at_still old new (opened_at geo from (log_of read).ends) r.shape keeps (subst A e (IsHeldLog-at old geo from number log r.geometry r.ring lebs size unit r.long held is_open)),
+    )
 
 -- whatever is answered
 pub opens_result : OneLog → (old new : VolumeState) (geo : RawGeometry) (from : ℕ) (result : Result LogRead AreaFault) → IsReading old new geo from → IfOk result (λ (read : LogRead). IsLog old.holds geo from (log_of read)) → IfOk result (OpensReady old new geo from)

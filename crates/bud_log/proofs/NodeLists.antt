@@ -1,12 +1,13 @@
 -- Nodes that were gone over, and another behind them.
-use Rattle.std.proofs.Common.{◌≡◌, ℕ, Bool, true, false, ◌==◌, ◌&&◌, not, Option, None, List, [], ◌∷◌, ◌++◌, refl, ap, sym, ◌∙◌, append-nil}
+use Rattle.std.proofs.Common.{◌≡◌, ℕ, Bool, true, false, ◌==◌, ◌&&◌, not, Option, None, List, [], ◌∷◌, ◌++◌, max, refl, ap, sym, ◌∙◌, append-nil}
 use Rattle.std.proofs.lemmas.List.Elements.{filter-append}
+use Rattle.std.proofs.lemmas.List.Sums.{fold-append}
 use Rattle.ubifs_base.specs.NodeType.{type_number}
 use Rattle.leb_scan.specs.declared.found.Found.{Found}
 use Rattle.leb_scan.specs.declared.tail.Tail.{Tail}
 use Rattle.leb_scan.specs.Text.{IsLast, tail_at}
 use Rattle.leb_scan.specs.Gathered.{IsGathered, gathered_end}
-use Rattle.bud_log.specs.LogText.{first_of, at_start, begins_with, others, is_one_start, is_start_alone}
+use Rattle.bud_log.specs.LogText.{first_of, at_start, begins_with, others, greatest_found, is_one_start, is_start_alone}
 use Rattle.bud_log.specs.Seen.{earlier_of, IsSeen}
 
 pub first_behind : (nodes : List Found) (found : Found) → first_of (nodes ++ found ∷ []) ≡ earlier_of (first_of nodes) found
@@ -34,42 +35,51 @@ others_padding nodes found is = filter-append (λ (f : Found). not (type_number 
 pub others_more : (nodes : List Found) (found : Found) → (type_number found.kind == 5) ≡ false → others (nodes ++ found ∷ []) ≡ others nodes ++ found ∷ []
 others_more nodes found is = filter-append (λ (f : Found). not (type_number f.kind == 5)) nodes (found ∷ []) ∙ (rw is refl)
 
+-- a node more
+greatest_behind : (nodes : List Found) (found : Found) (sqnum next : ℕ) → sqnum ≡ greatest_found nodes → next ≡ max sqnum found.sqnum → next ≡ greatest_found (nodes ++ found ∷ [])
+greatest_behind nodes found sqnum next now next_is = next_is ∙ ap (λ (n : ℕ). max n found.sqnum) now ∙ sym (fold-append (λ n (f : Found). max n f.sqnum) 0 nodes (found ∷ []))
+
 -- what the loop over a text keeps
-pub record IsSoFar (nodes : List Found) (first : Option Found) (empty alone : Bool) : Type 0 where
+pub record IsSoFar (nodes : List Found) (first : Option Found) (empty alone : Bool) (sqnum : ℕ) : Type 0 where
   pub first_is : first ≡ first_of nodes
   pub empty_is : empty ≡ is_none (others nodes)
   pub alone_is : alone ≡ is_start_alone nodes
+  pub sqnum_is : sqnum ≡ greatest_found nodes
 
-pub so_far_none : IsSoFar [] None true false
-so_far_none = record { first_is = refl; empty_is = refl; alone_is = refl }
+pub so_far_none : IsSoFar [] None true false 0
+so_far_none = record { first_is = refl; empty_is = refl; alone_is = refl; sqnum_is = refl }
 
-pub so_far_padding : (nodes : List Found) (first next : Option Found) (empty alone : Bool) (found : Found) → IsSoFar nodes first empty alone → next ≡ earlier_of first found → (type_number found.kind == 5) ≡ true → IsSoFar (nodes ++ found ∷ []) next empty alone
-so_far_padding nodes first next empty alone found h next_is is =
+pub so_far_padding : (nodes : List Found) (first next : Option Found) (empty alone : Bool) (sqnum greater : ℕ) (found : Found) → IsSoFar nodes first empty alone sqnum → next ≡ earlier_of first found → greater ≡ max sqnum found.sqnum → (type_number found.kind == 5) ≡ true
+    → IsSoFar (nodes ++ found ∷ []) next empty alone greater
+so_far_padding nodes first next empty alone sqnum greater found h next_is greater_is is =
     let same = sym (others_padding nodes found is) in
     record {
       first_is = next_is ∙ ap (λ (o : Option Found). earlier_of o found) h.first_is ∙ sym (first_behind nodes found);
       empty_is = h.empty_is ∙ ap is_none same;
       alone_is = h.alone_is ∙ ap is_one_start same;
+      sqnum_is = greatest_behind nodes found sqnum greater h.sqnum_is greater_is;
     }
 
-pub so_far_more : (nodes : List Found) (first next : Option Found) (empty alone now : Bool) (found : Found) → IsSoFar nodes first empty alone → next ≡ earlier_of first found → (type_number found.kind == 5) ≡ false
-    → now ≡ (empty && type_number found.kind == 10) → IsSoFar (nodes ++ found ∷ []) next false now
-so_far_more nodes first next empty alone now found h next_is is now_is =
+pub so_far_more : (nodes : List Found) (first next : Option Found) (empty alone now : Bool) (sqnum greater : ℕ) (found : Found) → IsSoFar nodes first empty alone sqnum → next ≡ earlier_of first found → greater ≡ max sqnum found.sqnum → (type_number found.kind == 5) ≡ false
+    → now ≡ (empty && type_number found.kind == 10) → IsSoFar (nodes ++ found ∷ []) next false now greater
+so_far_more nodes first next empty alone now sqnum greater found h next_is greater_is is now_is =
     let same = sym (others_more nodes found is) in
     record {
       first_is = next_is ∙ ap (λ (o : Option Found). earlier_of o found) h.first_is ∙ sym (first_behind nodes found);
       empty_is = sym (none_behind (others nodes) found) ∙ ap is_none same;
       alone_is = now_is ∙ ap (λ (b : Bool). b && type_number found.kind == 10) h.empty_is ∙ sym (one_start_behind (others nodes) found) ∙ ap is_one_start same;
+      sqnum_is = greatest_behind nodes found sqnum greater h.sqnum_is greater_is;
     }
 
 -- at the end of the text
-pub seen_all : (leb : List ℕ) (place end there : ℕ) (nodes : List Found) (tail : Tail) (first begins : Option Found) (empty alone : Bool) → IsGathered leb 0 place nodes → IsSoFar nodes first empty alone
-    → IsLast leb place end (tail_at leb end) → there ≡ end → tail ≡ tail_at leb end → begins ≡ at_start first → IsSeen leb (record { begins = begins; alone = alone; offs = there; tail = tail })
-seen_all leb place end there nodes tail first begins empty alone gathered h last there_is tail_is begins_is =
+pub seen_all : (leb : List ℕ) (place end there : ℕ) (nodes : List Found) (tail : Tail) (first begins : Option Found) (empty alone : Bool) (sqnum : ℕ) → IsGathered leb 0 place nodes → IsSoFar nodes first empty alone sqnum
+    → IsLast leb place end (tail_at leb end) → there ≡ end → tail ≡ tail_at leb end → begins ≡ at_start first → IsSeen leb (record { begins = begins; alone = alone; sqnum = sqnum; offs = there; tail = tail })
+seen_all leb place end there nodes tail first begins empty alone sqnum gathered h last there_is tail_is begins_is =
     let text = gathered_end leb 0 place end there nodes tail gathered last there_is tail_is in
     record {
       items = text.0;
       is_text = text.1;
       begins = begins_is ∙ ap at_start h.first_is ∙ ap begins_with text.2;
       alone = h.alone_is ∙ ap is_start_alone text.2;
+      sqnum = h.sqnum_is ∙ ap greatest_found text.2;
     }

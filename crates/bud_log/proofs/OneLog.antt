@@ -8,7 +8,7 @@ use Rattle.media_sys.specs.declared.ref_node.RefNode.{RefNode}
 use Rattle.leb_scan.specs.Text.{nodes_of}
 use Rattle.leb_scan.specs.declared.found.Found.{Found}
 use Rattle.bud_log.specs.Buds.{buds_of}
-use Rattle.bud_log.specs.Log.{IsLogLeb, next_leb, Run, Stops, AreFurther, references_of, end_of, IsLog, Log}
+use Rattle.bud_log.specs.Log.{IsLogLeb, next_leb, Run, Stops, AreFurther, references_of, greatest_of, end_of, IsLog, Log}
 use Rattle.bud_log.specs.LogLaws.{next_in}
 use Rattle.bud_log.specs.LogText.{LogText, Refer, IsTextOf, begins_with, start_of, BeginsCommit, is_later}
 use Rattle.bud_log.specs.declared.head_at.HeadAt.{HeadAt}
@@ -63,11 +63,11 @@ one_further : OneText → OneNode → (contents : ℕ → List ℕ) (geo : RawGe
 one_further one one_node contents geo from None a b f fits h k = h ∙ sym k
 one_further one one_node contents geo from (Some number) a b f fits (p, h, s) (q, k, t) = one_run one one_node contents geo from number (next_leb geo from) p q a b (next_in geo from f) fits h s k t
 
-log_same : (c1 c2 : Option ℕ) (b1 b2 : List HeadAt) (e1 e2 : LogEnd) → c1 ≡ c2 → b1 ≡ b2 → e1 ≡ e2
-    → let a : Log = record { commit = c1; buds = b1; ends = e1 } in
-    let b : Log = record { commit = c2; buds = b2; ends = e2 } in
+log_same : (c1 c2 : Option ℕ) (b1 b2 : List HeadAt) (s1 s2 : ℕ) (e1 e2 : LogEnd) → c1 ≡ c2 → b1 ≡ b2 → s1 ≡ s2 → e1 ≡ e2
+    → let a : Log = record { commit = c1; buds = b1; sqnum = s1; ends = e1 } in
+    let b : Log = record { commit = c2; buds = b2; sqnum = s2; ends = e2 } in
     a ≡ b
-log_same c1 c2 b1 b2 e1 e2 c b e = rw (c, b, e) refl
+log_same c1 c2 b1 b2 s1 s2 e1 e2 c b s e = rw (c, b, s, e) refl
 
 pub one_log_of : OneText → OneNode → (contents : ℕ → List ℕ) (geo : RawGeometry) (from : ℕ) (a b : Log) → IsLogLeb geo from → ((k : ℕ) → IsLogLeb geo k → IsBytes (contents k)) → IsLog contents geo from a → IsLog contents geo from b → a ≡ b
 one_log_of one one_node contents geo from a b f fits h k =
@@ -76,6 +76,7 @@ one_log_of one one_node contents geo from a b f fits h k =
     let more = one_further one one_node contents geo from (start_of (begins_with k.first.nodes)) h.more k.more f fits (subst P first h.are_further) k.are_further in
     let Q : LogText → Type 0 = λ t. BeginsCommit (contents from) (begins_with t.nodes) a.commit in
     let commit = one_commit one_node (contents from) (fits from f) (begins_with k.first.nodes) a.commit b.commit (subst Q first h.commit) k.commit in
-    log_same a.commit b.commit a.buds b.buds a.ends b.ends commit
+    log_same a.commit b.commit a.buds b.buds a.sqnum b.sqnum a.ends b.ends commit
     (h.buds ∙ ap (λ (t : LogText). buds_of (references_of (t ∷ h.more))) first ∙ ap (λ (ts : List LogText). buds_of (references_of (k.first ∷ ts))) more ∙ sym k.buds)
+    (h.sqnum ∙ ap (λ (t : LogText). greatest_of 0 (t ∷ h.more)) first ∙ ap (λ (ts : List LogText). greatest_of 0 (k.first ∷ ts)) more ∙ sym k.sqnum)
     (h.ends ∙ ap (λ (t : LogText). end_of t.ends h.more) first ∙ ap (λ (ts : List LogText). end_of k.first.ends ts) more ∙ sym k.ends)

@@ -21,9 +21,10 @@ use Rattle.bud_log.specs.LogCalls.{IsBegun, IsAdded, AddDuring, OpenUnderWay, St
 use Rattle.bud_log.specs.LogText.{LogText, IsTextOf}
 use Rattle.bud_log.specs.Writing.{references_in, AreSpelled, AreNodes, laid, IsAmong, IsOlder, IsChain, last_end, GoesOn, IsReady, IsMeant, IsOldOrMeant}
 use Rattle.bud_log.specs.AfterCut.{IsLeftReady, IsLeftOpened, IsLeftStarted, lebs_to}
-use Rattle.bud_log.specs.AfterCutLaws.{goes_lnum, IsReady-left, IsReadyIn-later}
+use Rattle.bud_log.specs.AfterCutLaws.{IsReady-left, IsReadyIn-later}
 use Rattle.bud_log.specs.declared.head_at.HeadAt.{HeadAt}
 use Rattle.bud_log.specs.declared.log_end.LogEnd.{LogEnd}
+use Rattle.bud_log.specs.HeldLaws.{IsReady-past}
 use Rattle.bud_log.specs.LogLaws.{blank-older, among_log}
 use Rattle.bud_log.proofs.Appended.{IsLeftFirst, ready_works, here_first}
 use Rattle.bud_log.proofs.Laid.{AreLaid, laid_there}
@@ -34,15 +35,6 @@ use Rattle.bud_log.specs.References.{OneNode}
 -- an unwritten LEB begins with no node
 pub blank_older : (start lnum size : ℕ) → IsOlder start lnum (filled size [])
 blank_older start lnum size = blank-older start lnum (filled size []) (blank_replicate (size - 0))
-
--- the LEB behind a chain is the next one
-run_past : (c : ℕ → List ℕ) (geo : RawGeometry) (from number l past lnum : ℕ) (first : LogEnd) (texts : List LogText) → Run c geo from number l texts past → l ≡ next_leb geo first.lnum → (last_end first texts).lnum ≡ lnum
-    → past ≡ next_leb geo lnum
-run_past c geo from number l past lnum first [] h e last = sym h ∙ e ∙ ap (next_leb geo) last
-run_past c geo from number l past lnum first (text ∷ texts) h e last = run_past c geo from number (next_leb geo l) past lnum text.ends texts h.3 (ap (next_leb geo) (sym h.1.here)) last
-
-pub past_is : (a : VolumeState) (geo : RawGeometry) (from lnum offs number : ℕ) (buds : List HeadAt) (h : IsReady a geo from lnum offs number buds) → h.past ≡ next_leb geo lnum
-past_is a geo from lnum offs number buds h = run_past a.holds geo from h.start (next_leb geo from) h.past lnum h.first.ends h.more h.chain.run (ap (next_leb geo) (sym h.chain.is_first.here)) (goes_lnum geo (last_end h.first.ends h.more) lnum offs h.last)
 
 -- the last text
 run_end : (c : ℕ → List ℕ) (geo : RawGeometry) (from number l past : ℕ) (text : LogText) (texts : List LogText) (old : LogEnd) → Run c geo from number l (text ∷ texts) past → last_end text.ends texts ≡ old
@@ -140,7 +132,7 @@ added_ready true a b at from number next buds node nodes bytes h f roomy free la
     (front.0 ∙ ap (take at.offs) (sym w.holds)) (front.1 ∙ ap length (sym w.holds)) laid
 added_ready false a b at from number next buds node nodes bytes h f roomy free later sub w works are size room even =
     let there = next_leb at.geo at.lnum in
-    let e : h.past ≡ there = past_is a at.geo from at.lnum at.offs number buds h in
+    let e : h.past ≡ there = IsReady-past a at.geo from at.lnum at.offs number buds h in
     let laid = begun_laid a b there number bytes (node ∷ nodes) w are room in
     let B : ℕ → Type 0 = λ n. IsBegun a b n bytes in
     let N : ℕ → Type 0 = λ n. n ≢ from in
@@ -163,7 +155,7 @@ added_first one true a at from number n buds node nodes x other h f roomy free s
     let here : WriteUnderWay a at.lnum at.offs n (x at.lnum) = elim there [ inl now ↦ inl now | inr w ↦ w ] in
     here_first one a at.geo from at.lnum at.offs number n buds node nodes h x (other refl) (clean_end at (last_end h.first.ends h.more) (roomy refl) h.last) f (sub at.lnum) spelled others here meant
 added_first one false a at from number n buds node nodes x other h f roomy free sub spelled others there (inr meant) =
-    let e : h.past ≡ next_leb at.geo at.lnum = past_is a at.geo from at.lnum at.offs number buds h in
+    let e : h.past ≡ next_leb at.geo at.lnum = IsReady-past a at.geo from at.lnum at.offs number buds h in
     let N : ℕ → Type 0 = λ m. m ≢ from in
     let O : ℕ → Type 0 = λ m. (k : ℕ) → IsLogLeb at.geo k → k ≢ m → a.left_now k (x k) in
     let M : ℕ → Type 0 = λ m. IsMeant number 0 (node ∷ nodes) (x m) in

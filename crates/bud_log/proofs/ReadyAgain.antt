@@ -22,9 +22,10 @@ use Rattle.bud_log.proofs.Appended.{IsQuiet, IsLeftFirst, quiet_ready, end_among
 use Rattle.bud_log.specs.AfterCut.{IsLeftReady, lebs_to}
 use Rattle.bud_log.specs.AfterCutLaws.{older_ready, chain_ready, goes_lnum, lebs_same}
 use Rattle.bud_log.specs.RingRuns.{last_of, end_then}
-use Rattle.bud_log.specs.Chains.{past_free, chain_more, last_first, last_more, Grows, chain_grown, references_grown, last_end_grown, among_grown, buds_behind, references_added, last_end_added, among_added}
+use Rattle.bud_log.specs.Chains.{past_free, chain_more, last_first, last_more, Growth, Grows, chain_grown, references_grown, last_end_grown, among_grown, buds_behind, references_added, last_end_added, among_added}
 use Rattle.bud_log.specs.Grown.{grown, grown_text}
 use Rattle.bud_log.proofs.Laid.{AreLaid, FirstStands}
+use Rattle.bud_log.specs.LogAnswers.{StartsWith}
 use Rattle.bud_log.specs.Below.{below_last, below_grown}
 use Rattle.bud_log.proofs.Parts.{FirstIs, part_begins}
 use Rattle.bud_log.specs.References.{OneNode, some_references}
@@ -41,7 +42,8 @@ ready_here a b geo from lnum offs number next end len buds nodes bytes h clean f
     let ends : LogEnd = record { lnum = lnum; offs = end; tail = Clean } in
     let found = nodes_of laid.items in
     let references = references_in nodes in
-    let grows : Grows a.holds b.holds old found references ends = λ text is e.
+    let growth : Growth = record { before = a.holds; after = b.holds; behind = old; nodes = found; references = references; ends = ends } in
+    let grows : Grows growth = λ text is e.
     let E : LogEnd → Type 0 = λ z. take z.offs (a.holds lnum) ≡ take z.offs (b.holds lnum) in
     let F : LogEnd → Type 0 = λ z. IsText (b.holds lnum) z.offs laid.items end Clean in
     grown (a.holds lnum) (b.holds lnum) lnum end Clean text laid.items references is (subst E (sym e) front) long (subst F (sym e) laid.is_text) laid.refer in
@@ -53,7 +55,7 @@ ready_here a b geo from lnum offs number next end len buds nodes bytes h clean f
       first = last_first g h.first h.more;
       more = last_more g h.more;
       past = h.past;
-      chain = chain_grown a.holds b.holds geo from h.start h.past h.first h.more found references old ends f h.chain clean (λ k ne is. sym (works.others k ne)) grows;
+      chain = chain_grown growth geo from h.start h.past h.first h.more f h.chain clean (λ k ne is. sym (works.others k ne)) grows;
       low = omega (arith, low, later);
       below = below_more number next (last_first g h.first h.more ∷ last_more g h.more) later (below_grown a.holds geo from h.start h.past number h.first h.more found references ends h.chain h.below);
       buds_are = ap (λ (bs : List HeadAt). fold named bs references) h.buds_are ∙ sym (buds_behind (references_of all) references) ∙ ap buds_of (sym (references_grown h.first h.more found references ends));
@@ -131,6 +133,14 @@ starts_commit leb lnum end number nodes start laid = (
   record { nodes = nodes_of laid.items; references = references_in (commit_start start ∷ nodes); ends = record { lnum = lnum; offs = end; tail = Clean } },
   laid_text leb lnum end number (commit_start start ∷ nodes) laid,
   begins_commit leb number nodes start (nodes_of laid.items) laid.first laid.stands,
+)
+
+-- with the first number
+pub starts_with : (leb : List ℕ) (lnum end number : ℕ) (nodes : List SystemNode) (start : CommitStart) → AreLaid leb 0 end number (commit_start start ∷ nodes) → StartsWith leb lnum (number + 1)
+starts_with leb lnum end number nodes start laid = (
+  record { nodes = nodes_of laid.items; references = references_in (commit_start start ∷ nodes); ends = record { lnum = lnum; offs = end; tail = Clean } },
+  laid_text leb lnum end number (commit_start start ∷ nodes) laid,
+  starts_there number nodes start (nodes_of laid.items) laid.first,
 )
 
 -- nodes at the start of the next LEB, which was unmapped

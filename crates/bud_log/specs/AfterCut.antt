@@ -67,12 +67,27 @@ pub record IsFoundLog (contents : ℕ → List ℕ) (geo : RawGeometry) (state :
   pub written : (k : ℕ) → IsLogLeb geo k → IsWrittenPart state.min_io (state.holds k) (state.written k)
   pub left : (k : ℕ) → IsLogLeb geo k → Only (state.holds k) (state.left_now k)
 
--- If the log's LEBs were found after a cut that left such a log, what is read is that log. Once it is opened it is ready for its next node,
--- and nothing is written where it goes on.
+-- The volume holds this log as whoever mounts it may write on. A cut leaves the LEBs that are read as they are. Whatever it leaves of the
+-- ring's other LEBs begins with no number above the commit start's, also where it undoes an unmapping.
+pub record IsHeldLog (state : VolumeState) (geo : RawGeometry) (from number : ℕ) (log : Log) : Type 0 where
+  pub ready : IsReadyIn state.holds geo from number log
+  pub settled : (k : ℕ) → IsAmong k (ready.is_log.first ∷ ready.is_log.more) → Only (state.holds k) (state.left_now k)
+  pub spare : (k : ℕ) (leb : List ℕ) → IsLogLeb geo k → (IsAmong k (ready.is_log.first ∷ ready.is_log.more) → ⊥) → state.left_now k leb → IsOlder ready.start k leb
+
+-- of this LEB a cut leaves what it holds and nothing else, or nothing that begins with a number above this one
+abbrev pub HasNothingNewer : VolumeState → ℕ → ℕ → Type 0
+HasNothingNewer state number lnum = Only (state.holds lnum) (state.left_now lnum) ⊎ ((leb : List ℕ) → state.left_now lnum leb → IsOlder number lnum leb)
+
+-- nothing counts as written where a log goes on that ends here
+abbrev pub IsOpenBehind : VolumeState → RawGeometry → LogEnd → Type 0
+IsOpenBehind state geo ends = state.written ends.lnum ≤ offs_behind geo ends
+
+-- If the volume holds such a log, after a cut or behind an unmount, that log is what is read. Once it is opened it is ready for its next
+-- node, with any number above the greatest that was read; and a call may write where it goes on, if nothing counts as written there.
 abbrev pub OpensReady : VolumeState → VolumeState → RawGeometry → ℕ → LogRead → Type 0
 OpensReady old new geo from read =
-    (contents : ℕ → List ℕ) (number : ℕ) (log : Log) → IsFoundLog contents geo old → IsReadyIn contents geo from number log
+    (number : ℕ) (log : Log) → IsHeldLog old geo from number log
     → let at : LogAt = opened_at geo from (log_of read).ends in
     (log_of read ≡ log)
-    × IsReady new geo from at.lnum at.offs number read.buds.items
-    × ((geo.leb_size ≡ old.leb_size) → (geo.min_io ≡ old.min_io) → IsAt new at)
+    × ((next : ℕ) → (number ≤ next) ⊎ (read.sqnum ≤ next) → IsReady new geo from at.lnum at.offs next read.buds.items)
+    × ((geo.leb_size ≡ old.leb_size) → (geo.min_io ≡ old.min_io) → IsOpenBehind old geo log.ends → IsAt new at)

@@ -1,15 +1,15 @@
 -- Laws of what a power cut leaves of a log.
-use Rattle.std.proofs.Common.{◌≡◌, ◌⊎◌, inl, inr, ℕ, ◌+◌, ◌-◌, ◌%◌, ◌<◌, ◌≤◌, nat_le, Bool, false, List, [], ◌∷◌, ◌++◌, Option, Some, None, refl, ap, sym, ◌∙◌, subst, arith, append-nil}
-use Rattle.std.specs.Prelude.{◌≢◌, ◌==◌, if◌then◌else◌, IsTrue, IsFalse}
-use Rattle.std.proofs.lemmas.Bool.{cases_eq, cases_Bool, lt-leb, ltb-false}
-use Rattle.std.proofs.Math.Nat.{mod-lt}
+use Rattle.std.proofs.Common.{◌≡◌, ◌⊎◌, inl, inr, ℕ, ◌+◌, ◌-◌, ◌%◌, ◌<◌, ◌≤◌, nat_le, Bool, true, false, max, List, [], ◌∷◌, ◌++◌, Option, Some, None, refl, ap, sym, ◌∙◌, subst, arith, append-nil}
+use Rattle.std.specs.Prelude.{◌≢◌, ◌==◌, if◌then◌else◌, IsTrue, IsFalse, fold}
+use Rattle.std.proofs.lemmas.Bool.{cases_eq, cases_Bool, lt-leb, ltb-false, le-ltb}
+use Rattle.std.proofs.Math.Nat.{mod-lt, le-max_left, le-max_right}
 use Rattle.std.proofs.lemmas.Nat.{div-add-mod'}
 use Rattle.ubifs_base.specs.Areas.{lpt_first}
 use Rattle.ubifs_base.specs.Geometry.{IsGeometry}
 use Rattle.ubifs_base.specs.NodeType.{type_number}
 use Rattle.ubifs_base.specs.declared.node_type.NodeType.TheVariants as types
 use Rattle.ubifs_base.specs.declared.raw_geometry.RawGeometry.{RawGeometry}
-use Rattle.ubi_volume.specs.Volume.{VolumeState}
+use Rattle.ubi_volume.specs.Volume.{VolumeState, Only}
 use Rattle.ubi_volume.specs.Frame.{IsSameLeb}
 use Rattle.ubi_volume.specs.Loading.{IsFound, IsWrittenPart}
 use Rattle.ubi_volume.specs.MemVolume.{without_fail}
@@ -17,14 +17,14 @@ use Rattle.media_sys.specs.declared.ref_node.RefNode.{RefNode}
 use Rattle.leb_scan.specs.declared.found.Found.{Found}
 use Rattle.leb_scan.specs.declared.tail.Tail.{Tail}
 use Rattle.leb_scan.specs.declared.tail.Tail.TheVariants.{Clean, Torn}
-use Rattle.bud_log.specs.AfterCut.{IsReadyIn, IsLeftReady, IsFoundLog, lebs_to, offs_behind}
+use Rattle.bud_log.specs.AfterCut.{IsReadyIn, IsLeftReady, IsFoundLog, IsHeldLog, IsOpenBehind, HasNothingNewer, lebs_to, offs_behind}
 use Rattle.bud_log.specs.Below.{below_last}
 use Rattle.bud_log.specs.Buds.{buds_of}
 use Rattle.bud_log.specs.Chains.{past_free, chain_past, chain_more, among_added, references_added}
-use Rattle.bud_log.specs.Log.{Log, IsLog, IsLogLeb, next_leb, Run, Stops, AreFurther, references_of, end_of}
-use Rattle.bud_log.specs.LogAt.{room_of, steps_to}
-use Rattle.bud_log.specs.LogLaws.{next_in, among_log, among_or, chain_alike, below_more}
-use Rattle.bud_log.specs.LogText.{LogText, IsTextOf, begins_with, start_of, is_later, is_start_alone}
+use Rattle.bud_log.specs.Log.{Log, IsLog, IsLogLeb, next_leb, Run, Stops, AreFurther, references_of, greatest_of, end_of}
+use Rattle.bud_log.specs.LogAt.{LogAt, IsAt, room_of, steps_to}
+use Rattle.bud_log.specs.LogLaws.{further_same, among_log, among_or, chain_alike, below_more}
+use Rattle.bud_log.specs.LogText.{LogText, IsTextOf, begins_with, start_of, BeginsCommit, is_later, greatest_found, is_start_alone}
 use Rattle.bud_log.specs.References.{text_begins, some_commit, lone_references}
 use Rattle.bud_log.specs.RingSteps.{end_near, end_alone}
 use Rattle.bud_log.specs.Writing.{IsAmong, IsOlder, IsPassedOver, AreBelow, last_end, IsChain, GoesOn, IsReady}
@@ -38,8 +38,8 @@ older_ready x geo from start number past most first more f h low below older nea
     let P : Option ℕ → Type 0 = λ o. AreFurther x geo from o more in
     let commit = some_commit (x from) (begins_with first.nodes) (text_begins (x from) from first h.is_first) in
     let stops : Stops x from start past = elim (cases_eq past from) [ inl same ↦ inl same | inr ne ↦ inr (older past (chain_past x geo from start past first more f h) (past_free x geo from start past first more f h ne)) ] in
-    let log : Log = record { commit = commit.0; buds = buds_of (references_of (first ∷ more)); ends = end_of first.ends more } in
-    let is_log : IsLog x geo from log = record { first = first; more = more; is_first = h.is_first; commit = commit.1; are_further = subst P (sym h.starts) (past, h.run, stops); buds = refl; ends = refl } in
+    let log : Log = record { commit = commit.0; buds = buds_of (references_of (first ∷ more)); sqnum = greatest_of 0 (first ∷ more); ends = end_of first.ends more } in
+    let is_log : IsLog x geo from log = record { first = first; more = more; is_first = h.is_first; commit = commit.1; are_further = subst P (sym h.starts) (past, h.run, stops); buds = refl; sqnum = refl; ends = refl } in
     (log, record { is_log = is_log; start = start; starts = h.starts; low = low; below = below; spare = older }, refl, near)
 
 -- where the LEB behind them is older
@@ -135,10 +135,11 @@ record IsTold (c : ℕ → List ℕ) (geo : RawGeometry) (from start number lnum
   last : last_end before told ≡ end_of before texts
   references : references_of told ≡ references_of texts
   below : AreBelow number told
+  among : (k : ℕ) → IsAmong k told → IsAmong k texts
   left_out : (k : ℕ) → IsAmong k texts → IsAmong k told ⊎ ((k ≡ past) × (text : LogText) × IsTextOf (c k) k text × IsTrue (is_start_alone text.nodes) × IsFalse (is_later number (begins_with text.nodes)))
 
 told_all : (c : ℕ → List ℕ) (geo : RawGeometry) (from start number lnum past : ℕ) (before : LogEnd) (texts : List LogText) → Run c geo from start lnum texts past → AreBelow number texts → last_end before texts ≡ end_of before texts → IsTold c geo from start number lnum before texts
-told_all c geo from start number lnum past before texts run below last = record { told = texts; past = past; run = run; last = last; references = refl; below = below; left_out = λ k there. inl there }
+told_all c geo from start number lnum past before texts run below last = record { told = texts; past = past; run = run; last = last; references = refl; below = below; among = λ k there. there; left_out = λ k there. inl there }
 
 told_of : (c : ℕ → List ℕ) (geo : RawGeometry) (from start number lnum past : ℕ) (before : LogEnd) (texts : List LogText) → Run c geo from start lnum texts past → AreBelow number texts → IsTold c geo from start number lnum before texts
 told_of c geo from start number lnum past before [] run below = told_all c geo from start number lnum past before [] run below refl
@@ -154,6 +155,7 @@ told_of c geo from start number lnum past before (text ∷ []) run below = elim 
         last = subst E (sym alone) refl;
         references = sym none ∙ sym (append-nil text.references);
         below = tt;
+        among = λ k none. absurd none;
         left_out = λ k there. elim there [ inl same ↦ inr (same ∙ run.1.here, text, subst P (sym (same ∙ run.1.here)) run.1, alone, below.0) | inr none ↦ absurd none ];
       }
   | inr other ↦
@@ -169,6 +171,7 @@ told_of c geo from start number lnum past before (text ∷ (other ∷ more)) run
       last = rest.last;
       references = ap (λ (r : List RefNode). text.references ++ r) rest.references;
       below = (below.0, rest.below);
+      among = λ k there. elim there [ inl same ↦ inl same | inr behind ↦ inr (rest.among k behind) ];
       left_out = λ k there. elim there [ inl same ↦ inl (inl same) | inr behind ↦ elim (rest.left_out k behind) [ inl told ↦ inl (inr told) | inr out ↦ inr out ] ];
     }
 
@@ -191,32 +194,32 @@ goes_if geo lnum offs Clean some =
 pub goes_behind : (geo : RawGeometry) (ends : LogEnd) → 8 ≤ geo.min_io → GoesOn geo ends ends.lnum (offs_behind geo ends)
 goes_behind geo ends some = goes_if geo ends.lnum ends.offs ends.tail some
 
-told_opens : (c : ℕ → List ℕ) (state : VolumeState) (geo : RawGeometry) (from number past : ℕ) (log : Log) (h : IsReadyIn c geo from number log) (told : IsTold c geo from h.start number (next_leb geo from) h.is_log.first.ends h.is_log.more) → 8 ≤ geo.min_io → IsLogLeb geo from
-    → ((k : ℕ) → IsLogLeb geo k → state.holds k ≡ c k) → ((k : ℕ) → IsLogLeb geo k → (leb : List ℕ) → state.left_now k leb → leb ≡ state.holds k) → IsReady state geo from log.ends.lnum (offs_behind geo log.ends) number log.buds
-told_opens c state geo from number past log h told some f holds only =
+told_opens : (state : VolumeState) (geo : RawGeometry) (from number : ℕ) (log : Log) (held : IsHeldLog state geo from number log)
+    (told : IsTold state.holds geo from held.ready.start number (next_leb geo from) held.ready.is_log.first.ends held.ready.is_log.more) → 8 ≤ geo.min_io → IsReady state geo from log.ends.lnum (offs_behind geo log.ends) number log.buds
+told_opens state geo from number log held told some =
+    let h = held.ready in
     let first = h.is_log.first in
     let all : List LogText = first ∷ told.told in
-    let chain : IsChain c geo from h.start first told.told told.past = record { is_first = h.is_log.is_first; starts = h.starts; run = told.run } in
     let G : LogEnd → Type 0 = λ e. GoesOn geo e log.ends.lnum (offs_behind geo log.ends) in
     record {
       start = h.start;
       first = first;
       more = told.told;
       past = told.past;
-      chain = chain_alike c state.holds geo from h.start told.past first told.told (λ k there. sym (holds k (among_log c geo from h.start told.past k first told.told f chain there))) chain;
+      chain = record { is_first = h.is_log.is_first; starts = h.starts; run = told.run };
       low = h.low;
       below = (h.below.0, told.below);
       buds_are = h.is_log.buds ∙ ap (λ (r : List RefNode). buds_of (first.references ++ r)) (sym told.references);
       last = subst G (sym (told.last ∙ sym h.is_log.ends)) (goes_behind geo log.ends some);
-      settled = λ k there leb left. only k (among_log c geo from h.start told.past k first told.told f chain there) leb left;
-      spare = λ k leb is none left.
-          let same : leb ≡ c k = only k is leb left ∙ holds k is in
-          let P : List ℕ → Type 0 = λ bytes. IsPassedOver h.start number told.past k bytes in
-          subst P (sym same) (elim (among_or k (first ∷ h.is_log.more)) [
-            | inl (inl same_first) ↦ absurd (none (inl same_first))
-            | inl (inr among) ↦ elim (told.left_out k among) [ inl there ↦ absurd (none (inr there)) | inr out ↦ inr out ]
-            | inr outside ↦ inl (h.spare k is outside)
-          ]);
+      settled = λ k there. held.settled k (elim there [ inl same ↦ inl same | inr further ↦ inr (told.among k further) ]);
+      spare = λ k leb is none left. elim (among_or k (first ∷ h.is_log.more)) [
+        | inl (inl same) ↦ absurd (none (inl same))
+        | inl (inr among) ↦ elim (told.left_out k among) [
+          | inl there ↦ absurd (none (inr there))
+          | inr out ↦ let P : List ℕ → Type 0 = λ bytes. IsPassedOver h.start number told.past k bytes in subst P (sym (held.settled k (inr among) leb left)) (inr out)
+        ]
+        | inr outside ↦ inl (held.spare k leb is outside left)
+      ];
     }
 
 pub further_run : (c : ℕ → List ℕ) (geo : RawGeometry) (from start : ℕ) (o : Option ℕ) (more : List LogText) → o ≡ Some start → AreFurther c geo from o more → (past : ℕ) × Run c geo from start (next_leb geo from) more past
@@ -226,12 +229,147 @@ further_run c geo from start (Some n) more e h =
     let P : ℕ → Type 0 = λ s. Run c geo from s (next_leb geo from) more h.0 in
     (h.0, subst P same h.1)
 
-pub IsReadyIn-opens : (contents : ℕ → List ℕ) (state : VolumeState) (geo : RawGeometry) (from number : ℕ) (log : Log) → IsGeometry geo → IsLogLeb geo from → IsFoundLog contents geo state → IsReadyIn contents geo from number log
-    → IsReady state geo from log.ends.lnum (offs_behind geo log.ends) number log.buds
-IsReadyIn-opens contents state geo from number log geometry f found h =
-    let run = further_run contents geo from h.start (start_of (begins_with h.is_log.first.nodes)) h.is_log.more h.starts h.is_log.are_further in
-    let told = told_of contents geo from h.start number (next_leb geo from) run.0 h.is_log.first.ends h.is_log.more run.1 h.below.1 in
-    told_opens contents state geo from number run.0 log h told geometry.min_io.1 f found.holds found.left
+pub IsHeldLog-opens : (state : VolumeState) (geo : RawGeometry) (from number : ℕ) (log : Log) → IsGeometry geo → IsHeldLog state geo from number log → IsReady state geo from log.ends.lnum (offs_behind geo log.ends) number log.buds
+IsHeldLog-opens state geo from number log geometry held =
+    let h = held.ready in
+    let run = further_run state.holds geo from h.start (start_of (begins_with h.is_log.first.nodes)) h.is_log.more h.starts h.is_log.are_further in
+    let told = told_of state.holds geo from h.start number (next_leb geo from) run.0 h.is_log.first.ends h.is_log.more run.1 h.below.1 in
+    told_opens state geo from number log held told geometry.min_io.1
+
+-- in contents that agree on the log's LEBs
+pub IsReadyIn-same : (c d : ℕ → List ℕ) (geo : RawGeometry) (from number : ℕ) (log : Log) → IsLogLeb geo from → ((k : ℕ) → IsLogLeb geo k → c k ≡ d k) → IsReadyIn c geo from number log → IsReadyIn d geo from number log
+IsReadyIn-same c d geo from number log f same h =
+    let first = h.is_log.first in
+    let more = h.is_log.more in
+    let P : List ℕ → Type 0 = λ leb. IsTextOf leb from first in
+    let Q : List ℕ → Type 0 = λ leb. BeginsCommit leb (begins_with first.nodes) log.commit in
+    let is_log : IsLog d geo from log = record {
+      first = first;
+      more = more;
+      is_first = subst P (same from f) h.is_log.is_first;
+      are_further = further_same c d geo from (start_of (begins_with first.nodes)) more f same h.is_log.are_further;
+      commit = subst Q (same from f) h.is_log.commit;
+      buds = h.is_log.buds;
+      sqnum = h.is_log.sqnum;
+      ends = h.is_log.ends;
+    } in
+    record { is_log = is_log; start = h.start; starts = h.starts; low = h.low; below = h.below; spare = λ k is none. let S : List ℕ → Type 0 = λ leb. IsOlder h.start k leb in subst S (same k is) (h.spare k is none) }
+
+-- one LEB that is read is one of the log
+read_in : (c : ℕ → List ℕ) (geo : RawGeometry) (from number k : ℕ) (log : Log) (h : IsReadyIn c geo from number log) → IsLogLeb geo from → IsAmong k (h.is_log.first ∷ h.is_log.more) → IsLogLeb geo k
+read_in c geo from number k log h f there =
+    let run = further_run c geo from h.start (start_of (begins_with h.is_log.first.nodes)) h.is_log.more h.starts h.is_log.are_further in
+    among_log c geo from h.start run.0 k h.is_log.first h.is_log.more f (record { is_first = h.is_log.is_first; starts = h.starts; run = run.1 }) there
+
+-- What a cut left, once it is found, is held.
+pub IsFoundLog-held : (contents : ℕ → List ℕ) (state : VolumeState) (geo : RawGeometry) (from number : ℕ) (log : Log) → IsLogLeb geo from → IsFoundLog contents geo state → IsReadyIn contents geo from number log → IsHeldLog state geo from number log
+IsFoundLog-held contents state geo from number log f found h =
+    let ready = IsReadyIn-same contents state.holds geo from number log f (λ k is. sym (found.holds k is)) h in
+    record {
+      ready = ready;
+      settled = λ k there. found.left k (read_in state.holds geo from number k log ready f there);
+      spare = λ k leb is none left. let P : List ℕ → Type 0 = λ bytes. IsOlder ready.start k bytes in subst P (sym (found.left k is leb left)) (ready.spare k is none);
+    }
+
+-- texts that are read are held, where of all other LEBs a cut leaves nothing but older sections
+held_chain : (a : VolumeState) (geo : RawGeometry) (from start number past : ℕ) (first : LogText) (more : List LogText) → IsLogLeb geo from → IsChain a.holds geo from start first more past → start ≤ number → AreBelow number (first ∷ more)
+    → ((k : ℕ) → IsAmong k (first ∷ more) → Only (a.holds k) (a.left_now k)) → ((k : ℕ) (leb : List ℕ) → IsLogLeb geo k → (IsAmong k (first ∷ more) → ⊥) → a.left_now k leb → IsOlder start k leb) → ((k : ℕ) → IsLogLeb geo k → a.left_now k (a.holds k))
+    → (log : Log) × IsHeldLog a geo from number log × (log.buds ≡ buds_of (references_of (first ∷ more)))
+held_chain a geo from start number past first more f h low below settled spare held =
+    let older : (k : ℕ) → IsLogLeb geo k → (IsAmong k (first ∷ more) → ⊥) → IsOlder start k (a.holds k) = λ k is none. spare k (a.holds k) is none (held k is) in
+    let commit = some_commit (a.holds from) (begins_with first.nodes) (text_begins (a.holds from) from first h.is_first) in
+    let P : Option ℕ → Type 0 = λ o. AreFurther a.holds geo from o more in
+    let stops : Stops a.holds from start past = elim (cases_eq past from) [ inl same ↦ inl same | inr ne ↦ inr (older past (chain_past a.holds geo from start past first more f h) (past_free a.holds geo from start past first more f h ne)) ] in
+    let log : Log = record { commit = commit.0; buds = buds_of (references_of (first ∷ more)); sqnum = greatest_of 0 (first ∷ more); ends = end_of first.ends more } in
+    let is_log : IsLog a.holds geo from log = record { first = first; more = more; is_first = h.is_first; commit = commit.1; are_further = subst P (sym h.starts) (past, h.run, stops); buds = refl; sqnum = refl; ends = refl } in
+    (log, record { ready = record { is_log = is_log; start = start; starts = h.starts; low = low; below = below; spare = older }; settled = settled; spare = spare }, refl)
+
+-- So is a log that is ready for its next node, as an unmount leaves it, if the LEB behind the last that is read has nothing newer.
+pub IsReady-held : (a : VolumeState) (geo : RawGeometry) (from lnum offs number : ℕ) (buds : List HeadAt) (h : IsReady a geo from lnum offs number buds) → IsLogLeb geo from → ((k : ℕ) → IsLogLeb geo k → a.left_now k (a.holds k)) → HasNothingNewer a h.start h.past
+    → (log : Log) × IsHeldLog a geo from number log × (log.buds ≡ buds)
+IsReady-held a geo from lnum offs number buds h f held quiet =
+    let first = h.first in
+    let more = h.more in
+    let past = h.past in
+    let B : List HeadAt → Type 0 = λ bs. (log : Log) × IsHeldLog a geo from number log × (log.buds ≡ bs) in
+    -- where the LEB behind holds nothing newer
+    let without : ((leb : List ℕ) → a.left_now past leb → IsOlder h.start past leb) → B buds = λ old.
+    let P : ℕ → Type 0 = λ n. (leb : List ℕ) → a.left_now n leb → IsOlder h.start n leb in
+    subst B (sym h.buds_are) (held_chain a geo from h.start number past first more f h.chain h.low h.below h.settled (λ k leb is none left. elim (h.spare k leb is none left) [ inl older ↦ older | inr lone ↦ subst P (sym lone.0) old leb left ]) held) in
+    elim quiet [
+      | inr old ↦ without old
+      | inl only ↦ elim (cases_eq past from) [
+        | inl same ↦ subst B (sym h.buds_are) (held_chain a geo from h.start number past first more f h.chain h.low h.below h.settled
+            (λ k leb is none left. elim (h.spare k leb is none left) [ inl older ↦ older | inr lone ↦ absurd (none (inl (lone.0 ∙ same ∙ sym h.chain.is_first.here))) ]) held)
+        | inr ne ↦
+            let in_log = chain_past a.holds geo from h.start past first more f h.chain in
+            let free = past_free a.holds geo from h.start past first more f h.chain ne in
+            let O : List ℕ → Type 0 = λ bytes. IsOlder h.start past bytes in
+            elim (h.spare past (a.holds past) in_log free (held past in_log)) [
+              | inl older ↦ without (λ leb left. subst O (sym (only leb left)) older)
+              | inr (here, text, is, alone, not_above) ↦ elim (cases_Bool (is_later h.start (begins_with text.nodes))) [
+                | inr not_later ↦ without (λ leb left. subst O (sym (only leb left)) (text, is, not_later))
+                | inl later ↦
+                    let longer = chain_more a.holds geo from h.start past first more text h.chain ne is later in
+                    let none : text.references ≡ [] = lone_references (a.holds past) text.nodes text.references is.refer alone in
+                    let e : buds_of (references_of (first ∷ (more ++ text ∷ []))) ≡ buds_of (references_of (first ∷ more)) =
+                    ap buds_of (references_added first more text ∙ ap (λ (r : List RefNode). references_of (first ∷ more) ++ r) none ∙ append-nil (references_of (first ∷ more))) in
+                    let S : ℕ → Type 0 = λ n. Only (a.holds n) (a.left_now n) in
+                    subst B (e ∙ sym h.buds_are) (held_chain a geo from h.start number (next_leb geo past) first (more ++ text ∷ []) f longer h.low (below_last number (first ∷ more) text h.below not_above)
+                    (λ k there. elim there [
+                      | inl same ↦ h.settled k (inl same)
+                      | inr further ↦ elim ((among_added k more text).0 further) [ inl before ↦ h.settled k (inr before) | inr last ↦ subst S (sym (last ∙ is.here)) only ]
+                    ])
+                    (λ k leb is_in outside left. elim (h.spare k leb is_in (λ i. outside (elim i [ inl same ↦ inl same | inr there ↦ inr ((among_added k more text).1 (inl there)) ])) left) [
+                      | inl older ↦ older
+                      | inr lone ↦ absurd (outside (inr ((among_added k more text).1 (inr (lone.0 ∙ sym is.here)))))
+                    ])
+                    held)
+              ]
+            ]
+      ]
+    ]
+
+-- Of a log that is held a cut leaves that very log, whichever unmappings it undoes.
+pub IsHeldLog-left : (a : VolumeState) (geo : RawGeometry) (from number : ℕ) (log : Log) (x : ℕ → List ℕ) → IsLogLeb geo from → IsHeldLog a geo from number log → ((k : ℕ) → IsLogLeb geo k → a.left_now k (x k)) → IsReadyIn x geo from number log
+IsHeldLog-left a geo from number log x f held left =
+    let h = held.ready in
+    let first = h.is_log.first in
+    let more = h.is_log.more in
+    let run = further_run a.holds geo from h.start (start_of (begins_with first.nodes)) more h.starts h.is_log.are_further in
+    let chain : IsChain a.holds geo from h.start first more run.0 = record { is_first = h.is_log.is_first; starts = h.starts; run = run.1 } in
+    let same : (k : ℕ) → IsAmong k (first ∷ more) → a.holds k ≡ x k = λ k there. sym (held.settled k there (x k) (left k (read_in a.holds geo from number k log h f there))) in
+    let there = chain_alike a.holds x geo from h.start run.0 first more same chain in
+    let P : Option ℕ → Type 0 = λ o. AreFurther x geo from o more in
+    let Q : List ℕ → Type 0 = λ leb. BeginsCommit leb (begins_with first.nodes) log.commit in
+    let older : (k : ℕ) → IsLogLeb geo k → (IsAmong k (first ∷ more) → ⊥) → IsOlder h.start k (x k) = λ k is none. held.spare k (x k) is none (left k is) in
+    let stops : Stops x from h.start run.0 = elim (cases_eq run.0 from) [ inl again ↦ inl again | inr ne ↦ inr (older run.0 (chain_past x geo from h.start run.0 first more f there) (past_free x geo from h.start run.0 first more f there ne)) ] in
+    record {
+      is_log = record {
+        first = first;
+        more = more;
+        is_first = there.is_first;
+        are_further = subst P (sym h.starts) (run.0, there.run, stops);
+        commit = subst Q (same from (inl (sym h.is_log.is_first.here))) h.is_log.commit;
+        buds = h.is_log.buds;
+        sqnum = h.is_log.sqnum;
+        ends = h.is_log.ends;
+      };
+      start = h.start;
+      starts = h.starts;
+      low = h.low;
+      below = h.below;
+      spare = older;
+    }
+
+-- nothing counts as written behind a clean end at which a log is written on
+pub IsAt-behind : (state : VolumeState) (at : LogAt) (ends : LogEnd) → IsAt state at → ends ≡ record { lnum = at.lnum; offs = at.offs; tail = Clean } → IsOpenBehind state at.geo ends
+IsAt-behind state at ends h e =
+    let clean : LogEnd = record { lnum = at.lnum; offs = at.offs; tail = Clean } in
+    let P : LogEnd → Type 0 = λ z. IsOpenBehind state at.geo z in
+    let Q : Bool → Type 0 = λ b. state.written at.lnum ≤ (if b then at.offs else at.geo.leb_size) in
+    let unit : (at.offs % at.geo.min_io == 0) ≡ true = rw h.unit refl in
+    subst P (sym e) (subst Q (sym unit) h.is_open)
 
 -- What was left stays such a log.
 
@@ -256,22 +394,55 @@ start_below next start (Some found) starts not_later = elim (cases_Bool (type_nu
       absurd cc
 ]
 
-run_at_most : (c : ℕ → List ℕ) (geo : RawGeometry) (from start lnum past next : ℕ) (texts : List LogText) → IsLogLeb geo lnum → Run c geo from start lnum texts past → ((k : ℕ) (text : LogText) → IsLogLeb geo k → IsTextOf (c k) k text → IsFalse (is_later next (begins_with text.nodes))) → AreBelow next texts
-run_at_most c geo from start lnum past next [] l run most = tt
-run_at_most c geo from start lnum past next (text ∷ texts) l run most = (most lnum text l run.1, run_at_most c geo from start (next_leb geo lnum) past next texts (next_in geo lnum l) run.3 most)
+-- with any number above which no LEB that is read begins
+pub IsReadyIn-below : (c : ℕ → List ℕ) (geo : RawGeometry) (from number next : ℕ) (log : Log) (h : IsReadyIn c geo from number log) → AreBelow next (h.is_log.first ∷ h.is_log.more) → IsReadyIn c geo from next log
+IsReadyIn-below c geo from number next log h below =
+    record { is_log = h.is_log; start = h.start; starts = h.starts; low = start_below next h.start (begins_with h.is_log.first.nodes) h.starts below.0; below = below; spare = h.spare }
 
--- and with the greatest number of the log: no LEB of it begins with a number above that
-pub IsReadyIn-greatest : (c : ℕ → List ℕ) (geo : RawGeometry) (from number next : ℕ) (log : Log) → IsLogLeb geo from → ((k : ℕ) (text : LogText) → IsLogLeb geo k → IsTextOf (c k) k text → IsFalse (is_later next (begins_with text.nodes)))
-    → IsReadyIn c geo from number log → IsReadyIn c geo from next log
-IsReadyIn-greatest c geo from number next log f most h =
-    let first = h.is_log.first in
-    let not_later = most from first f h.is_log.is_first in
-    let run = further_run c geo from h.start (start_of (begins_with first.nodes)) h.is_log.more h.starts h.is_log.are_further in
+founds_least : (low : ℕ) (nodes : List Found) → low ≤ fold (λ n (found : Found). max n found.sqnum) low nodes
+founds_least low [] = omega arith
+founds_least low (found ∷ nodes) =
+    let more = founds_least (max low found.sqnum) nodes in
+    let here = le-max_left low found.sqnum in
+    omega (arith, more, here)
+
+texts_least : (low : ℕ) (texts : List LogText) → low ≤ greatest_of low texts
+texts_least low [] = omega arith
+texts_least low (text ∷ texts) =
+    let more = texts_least (max low (greatest_found text.nodes)) texts in
+    let here = le-max_left low (greatest_found text.nodes) in
+    omega (arith, more, here)
+
+begins_below : (next : ℕ) (nodes : List Found) → greatest_found nodes ≤ next → is_later next (begins_with nodes) ≡ false
+begins_below next [] most = refl
+begins_below next (found ∷ nodes) most =
+    let P : Bool → Type 0 = λ b. is_later next (if b then Some found else None) ≡ false in
+    let more = founds_least (max 0 found.sqnum) nodes in
+    let here = le-max_right 0 found.sqnum in
+    elim (cases_Bool (found.offs == 0)) [ inl first ↦ subst P (sym first) (le-ltb next found.sqnum (omega (arith, most, more, here))) | inr later ↦ subst P (sym later) refl ]
+
+greatest_below : (next low : ℕ) (texts : List LogText) → greatest_of low texts ≤ next → AreBelow next texts
+greatest_below next low [] most = tt
+greatest_below next low (text ∷ texts) most =
+    let more = texts_least (max low (greatest_found text.nodes)) texts in
+    let here = le-max_right low (greatest_found text.nodes) in
+    (begins_below next text.nodes (omega (arith, most, more, here)), greatest_below next (max low (greatest_found text.nodes)) texts most)
+
+-- so with the greatest number that was read, and any above it
+pub IsReadyIn-greatest : (c : ℕ → List ℕ) (geo : RawGeometry) (from number next : ℕ) (log : Log) → log.sqnum ≤ next → IsReadyIn c geo from number log → IsReadyIn c geo from next log
+IsReadyIn-greatest c geo from number next log most h =
+    let is = h.is_log.sqnum in
+    IsReadyIn-below c geo from number next log h (greatest_below next 0 (h.is_log.first ∷ h.is_log.more) (omega (arith, most, is)))
+
+-- which serves for the next node of a log that is held
+pub IsHeldLog-next : (state : VolumeState) (geo : RawGeometry) (from number next : ℕ) (log : Log) → (number ≤ next) ⊎ (log.sqnum ≤ next) → IsHeldLog state geo from number log → IsHeldLog state geo from next log
+IsHeldLog-next state geo from number next log which held =
+    let h = held.ready in
+    let texts : List LogText = h.is_log.first ∷ h.is_log.more in
+    let is = h.is_log.sqnum in
+    let below : AreBelow next texts = elim which [ inl later ↦ below_more number next texts later h.below | inr most ↦ greatest_below next 0 texts (omega (arith, most, is)) ] in
     record {
-      is_log = h.is_log;
-      start = h.start;
-      starts = h.starts;
-      low = start_below next h.start (begins_with first.nodes) h.starts not_later;
-      below = (not_later, run_at_most c geo from h.start (next_leb geo from) run.0 next h.is_log.more (next_in geo from f) run.1 most);
-      spare = h.spare;
+      ready = record { is_log = h.is_log; start = h.start; starts = h.starts; low = start_below next h.start (begins_with h.is_log.first.nodes) h.starts below.0; below = below; spare = h.spare };
+      settled = held.settled;
+      spare = held.spare;
     }

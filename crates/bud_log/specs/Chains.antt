@@ -85,48 +85,61 @@ among_not_from c geo from number lnum past k [] h there = absurd there
 among_not_from c geo from number lnum past k (text ∷ texts) h (inl same) = λ e. h.0 (sym h.1.here ∙ sym same ∙ e)
 among_not_from c geo from number lnum past k (text ∷ texts) h (inr there) = among_not_from c geo from number (next_leb geo lnum) past k texts h.3 there
 
--- how the text of one LEB grows
-abbrev pub Grows : (ℕ → List ℕ) → (ℕ → List ℕ) → LogEnd → List Found → List RefNode → LogEnd → Type 0
-Grows c d old nodes references ends = (text : LogText) → IsTextOf (c old.lnum) old.lnum text → text.ends ≡ old → IsTextOf (d old.lnum) old.lnum (grown_text text nodes references ends)
+-- what comes behind the end of the text of one LEB, from contents before to contents after: nodes with their references, and where the text ends then
+pub record Growth : Type 0 where
+  pub before : ℕ → List ℕ
+  pub after : ℕ → List ℕ
+  pub behind : LogEnd
+  pub nodes : List Found
+  pub references : List RefNode
+  pub ends : LogEnd
 
-run_grown : (c d : ℕ → List ℕ) (geo : RawGeometry) (from number lnum past : ℕ) (text : LogText) (texts : List LogText) (nodes : List Found) (references : List RefNode) (old ends : LogEnd) → IsLogLeb geo from → IsLogLeb geo lnum
-    → Run c geo from number lnum (text ∷ texts) past → last_end text.ends texts ≡ old → ((k : ℕ) → k ≢ old.lnum → IsAmong k (text ∷ texts) → c k ≡ d k) → Grows c d old nodes references ends
-    → Run d geo from number lnum (last_more (λ (t : LogText). grown_text t nodes references ends) (text ∷ texts)) past
-run_grown c d geo from number lnum past text [] nodes references old ends f l h last same grows =
-    let here : old.lnum ≡ lnum = sym (ap (λ (e : LogEnd). e.lnum) last) ∙ h.1.here in
-    let P : ℕ → Type 0 = λ n. IsTextOf (c n) n text in
-    let Q : ℕ → Type 0 = λ n. IsTextOf (d n) n (grown_text text nodes references ends) in
-    (h.0, subst Q here (grows text (subst P (sym here) h.1) last), later_grown number text.nodes nodes h.2, h.3)
-run_grown c d geo from number lnum past text (other ∷ texts) nodes references old ends f l h last same grows =
+-- a text with that
+abbrev pub grown_by : Growth → LogText → LogText
+grown_by g text = grown_text text g.nodes g.references g.ends
+
+-- the text of this LEB that ends there grows so
+abbrev pub Grows : Growth → Type 0
+Grows g = (text : LogText) → IsTextOf (g.before g.behind.lnum) g.behind.lnum text → text.ends ≡ g.behind → IsTextOf (g.after g.behind.lnum) g.behind.lnum (grown_by g text)
+
+run_grown : (g : Growth) (geo : RawGeometry) (from number lnum past : ℕ) (text : LogText) (texts : List LogText) → IsLogLeb geo from → IsLogLeb geo lnum
+    → Run g.before geo from number lnum (text ∷ texts) past → last_end text.ends texts ≡ g.behind → ((k : ℕ) → k ≢ g.behind.lnum → IsAmong k (text ∷ texts) → g.before k ≡ g.after k) → Grows g
+    → Run g.after geo from number lnum (last_more (grown_by g) (text ∷ texts)) past
+run_grown g geo from number lnum past text [] f l h last same grows =
+    let here : g.behind.lnum ≡ lnum = sym (ap (λ (e : LogEnd). e.lnum) last) ∙ h.1.here in
+    let P : ℕ → Type 0 = λ n. IsTextOf (g.before n) n text in
+    let Q : ℕ → Type 0 = λ n. IsTextOf (g.after n) n (grown_by g text) in
+    (h.0, subst Q here (grows text (subst P (sym here) h.1) last), later_grown number text.nodes g.nodes h.2, h.3)
+run_grown g geo from number lnum past text (other ∷ texts) f l h last same grows =
+    let old = g.behind in
     let there = last_among text.ends other texts old last in
     let less = fewer_left geo from lnum f l h.0 in
-    let rest = among_fewer c geo from number (next_leb geo lnum) past old.lnum (other ∷ texts) f h.3 (next_in geo lnum l) there in
+    let rest = among_fewer g.before geo from number (next_leb geo lnum) past old.lnum (other ∷ texts) f h.3 (next_in geo lnum l) there in
     let ne : lnum ≢ old.lnum = λ e. let P : ℕ → Type 0 = λ n. left_of geo from n ≤ left_of geo from (next_leb geo lnum) in let again = subst P (sym e) rest in absurd (omega (arith, less, again)) in
     let P : List ℕ → Type 0 = λ leb. IsTextOf leb lnum text in (
       h.0,
       subst P (same lnum ne (inl (sym h.1.here))) h.1,
       h.2,
-      run_grown c d geo from number (next_leb geo lnum) past other texts nodes references old ends f (next_in geo lnum l) h.3 last (λ k n there. same k n (inr there)) grows,
+      run_grown g geo from number (next_leb geo lnum) past other texts f (next_in geo lnum l) h.3 last (λ k n there. same k n (inr there)) grows,
     )
 
 -- the last text grows
-pub chain_grown : (c d : ℕ → List ℕ) (geo : RawGeometry) (from start past : ℕ) (first : LogText) (more : List LogText) (nodes : List Found) (references : List RefNode) (old ends : LogEnd) → IsLogLeb geo from
-    → IsChain c geo from start first more past → last_end first.ends more ≡ old → ((k : ℕ) → k ≢ old.lnum → IsAmong k (first ∷ more) → c k ≡ d k) → Grows c d old nodes references ends
-    → let f : LogText → LogText = λ t. grown_text t nodes references ends in
-    IsChain d geo from start (last_first f first more) (last_more f more) past
-chain_grown c d geo from start past first [] nodes references old ends f h last same grows =
-    let here : old.lnum ≡ from = sym (ap (λ (e : LogEnd). e.lnum) last) ∙ h.is_first.here in
-    let P : ℕ → Type 0 = λ n. IsTextOf (c n) n first in
-    let Q : ℕ → Type 0 = λ n. IsTextOf (d n) n (grown_text first nodes references ends) in
-    record { is_first = subst Q here (grows first (subst P (sym here) h.is_first) last); starts = start_grown start first.nodes nodes h.starts; run = h.run }
-chain_grown c d geo from start past first (text ∷ texts) nodes references old ends f h last same grows =
-    let there = last_among first.ends text texts old last in
-    let other = among_not_from c geo from start (next_leb geo from) past old.lnum (text ∷ texts) h.run there in
+pub chain_grown : (g : Growth) (geo : RawGeometry) (from start past : ℕ) (first : LogText) (more : List LogText) → IsLogLeb geo from
+    → IsChain g.before geo from start first more past → last_end first.ends more ≡ g.behind → ((k : ℕ) → k ≢ g.behind.lnum → IsAmong k (first ∷ more) → g.before k ≡ g.after k) → Grows g
+    → IsChain g.after geo from start (last_first (grown_by g) first more) (last_more (grown_by g) more) past
+chain_grown g geo from start past first [] f h last same grows =
+    let here : g.behind.lnum ≡ from = sym (ap (λ (e : LogEnd). e.lnum) last) ∙ h.is_first.here in
+    let P : ℕ → Type 0 = λ n. IsTextOf (g.before n) n first in
+    let Q : ℕ → Type 0 = λ n. IsTextOf (g.after n) n (grown_by g first) in
+    record { is_first = subst Q here (grows first (subst P (sym here) h.is_first) last); starts = start_grown start first.nodes g.nodes h.starts; run = h.run }
+chain_grown g geo from start past first (text ∷ texts) f h last same grows =
+    let there = last_among first.ends text texts g.behind last in
+    let other = among_not_from g.before geo from start (next_leb geo from) past g.behind.lnum (text ∷ texts) h.run there in
     let P : List ℕ → Type 0 = λ leb. IsTextOf leb from first in
     record {
       is_first = subst P (same from (λ e. other (sym e)) (inl (sym h.is_first.here))) h.is_first;
       starts = h.starts;
-      run = run_grown c d geo from start (next_leb geo from) past text texts nodes references old ends f (next_in geo from f) h.run last (λ k n there. same k n (inr there)) grows;
+      run = run_grown g geo from start (next_leb geo from) past text texts f (next_in geo from f) h.run last (λ k n there. same k n (inr there)) grows;
     }
 
 references_more : (text : LogText) (texts : List LogText) (nodes : List Found) (references : List RefNode) (ends : LogEnd)

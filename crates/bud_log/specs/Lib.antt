@@ -5,6 +5,7 @@ pub mod Buds
 pub mod Bytes
 pub mod Chains
 pub mod Grown
+pub mod HeldLaws
 pub mod Log
 pub mod LogAnswers
 pub mod LogAt

@@ -1,10 +1,10 @@
 -- The log: which of the ring's LEBs are read from one of them on, which buds they name, and where the log ends.
-use Rattle.std.specs.Prelude.{◌≡◌, ◌≢◌, ◌⊎◌, ℕ, ◌+◌, ◌<◌, ◌≤◌, nat_lt, if◌then◌else◌, IsTrue, IsFalse, Option, Some, None, List, [], ◌∷◌, ◌++◌}
+use Rattle.std.specs.Prelude.{◌≡◌, ◌≢◌, ◌⊎◌, ℕ, ◌+◌, ◌<◌, ◌≤◌, nat_lt, max, if◌then◌else◌, IsTrue, IsFalse, Option, Some, None, List, [], ◌∷◌, ◌++◌, fold}
 use Rattle.ubifs_base.specs.Areas.{lpt_first}
 use Rattle.ubifs_base.specs.declared.raw_geometry.RawGeometry.{RawGeometry}
 use Rattle.media_sys.specs.declared.ref_node.RefNode.{RefNode}
 use Rattle.bud_log.specs.Buds.{buds_of}
-use Rattle.bud_log.specs.LogText.{LogText, IsTextOf, begins_with, start_of, BeginsCommit, is_later, is_start_alone}
+use Rattle.bud_log.specs.LogText.{LogText, IsTextOf, begins_with, start_of, BeginsCommit, is_later, greatest_found, is_start_alone}
 use Rattle.bud_log.specs.declared.head_at.HeadAt.{HeadAt}
 use Rattle.bud_log.specs.declared.log_end.LogEnd.{LogEnd}
 use Rattle.bud_log.specs.declared.log_read.LogRead.{LogRead}
@@ -38,16 +38,21 @@ abbrev pub references_of : List LogText → List RefNode
 references_of [] = []
 references_of (text ∷ texts) = text.references ++ references_of texts
 
+-- the greatest of a number and the sequence numbers of all nodes of these texts
+abbrev pub greatest_of : ℕ → List LogText → ℕ
+greatest_of low texts = fold (λ n (text : LogText). max n (greatest_found text.nodes)) low texts
+
 -- where the log ends: where the last text does, or the one before it where the last is a commit start alone, and not the first
 abbrev pub end_of : LogEnd → List LogText → LogEnd
 end_of first [] = first
 end_of first (text ∷ []) = if is_start_alone text.nodes then first else text.ends
 end_of first (text ∷ (other ∷ more)) = end_of text.ends (other ∷ more)
 
--- the number of the commit with whose start a log begins, if it begins with one, the buds that it names, and where it ends
+-- the number of the commit with whose start a log begins, if it begins with one, the buds that it names, the greatest sequence number of its nodes, and where it ends
 pub record Log : Type 0 where
   pub commit : Option ℕ
   pub buds : List HeadAt
+  pub sqnum : ℕ
   pub ends : LogEnd
 
 -- what the log says that is read from this LEB on
@@ -58,8 +63,9 @@ pub record IsLog (contents : ℕ → List ℕ) (geo : RawGeometry) (from : ℕ) 
   pub are_further : AreFurther contents geo from (start_of (begins_with first.nodes)) more
   pub commit : BeginsCommit (contents from) (begins_with first.nodes) log.commit
   pub buds : log.buds ≡ buds_of (references_of (first ∷ more))
+  pub sqnum : log.sqnum ≡ greatest_of 0 (first ∷ more)
   pub ends : log.ends ≡ end_of first.ends more
 
 -- a log as it was read
 abbrev pub log_of : LogRead → Log
-log_of read = record { commit = read.commit; buds = read.buds.items; ends = record { lnum = read.lnum; offs = read.offs; tail = read.tail } }
+log_of read = record { commit = read.commit; buds = read.buds.items; sqnum = read.sqnum; ends = record { lnum = read.lnum; offs = read.offs; tail = read.tail } }

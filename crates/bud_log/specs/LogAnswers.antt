@@ -1,12 +1,12 @@
 -- What calls of the log answer, and where the log goes on afterwards.
-use Rattle.std.specs.Prelude.{◌≡◌, ℕ, ◌+◌, ◌*◌, ◌<◌, [], Result, OnErr}
+use Rattle.std.specs.Prelude.{◌≡◌, ℕ, ◌+◌, ◌*◌, ◌<◌, List, [], Some, Result, OnErr}
 use Rattle.ubi_volume.specs.Volume.{VolumeState, filled, SameShape}
 use Rattle.ubi_volume.specs.Faults.{HasCause, StaysSure}
 use Rattle.ubi_volume.specs.declared.fault.VolFault.{VolFault}
 use Rattle.bud_log.specs.Log.{next_leb}
 use Rattle.bud_log.specs.LogAt.{LogAt, IsAt, IsEnded, IsWithin, HasLogCause, StaysSureLog, room_of, used_lebs, next_lnum, next_offs, ending, starting, without_old}
 use Rattle.bud_log.specs.LogCalls.{IsEmptied}
-use Rattle.bud_log.specs.LogText.{StartsCommit}
+use Rattle.bud_log.specs.LogText.{LogText, IsTextOf, begins_with, start_of, StartsCommit}
 use Rattle.bud_log.specs.declared.log_fault.LogFault.{LogFault}
 
 -- whatever the answer: the shape is as it was, and the volume is told as failed only where it failed; then the log goes on where it did
@@ -30,9 +30,14 @@ pub record IsOpened (old new : VolumeState) (before after : LogAt) (lnum : ℕ) 
   pub at : IsAt new after
   pub within : IsWithin before → IsWithin after
 
--- a section of this commit, with so many references, was started in the next LEB
-pub record IsStarted (new : VolumeState) (before after : LogAt) (cmt_no count : ℕ) : Type 0 where
+-- the LEB begins with a commit start of this sequence number
+abbrev pub StartsWith : List ℕ → ℕ → ℕ → Type 0
+StartsWith leb lnum number = (text : LogText) × IsTextOf leb lnum text × (start_of (begins_with text.nodes) ≡ Some number)
+
+-- a section of this commit, with so many references, was started in the next LEB, with the numbers behind this one
+pub record IsStarted (new : VolumeState) (before after : LogAt) (cmt_no count number : ℕ) : Type 0 where
   pub commit : StartsCommit (new.holds after.section) after.section cmt_no
+  pub starts : StartsWith (new.holds after.section) after.section (number + 1)
   pub moved : after ≡ starting before (next_leb before.geo before.lnum) (room_of before.geo.min_io (32 + 64 * count))
   pub at : IsAt new after
   pub within : used_lebs before + 1 < before.geo.log_lebs → IsWithin after

@@ -129,7 +129,7 @@ stops_same : (c d : ℕ → List ℕ) (from number past : ℕ) → c past ≡ d 
 stops_same c d from number past same (inl e) = inl e
 stops_same c d from number past same (inr (text, is, not_later)) = let P : List ℕ → Type 0 = λ leb. IsTextOf leb past text in inr (text, subst P same is, not_later)
 
-further_same : (c d : ℕ → List ℕ) (geo : RawGeometry) (from : ℕ) (start : Option ℕ) (more : List LogText) → IsLogLeb geo from → ((k : ℕ) → IsLogLeb geo k → c k ≡ d k) → AreFurther c geo from start more → AreFurther d geo from start more
+pub further_same : (c d : ℕ → List ℕ) (geo : RawGeometry) (from : ℕ) (start : Option ℕ) (more : List LogText) → IsLogLeb geo from → ((k : ℕ) → IsLogLeb geo k → c k ≡ d k) → AreFurther c geo from start more → AreFurther d geo from start more
 further_same c d geo from None more f same h = h
 further_same c d geo from (Some number) more f same (past, run, stops) =
     let rest = run_same c d geo from number (next_leb geo from) past more (next_in geo from f) same run in
@@ -146,6 +146,7 @@ IsLog-same c d geo from log f same h =
       is_first = subst P (same from f) h.is_first;
       are_further = further_same c d geo from (start_of (begins_with h.first.nodes)) h.more f same h.are_further;
       buds = h.buds;
+      sqnum = h.sqnum;
       ends = h.ends;
     }
 

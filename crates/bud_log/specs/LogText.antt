@@ -1,5 +1,5 @@
 -- What the text of a log LEB says.
-use Rattle.std.specs.Prelude.{◌≡◌, ◌≢◌, ◌⊎◌, ℕ, ◌==◌, nat_lt, not, Bool, false, if◌then◌else◌, Option, Some, None, List, [], ◌∷◌, filter, take, drop}
+use Rattle.std.specs.Prelude.{◌≡◌, ◌≢◌, ◌⊎◌, ℕ, ◌==◌, nat_lt, max, not, Bool, false, if◌then◌else◌, Option, Some, None, List, [], ◌∷◌, filter, fold, take, drop}
 use Rattle.ubifs_base.specs.NodeType.{type_number}
 use Rattle.ubifs_base.specs.declared.node_type.NodeType.TheVariants as types
 use Rattle.media_sys.specs.SystemNode.{IsRef, IsCommitStart}
@@ -73,6 +73,10 @@ StartsCommit leb lnum cmt_no = (text : LogText) × IsTextOf leb lnum text × Beg
 abbrev pub is_later : ℕ → Option Found → Bool
 is_later number None = false
 is_later number (Some found) = nat_lt number found.sqnum
+
+-- the greatest sequence number of these nodes, or 0
+abbrev pub greatest_found : List Found → ℕ
+greatest_found nodes = fold (λ n (found : Found). max n found.sqnum) 0 nodes
 
 -- the nodes that are no padding
 abbrev pub others : List Found → List Found

@@ -8,13 +8,13 @@ use Rattle.ubifs_base.specs.Areas.{lpt_first}
 use Rattle.ubifs_base.specs.Geometry.{IsGeometry}
 use Rattle.ubifs_base.specs.declared.raw_geometry.RawGeometry.{RawGeometry}
 use Rattle.ubi_volume.specs.Volume.{VolumeState}
-use Rattle.ubi_volume.specs.Loading.{IsErased}
+use Rattle.ubi_volume.specs.Loading.{IsErased, IsWrittenPart}
 use Rattle.leb_scan.specs.Text.{Begins, behind, up_to_8, Stand, IsText, is_blank, IsTail}
 use Rattle.leb_scan.specs.declared.item.Item.{Item}
 use Rattle.leb_scan.specs.declared.item.Item.TheVariants.{Node, Padding, Word}
 use Rattle.leb_scan.specs.declared.tail.Tail.{Tail}
 use Rattle.leb_scan.specs.declared.tail.Tail.TheVariants.{Clean, Torn}
-use Rattle.bud_log.specs.AfterCut.{IsReadyIn, IsFoundLog, offs_behind, opened_at}
+use Rattle.bud_log.specs.AfterCut.{IsHeldLog, IsOpenBehind, offs_behind, opened_at}
 use Rattle.bud_log.specs.AfterCutLaws.{further_run}
 use Rattle.bud_log.specs.Log.{Log, IsLogLeb, next_leb, Run, end_of}
 use Rattle.bud_log.specs.LogAt.{IsAt, steps_to}
@@ -89,31 +89,49 @@ stand_inside leb place end (Word ∷ items) inside h = stand_inside leb (behind 
 from_itself : (geo : RawGeometry) (from lnum : ℕ) → steps_to geo from from ≤ steps_to geo from lnum
 from_itself geo from lnum = let none : steps_to geo from from ≡ from - from = rw (le-ltb from from (omega arith)) refl in omega (arith, none)
 
--- What a cut left, once it is found, is open for writing where the log goes on.
-pub IsReadyIn-at : (contents : ℕ → List ℕ) (state : VolumeState) (geo : RawGeometry) (from number : ℕ) (log : Log) → IsGeometry geo → IsLogLeb geo from → lpt_first geo ≤ state.leb_cnt → geo.leb_size ≡ state.leb_size → geo.min_io ≡ state.min_io
-    → ((k : ℕ) → IsLogLeb geo k → length (state.holds k) ≡ state.leb_size) → IsFoundLog contents geo state → IsReadyIn contents geo from number log → IsAt state (opened_at geo from log.ends)
-IsReadyIn-at contents state geo from number log geometry f lebs size unit long found h =
+-- the LEB in which a log ends is one of the log, and what is behind the place where the log goes on is erased
+record IsBehind (state : VolumeState) (geo : RawGeometry) (ends : LogEnd) : Type 0 where
+  in_log : IsLogLeb geo ends.lnum
+  place : IsOpenPlace geo.min_io geo.leb_size (state.holds ends.lnum) (offs_behind geo ends)
+
+held_behind : (state : VolumeState) (geo : RawGeometry) (from number : ℕ) (log : Log) → IsGeometry geo → IsLogLeb geo from → geo.leb_size ≡ state.leb_size → ((k : ℕ) → IsLogLeb geo k → length (state.holds k) ≡ state.leb_size) → IsHeldLog state geo from number log
+    → IsBehind state geo log.ends
+held_behind state geo from number log geometry f size long held =
+    let h = held.ready in
     let first = h.is_log.first in
-    let run = further_run contents geo from h.start (start_of (begins_with first.nodes)) h.is_log.more h.starts h.is_log.are_further in
-    let E : LogEnd → Type 0 = λ e. IsEndText contents geo e in
-    let at = subst E (sym h.is_log.ends) (run_end_text contents geo from h.start (next_leb geo from) run.0 first.ends h.is_log.more (end_text contents geo from first f h.is_log.is_first) (next_in geo from f) run.1) in
+    let run = further_run state.holds geo from h.start (start_of (begins_with first.nodes)) h.is_log.more h.starts h.is_log.are_further in
+    let E : LogEnd → Type 0 = λ e. IsEndText state.holds geo e in
+    let at = subst E (sym h.is_log.ends) (run_end_text state.holds geo from h.start (next_leb geo from) run.0 first.ends h.is_log.more (end_text state.holds geo from first f h.is_log.is_first) (next_in geo from f) run.1) in
     let lnum = log.ends.lnum in
-    let holds = found.holds lnum at.in_log in
-    let T : LogEnd → Type 0 = λ e. IsText (contents lnum) 0 at.is_text.items e.offs e.tail in
+    let T : LogEnd → Type 0 = λ e. IsText (state.holds lnum) 0 at.is_text.items e.offs e.tail in
     let text = subst T at.ends_are at.is_text.is_text in
-    let len : length (contents lnum) ≡ geo.leb_size = ap length (sym holds) ∙ long lnum at.in_log ∙ sym size in
-    let place = open_if geo (contents lnum) lnum log.ends.offs log.ends.tail len geometry.leb_size.2 (stand_inside (contents lnum) 0 log.ends.offs at.is_text.items (omega arith) text.stand) text.ends in
-    let B : List ℕ → Type 0 = λ leb. IsErased (offs_behind geo log.ends) leb in
-    let W : ℕ → Type 0 = λ u. offs_behind geo log.ends % u ≡ 0 in
+    record {
+      in_log = at.in_log;
+      place = open_if geo (state.holds lnum) lnum log.ends.offs log.ends.tail (long lnum at.in_log ∙ sym size) geometry.leb_size.2 (stand_inside (state.holds lnum) 0 log.ends.offs at.is_text.items (omega arith) text.stand) text.ends;
+    }
+
+-- A log that is held is opened where it goes on, if nothing counts as written there.
+pub IsHeldLog-at : (state : VolumeState) (geo : RawGeometry) (from number : ℕ) (log : Log) → IsGeometry geo → IsLogLeb geo from → lpt_first geo ≤ state.leb_cnt → geo.leb_size ≡ state.leb_size → geo.min_io ≡ state.min_io
+    → ((k : ℕ) → IsLogLeb geo k → length (state.holds k) ≡ state.leb_size) → IsHeldLog state geo from number log → IsOpenBehind state geo log.ends → IsAt state (opened_at geo from log.ends)
+IsHeldLog-at state geo from number log geometry f lebs size unit long held is_open =
+    let behind = held_behind state geo from number log geometry f size long held in
     record {
       leb_size = size;
       min_io = unit;
       lebs = lebs;
       first = f;
       section = f;
-      here = at.in_log;
-      on_the_way = from_itself geo from lnum;
-      within = place.within;
-      unit = place.whole;
-      is_open = (found.written lnum at.in_log).least (offs_behind geo log.ends) (subst W unit place.whole) (subst B (sym holds) place.erased);
+      here = behind.in_log;
+      on_the_way = from_itself geo from log.ends.lnum;
+      within = behind.place.within;
+      unit = behind.place.whole;
+      is_open = is_open;
     }
+
+-- As after a cut: of the LEB the part up to the last unit that isn't erased counts as written.
+pub IsHeldLog-open : (state : VolumeState) (geo : RawGeometry) (from number : ℕ) (log : Log) → IsGeometry geo → IsLogLeb geo from → geo.leb_size ≡ state.leb_size → geo.min_io ≡ state.min_io → ((k : ℕ) → IsLogLeb geo k → length (state.holds k) ≡ state.leb_size)
+    → IsHeldLog state geo from number log → ((k : ℕ) → IsLogLeb geo k → IsWrittenPart state.min_io (state.holds k) (state.written k)) → IsOpenBehind state geo log.ends
+IsHeldLog-open state geo from number log geometry f size unit long held written =
+    let behind = held_behind state geo from number log geometry f size long held in
+    let W : ℕ → Type 0 = λ u. offs_behind geo log.ends % u ≡ 0 in
+    (written log.ends.lnum behind.in_log).least (offs_behind geo log.ends) (subst W unit behind.place.whole) behind.place.erased

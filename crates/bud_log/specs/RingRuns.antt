@@ -1,7 +1,8 @@
 -- Texts that are read round the ring, one behind another.
-use Rattle.std.proofs.Common.{◌≡◌, ◌⊎◌, inl, inr, ℕ, ◌+◌, ◌-◌, ◌<◌, ◌≤◌, nat_lt, Bool, true, false, List, [], ◌∷◌, ◌++◌, refl, ap, sym, ◌∙◌, subst, arith, append-nil, append_assoc, Option, Some, None}
+use Rattle.std.proofs.Common.{◌≡◌, ◌⊎◌, inl, inr, ℕ, ◌+◌, ◌-◌, ◌<◌, ◌≤◌, nat_lt, Bool, true, false, max, List, [], ◌∷◌, ◌++◌, refl, ap, sym, ◌∙◌, subst, arith, append-nil, append_assoc, Option, Some, None}
 use Rattle.std.specs.Prelude.{◌≢◌, if◌then◌else◌, IsTrue, fold}
 use Rattle.std.proofs.lemmas.Bool.{cases_lt, lt-ltb, le-ltb}
+use Rattle.std.proofs.Math.Nat.{zero-max}
 use Rattle.std.proofs.lemmas.List.Sums.{fold-append}
 use Rattle.ubifs_base.specs.Areas.{lpt_first}
 use Rattle.ubifs_base.specs.NodeLaws.{IsBytes}
@@ -12,11 +13,12 @@ use Rattle.leb_scan.specs.declared.found.Found.{Found}
 use Rattle.leb_scan.specs.declared.item.Item.{Item}
 use Rattle.leb_scan.specs.declared.tail.Tail.{Tail}
 use Rattle.bud_log.specs.Buds.{named}
-use Rattle.bud_log.specs.Log.{IsLogLeb, next_leb, Run, Stops, AreFurther, references_of, end_of, IsLog}
-use Rattle.bud_log.specs.LogText.{LogText, Refer, IsTextOf, begins_with, start_of, BeginsCommit, is_later, is_start_alone}
+use Rattle.bud_log.specs.Log.{IsLogLeb, next_leb, Run, Stops, AreFurther, references_of, greatest_of, end_of, IsLog}
+use Rattle.bud_log.specs.LogText.{LogText, Refer, IsTextOf, begins_with, start_of, BeginsCommit, is_later, greatest_found, is_start_alone}
 use Rattle.bud_log.specs.Seen.{IsSeen, AreNamed, IsTaken, IsPassed, IsReadOn}
 use Rattle.bud_log.specs.declared.head_at.HeadAt.{HeadAt}
 use Rattle.bud_log.specs.declared.log_end.LogEnd.{LogEnd}
+use Rattle.bud_log.specs.declared.read_to.ReadTo.{ReadTo}
 use Rattle.bud_log.specs.declared.seen.Seen.{Seen}
 use Rattle.bud_log.specs.References.{some_references}
 
@@ -102,15 +104,16 @@ end_then first (other ∷ []) text = refl
 end_then first (other ∷ (another ∷ texts)) text = end_then other.ends (another ∷ texts) text
 
 -- what the loop over the ring keeps
-pub record IsReadSoFar (contents : ℕ → List ℕ) (geo : RawGeometry) (from number : ℕ) (first : LogEnd) (old new : List HeadAt) (lnum : ℕ) (last end : LogEnd) : Type 0 where
+pub record IsReadSoFar (contents : ℕ → List ℕ) (geo : RawGeometry) (from number : ℕ) (first : ReadTo) (old new : List HeadAt) (lnum : ℕ) (last : LogEnd) (read : ReadTo) : Type 0 where
   pub more : List LogText
   pub run : Run contents geo from number (next_leb geo from) more lnum
   pub named_are : new ≡ fold named old (references_of more)
-  pub last_is : last ≡ last_of first more
-  pub end_is : end ≡ end_of first more
+  pub sqnum_is : read.sqnum ≡ greatest_of first.sqnum more
+  pub last_is : last ≡ last_of first.end more
+  pub end_is : read.end ≡ end_of first.end more
 
-pub so_far_first : (contents : ℕ → List ℕ) (geo : RawGeometry) (from number lnum : ℕ) (first : LogEnd) (old : List HeadAt) → lnum ≡ next_leb geo from → IsReadSoFar contents geo from number first old old lnum first first
-so_far_first contents geo from number lnum first old h = record { more = []; run = sym h; named_are = refl; last_is = refl; end_is = refl }
+pub so_far_first : (contents : ℕ → List ℕ) (geo : RawGeometry) (from number lnum : ℕ) (first : ReadTo) (old : List HeadAt) → lnum ≡ next_leb geo from → IsReadSoFar contents geo from number first old old lnum first.end first
+so_far_first contents geo from number lnum first old h = record { more = []; run = sym h; named_are = refl; sqnum_is = refl; last_is = refl; end_is = refl }
 
 -- where a text ends, as it was seen
 same_end : (lnum : ℕ) (seen : Seen) (here ends : LogEnd) → here.lnum ≡ lnum → here.offs ≡ seen.offs → here.tail ≡ seen.tail → ends.lnum ≡ lnum → seen.offs ≡ ends.offs → seen.tail ≡ ends.tail → here ≡ ends
@@ -119,11 +122,11 @@ same_end lnum seen here ends h1 h2 h3 e1 e2 e3 = ends_same here.lnum ends.lnum h
 pub taken_ends : (leb : List ℕ) (lnum : ℕ) (old new : List HeadAt) (seen : Seen) (here : LogEnd) (h : IsTaken leb lnum old new seen) → here.lnum ≡ lnum → here.offs ≡ seen.offs → here.tail ≡ seen.tail → here ≡ h.text.ends
 taken_ends leb lnum old new seen here h h1 h2 h3 = same_end lnum seen here h.text.ends h1 h2 h3 h.is_text.here h.offs h.tail
 
-pub so_far_next : (contents : ℕ → List ℕ) (geo : RawGeometry) (from number lnum next : ℕ) (first : LogEnd) (old now new : List HeadAt) (last end here past_end : LogEnd) (seen : Seen)
-    → IsReadSoFar contents geo from number first old now lnum last end → lnum ≢ from → IsTaken (contents lnum) lnum now new seen → is_later number seen.begins ≡ true
-    → here.lnum ≡ lnum → here.offs ≡ seen.offs → here.tail ≡ seen.tail → past_end ≡ (if seen.alone then last else here) → next ≡ next_leb geo lnum
-    → IsReadSoFar contents geo from number first old new next here past_end
-so_far_next contents geo from number lnum next first old now new last end here past_end seen h ne taken later h1 h2 h3 past_is next_is =
+pub so_far_next : (contents : ℕ → List ℕ) (geo : RawGeometry) (from number lnum next : ℕ) (first : ReadTo) (old now new : List HeadAt) (last here : LogEnd) (read past : ReadTo) (seen : Seen)
+    → IsReadSoFar contents geo from number first old now lnum last read → lnum ≢ from → IsTaken (contents lnum) lnum now new seen → is_later number seen.begins ≡ true
+    → here.lnum ≡ lnum → here.offs ≡ seen.offs → here.tail ≡ seen.tail → past.end ≡ (if seen.alone then last else here) → past.sqnum ≡ max read.sqnum seen.sqnum → next ≡ next_leb geo lnum
+    → IsReadSoFar contents geo from number first old new next here past
+so_far_next contents geo from number lnum next first old now new last here read past seen h ne taken later h1 h2 h3 past_is sqnum_is next_is =
     let text = taken.text in
     let here_is : here ≡ text.ends = taken_ends (contents lnum) lnum now new seen here taken h1 h2 h3 in
     let is_it : is_later number (begins_with text.nodes) ≡ true = ap (is_later number) (sym taken.begins) ∙ later in
@@ -132,25 +135,28 @@ so_far_next contents geo from number lnum next first old now new last end here p
       more = h.more ++ text ∷ [];
       run = subst P (sym next_is) (run_then contents geo from number (next_leb geo from) lnum h.more text h.run ne taken.is_text is_it);
       named_are = taken.named_are ∙ ap (λ (x : List HeadAt). fold named x text.references) h.named_are ∙ sym (fold-append named old (references_of h.more) text.references) ∙ ap (fold named old) (sym (references_then h.more text));
-      last_is = here_is ∙ sym (last_then first h.more text);
+      sqnum_is = sqnum_is ∙ ap (λ (n : ℕ). max n seen.sqnum) h.sqnum_is ∙ ap (max (greatest_of first.sqnum h.more)) taken.sqnum
+          ∙ sym (fold-append (λ n (t : LogText). max n (greatest_found t.nodes)) first.sqnum h.more (text ∷ []));
+      last_is = here_is ∙ sym (last_then first.end h.more text);
       end_is = past_is ∙ ap (λ (b : Bool). if b then last else here) taken.alone ∙ ap (λ (e : LogEnd). if is_start_alone text.nodes then last else e) here_is
-          ∙ ap (λ (e : LogEnd). if is_start_alone text.nodes then e else text.ends) h.last_is ∙ sym (end_then first h.more text);
+          ∙ ap (λ (e : LogEnd). if is_start_alone text.nodes then e else text.ends) h.last_is ∙ sym (end_then first.end h.more text);
     }
 
 -- at the first LEB again, or at one that isn't read
-pub read_round : (contents : ℕ → List ℕ) (geo : RawGeometry) (from number lnum : ℕ) (first : LogEnd) (old new : List HeadAt) (last end : LogEnd) → IsReadSoFar contents geo from number first old new lnum last end → lnum ≡ from
-    → IsReadOn contents geo from number first old new end
-read_round contents geo from number lnum first old new last end h e = record { more = h.more; past = lnum; run = h.run; stops = inl e; named_are = h.named_are; ends_are = h.end_is }
+pub read_round : (contents : ℕ → List ℕ) (geo : RawGeometry) (from number lnum : ℕ) (first : ReadTo) (old new : List HeadAt) (last : LogEnd) (read : ReadTo) → IsReadSoFar contents geo from number first old new lnum last read → lnum ≡ from
+    → IsReadOn contents geo from number first old new read
+read_round contents geo from number lnum first old new last read h e = record { more = h.more; past = lnum; run = h.run; stops = inl e; named_are = h.named_are; sqnum_is = h.sqnum_is; end_is = h.end_is }
 
-pub read_passed : (contents : ℕ → List ℕ) (geo : RawGeometry) (from number lnum : ℕ) (first : LogEnd) (old now new : List HeadAt) (last end : LogEnd) → IsReadSoFar contents geo from number first old now lnum last end
-    → IsPassed (contents lnum) lnum number → new ≡ now → IsReadOn contents geo from number first old new end
-read_passed contents geo from number lnum first old now new last end h passed e = record {
+pub read_passed : (contents : ℕ → List ℕ) (geo : RawGeometry) (from number lnum : ℕ) (first : ReadTo) (old now new : List HeadAt) (last : LogEnd) (read : ReadTo) → IsReadSoFar contents geo from number first old now lnum last read
+    → IsPassed (contents lnum) lnum number → new ≡ now → IsReadOn contents geo from number first old new read
+read_passed contents geo from number lnum first old now new last read h passed e = record {
   more = h.more;
   past = lnum;
   run = h.run;
   stops = inr (passed.text, passed.is_text, passed.not_later);
   named_are = e ∙ h.named_are;
-  ends_are = h.end_is;
+  sqnum_is = h.sqnum_is;
+  end_is = h.end_is;
 }
 
 -- one text was seen and named
@@ -163,6 +169,7 @@ taken_of one leb lnum old new seen fits s n =
       is_text = record { items = s.items; is_text = s.is_text; here = refl; nodes = refl; refer = subst P same.0 n.refer };
       begins = s.begins;
       alone = s.alone;
+      sqnum = s.sqnum;
       offs = refl;
       tail = refl;
       named_are = n.named_are;
@@ -170,7 +177,7 @@ taken_of one leb lnum old new seen fits s n =
 
 -- the whole log
 pub log_alone : (contents : ℕ → List ℕ) (geo : RawGeometry) (from : ℕ) (commit : Option ℕ) (seen : Seen) (new : List HeadAt) (end : LogEnd) → BeginsCommit (contents from) seen.begins commit → IsTaken (contents from) from [] new seen → start_of seen.begins ≡ None
-    → end.lnum ≡ from → end.offs ≡ seen.offs → end.tail ≡ seen.tail → IsLog contents geo from (record { commit = commit; buds = new; ends = end })
+    → end.lnum ≡ from → end.offs ≡ seen.offs → end.tail ≡ seen.tail → IsLog contents geo from (record { commit = commit; buds = new; sqnum = seen.sqnum; ends = end })
 log_alone contents geo from commit seen new end begins h none e1 e2 e3 =
     let P : Option ℕ → Type 0 = λ o. AreFurther contents geo from o [] in
     let Q : Option Found → Type 0 = λ o. BeginsCommit (contents from) o commit in
@@ -181,12 +188,13 @@ log_alone contents geo from commit seen new end begins h none e1 e2 e3 =
       commit = subst Q h.begins begins;
       are_further = subst P (sym (ap start_of (sym h.begins) ∙ none)) refl;
       buds = h.named_are ∙ ap (fold named []) (sym (append-nil h.text.references));
+      sqnum = h.sqnum ∙ sym (zero-max (greatest_found h.text.nodes));
       ends = taken_ends (contents from) from [] new seen end h e1 e2 e3;
     }
 
-pub log_further : (contents : ℕ → List ℕ) (geo : RawGeometry) (from number : ℕ) (commit : Option ℕ) (seen : Seen) (now new : List HeadAt) (first end : LogEnd) → BeginsCommit (contents from) seen.begins commit → IsTaken (contents from) from [] now seen → start_of seen.begins ≡ Some number
-    → first.lnum ≡ from → first.offs ≡ seen.offs → first.tail ≡ seen.tail → IsReadOn contents geo from number first now new end → IsLog contents geo from (record { commit = commit; buds = new; ends = end })
-log_further contents geo from number commit seen now new first end begins h some e1 e2 e3 k =
+pub log_further : (contents : ℕ → List ℕ) (geo : RawGeometry) (from number : ℕ) (commit : Option ℕ) (seen : Seen) (now new : List HeadAt) (first read : ReadTo) → BeginsCommit (contents from) seen.begins commit → IsTaken (contents from) from [] now seen → start_of seen.begins ≡ Some number
+    → first.end.lnum ≡ from → first.end.offs ≡ seen.offs → first.end.tail ≡ seen.tail → first.sqnum ≡ seen.sqnum → IsReadOn contents geo from number first now new read → IsLog contents geo from (record { commit = commit; buds = new; sqnum = read.sqnum; ends = read.end })
+log_further contents geo from number commit seen now new first read begins h some e1 e2 e3 e4 k =
     let P : Option ℕ → Type 0 = λ o. AreFurther contents geo from o k.more in
     let Q : Option Found → Type 0 = λ o. BeginsCommit (contents from) o commit in
     record {
@@ -196,7 +204,8 @@ log_further contents geo from number commit seen now new first end begins h some
       commit = subst Q h.begins begins;
       are_further = subst P (sym (ap start_of (sym h.begins) ∙ some)) (k.past, k.run, k.stops);
       buds = k.named_are ∙ ap (λ (x : List HeadAt). fold named x (references_of k.more)) h.named_are ∙ sym (fold-append named [] h.text.references (references_of k.more));
-      ends = k.ends_are ∙ ap (λ (e : LogEnd). end_of e k.more) (taken_ends (contents from) from [] now seen first h e1 e2 e3);
+      sqnum = k.sqnum_is ∙ ap (λ (n : ℕ). greatest_of n k.more) (e4 ∙ h.sqnum ∙ sym (zero-max (greatest_found h.text.nodes)));
+      ends = k.end_is ∙ ap (λ (e : LogEnd). end_of e k.more) (taken_ends (contents from) from [] now seen first.end h e1 e2 e3);
     }
 
 -- one text was seen, and isn't read
@@ -220,12 +229,13 @@ stops_moved : (c d : ℕ → List ℕ) (from number past : ℕ) → ((k : ℕ) �
 stops_moved c d from number past same (inl e) = inl e
 stops_moved c d from number past same (inr (text, is, not_later)) = let P : List ℕ → Type 0 = λ leb. IsTextOf leb past text in inr (text, subst P (same past) is, not_later)
 
-pub read_moved : (c d : ℕ → List ℕ) (geo : RawGeometry) (from number : ℕ) (first : LogEnd) (old new : List HeadAt) (ends : LogEnd) → ((k : ℕ) → c k ≡ d k) → IsReadOn c geo from number first old new ends → IsReadOn d geo from number first old new ends
-read_moved c d geo from number first old new ends same h = record {
+pub read_moved : (c d : ℕ → List ℕ) (geo : RawGeometry) (from number : ℕ) (first : ReadTo) (old new : List HeadAt) (read : ReadTo) → ((k : ℕ) → c k ≡ d k) → IsReadOn c geo from number first old new read → IsReadOn d geo from number first old new read
+read_moved c d geo from number first old new read same h = record {
   more = h.more;
   past = h.past;
   run = run_moved c d geo from number (next_leb geo from) h.past h.more same h.run;
   stops = stops_moved c d from number h.past same h.stops;
   named_are = h.named_are;
-  ends_are = h.ends_are;
+  sqnum_is = h.sqnum_is;
+  end_is = h.end_is;
 }

@@ -23,6 +23,7 @@ mod log;
 mod log_end;
 mod log_fault;
 mod log_read;
+mod read_to;
 mod reading;
 mod ring;
 mod seen;

@@ -10,7 +10,7 @@ ghost use Rattle.media_sys.specs.SystemNode.{reference};
 ghost use Rattle.bud_log.specs.AfterCut.{lebs_to, IsLeftReady, IsLeftOpened, IsLeftStarted};
 ghost use Rattle.bud_log.specs.Buds.{named, buds_of};
 ghost use Rattle.bud_log.specs.Log.{IsLogLeb, next_leb as leb_behind};
-ghost use Rattle.bud_log.specs.LogAnswers.{IsAnswered, IsLogAnswered, IsOpened, IsStarted, HasEnded};
+ghost use Rattle.bud_log.specs.LogAnswers.{StartsWith, IsAnswered, IsLogAnswered, IsOpened, IsStarted, HasEnded};
 ghost use Rattle.bud_log.specs.LogAt.{LogAt, IsAt, IsStart, IsBetween, IsEnded, IsFull, IsFullExactly, IsRaised, room_of, used_lebs, most_lebs, has_room as has_room_at, next_lnum, next_offs, lnum_at, offs_at, ending, references_to, section_nodes};
 ghost use Rattle.bud_log.specs.LogText.{StartsCommit};
 ghost use Rattle.bud_log.specs.LogCalls.{IsEmptied, IsBegun, BeginUnderWay, IsAdded, AddDuring, OpenUnderWay, StartUnderWay, UnmapUnderWay, EndUnderWay};
@@ -151,7 +151,7 @@ impl Log {
             → IsLeftStarted left self.old from sqnum.old buds (references_to heads.now)) }
         ensures works { Works (V.state volume.old) (V.state volume.new) (λ k. k ≡ leb_behind self.old.geo self.old.lnum)
             (StartUnderWay (V.state volume.old) self.old (room_of self.old.geo.min_io (32 + 64 * length heads.now))) }
-        ensures started { OnOk result (IsStarted (V.state volume.new) self.old self.new cmt_no (length heads.now)) }
+        ensures started { OnOk result (IsStarted (V.state volume.new) self.old self.new cmt_no (length heads.now) sqnum.old) }
         ensures answered { IsAnswered (V.state volume.old) (V.state volume.new) self.old self.new result × (sqnum.new ≡ sqnum.old + (1 + length heads.now)) }
     {
         one_node();
@@ -230,6 +230,7 @@ impl Log {
             → IsReady (V.state volume.old) self.old.geo from self.old.lnum self.old.offs number buds
             → IsReady (V.state volume.new) self.old.geo from (leb_behind self.old.geo self.old.lnum) (room_of self.old.geo.min_io (32 + 64 * length heads.now)) next (fold named buds (references_to heads.now))) }
         ensures commit { OnOk result (StartsCommit ((V.state volume.new).holds (leb_behind self.old.geo self.old.lnum)) (leb_behind self.old.geo self.old.lnum) cmt_no) }
+        ensures starts { OnOk result (StartsWith ((V.state volume.new).holds (leb_behind self.old.geo self.old.lnum)) (leb_behind self.old.geo self.old.lnum) (number + 1)) }
         ensures section { OnOk result ((next : ℕ) → (number < next)
             → AreOthersOlder (V.state volume.old) self.old.geo (leb_behind self.old.geo self.old.lnum) number
             → let there = leb_behind self.old.geo self.old.lnum in

@@ -1,6 +1,6 @@
 // The log is read.
 
-ghost use Rattle.std.specs.Prelude.{if◌then◌else◌, ◌≡◌, ◌<◌, ◌≤◌, ◌^◌, ℕ, length, true, IfOk, IfSome, IfNone, OnOk};
+ghost use Rattle.std.specs.Prelude.{if◌then◌else◌, ◌≡◌, ◌<◌, ◌≤◌, ◌^◌, ℕ, length, max, true, IfOk, IfSome, IfNone, OnOk};
 ghost use Rattle.ubifs_base.specs.Areas.{lpt_first};
 ghost use Rattle.ubifs_base.specs.RawOf.{raw_of};
 ghost use Rattle.ubi_volume.specs.Volume.{Keeps, SameShape};
@@ -16,6 +16,7 @@ use crate::head_at::HeadAt;
 use crate::laws::one_log;
 use crate::log_end::LogEnd;
 use crate::log_read::LogRead;
+use crate::read_to::ReadTo;
 use crate::ring::next_leb;
 use crate::seen::{Seen, is_later, see, start_of};
 use leb_scan::one_text;
@@ -26,8 +27,9 @@ use ubifs_base::Geometry;
 /// Reads the log from a LEB of the log on, at which a section starts. References are told as they stand: whether a bud is a
 /// main LEB, and its offset a multiple of 8, is for whoever reads the bud.
 ///
-/// Where the volume was found after a cut, and the cut left a log that may be written on, a log that is opened over what was
-/// read is ready for its next node: behind the end, if it is clean and a unit begins there, and else in the next LEB.
+/// Where the volume holds a log that may be written on, after a cut or behind an unmount, a log that is opened over what was
+/// read is ready for its next node: behind the end, if it is clean and a unit begins there, and else in the next LEB. That node
+/// may take any number above the greatest that was read.
 pub fn read_log<V: Volume>(
     alloc: Global,
     volume: &mut V,
@@ -69,24 +71,29 @@ fn read_from<V: Volume>(
     let mut buds = Vec::new(alloc);
     let seen = read_text(alloc, volume, from, leb, &mut buds)?;
     let commit = commit_of(alloc, leb, seen.begins);
-    let first = end_at(from, seen);
+    let end = end_at(from, seen);
+    let first = ReadTo {
+        end,
+        sqnum: seen.sqnum,
+    };
     let Some(number) = start_of(seen.begins) else {
         return Ok(log_to(commit, buds, first));
     };
-    let end = read_on(alloc, volume, geometry, from, number, first, leb, &mut buds)?;
-    Ok(log_to(commit, buds, end))
+    let read = read_on(alloc, volume, geometry, from, number, first, leb, &mut buds)?;
+    Ok(log_to(commit, buds, read))
 }
 
-// A log of this commit with these buds that ends here.
-fn log_to(commit: Option<u64>, buds: Vec<HeadAt>, end: LogEnd) -> LogRead
-    ensures { log_of result ≡ record { commit = commit; buds = buds.items; ends = end } }
+// A log of this commit with these buds that was read up to here.
+fn log_to(commit: Option<u64>, buds: Vec<HeadAt>, read: ReadTo) -> LogRead
+    ensures { log_of result ≡ record { commit = commit; buds = buds.items; sqnum = read.sqnum; ends = read.end } }
 {
     LogRead {
         commit,
         buds,
-        lnum: end.lnum,
-        offs: end.offs,
-        tail: end.tail,
+        sqnum: read.sqnum,
+        lnum: read.end.lnum,
+        offs: read.end.offs,
+        tail: read.end.tail,
     }
 }
 
@@ -103,47 +110,51 @@ fn end_at(lnum: u32, seen: Seen) -> LogEnd
     }
 }
 
-// Where the log ends behind another text, which may be a commit start alone.
-fn end_behind(alone: bool, last: LogEnd, here: LogEnd) -> LogEnd
-    ensures { result ≡ (if alone then last else here) }
+// How far the log was read behind another text, which ends here and may be a commit start alone.
+fn read_past(read: ReadTo, seen: Seen, last: LogEnd, here: LogEnd) -> ReadTo
+    ensures end { result.end ≡ (if seen.alone then last else here) }
+    ensures sqnum { result.sqnum ≡ max read.sqnum seen.sqnum }
 {
-    if alone { last } else { here }
+    ReadTo {
+        end: if seen.alone { last } else { here },
+        sqnum: read.sqnum.max(seen.sqnum),
+    }
 }
 
-// Reads the LEBs behind the first, which begins with a commit start of this number and ends there.
+// Reads the LEBs behind the first, which begins with a commit start of this number and was read up to there.
 fn read_on<V: Volume>(
     alloc: Global,
     volume: &mut V,
     geometry: &Geometry,
     from: u32,
     number: u64,
-    first: LogEnd,
+    first: ReadTo,
     leb: &mut [u8],
     buds: &mut Vec<HeadAt>,
-) -> Result<LogEnd, AreaFault>
+) -> Result<ReadTo, AreaFault>
     requires ring { IsLogLeb (raw_of geometry.now) from }
     requires lebs { lpt_first (raw_of geometry.now) ≤ (V.state volume.old).leb_cnt }
     requires whole { length leb.old ≡ (V.state volume.old).leb_size }
     requires size { length leb.old < 2 ^ 32 }
-    ensures read { IfOk result (λ ends. IsReadOn (V.state volume.old).holds (raw_of geometry.now) from number first buds.old.items buds.new.items ends) }
+    ensures read { IfOk result (IsReadOn (V.state volume.old).holds (raw_of geometry.now) from number first buds.old.items buds.new.items) }
     ensures keeps { Keeps (V.state volume.old) (V.state volume.new) }
     ensures shape { SameShape (V.state volume.old) (V.state volume.new) }
     ensures cause { HasAreaCause (V.state volume.old).faults (V.state volume.new).faults result }
     ensures sure { StaysSureArea (V.state volume.old) (V.state volume.new) result }
 {
-    let mut end = first;
-    let mut last = first;
+    let mut read = first;
+    let mut last = first.end;
     let mut lnum = next_leb(geometry, from);
     while lnum != from {
         let Some(seen) = read_later(alloc, volume, lnum, number, leb, buds)? else {
-            return Ok(end);
+            return Ok(read);
         };
         let here = end_at(lnum, seen);
-        end = end_behind(seen.alone, last, here);
+        read = read_past(read, seen, last, here);
         last = here;
         lnum = next_leb(geometry, lnum);
     }
-    Ok(end)
+    Ok(read)
 }
 
 // Reads a LEB and names what it refers to.

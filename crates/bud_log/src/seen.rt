@@ -1,6 +1,6 @@
 // What is seen of a log LEB at one pass.
 
-ghost use Rattle.std.specs.Prelude.{◌≡◌, ◌==◌, ◌^◌, ◌<◌, length};
+ghost use Rattle.std.specs.Prelude.{◌≡◌, ◌==◌, ◌^◌, ◌<◌, length, max};
 ghost use Rattle.ubifs_base.specs.NodeType.{type_number};
 ghost use Rattle.bud_log.specs.LogText.{at_start as at_the_start, start_of as start_number, is_later as is_later_than};
 ghost use Rattle.bud_log.specs.Seen.{IsSeen, earlier_of};
@@ -8,11 +8,13 @@ ghost use Rattle.bud_log.specs.Seen.{IsSeen, earlier_of};
 use leb_scan::{Found, Scanner, Tail};
 use ubifs_base::NodeType;
 
-/// The node with which the LEB begins, whether its text is a commit start alone, and where and how the text ends.
+/// The node with which the LEB begins, whether its text is a commit start alone, the greatest sequence number of its nodes or
+/// 0, and where and how the text ends.
 #[derive(Clone, Copy, Debug, PartialEq, Eq)]
 pub(crate) struct Seen {
     pub begins: Option<Found>,
     pub alone: bool,
+    pub sqnum: u64,
     pub offs: u32,
     pub tail: Tail,
 }
@@ -25,9 +27,11 @@ pub(crate) fn see(leb: &[u8]) -> Seen
     let mut first = None;
     let mut empty = true;
     let mut alone = false;
+    let mut sqnum = 0;
     let mut scanner = Scanner::new(0);
     while let Some(found) = scanner.next(leb) {
         first = earlier(first, found);
+        sqnum = greater(sqnum, found);
         if !is_of(found, NodeType::Padding) {
             alone = empty && is_of(found, NodeType::CommitStart);
             empty = false;
@@ -36,6 +40,7 @@ pub(crate) fn see(leb: &[u8]) -> Seen
     Seen {
         begins: at_start(first),
         alone,
+        sqnum,
         offs: scanner.place(),
         tail: scanner.tail(leb),
     }
@@ -56,6 +61,13 @@ fn earlier(first: Option<Found>, found: Found) -> Option<Found>
         Some(first) => Some(first),
         None => Some(found),
     }
+}
+
+// The greatest number, once another node is found.
+fn greater(sqnum: u64, found: Found) -> u64
+    ensures { result ≡ max sqnum found.sqnum }
+{
+    sqnum.max(found.sqnum)
 }
 
 // A node that stands at the start of the LEB.

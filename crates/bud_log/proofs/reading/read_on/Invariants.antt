@@ -8,7 +8,7 @@ use Rattle.bud_log.proofs.reading.read_on.Given as goal
 -- what was read so far, and that all is kept
 abbrev pub invariant-loop-lnum : goal.invariant-loop-lnum
 invariant-loop-lnum g l =
-    IsReadSoFar (g.V.Volume.state l.fn.volume).holds (raw_of l.geometry) l.from l.number l.fn.first l.fn.buds.items l.buds.items l.lnum l.last l.end × IsLogLeb (raw_of l.geometry) l.lnum
+    IsReadSoFar (g.V.Volume.state l.fn.volume).holds (raw_of l.geometry) l.from l.number l.fn.first l.fn.buds.items l.buds.items l.lnum l.last l.read × IsLogLeb (raw_of l.geometry) l.lnum
     × KeepsOn (g.V.Volume.state l.fn.volume) (g.V.Volume.state l.volume) × (length l.leb ≡ length l.fn.leb)
 
 abbrev pub decreases-loop-lnum : goal.decreases-loop-lnum

@@ -12,7 +12,7 @@ loop-found-preserved-then-empty c =
       (
         before.0 ++ found ∷ [],
         gathered_next c.args.leb.now 0 c.loop-found.scanner.place c.next.new.self.place before.0 found before.1 c.in-Some.ensures.some,
-        so_far_more before.0 c.loop-found.first c.earlier-first.result c.loop-found.empty c.loop-found.alone c.is_of-alone.result found before.2 c.earlier-first.ensures (search rules) (c.is_of-alone.ensures ∙ ap (λ (b : Bool). b && last) (sym c.if-empty.true)),
+        so_far_more before.0 c.loop-found.first c.earlier-first.result c.loop-found.empty c.loop-found.alone c.is_of-alone.result c.loop-found.sqnum c.greater-sqnum.result found before.2 c.earlier-first.ensures c.greater-sqnum.ensures (search rules) (c.is_of-alone.ensures ∙ ap (λ (b : Bool). b && last) (sym c.if-empty.true)),
       ),
       omega arith,
     )
@@ -25,7 +25,7 @@ loop-found-preserved-else-empty c =
       (
         before.0 ++ found ∷ [],
         gathered_next c.args.leb.now 0 c.loop-found.scanner.place c.next.new.self.place before.0 found before.1 c.in-Some.ensures.some,
-        so_far_more before.0 c.loop-found.first c.earlier-first.result c.loop-found.empty c.loop-found.alone c.loop-found.empty found before.2 c.earlier-first.ensures (search rules)
+        so_far_more before.0 c.loop-found.first c.earlier-first.result c.loop-found.empty c.loop-found.alone c.loop-found.empty c.loop-found.sqnum c.greater-sqnum.result found before.2 c.earlier-first.ensures c.greater-sqnum.ensures (search rules)
             (c.if-empty.false ∙ ap (λ (b : Bool). b && last) (sym c.if-empty.false)),
       ),
       omega arith,
@@ -38,12 +38,12 @@ loop-found-preserved c =
       (
         before.0 ++ found ∷ [],
         gathered_next c.args.leb.now 0 c.loop-found.scanner.place c.next.new.self.place before.0 found before.1 c.in-Some.ensures.some,
-        so_far_padding before.0 c.loop-found.first c.earlier-first.result c.loop-found.empty c.loop-found.alone found before.2 c.earlier-first.ensures (search rules),
+        so_far_padding before.0 c.loop-found.first c.earlier-first.result c.loop-found.empty c.loop-found.alone c.loop-found.sqnum c.greater-sqnum.result found before.2 c.earlier-first.ensures c.greater-sqnum.ensures (search rules),
       ),
       omega arith,
     )
 
 pub returns : goal.returns
 returns c =
-    seen_all c.args.leb.now c.loop-found.scanner.place c.next.new.self.place c.place.result c.loop-found.invariant.0.0 c.tail.result c.loop-found.first c.at_start.result c.loop-found.empty c.loop-found.alone
+    seen_all c.args.leb.now c.loop-found.scanner.place c.next.new.self.place c.place.result c.loop-found.invariant.0.0 c.tail.result c.loop-found.first c.at_start.result c.loop-found.empty c.loop-found.alone c.loop-found.sqnum
     c.loop-found.invariant.0.1 c.loop-found.invariant.0.2 c.in_default.ensures.none c.place.ensures c.tail.ensures c.at_start.ensures

@@ -6,7 +6,7 @@ use Rattle.bud_log.proofs.seen.see.Given as goal
 
 -- the nodes so far, and what is seen of them
 abbrev pub invariant-loop-found : goal.invariant-loop-found
-invariant-loop-found l = ((nodes : List Found) × IsGathered l.leb 0 l.scanner.place nodes × IsSoFar nodes l.first l.empty l.alone) × (l.scanner.place ≤ length l.leb)
+invariant-loop-found l = ((nodes : List Found) × IsGathered l.leb 0 l.scanner.place nodes × IsSoFar nodes l.first l.empty l.alone l.sqnum) × (l.scanner.place ≤ length l.leb)
 
 abbrev pub decreases-loop-found : goal.decreases-loop-found
 decreases-loop-found l = length l.leb - l.scanner.place

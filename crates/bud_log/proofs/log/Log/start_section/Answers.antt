@@ -4,6 +4,7 @@ use Rattle.bud_log.specs.Buds.{named, buds_of}
 use Rattle.bud_log.specs.Log.{next_leb}
 use Rattle.ubi_volume.specs.FrameLaws.{Works-on}
 use Rattle.bud_log.specs.LogAt.{LogAt, IsWithin, starting, room_of, references_to}
+use Rattle.bud_log.specs.LogAnswers.{StartsWith}
 use Rattle.bud_log.specs.LogText.{StartsCommit}
 use Rattle.bud_log.specs.LogCalls.{AddDuring}
 use Rattle.bud_log.specs.Writing.{IsReady}
@@ -40,9 +41,11 @@ returns-clause-started g c =
     let at = c.args.self.now in
     let moved = c.self.view_is ∙ c.in_ok-write_section.ensures.moved in
     let C : LogAt → Type 0 = λ z. StartsCommit (b.holds z.lnum) z.lnum c.args.cmt_no in
+    let S : LogAt → Type 0 = λ z. StartsWith (b.holds z.lnum) z.lnum (c.args.sqnum.now + 1) in
     let W : LogAt → Type 0 = λ z. IsWithin (starting z z.lnum z.offs) in
     record {
       commit = subst C (sym moved) c.in_ok-write_section.ensures.commit;
+      starts = subst S (sym moved) c.in_ok-write_section.ensures.starts;
       moved = search rules;
       at = search rules;
       within = λ room. subst W (sym moved)

@@ -9,12 +9,13 @@ use Rattle.bud_log.specs.Buds.{named, buds_of}
 use Rattle.bud_log.specs.Log.{IsLogLeb, next_leb}
 use Rattle.bud_log.specs.LogAt.{LogAt, room_of, references_to, head_nodes, section_nodes}
 use Rattle.bud_log.specs.LogText.{StartsCommit}
+use Rattle.bud_log.specs.LogAnswers.{StartsWith}
 use Rattle.bud_log.specs.LogCalls.{IsAdded, AddDuring}
 use Rattle.bud_log.specs.Writing.{AreOthersOlder, IsReady}
 use Rattle.bud_log.specs.declared.head_at.HeadAt.{HeadAt}
 use Rattle.bud_log.proofs.Calls.{on_ok}
 use Rattle.bud_log.proofs.Opened.{added_ready, begun_laid}
-use Rattle.bud_log.proofs.ReadyAgain.{ready_section, starts_commit}
+use Rattle.bud_log.proofs.ReadyAgain.{ready_section, starts_commit, starts_with}
 use Rattle.bud_log.proofs.Spelled.{references_same, mod_through, fits_leb}
 use Rattle.bud_log.proofs.log.Log.write_section.Goals as goal
 
@@ -105,4 +106,25 @@ returns-clause-commit g c =
     let start : CommitStart = record { cmt_no = c.args.cmt_no } in
     on_ok c.add.result (IsAdded false a b at bytes) (StartsCommit (b.holds there) there c.args.cmt_no)
     (λ w. starts_commit (b.holds there) there (0 + length bytes) c.args.number (head_nodes heads) start (begun_laid a b there c.args.number bytes (section_nodes c.args.cmt_no heads) w c.lay_section.ensures (omega (arith, short, size, leb_size))))
+    c.add.ensures.done
+
+pub returns-clause-starts : goal.returns-clause-starts
+returns-clause-starts g c =
+    let a = g.V.Volume.state c.args.volume.now in
+    let b = g.V.Volume.state c.add.new.volume in
+    let at = c.args.self.now in
+    let geo = c.self.inside.geometry in
+    let bytes = c.lay_section.new.bytes in
+    let heads = c.args.heads.now in
+    let room = c.room_for-room.result in
+    let len : ℕ = 32 + 64 * length heads in
+    let three = c.requires.three in
+    let there = next_leb at.geo at.lnum in
+    let size : length bytes ≡ room = c.lay_section.auto.bytes ∙ c.split_at_mut-bytes.ensures.front_len in
+    let L : LogAt → Type 0 = λ z. room ≤ z.geo.leb_size in
+    let short = subst L c.self.view_is (fits_leb (raw_of geo) room len geo.in_range (omega (arith, three)) c.room_for-room.ensures.high) in
+    let leb_size = c.requires.at.leb_size in
+    let start : CommitStart = record { cmt_no = c.args.cmt_no } in
+    on_ok c.add.result (IsAdded false a b at bytes) (StartsWith (b.holds there) there (c.args.number + 1))
+    (λ w. starts_with (b.holds there) there (0 + length bytes) c.args.number (head_nodes heads) start (begun_laid a b there c.args.number bytes (section_nodes c.args.cmt_no heads) w c.lay_section.ensures (omega (arith, short, size, leb_size))))
     c.add.ensures.done
