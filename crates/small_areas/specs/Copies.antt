@@ -3,7 +3,7 @@ use Rattle.std.specs.Prelude.{◌≡◌, ◌⊎◌, ℕ, ◌+◌, ◌-◌, ◌*�
 use Rattle.ubifs_base.specs.Gap.{gap_of}
 use Rattle.ubifs_base.specs.NodeLaws.{IsBytes}
 use Rattle.ubifs_base.specs.declared.node_type.NodeType.TheVariants as types
-use Rattle.ubi_volume.specs.Volume.{VolumeState, Keeps, Only, IsWritten, IsChanged, ChangeUnderWay, WriteUnderWay}
+use Rattle.ubi_volume.specs.Volume.{VolumeState, Keeps, Only, filled, put, IsWritten, IsChanged, ChangeUnderWay, WriteUnderWay}
 use Rattle.ubi_volume.specs.Frame.{Elsewhere}
 use Rattle.media_sys.specs.SystemNode.{IsMaster, master, written}
 use Rattle.media_sys.specs.declared.master.Master.{Master}
@@ -116,10 +116,16 @@ pub record IsStart (state : VolumeState) (number : ℕ) (old : PlacedMaster) : T
 abbrev pub IsMasterLeb : ℕ → Type 0
 IsMasterLeb lnum = (lnum ≡ 1) ⊎ (lnum ≡ 2)
 
+-- a cut leaves the whole copy: at its place, or in place of all that the LEB held
+abbrev pub HasWholeCopy : VolumeState → ℕ → ℕ → List ℕ → List ℕ → Type 0
+HasWholeCopy old lnum room copy left = ((place : ℕ) × IsPlace (old.holds lnum) room place × (before : List ℕ) × old.left_mapped lnum before × (left ≡ put place copy before)) ⊎ (left ≡ filled old.leb_size copy)
+
 -- What a cut leaves while a master is written with the numbers behind this one: of all other LEBs what it might have left
--- before, and from such a start the old latest master or the new one; of the outcomes, under the premise on checksums.
+-- before; of LEB 2 too, unless LEB 1 has the whole copy; and from such a start the old latest master or the new one, of the outcomes,
+-- under the premise on checksums.
 pub record MasterUnderWay (state : VolumeState) (room number : ℕ) (fresh : Master) (left : ℕ → List ℕ) : Type 0 where
   pub elsewhere : Elsewhere state IsMasterLeb left
+  pub in_order : state.left_now 2 (left 2) ⊎ HasWholeCopy state 1 room (master_copy room (number + 1) fresh) (left 1)
   pub old_or_new : (old : PlacedMaster) → IsStart state number old → IsMeant (state.holds 1) room (master_node (number + 1) fresh) (left 1)
       → IsMeant (state.holds 2) room (master_node (number + 2) fresh) (left 2) → IsOldOrNew old fresh (left 1) (left 2)
 

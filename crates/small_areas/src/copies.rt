@@ -17,8 +17,8 @@ use ubifs_base::{Geometry, fill_gap};
 
 pub(crate) const MASTER_LEN: usize = 512;
 
-/// Writes a new master to LEB 1 and then to LEB 2. Each copy goes behind the text of its LEB and takes a sequence number of
-/// its own, of the two next. A LEB whose text has a torn tail, or doesn't end at a place with room for a copy, is replaced
+/// Writes a new master to LEB 1 and then to LEB 2: until LEB 1 has the whole copy, a power cut leaves of LEB 2 what it might
+/// have left before. Each copy goes behind the text of its LEB and takes a sequence number of its own, of the two next. A LEB whose text has a torn tail, or doesn't end at a place with room for a copy, is replaced
 /// as one step. The number rises by two, whatever the answer. The buffer has the size of a LEB, and what is in it
 /// afterwards is of no use.
 ///

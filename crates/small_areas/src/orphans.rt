@@ -16,7 +16,7 @@ use leb_scan::{Found, Scanner};
 use media_sys::OrphNode;
 use std::alloc::{AllocError, Global};
 use ubi_volume::{AreaFault, Volume, read_leb};
-use ubifs_base::{Geometry, Memory, NodeType, fill_gap};
+use ubifs_base::{Geometry, Memory, NodeType, ORPHAN_NODE_LEN, fill_gap};
 
 /// Writes the list of orphans of a commit as one orphan node, the last of its commit, or as one padding unit if the list is
 /// empty. It replaces the first LEB of the orphan area as one step, so a power cut at any moment leaves the list that was
@@ -114,7 +114,7 @@ fn list_size(geometry: &Geometry, inos: &[u32]) -> u32
     if inos.is_empty() {
         return geometry.min_io;
     }
-    in_units(geometry, 32 + 8 * inos.len() as u32)
+    in_units(geometry, ORPHAN_NODE_LEN + 8 * inos.len() as u32)
 }
 
 // So many bytes, rounded up to whole units.
