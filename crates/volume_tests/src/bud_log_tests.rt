@@ -297,3 +297,22 @@ fn reading_goes_round_the_ring_once(rt: HostRuntime) -> Result<(), Fail> {
         (4, 1024, Tail::Clean),
     )
 }
+
+#[test]
+fn greatest_number_of_what_is_read_is_told(rt: HostRuntime) -> Result<(), Fail> {
+    let alloc = rt.alloc();
+    let first = [Start(10), Bud(30, Base, 20, 0), Bud(12, Data, 21, 0)];
+    let log = read(alloc, (&[], &first, &[], &[]), 3)?;
+    assert_eq!(rt; log.sqnum, 0);
+    // The last node needn't have it.
+    let log = read(alloc, (&first, &[], &[], &[]), 3)?;
+    assert_eq!(rt; log.sqnum, 30);
+    // An older section isn't read, nor what stands behind a torn end; a commit start alone is.
+    let older = [Start(9), Bud(40, Data, 22, 0)];
+    let log = read(alloc, (&first, &older, &[], &[]), 3)?;
+    assert_eq!(rt; log.sqnum, 30);
+    let torn = [Start(31), Torn, Bud(40, Data, 22, 0)];
+    let log = read(alloc, (&first, &torn, &[], &[]), 3)?;
+    assert_eq!(rt; log.sqnum, 31);
+    Ok(())
+}

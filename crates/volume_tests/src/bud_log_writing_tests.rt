@@ -67,8 +67,8 @@ fn written_section_is_read(rt: HostRuntime) -> Result<(), Fail> {
     };
     assert_eq!(rt; read.buds.as_slice(), [heads[0], bud].as_slice());
     assert_eq!(rt;
-        (read.commit, read.lnum, read.offs, read.tail),
-        (Some(5), 4, 1024, Tail::Clean)
+        (read.commit, read.sqnum, read.lnum, read.offs, read.tail),
+        (Some(5), sqnum, 4, 1024, Tail::Clean)
     );
     Ok(())
 }
