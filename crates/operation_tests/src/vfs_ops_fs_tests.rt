@@ -4,7 +4,6 @@ ghost use Rattle.std.specs.Prelude.{◌≡◌, ◌≤◌, ◌+◌, length, IfOk}
 ghost use Rattle.fs_model.specs.Making.{new_file};
 ghost use Rattle.plain_backing.specs.PlainBacking.{state_of};
 ghost use Rattle.operation_tests.specs.Sample.{sample_group, sample_page};
-ghost use Rattle.vfs_ops.specs.Steps.{IsReady};
 
 use crate::vfs_ops_tests::{answered, fresh_backing, fresh_files, path, root};
 use fs_model::caller::{CallFault, make_and_read};
@@ -19,8 +18,6 @@ use vfs_ops::Fs;
 
 // The number of the inode to which a path leads.
 fn walked_to(alloc: Global, fs: &mut Fs<PlainBacking>, bytes: &[u8]) -> Result<u32, Refusal>
-    requires { IsReady (state_of fs.old.backing) fs.old.kept }
-    ensures { IsReady (state_of fs.new.backing) fs.new.kept }
 {
     let path = path(alloc, bytes)?;
     let entry = fs.walk(&path)?;
@@ -29,8 +26,6 @@ fn walked_to(alloc: Global, fs: &mut Fs<PlainBacking>, bytes: &[u8]) -> Result<u
 
 // A group without a change, which asks for nothing.
 fn nothing_put(alloc: Global, fs: &mut Fs<PlainBacking>) -> Result<(), Refusal>
-    requires { IsReady (state_of fs.old.backing) fs.old.kept }
-    ensures { IsReady (state_of fs.new.backing) fs.new.kept }
 {
     let need = Need {
         credits: 0,
@@ -43,8 +38,6 @@ fn nothing_put(alloc: Global, fs: &mut Fs<PlainBacking>) -> Result<(), Refusal>
 
 // How many entries the root has, and the number behind the name `f`, 0 where there is none.
 fn looked_up(alloc: Global, fs: &mut Fs<PlainBacking>) -> Result<(usize, u32), StoreFault>
-    requires { IsReady (state_of fs.old.backing) fs.old.kept }
-    ensures { IsReady (state_of fs.new.backing) fs.new.kept }
 {
     let entries = fs.entries(1)?;
     let name = Name::from_slice(alloc, b"f")?;
@@ -56,8 +49,6 @@ fn looked_up(alloc: Global, fs: &mut Fs<PlainBacking>) -> Result<(usize, u32), S
 
 // The time of an inode's last change, 0 where there is none.
 fn changed_at(fs: &mut Fs<PlainBacking>, ino: u32) -> Result<u64, StoreFault>
-    requires { IsReady (state_of fs.old.backing) fs.old.kept }
-    ensures { IsReady (state_of fs.new.backing) fs.new.kept }
 {
     match fs.inode(ino)? {
         Some(inode) => Ok(inode.mtime),

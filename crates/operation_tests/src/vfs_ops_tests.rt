@@ -7,7 +7,6 @@ ghost use Rattle.fs_model.specs.Worked.{fresh};
 ghost use Rattle.fs_laws.specs.Sound.{IsCall};
 ghost use Rattle.plain_backing.specs.PlainBacking.{state_of};
 ghost use Rattle.vfs_plans.specs.Operations.{is_truncate};
-ghost use Rattle.vfs_ops.specs.Steps.{IsReady};
 
 use fs_laws::a_fresh_volume_is_sound;
 use fs_model::{Backing, Change, Group, Inode, Kind, Mode, Op, Reply, Space};
@@ -73,7 +72,6 @@ pub(crate) fn fresh_backing(alloc: Global) -> Result<PlainBacking, Fail>
 
 // A file system over a fresh volume.
 pub(crate) fn fresh_files(alloc: Global) -> Result<Fs<PlainBacking>, Fail>
-    ensures { IfOk result (λ fs. IsReady (state_of fs.backing) fs.kept) }
 {
     a_fresh_volume_is_sound();
     let backing = fresh_backing(alloc)?;
@@ -136,8 +134,6 @@ fn number(reply: &Reply) -> u64 {
 
 // Does the operation of a letter at the moment 7, and answers the number of its reply.
 pub(crate) fn answered(alloc: Global, fs: &mut Fs<PlainBacking>, letter: u8) -> Result<u64, Memory>
-    requires { IsReady (state_of fs.old.backing) fs.old.kept }
-    ensures { IsReady (state_of fs.new.backing) fs.new.kept }
 {
     let op = op_of(alloc, letter)?;
     let event = Event::Call {
@@ -157,8 +153,6 @@ pub(crate) fn answers(
     fs: &mut Fs<PlainBacking>,
     letters: &[u8],
 ) -> Result<Vec<u64>, Memory>
-    requires { IsReady (state_of fs.old.backing) fs.old.kept }
-    ensures { IsReady (state_of fs.new.backing) fs.new.kept }
 {
     let mut numbers = Vec::new(alloc);
     for letter in letters {

@@ -27,7 +27,7 @@ use Rattle.vfs_ops.specs.declared.event.Outcome.{Outcome}
 use Rattle.vfs_ops.specs.declared.event.Outcome.TheVariants.{Replied}
 use Rattle.vfs_ops.specs.Events.{IsAnswer as IsAnswerOf, left_of}
 use Rattle.vfs_plans.specs.Answers.{IsFault}
-use Rattle.vfs_ops.specs.Steps.{IsAnswered, IsDone, IsLast, IsReady, IsRefusedFor, IsTurnedDown, IsUnsynced, allowed, allowed_on, asked, read_only_cause}
+use Rattle.vfs_ops.specs.Steps.{IsAnswered, IsDone, IsLast, IsRefusedFor, IsTurnedDown, IsUnsynced, allowed, allowed_on, asked, read_only_cause}
 use Rattle.ubifs_tools.specs.Replies.{is_memory}
 use Rattle.ubifs_tools.specs.Run.{HasNoRoom, IsAnswer, IsFull, plain}
 use Rattle.ubifs_tools.specs.Sessions.{IsSteady}
@@ -107,11 +107,11 @@ answer_of geo old new kept files caller now op reply before after calm room know
 })
 
 -- the two sides are those of the present tree, where no page is dirty
-pub no_room : (geo : RawGeometry) (old : BackingState) (new : PlainBacking) (kept : Kept) → IsSteady geo new kept → (IsKept (state_of new).tree kept → kept.pages.dirty ≡ [] → (present (state_of new).tree kept).tree ≡ (state_of new).tree)
+pub no_room : (geo : RawGeometry) (old : BackingState) (new : PlainBacking) (kept : Kept) → IsSteady geo new kept → IsKept (state_of new).tree kept → (IsKept (state_of new).tree kept → kept.pages.dirty ≡ [] → (present (state_of new).tree kept).tree ≡ (state_of new).tree)
     → (need : Need) (sides : NoSpace) → IsWithoutRoom old (state_of new) kept need (Enospc sides) → HasNoRoom geo (present (state_of new).tree kept).tree need sides
-no_room geo old new kept steady clean need sides h = record {
+no_room geo old new kept steady fits clean need sides h = record {
   space = (state_of new).space;
-  used = ap tree_bytes (sym (clean steady.ready.kept_fits h.3));
+  used = ap tree_bytes (sym (clean fits h.3));
   held = refl;
   credits = steady.credits ∙ ap (λ dirty. length dirty) h.3;
   main = ap main_lebs steady.geometry;
@@ -134,15 +134,14 @@ still_writable n old new goes was none still = by goes.mode
     by (inr (open_was, inr lost)) = absurd (false≢true (sym new.unspent ∙ ap is_spent lost.2))
 
 -- what a run keeps of its backing stays over a step
-pub steady_next : (geo : RawGeometry) (old new : PlainBacking) (before after : Kept) (n left : ℕ) → IsSteady geo old before → IsReady (state_of new) after → Goes n (state_of old) (state_of new)
+pub steady_next : (geo : RawGeometry) (old new : PlainBacking) (before after : Kept) (n left : ℕ) → IsSteady geo old before → Goes n (state_of old) (state_of new)
     → SureGoes (outlook_of old) (outlook_of new) (state_of old) (state_of new)
     → ((state_of new).space.credits + length before.pages.dirty + 0 ≡ (state_of old).space.credits + length after.pages.dirty + left) → left ≤ 0 → IsSteady geo new after
-steady_next geo old new before after n left steady ready goes sure issued none = by (sure.sure steady.strike)
+steady_next geo old new before after n left steady goes sure issued none = by (sure.sure steady.strike)
   where
     by : ⊥ ⊎ ((new.numbers.strike ≡ 0) × ((state_of new).faults ≡ (state_of old).faults)) → IsSteady geo new after
     by (inl spent) = absurd spent
     by (inr (strike, same)) = record {
-      ready = ready;
       geometry = goes.geometry ∙ steady.geometry;
       mode = still_writable n (state_of old) new goes steady.mode steady.faults (same ∙ steady.faults);
       faults = same ∙ steady.faults;

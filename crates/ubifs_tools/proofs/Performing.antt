@@ -49,7 +49,7 @@ done_of manifest script text image m parts raw session stored is_manifest is_scr
       stored = stored;
       left = record {
         kept = kept;
-        fits = subst (λ tree. IsKept tree kept) (sym same) whole.steady.ready.kept_fits;
+        fits = subst (λ tree. IsKept tree kept) (sym same) session.fs.ready.kept_fits;
         seen = seen;
         unmounted = λ away. let bare = whole.bare away in left_bare (state_in session).tree stored kept same bare;
       };

@@ -7,7 +7,6 @@ use Rattle.cached_files.specs.declared.kept.Kept.{Kept}
 use Rattle.cached_files.specs.Present.{present}
 use Rattle.plain_backing.specs.declared.backing.PlainBacking.{PlainBacking}
 use Rattle.plain_backing.specs.PlainBacking.{state_of}
-use Rattle.vfs_ops.specs.Steps.{IsReady}
 use Rattle.ubifs_tools.specs.Run.{Running}
 use Rattle.ubifs_tools.specs.declared.session.Session.{Session}
 
@@ -31,7 +30,6 @@ pub record IsBare (kept : Kept) : Type 0 where
 
 -- A backing that no call of which fails, that can be written and takes no orphan. Each covered credit is that of a dirty page.
 pub record IsSteady (geo : RawGeometry) (backing : PlainBacking) (kept : Kept) : Type 0 where
-  pub ready : IsReady (state_of backing) kept
   pub geometry : (state_of backing).geometry ≡ geo
   pub mode : (state_of backing).mode ≡ ReadWrite
   pub faults : (state_of backing).faults ≡ 0

@@ -1,5 +1,9 @@
 pub mod Events
+pub mod FilesState
+pub mod Fs
 pub mod Kinds
 pub mod Operations
+pub mod Passing
+pub mod ReadyLaws
 pub mod Steps
 pub mod Writing

@@ -1,55 +1,58 @@
 // Files over a backing.
 
-ghost use Rattle.std.specs.Prelude.{◌≡◌, ◌+◌, ◌*◌, ◌<◌, ◌≤◌, ◌⊎◌, ◌++◌, [], false, length, Ok, IfOk, OnOk, OnErr, IfErr};
-ghost use Rattle.fs_model.specs.Backing.{FitsGroup, FitsOrphans, Goes, HasCause, IsModest, IsNotReadOnly, Reads};
-ghost use Rattle.fs_model.specs.Change.{apply};
-ghost use Rattle.fs_model.specs.Directory.{entries_in};
-ghost use Rattle.fs_model.specs.Files.{entry_at, inode_at};
-ghost use Rattle.fs_model.specs.Path.{walked};
-ghost use Rattle.fs_model.specs.Proper.{IsProper};
-ghost use Rattle.fs_model.specs.Operation.{group_of};
-ghost use Rattle.fs_laws.specs.Sound.{IsCall, IsSound};
-ghost use Rattle.cached_files.specs.Alike.{IsAlike};
-ghost use Rattle.cached_files.specs.Calls.{IsWithoutRoom, SureGoes, WasCovered};
-ghost use Rattle.cached_files.specs.Follow.{AreOfNames};
-ghost use Rattle.cached_files.specs.Present.{present};
+ghost use Rattle.std.specs.Prelude.{◌≡◌, ◌⊎◌, ◌++◌};
 ghost use Rattle.fs_model.specs.declared.refusal.Refusal.TheVariants.{Enomem, Enospc};
 ghost use Rattle.fs_model.specs.declared.reply.Reply.TheVariants.{Refused};
-ghost use Rattle.vfs_plans.specs.Answers.{IsRefused, Looks};
-ghost use Rattle.vfs_plans.specs.Operations.{is_truncate};
-ghost use Rattle.vfs_ops.specs.Events.{HasSynced, IsAdmittedCall, IsAnswer, IsAtOnceCall, IsBufferedCall, IsCalled, IsExactCall, IsWrittenBack, grant_of, group_in, left_of};
-ghost use Rattle.vfs_ops.specs.Steps.{HasOpen, IsAdmittedReply, IsAnswered, IsAtOnceReply, IsExact, IsReady, no_space_from, no_space_in};
-ghost use Rattle.vfs_ops.specs.Writing.{BuffersReply};
+ghost use Rattle.vfs_ops.specs.ReadyLaws.{ready_prop};
+ghost use Rattle.vfs_ops.specs.Steps.{IsReady, no_space_in};
 
 use crate::answers::call;
+use crate::apply::apply_over;
 use crate::event::{Event, Outcome};
-use cached_files::{Kept, apply_group, inode, present_files_are_sound};
+use cached_files::{Kept, inode, present_files_are_sound};
 use fs_model::{Backing, Entry, Group, Inode, Mode, Need, NoSpace, Op, Refusal, Reply, StoreFault};
 use std::alloc::Global;
 use ubifs_base::{Memory, Name};
 use vfs_plans::walked;
 
 /// Files over a backing, with dirty pages in memory in front of it. The present files are the backing's tree under the
-/// dirty pages, with the handles. Each dirty page is paid by a covered credit.
+/// dirty pages, with the handles. Each dirty page is paid by a covered credit. Contracts see them as the record `FilesState`
+/// of `specs/FilesState.antt`.
 #[derive(Drop)]
 pub struct Fs<B: Backing> {
     alloc: Global,
     backing: B,
     kept: Kept,
     refused: Vec<NoSpace>,
+    ghost ready: { IsReady (B.state backing) kept } by { ready_prop (B.state backing) kept },
 }
 
 impl<B: Backing> Fs<B> {
+    ghost use Rattle.std.specs.Prelude.{◌≡◌, ◌+◌, ◌*◌, ◌<◌, ◌≤◌, false, length, Ok, IfOk, IfErr};
+    ghost use Rattle.fs_model.specs.Backing.{Goes, HasCause, IsNotReadOnly, Reads};
+    ghost use Rattle.fs_model.specs.Directory.{entries_in};
+    ghost use Rattle.fs_model.specs.Files.{entry_at, inode_at};
+    ghost use Rattle.fs_model.specs.Operation.{group_of};
+    ghost use Rattle.fs_model.specs.Path.{walked};
+    ghost use Rattle.fs_model.specs.Proper.{IsProper};
+    ghost use Rattle.fs_laws.specs.Sound.{IsCall};
+    ghost use Rattle.cached_files.specs.Calls.{SureGoes};
+    ghost use Rattle.cached_files.specs.Present.{present};
+    ghost use Rattle.vfs_plans.specs.Answers.{IsRefused, Looks};
+    ghost use Rattle.vfs_plans.specs.Operations.{is_truncate};
+    ghost use Rattle.vfs_ops.specs.Events.{HasSynced, IsCalled, grant_of};
+    ghost use Rattle.vfs_ops.specs.FilesState.{IsOpened, LeavesKept, present_in};
+    ghost use Rattle.vfs_ops.specs.Fs.{files_state};
+    ghost use Rattle.vfs_ops.specs.Passing.{IsApplied, IsStep, MayApply};
+    ghost use Rattle.vfs_ops.specs.Steps.{IsAdmittedReply, IsAnswered, IsAtOnceReply, IsExact};
+    ghost use Rattle.vfs_ops.specs.Writing.{BuffersReply};
+
     /// Files over a backing whose tree is proper, with no page dirty and no file open; at most so many clean pages are kept.
     pub fn new(alloc: Global, backing: B, clean: u32) -> Result<Fs<B>, (Memory, B)>
         requires clean { 0 < clean }
         requires proper { IsProper (B.state backing).tree }
-        ensures ready { IfOk result (λ fs. IsReady (B.state fs.backing) fs.kept) }
         ensures backing { IfOk result (λ fs. fs.backing ≡ backing) }
-        ensures pages { IfOk result (λ fs. fs.kept.pages.dirty ≡ []) }
-        ensures inodes { IfOk result (λ fs. fs.kept.inodes ≡ []) }
-        ensures handles { IfOk result (λ fs. fs.kept.handles ≡ []) }
-        ensures none { IfOk result (λ fs. fs.refused.items ≡ []) }
+        ensures opened { IfOk result (λ fs. IsOpened (files_state fs) clean) }
         ensures back { IfErr result (λ fault. fault.1 ≡ backing) }
     {
         present_files_are_sound();
@@ -68,18 +71,9 @@ impl<B: Backing> Fs<B> {
     /// which nobody sees; or it is refused, for a cause that is told, and callers see the files as before. After a refusal for
     /// want of room, a fault or want of memory, some dirty pages may have been put.
     pub fn step(&mut self, event: &Event) -> Outcome
-        requires ready { IsReady (B.state self.old.backing) self.old.kept }
         requires call { IsCalled event.now }
         requires grant { length self.old.kept.pages.dirty + grant_of event.now ≤ (B.state self.old.backing).space.credits }
-        ensures ready { IsReady (B.state self.new.backing) self.new.kept }
-        ensures answered { IsAnswer (B.state self.old.backing) (B.state self.new.backing) self.old.kept self.new.kept self.old.refused.items self.new.refused.items event.now result }
-        ensures exact { IsExactCall (record { old = B.state self.old.backing; new = B.state self.new.backing; before = self.old.kept; after = self.new.kept }) event.now result }
-        ensures issued { (B.state self.new.backing).space.credits + length self.old.kept.pages.dirty + grant_of event.now ≡ (B.state self.old.backing).space.credits + length self.new.kept.pages.dirty + left_of result }
-        ensures written { IsWrittenBack (B.state self.old.backing).mode (B.state self.new.backing) self.old.kept self.new.kept event.now result }
-        ensures admitted { IsAdmittedCall (B.state self.old.backing) (B.state self.new.backing) self.old.kept event.now result }
-        ensures at_once { IsAtOnceCall (B.state self.old.backing) self.old.kept self.old.refused.items self.new.refused.items event.now }
-        ensures buffered { IsBufferedCall (B.state self.old.backing) (B.state self.new.backing) self.old.kept self.new.kept self.old.refused.items self.new.refused.items event.now result }
-        ensures goes { Goes (2 * length self.old.kept.pages.dirty + length (group_in (present (B.state self.old.backing).tree self.old.kept) event.now)) (B.state self.old.backing) (B.state self.new.backing) }
+        ensures step { IsStep (files_state self.old) (files_state self.new) event.now result }
         ensures sure { SureGoes (B.outlook self.old.backing) (B.outlook self.new.backing) (B.state self.old.backing) (B.state self.new.backing) }
     {
         match event {
@@ -97,11 +91,9 @@ impl<B: Backing> Fs<B> {
 
     // The reply to a caller's operation, and what is left of the grant.
     fn answer(&mut self, caller: u16, now: u64, grant: u64, op: &Op) -> (Reply, u64)
-        requires ready { IsReady (B.state self.old.backing) self.old.kept }
         requires op { is_truncate op.now ≡ false }
         requires call { IsCall op.now }
         requires grant { length self.old.kept.pages.dirty + grant ≤ (B.state self.old.backing).space.credits }
-        ensures ready { IsReady (B.state self.new.backing) self.new.kept }
         ensures answered { IsAnswered (B.state self.old.backing) (B.state self.new.backing) self.new.kept (present (B.state self.old.backing).tree self.old.kept) caller now grant op.now result.0 self.old.refused.items self.new.refused.items }
         ensures left { result.1 ≤ grant }
         ensures exact { IsExact (record { old = B.state self.old.backing; new = B.state self.new.backing; before = self.old.kept; after = self.new.kept }) caller now grant op.now result.0 result.1 }
@@ -134,29 +126,14 @@ impl<B: Backing> Fs<B> {
     /// It is refused by a read-only store, for want of room, for a fault of the backing, or for want of memory; the present files
     /// are then as before, but some dirty pages may have been put.
     pub fn apply_group(&mut self, group: &Group, need: &Need) -> Result<(), Refusal>
-        requires ready { IsReady (B.state self.old.backing) self.old.kept }
-        requires modest { IsModest need.now }
-        requires credits { need.now.credits ≡ 0 }
-        requires fits { FitsGroup (present (B.state self.old.backing).tree self.old.kept).tree (record { bytes = need.now.bytes; nodes = need.now.nodes }) group.now }
-        requires orphans { FitsOrphans (present (B.state self.old.backing).tree self.old.kept).tree (B.state self.old.backing).closed (B.state self.old.backing).orphan_limit group.now }
-        requires names { AreOfNames (present (B.state self.old.backing).tree self.old.kept).tree group.now }
-        requires sound { IsSound (record (present (B.state self.old.backing).tree self.old.kept) { tree = apply (present (B.state self.old.backing).tree self.old.kept).tree group.now }) }
-        ensures ready { IsReady (B.state self.new.backing) self.new.kept }
-        ensures ok { OnOk result (IsAlike (record (present (B.state self.old.backing).tree self.old.kept) { tree = apply (present (B.state self.old.backing).tree self.old.kept).tree group.now }) (present (B.state self.new.backing).tree self.new.kept)) }
-        ensures same { OnErr result (IsAlike (present (B.state self.old.backing).tree self.old.kept) (present (B.state self.new.backing).tree self.new.kept)) }
-        ensures admitted { OnOk result (WasCovered (B.state self.old.backing) (B.state self.new.backing) self.old.kept need.now need.now (length group.now)) }
-        ensures why { IfErr result (IsWithoutRoom (B.state self.old.backing) (B.state self.new.backing) self.new.kept need.now) }
-        ensures open { HasOpen (B.state self.old.backing).mode result }
-        ensures refused { self.new.refused.items ≡ self.old.refused.items ++ no_space_from result }
-        ensures issued { (B.state self.new.backing).space.credits + length self.old.kept.pages.dirty ≡ (B.state self.old.backing).space.credits + length self.new.kept.pages.dirty }
-        ensures goes { Goes (2 * length self.old.kept.pages.dirty + length group.now) (B.state self.old.backing) (B.state self.new.backing) }
+        requires group { MayApply (files_state self.old) group.now need.now }
+        ensures applied { IsApplied (files_state self.old) (files_state self.new) group.now need.now result }
         ensures sure { SureGoes (B.outlook self.old.backing) (B.outlook self.new.backing) (B.state self.old.backing) (B.state self.new.backing) }
     {
-        present_files_are_sound();
         if let Mode::ReadOnly { cause } = self.backing.mode() {
             return Err(Refusal::Erofs { cause });
         }
-        match apply_group(self.alloc, &mut self.backing, &mut self.kept, group, need) {
+        match apply_over(self.alloc, &mut self.backing, &mut self.kept, group, need) {
             Ok(()) => Ok(()),
             Err(refusal) => Err(noted(&mut self.refused, refusal)),
         }
@@ -164,11 +141,9 @@ impl<B: Backing> Fs<B> {
 
     /// The entry that a path names, of which none but the last may be anything but a directory; that of the root for `/`.
     pub fn walk(&mut self, path: &Name) -> Result<Entry, Refusal>
-        requires ready { IsReady (B.state self.old.backing) self.old.kept }
-        ensures ready { IsReady (B.state self.new.backing) self.new.kept }
-        ensures still { self.new ≡ record self.old { backing = self.new.backing } }
-        ensures found { IfOk result (λ entry. walked (present (B.state self.old.backing).tree self.old.kept).tree path.now ≡ Ok entry) }
-        ensures refused { IfErr result (IsRefused (B.state self.old.backing) (B.state self.new.backing) (walked (present (B.state self.old.backing).tree self.old.kept).tree path.now)) }
+        ensures still { LeavesKept (files_state self.old) (files_state self.new) }
+        ensures found { IfOk result (λ entry. walked (present_in (files_state self.old)).tree path.now ≡ Ok entry) }
+        ensures refused { IfErr result (IsRefused (B.state self.old.backing) (B.state self.new.backing) (walked (present_in (files_state self.old)).tree path.now)) }
         ensures looks { Looks (B.outlook self.old.backing) (B.outlook self.new.backing) (B.state self.old.backing) (B.state self.new.backing) }
     {
         walked(self.alloc, &mut self.backing, &self.kept, path)
@@ -176,10 +151,8 @@ impl<B: Backing> Fs<B> {
 
     /// The entries of a directory, in order of name.
     pub fn entries(&mut self, dir: u32) -> Result<Vec<Entry>, StoreFault>
-        requires ready { IsReady (B.state self.old.backing) self.old.kept }
-        ensures ready { IsReady (B.state self.new.backing) self.new.kept }
-        ensures still { self.new ≡ record self.old { backing = self.new.backing } }
-        ensures found { IfOk result (λ entries. entries.items ≡ entries_in (present (B.state self.old.backing).tree self.old.kept).tree dir) }
+        ensures still { LeavesKept (files_state self.old) (files_state self.new) }
+        ensures found { IfOk result (λ entries. entries.items ≡ entries_in (present_in (files_state self.old)).tree dir) }
         ensures reads { Reads (B.state self.old.backing) (B.state self.new.backing) }
         ensures cause { HasCause (B.state self.old.backing) (B.state self.new.backing) result }
         ensures mode { IsNotReadOnly result }
@@ -189,10 +162,8 @@ impl<B: Backing> Fs<B> {
 
     /// The entry of a name in a directory.
     pub fn lookup(&mut self, dir: u32, name: &Name) -> Result<Option<Entry>, StoreFault>
-        requires ready { IsReady (B.state self.old.backing) self.old.kept }
-        ensures ready { IsReady (B.state self.new.backing) self.new.kept }
-        ensures still { self.new ≡ record self.old { backing = self.new.backing } }
-        ensures found { IfOk result (λ found. found ≡ entry_at (present (B.state self.old.backing).tree self.old.kept).tree dir name.now) }
+        ensures still { LeavesKept (files_state self.old) (files_state self.new) }
+        ensures found { IfOk result (λ found. found ≡ entry_at (present_in (files_state self.old)).tree dir name.now) }
         ensures reads { Reads (B.state self.old.backing) (B.state self.new.backing) }
         ensures cause { HasCause (B.state self.old.backing) (B.state self.new.backing) result }
         ensures mode { IsNotReadOnly result }
@@ -202,10 +173,8 @@ impl<B: Backing> Fs<B> {
 
     /// The inode of a number, with the size and the times that its dirty pages gave it.
     pub fn inode(&mut self, ino: u32) -> Result<Option<Inode>, StoreFault>
-        requires ready { IsReady (B.state self.old.backing) self.old.kept }
-        ensures ready { IsReady (B.state self.new.backing) self.new.kept }
-        ensures still { self.new ≡ record self.old { backing = self.new.backing } }
-        ensures found { IfOk result (λ found. found ≡ inode_at (present (B.state self.old.backing).tree self.old.kept).tree ino) }
+        ensures still { LeavesKept (files_state self.old) (files_state self.new) }
+        ensures found { IfOk result (λ found. found ≡ inode_at (present_in (files_state self.old)).tree ino) }
         ensures reads { Reads (B.state self.old.backing) (B.state self.new.backing) }
         ensures cause { HasCause (B.state self.old.backing) (B.state self.new.backing) result }
         ensures mode { IsNotReadOnly result }

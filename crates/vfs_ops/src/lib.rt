@@ -5,6 +5,7 @@
 #![tactic(auto)]
 
 mod answers;
+mod apply;
 mod changes;
 mod event;
 mod fs;

@@ -1,11 +1,19 @@
-use Rattle.std.proofs.Common.{List, inl, sym, subst, arith}
+use Rattle.std.proofs.Common.{List, [], arith, inl, refl, subst, sym}
 use Rattle.fs_model.specs.declared.change.Change.{Change}
-use Rattle.fs_model.specs.Backing.{FitsOrphans}
-use Rattle.cached_files.specs.Present.{present}
-use Rattle.plain_backing.specs.PlainBacking.{state_of}
+use Rattle.fs_model.specs.declared.space.Class.TheVariants.{Ordinary}
+use Rattle.vfs_ops.specs.Fs.{files_state}
+use Rattle.vfs_ops.specs.Passing.{MayApply}
 use Rattle.operation_tests.proofs.vfs_ops_fs_tests.nothing_put.Goals as goal
 
-pub apply_group-requires-clause-orphans : goal.apply_group-requires-clause-orphans
-apply_group-requires-clause-orphans c =
-    let old = state_of c.args.fs.now.backing in
-    subst (λ (group : List Change). FitsOrphans (present old.tree c.args.fs.now.kept).tree old.closed old.orphan_limit group) (sym c.new.ensures) (inl (omega arith))
+pub apply_group-requires : goal.apply_group-requires
+apply_group-requires c =
+    let ready = c.args.fs.now.ready in
+    let none : MayApply (files_state c.args.fs.now) [] (record { credits = 0; bytes = 0; nodes = 0; class = Ordinary }) = record {
+      modest = record { credits = omega arith; bytes = omega arith; nodes = omega arith };
+      credits = refl;
+      fits = record { are_nodes = refl; nodes = omega arith; bytes = omega arith; limit = omega arith; revives_none = refl; proper = ready.sound.proper };
+      orphans = inl (omega arith);
+      names = tt;
+      sound = ready.sound;
+    } in
+    subst (λ (group : List Change). MayApply (files_state c.args.fs.now) group (record { credits = 0; bytes = 0; nodes = 0; class = Ordinary })) (sym c.new.ensures) none

@@ -11,9 +11,9 @@ returns-clause-steady c =
     let new = state_of c.step-outcome.new.self.backing in
     let before = c.args.fs.now.kept in
     let after = c.step-outcome.new.self.kept in
-    let told = told_of old new before after _ _ c.args.caller c.args.now c.args.op c.step-outcome.result c.parts_of-told.result.0 c.parts_of-told.result.1 c.parts_of-told.ensures c.step-outcome.ensures.answered in
-    let issued = issued_of new.space.credits (length before.pages.dirty) old.space.credits (length after.pages.dirty) c.step-outcome.result c.parts_of-told.result.0 c.parts_of-told.result.1 c.parts_of-told.ensures c.step-outcome.ensures.issued in
-    steady_next (raw_of c.args.fs.now.backing.geo) c.args.fs.now.backing c.step-outcome.new.self.backing before after _ c.parts_of-told.result.1 c.requires.steady c.step-outcome.ensures.ready c.step-outcome.ensures.goes c.step-outcome.ensures.sure issued told.1
+    let told = told_of old new before after _ _ c.args.caller c.args.now c.args.op c.step-outcome.result c.parts_of-told.result.0 c.parts_of-told.result.1 c.parts_of-told.ensures c.step-outcome.ensures.step.answered in
+    let issued = issued_of new.space.credits (length before.pages.dirty) old.space.credits (length after.pages.dirty) c.step-outcome.result c.parts_of-told.result.0 c.parts_of-told.result.1 c.parts_of-told.ensures c.step-outcome.ensures.step.issued in
+    steady_next (raw_of c.args.fs.now.backing.geo) c.args.fs.now.backing c.step-outcome.new.self.backing before after _ c.parts_of-told.result.1 c.requires.steady c.step-outcome.ensures.step.goes c.step-outcome.ensures.sure issued told.1
 
 pub returns-clause-answer : goal.returns-clause-answer
 returns-clause-answer c =
@@ -22,9 +22,9 @@ returns-clause-answer c =
     let before = c.args.fs.now.kept in
     let after = c.step-outcome.new.self.kept in
     let geo = raw_of c.args.fs.now.backing.geo in
-    let told = told_of old new before after _ _ c.args.caller c.args.now c.args.op c.step-outcome.result c.parts_of-told.result.0 c.parts_of-told.result.1 c.parts_of-told.ensures c.step-outcome.ensures.answered in
+    let told = told_of old new before after _ _ c.args.caller c.args.now c.args.op c.step-outcome.result c.parts_of-told.result.0 c.parts_of-told.result.1 c.parts_of-told.ensures c.step-outcome.ensures.step.answered in
     let steady = returns-clause-steady c in
     answer_of geo old new after (present old.tree before) c.args.caller c.args.now c.args.op c.parts_of-told.result.0 _ _
     (record { was = c.requires.steady.mode; is = steady.mode; faults_were = c.requires.steady.faults; faults = steady.faults; orphans = c.requires.steady.orphans })
-    (no_room geo old c.step-outcome.new.self.backing after steady (c.clean_files_are_those_of_the_backing.ensures new.tree after))
+    (no_room geo old c.step-outcome.new.self.backing after steady c.step-outcome.new.self.ready.kept_fits (c.clean_files_are_those_of_the_backing.ensures new.tree after))
     (sym c.is_memory.ensures ∙ c.if-is_memory.false) told.0

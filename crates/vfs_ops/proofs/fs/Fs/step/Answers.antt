@@ -1,11 +1,24 @@
 use Rattle.std.proofs.Common.{◌≡◌, refl}
 use Rattle.vfs_ops.specs.declared.event.Event.{Event}
 use Rattle.vfs_ops.specs.declared.event.Event.TheVariants.{Call}
-use Rattle.vfs_ops.specs.Events.{IsAtOnceCall}
+use Rattle.vfs_ops.specs.declared.event.Outcome.TheVariants.{Replied}
+use Rattle.vfs_ops.specs.Fs.{files_state}
+use Rattle.vfs_ops.specs.Passing.{IsStep}
 use Rattle.vfs_ops.proofs.fs.Fs.step.Goals as goal
 
-pub returns-clause-at_once : goal.returns-clause-at_once
-returns-clause-at_once g c = by c.args.event.now refl
+pub returns-clause-step : goal.returns-clause-step
+returns-clause-step g c = by c.args.event.now refl
   where
-    by : (event : Event) → c.args.event.now ≡ event → IsAtOnceCall (g.B.Backing.state c.args.self.now.backing) c.args.self.now.kept c.args.self.now.refused.items c.answer-reply.new.self.refused.items event
-    by (Call caller now grant op) is = rw is at c.answer-reply.ensures.at_once
+    by : (event : Event) → c.args.event.now ≡ event → IsStep (files_state c.args.self.now) (files_state c.answer-reply.new.self) event (Replied c.answer-reply.result.0 c.answer-reply.result.1)
+    by (Call caller now grant op) is =
+        let e = c.answer-reply.ensures in
+        record {
+          answered = (rw is at e.answered, rw is at e.left);
+          exact = rw is at e.exact;
+          issued = rw is at e.issued;
+          written = rw is at e.written;
+          admitted = rw is at e.admitted;
+          at_once = rw is at e.at_once;
+          buffered = rw is at e.buffered;
+          goes = rw is at e.goes;
+        }

@@ -1,11 +1,11 @@
 use Rattle.fs_model.specs.Change.{apply}
 use Rattle.cached_files.specs.Present.{present}
 use Rattle.vfs_ops.proofs.Takes.{alike_sound}
-use Rattle.vfs_ops.proofs.fs.Fs.apply_group.Goals as goal
+use Rattle.vfs_ops.proofs.apply.apply_over.Goals as goal
 
 pub returns-in-Ok-clause-ready : goal.returns-in-Ok-clause-ready
 returns-in-Ok-clause-ready g c =
-    let files = present (g.B.Backing.state c.args.self.now.backing).tree c.args.self.now.kept in
+    let files = present (g.B.Backing.state c.args.backing.now).tree c.args.kept.now in
     let tree = (g.B.Backing.state c.apply_group.new.backing).tree in
     let kept = c.apply_group.new.kept in
     record {
@@ -16,7 +16,7 @@ returns-in-Ok-clause-ready g c =
 
 pub returns-in-Err-clause-ready : goal.returns-in-Err-clause-ready
 returns-in-Err-clause-ready g c =
-    let files = present (g.B.Backing.state c.args.self.now.backing).tree c.args.self.now.kept in
+    let files = present (g.B.Backing.state c.args.backing.now).tree c.args.kept.now in
     let tree = (g.B.Backing.state c.apply_group.new.backing).tree in
     let kept = c.apply_group.new.kept in
     record {
