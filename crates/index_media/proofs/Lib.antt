@@ -7,3 +7,7 @@ pub mod Lists
 pub mod Taken
 pub mod InsertedContents
 pub mod Removing
+pub mod RemovingSound
+pub mod RemovedContents
+pub mod InsertionWeight
+pub mod FirstKeys

@@ -103,7 +103,7 @@ tidied_bounded least most key c rest l m below others = elim (cases_Bool (count 
   | inr e ↦ rw e (l, m, below, others)
 ]
 
-removed_bounded : (gone : Leaf) (least : ℕ) (most : Option ℕ) (row : KeyedRow) → AreKeysBounded least most row → AreKeysBounded least most (removed_by_keys gone row)
+pub removed_bounded : (gone : Leaf) (least : ℕ) (most : Option ℕ) (row : KeyedRow) → AreKeysBounded least most row → AreKeysBounded least most (removed_by_keys gone row)
 removed_bounded gone least most no_more h = tt
 removed_bounded gone least most (leaf_in x rest) h = elim (cases_Bool (same_leaf x gone)) [
   | inl e ↦ rw e (lower_least least (leaf_rank x) most rest h.0 h.2)

@@ -157,17 +157,17 @@ node_level h c rest above children others =
     let a : nat_lt 0 h ≡ true = grind (arith, nat_tests) in
     rw (a, children, others) refl
 
-record LevelLeaf (h : ℕ) (rest : Shape) : Type 0 where
+pub record LevelLeaf (h : ℕ) (rest : Shape) : Type 0 where
   pub lowest : (h == 0) ≡ true
   pub others : levelled h rest ≡ true
 
-level_leaf : (h : ℕ) (x : Leaf) (rest : Shape) → levelled h (leaf x rest) ≡ true → LevelLeaf h rest
+pub level_leaf : (h : ℕ) (x : Leaf) (rest : Shape) → levelled h (leaf x rest) ≡ true → LevelLeaf h rest
 level_leaf h x rest l = elim (cases_Bool (h == 0)) [
   | inr e ↦ let none = rw e at l in absurd cc
   | inl e ↦ record { lowest = e; others = rw e at l }
 ]
 
-leaf_level : (h : ℕ) (x : Leaf) (rest : Shape) → (h == 0) ≡ true → levelled h rest ≡ true → levelled h (leaf x rest) ≡ true
+pub leaf_level : (h : ℕ) (x : Leaf) (rest : Shape) → (h == 0) ≡ true → levelled h rest ≡ true → levelled h (leaf x rest) ≡ true
 leaf_level h x rest lowest others = rw (lowest, others) refl
 
 pub front_levelled : (h n : ℕ) (s : Shape) → levelled h s ≡ true → levelled h (front n s) ≡ true

@@ -7,17 +7,17 @@ ghost use Rattle.index_tree.specs.Levels.{levelled};
 ghost use Rattle.index_tree.specs.Listing.{listed};
 ghost use Rattle.index_tree.specs.Order.{leaf_rank, placed};
 ghost use Rattle.index_tree.specs.Rebuild.{IsIndex};
-ghost use Rattle.index_tree.specs.Removal.{without_leaf};
-ghost use Rattle.index_tree.specs.Replacement.{replaced};
+ghost use Rattle.index_tree.specs.Removal.{without, without_leaf};
+ghost use Rattle.index_tree.specs.Replacement.{swapped, replaced};
 ghost use Rattle.media_sys.specs.Index.{Index as AnIndexNode};
-ghost use Rattle.index_tree.specs.Shape.{contents, count, fits, node_count, with_leaf};
+ghost use Rattle.index_tree.specs.Shape.{contents, count, fits, is_whole, node_count, shape_weight, with_leaf};
 ghost use Rattle.index_tree.specs.declared.leaf.Leaf.{Leaf as ALeaf};
 ghost use Rattle.media_sys.specs.SystemNode.{IsSystemNode, index};
 ghost use Rattle.media_sys.specs.declared.branch.Branch.{Branch as ABranch};
 ghost use Rattle.index_media.specs.Insertion.{inserted_by_keys, with_leaf_by_keys};
 ghost use Rattle.index_media.specs.InsertionSound.{AreKeys};
 ghost use Rattle.index_media.specs.KeyedKeys.{AreKeysBounded};
-ghost use Rattle.index_media.specs.KeyedRemoval.{without_leaf_by_keys, replaced_by_keys};
+ghost use Rattle.index_media.specs.KeyedRemoval.{removed_by_keys, without_leaf_by_keys, replaced_by_keys};
 ghost use Rattle.index_media.specs.Keys.{AreBounded};
 ghost use Rattle.index_media.specs.KeyedRow.{KeyedRow, bare, all_clean, HaveFirstKeys};
 ghost use Rattle.index_media.specs.PlacedRow.{Stretch, stretch_of, PlacedRow, ended, node_at, plain, branches_of, all_nodes, lebs_of, node_end, bytes_taken, is_apart_from, are_disjoint};
@@ -104,26 +104,53 @@ pub fn an_insertion_goes_by_the_keys_of_branches()
 {}
 
 /// An insertion into a row of an index keeps what its nodes are: they have 1 to fanout children, leaves stand on the lowest
-/// level, and keys are keys.
+/// level, and keys are keys. Where each branch's key is its first leaf's, it is so again, and the weight of an index grows by at
+/// most 1.
 pub fn an_insertion_keeps_what_nodes_are()
     ensures children { (fanout : ℕ) (new : ALeaf) (row : KeyedRow) → 3 ≤ fanout → IsTrue (fits fanout (bare row))
         → IsTrue (fits fanout (bare (inserted_by_keys fanout new row))) }
     ensures levels { (fanout levels : ℕ) (new : ALeaf) (row : KeyedRow) → IsTrue (fits fanout (bare row)) → (count (bare row) ≡ 0 → levels ≡ 0)
         → IsTrue (levelled levels (bare row)) → IsTrue (levelled levels (bare (inserted_by_keys fanout new row))) }
     ensures keys { (fanout : ℕ) (new : ALeaf) (row : KeyedRow) → IsKey new.key → AreKeys row → AreKeys (inserted_by_keys fanout new row) }
+    ensures first_keys { (fanout : ℕ) (new : ALeaf) (least : ℕ) (most : Option ℕ) (row : KeyedRow) → 1 ≤ fanout → AreKeysBounded least most row
+        → HaveFirstKeys row → HaveFirstKeys (with_leaf_by_keys fanout new row) }
+    ensures one_heavier { (fanout : ℕ) (new : ALeaf) (row : KeyedRow) → 3 ≤ fanout → IsTrue (is_whole (bare row)) → IsTrue (fits fanout (bare row))
+        → shape_weight fanout (bare (with_leaf_by_keys fanout new row)) ≤ shape_weight fanout (bare row) + 1 }
 {}
 
-/// A removal makes the shape that it makes without keys and places. Keys lie between those of branches again, though a
-/// branch's key may now be lower than its first leaf's.
+/// A removal makes the shape that it makes without keys and places, and takes the leaf out of an index's leaves. Keys lie between
+/// those of branches again, though a branch's key may now be lower than its first leaf's.
 pub fn a_removal_leaves_the_keys_of_branches()
     ensures same { (gone : ALeaf) (row : KeyedRow) → bare (without_leaf_by_keys gone row) ≡ without_leaf gone (bare row) }
+    ensures contents { (gone : ALeaf) (row : KeyedRow) → count (bare row) ≤ 1 → contents (bare (without_leaf_by_keys gone row)) ≡ without gone (contents (bare row)) }
     ensures keys { (gone : ALeaf) (row : KeyedRow) → AreKeysBounded 0 None row → AreKeysBounded 0 None (without_leaf_by_keys gone row) }
 {}
 
-/// A replacement by a leaf of the same key makes the shape that it makes without keys and places, and keys lie between those of
-/// branches again.
+/// A removal from a row of an index keeps what its nodes are: they have 1 to fanout children, leaves stand on the lowest level,
+/// and keys are keys and lie between those of branches. The row gets no more siblings.
+pub fn a_removal_keeps_what_nodes_are()
+    ensures children { (fanout : ℕ) (gone : ALeaf) (row : KeyedRow) → IsTrue (fits fanout (bare row)) → IsTrue (fits fanout (bare (removed_by_keys gone row))) }
+    ensures number { (gone : ALeaf) (row : KeyedRow) → count (bare (removed_by_keys gone row)) ≤ count (bare row) }
+    ensures levels { (levels : ℕ) (gone : ALeaf) (row : KeyedRow) → IsTrue (levelled levels (bare row)) → IsTrue (levelled levels (bare (removed_by_keys gone row))) }
+    ensures bounded { (gone : ALeaf) (least : ℕ) (most : Option ℕ) (row : KeyedRow) → AreKeysBounded least most row → AreKeysBounded least most (removed_by_keys gone row) }
+    ensures keys { (gone : ALeaf) (row : KeyedRow) → AreKeys row → AreKeys (removed_by_keys gone row) }
+    ensures whole { (gone : ALeaf) (row : KeyedRow) → AreKeys row → AreKeys (without_leaf_by_keys gone row) }
+{}
+
+/// A replacement makes the shape that it makes without keys and places, and puts the leaf at the place of the old one. By a leaf of
+/// the same key it leaves keys between those of branches.
 pub fn a_replacement_leaves_the_keys_of_branches()
     ensures same { (old new : ALeaf) (row : KeyedRow) → bare (replaced_by_keys old new row) ≡ replaced old new (bare row) }
+    ensures contents { (old new : ALeaf) (row : KeyedRow) → contents (bare (replaced_by_keys old new row)) ≡ swapped old new (contents (bare row)) }
     ensures keys { (old new : ALeaf) (least : ℕ) (most : Option ℕ) (row : KeyedRow) → leaf_rank new ≡ leaf_rank old → AreKeysBounded least most row
         → AreKeysBounded least most (replaced_by_keys old new row) }
+{}
+
+/// A replacement in a row of an index keeps what its nodes are: they have as many children, leaves stand on the lowest level, and
+/// keys are keys.
+pub fn a_replacement_keeps_what_nodes_are()
+    ensures children { (fanout : ℕ) (old new : ALeaf) (row : KeyedRow) → IsTrue (fits fanout (bare row)) → IsTrue (fits fanout (bare (replaced_by_keys old new row))) }
+    ensures number { (old new : ALeaf) (row : KeyedRow) → count (bare (replaced_by_keys old new row)) ≡ count (bare row) }
+    ensures levels { (levels : ℕ) (old new : ALeaf) (row : KeyedRow) → IsTrue (levelled levels (bare row)) → IsTrue (levelled levels (bare (replaced_by_keys old new row))) }
+    ensures keys { (old new : ALeaf) (row : KeyedRow) → IsKey new.key → AreKeys row → AreKeys (replaced_by_keys old new row) }
 {}
