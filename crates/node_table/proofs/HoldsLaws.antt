@@ -19,7 +19,7 @@ other_rank : (x z : Leaf) → (leaf_rank x == leaf_rank z) ≡ false → same_le
 unfolding same_leaf
 other_rank x z e = rw e refl
 
-none_lower : (at : ℕ) (z : Leaf) (xs : List Leaf) → at < leaf_rank z → AreAtMost (Some at) xs → holds z xs ≡ false
+pub none_lower : (at : ℕ) (z : Leaf) (xs : List Leaf) → at < leaf_rank z → AreAtMost (Some at) xs → holds z xs ≡ false
 none_lower at z [] l h = refl
 none_lower at z (x ∷ xs) l h =
     let within = h.0 in
@@ -33,14 +33,14 @@ none_higher z (x ∷ xs) h =
     let other : (leaf_rank x == leaf_rank z) ≡ false = grind (arith, nat_tests, above) in
     rw (other_rank x z other) (none_higher z xs h.1)
 
-holds_first : (z : Leaf) (xs ys : List Leaf) → holds z xs ≡ true → holds z (xs ++ ys) ≡ true
+pub holds_first : (z : Leaf) (xs ys : List Leaf) → holds z xs ≡ true → holds z (xs ++ ys) ≡ true
 holds_first z [] ys h = absurd cc
 holds_first z (x ∷ xs) ys h = elim (cases_Bool (same_leaf x z)) [
   | inl e ↦ rw e refl
   | inr e ↦ rw e (holds_first z xs ys (rw e at h))
 ]
 
-holds_second : (z : Leaf) (xs ys : List Leaf) → holds z xs ≡ false → holds z (xs ++ ys) ≡ holds z ys
+pub holds_second : (z : Leaf) (xs ys : List Leaf) → holds z xs ≡ false → holds z (xs ++ ys) ≡ holds z ys
 holds_second z [] ys h = refl
 holds_second z (x ∷ xs) ys h = elim (cases_Bool (same_leaf x z)) [
   | inl e ↦ let there = rw e at h in absurd cc

@@ -7,3 +7,7 @@ pub mod HoldsLaws
 pub mod Staged
 pub mod Inserted
 pub mod Rooted
+pub mod Exchanged
+pub mod ExchangeSound
+pub mod Removed
+pub mod Changed

@@ -87,7 +87,7 @@ root_sound f level new row nodes root three own t there is =
     }
 
 -- links that are one link to a node
-node_lone : (key : Key) (o : Option NodeView) → lone (bare (node_before key o no_more)) ≡ true
+pub node_lone : (key : Key) (o : Option NodeView) → lone (bare (node_before key o no_more)) ≡ true
 node_lone key None = refl
 node_lone key (Some v) = refl
 
@@ -97,7 +97,7 @@ link_alone seen (ToNode key number) root e =
     let same : (record { key = key; number = number }) ≡ root = cc in
     ap (λ (r : Root). node_before r.key (slice_get seen r.number) no_more) same
 
-only_row : (nodes : List TableNode) (links : List Link) (root : Root) → only_root links ≡ Some root → row_of (views nodes) links ≡ tree_at nodes (Some root)
+pub only_row : (nodes : List TableNode) (links : List Link) (root : Root) → only_root links ≡ Some root → row_of (views nodes) links ≡ tree_at nodes (Some root)
 only_row nodes [] root e = absurd cc
 only_row nodes (link ∷ []) root e = link_alone (views nodes) link root e
 only_row nodes (link ∷ other ∷ links) root e = absurd cc
@@ -114,7 +114,7 @@ pub only_made : (f : ℕ) (nodes : List TableNode) (new : Leaf) (row : KeyedRow)
 only_made f nodes new row links root e o =
     with_lone f new row (tree_at nodes (Some root)) (sym (only_row nodes links root o) ∙ e) (node_lone root.key (slice_get (views nodes) root.number))
 
-link_in : (n : ℕ) (link : Link) (root : Root) → root_by link ≡ Some root → IsLinkIn n link → root.number < n
+pub link_in : (n : ℕ) (link : Link) (root : Root) → root_by link ≡ Some root → IsLinkIn n link → root.number < n
 link_in n (ToLeaf x) root e h = absurd cc
 link_in n (ToNode key number) root e h =
     let same : (record { key = key; number = number }) ≡ root = cc in
@@ -143,7 +143,7 @@ leaf_alone : (seen : List NodeView) (link : Link) → root_by link ≡ None → 
 leaf_alone seen (ToLeaf x) o = refl
 leaf_alone seen (ToNode key number) o = absurd cc
 
-not_lone : (seen : List NodeView) (links : List Link) → only_root links ≡ None → lone (bare (row_of seen links)) ≡ false
+pub not_lone : (seen : List NodeView) (links : List Link) → only_root links ≡ None → lone (bare (row_of seen links)) ≡ false
 not_lone seen [] o = refl
 not_lone seen (link ∷ []) o = leaf_alone seen link o
 not_lone seen (link ∷ other ∷ links) o = several seen link other links

@@ -26,7 +26,7 @@ abbrev pub link_size : List NodeView → Link → ℕ
 link_size seen (ToLeaf x) = 0
 link_size seen (ToNode key number) = row_size (children_in (slice_get seen number))
 
-node_size : (key : Key) (o : Option NodeView) (rest : KeyedRow) → row_size (node_before key o rest) ≡ row_size (children_in o) + row_size rest + 1
+pub node_size : (key : Key) (o : Option NodeView) (rest : KeyedRow) → row_size (node_before key o rest) ≡ row_size (children_in o) + row_size rest + 1
 node_size key None rest = refl
 node_size key (Some v) rest = refl
 
@@ -35,7 +35,7 @@ linked_size seen (ToLeaf x) rest = omega arith
 linked_size seen (ToNode key number) rest = node_size key (slice_get seen number) rest
 
 -- the leaves of a link, and those behind it
-node_apart : (key : Key) (o : Option NodeView) (rest : KeyedRow) → contents (bare (node_before key o rest)) ≡ contents (bare (children_in o)) ++ contents (bare rest)
+pub node_apart : (key : Key) (o : Option NodeView) (rest : KeyedRow) → contents (bare (node_before key o rest)) ≡ contents (bare (children_in o)) ++ contents (bare rest)
 node_apart key None rest = refl
 node_apart key (Some v) rest = refl
 

@@ -2,3 +2,5 @@ pub mod NodeView
 pub mod Sound
 pub mod Walk
 pub mod Staging
+pub mod Exchange
+pub mod Changing

@@ -17,7 +17,7 @@ use index_tree::Leaf;
 
 /// Whether two leaves have the same key and the same place.
 #[tactic(auto, unfolding(index_tree::specs::Removal::same_leaf))]
-fn same(x: &Leaf, y: &Leaf) -> bool
+pub fn same(x: &Leaf, y: &Leaf) -> bool
     ensures { result ≡ same_leaf x.now y.now }
 {
     if rank(&x.key) != rank(&y.key) {

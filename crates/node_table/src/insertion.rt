@@ -30,7 +30,7 @@ fn copied(alloc: Global, links: &[Link]) -> Result<Vec<Link>, AllocError>
 
 impl NodeTable {
     /// Adds a node, and pushes a link to it.
-    fn push_node(
+    pub(crate) fn push_node(
         &mut self,
         level: u16,
         key: Key,
@@ -124,7 +124,7 @@ fn goes_on(link: &Link, rest: &[Link], leaf: &Leaf) -> bool
 
 impl NodeTable {
     /// A copy of a node, without its place.
-    fn copy_of(&self, alloc: Global, number: u64) -> Result<TableNode, Memory>
+    pub(crate) fn copy_of(&self, alloc: Global, number: u64) -> Result<TableNode, Memory>
         ensures children { IfOk result (λ node. children_in (slice_get (views self.now.nodes.items) number) ≡ row_of (views self.now.nodes.items) node.links.items) }
         ensures sound { IfOk result (λ node. IsSoundView self.now.fanout (record { level = node.level; place = None; children = row_of (views self.now.nodes.items) node.links.items })) }
     {

@@ -7,6 +7,8 @@
 
 mod after;
 mod bisect;
+mod change;
+mod exchange;
 mod find;
 mod holding;
 mod insertion;
@@ -15,10 +17,13 @@ mod link;
 mod node;
 mod opening;
 mod rank;
+mod removal;
 mod rooting;
 mod scan;
+mod staging;
 mod table;
 
+pub use crate::change::Change;
 pub use crate::laws::roots_stay;
 pub use crate::link::Link;
 pub use crate::node::{NodePlace, Root, TableNode};

@@ -16,7 +16,7 @@ use std::alloc::Global;
 use ubifs_base::Memory;
 
 /// The node that links lead to, if they are one link to a node.
-fn only_node(links: &[Link]) -> Option<Root>
+pub fn only_node(links: &[Link]) -> Option<Root>
     ensures { result ≡ only_root links.now }
 {
     match links.split_first() {

@@ -1,0 +1,61 @@
+-- Changes are made one after another.
+use Rattle.std.proofs.Common.{◌≡◌, ℕ, zero, suc, ◌+◌, ◌<◌, ◌≤◌, true, false, List, [], ◌∷◌, ◌++◌, length, take, refl, ap, sym, ◌∙◌, subst, arith, inl, inr}
+use Rattle.std.specs.Prelude.{get_or, slice_get, Option, None, Some}
+use Rattle.std.proofs.lemmas.Bool.{cases_Bool}
+use Rattle.std.proofs.lemmas.List.{take_more}
+use Rattle.index_tree.specs.Removal.{same_leaf, holds, without}
+use Rattle.index_tree.specs.Shape.{contents, count}
+use Rattle.index_tree.specs.declared.leaf.Leaf.{Leaf}
+use Rattle.index_media.specs.KeyedRemoval.{without_leaf_by_keys}
+use Rattle.index_media.specs.KeyedRow.{KeyedRow, no_more, bare}
+use Rattle.node_table.specs.Changing.{IsChange, AreChanges, changed, changed_by, leaves_after, leaves_after_all}
+use Rattle.node_table.specs.Exchange.{tree_without}
+use Rattle.node_table.specs.NodeView.{NodeView, node_before, views, tree_at}
+use Rattle.node_table.specs.declared.change.Change.{Change}
+use Rattle.node_table.specs.declared.node.Root.{Root}
+use Rattle.node_table.specs.declared.node.TableNode.{TableNode}
+
+-- one change more
+changed_last : (f : ℕ) (changes : List Change) (change : Change) (row : KeyedRow) → changed_by f (changes ++ change ∷ []) row ≡ changed f change (changed_by f changes row)
+changed_last f [] change row = refl
+changed_last f (first ∷ rest) change row = changed_last f rest change (changed f first row)
+
+leaves_last : (changes : List Change) (change : Change) (xs : List Leaf) → leaves_after_all (changes ++ change ∷ []) xs ≡ leaves_after change (leaves_after_all changes xs)
+leaves_last [] change xs = refl
+leaves_last (first ∷ rest) change xs = leaves_last rest change (leaves_after first xs)
+
+pub changed_more : (f : ℕ) (changes : List Change) (i : ℕ) (d : Change) (row : KeyedRow) → i < length changes
+    → changed f (get_or changes i d) (changed_by f (take i changes) row) ≡ changed_by f (take (i + 1) changes) row
+changed_more f changes i d row h = sym (ap (λ v. changed_by f v row) (take_more changes i d h) ∙ changed_last f (take i changes) (get_or changes i d) row)
+
+pub leaves_more : (changes : List Change) (i : ℕ) (d : Change) (xs : List Leaf) → i < length changes
+    → leaves_after (get_or changes i d) (leaves_after_all (take i changes) xs) ≡ leaves_after_all (take (i + 1) changes) xs
+leaves_more changes i d xs h = sym (ap (λ v. leaves_after_all v xs) (take_more changes i d h) ∙ leaves_last (take i changes) (get_or changes i d) xs)
+
+pub change_at : (changes : List Change) (i : ℕ) (d : Change) → AreChanges changes → i < length changes → IsChange (get_or changes i d)
+change_at [] i d a h = absurd (omega (arith, h))
+change_at (first ∷ rest) zero d a h = a.0
+change_at (first ∷ rest) (suc i) d a h = change_at rest i d a.1 (omega (arith, h))
+
+-- an index is a row of one node at most
+node_short : (o : Option NodeView) (root : Root) → count (bare (node_before root.key o no_more)) ≡ 1
+node_short None root = refl
+node_short (Some v) root = refl
+
+pub top_short : (nodes : List TableNode) (root : Option Root) → count (bare (tree_at nodes root)) ≤ 1
+top_short nodes None = omega arith
+top_short nodes (Some root) = let one = node_short (slice_get (views nodes) root.number) root in omega (arith, one)
+
+-- the leaves that a removal leaves
+without_same : (z : Leaf) (xs : List Leaf) → holds z xs ≡ false → without z xs ≡ xs
+without_same z [] h = refl
+without_same z (x ∷ xs) h = elim (cases_Bool (same_leaf x z)) [
+  | inl e ↦ let there = rw e at h in absurd cc
+  | inr e ↦ rw e (ap (λ (v : List Leaf). x ∷ v) (without_same z xs (rw e at h)))
+]
+
+pub without_leaves : (z : Leaf) (row : KeyedRow) → contents (bare (without_leaf_by_keys z row)) ≡ without z (contents (bare row)) → contents (bare (tree_without z row)) ≡ without z (contents (bare row))
+without_leaves z row h = elim (cases_Bool (holds z (contents (bare row)))) [
+  | inl e ↦ rw e h
+  | inr e ↦ rw e (sym (without_same z (contents (bare row)) e))
+]

@@ -1,0 +1,66 @@
+use Rattle.std.proofs.Common.{Option, None, Some, ◌≡◌, ap, sym, subst, ◌∙◌}
+use Rattle.index_media.specs.KeyedRemoval.{replaced_by_keys}
+use Rattle.index_media.specs.KeyedRow.{no_more}
+use Rattle.node_table.specs.NodeView.{tree_at, IsRootIn}
+use Rattle.node_table.specs.Staging.{only_root, IsSoundRoot}
+use Rattle.node_table.specs.declared.node.Root.{Root}
+use Rattle.node_table.proofs.Inserted.{tree_kept, sound_kept}
+use Rattle.node_table.proofs.Removed.{replaced_none, left_row, replaced_left, option_linked, sound_by}
+use Rattle.node_table.proofs.table.NodeTable.replace.Goals as goal
+
+pub returns-in_err-exchange_below-in-Some-clause-kept : goal.returns-in_err-exchange_below-in-Some-clause-kept
+returns-in_err-exchange_below-in-Some-clause-kept c = λ other h. tree_kept c.args.self.now.nodes.items c.exchange_below.new.self.nodes.items other c.exchange_below.ensures.added h
+
+pub returns-then-not-branch-clause-made : goal.returns-then-not-branch-clause-made
+returns-then-not-branch-clause-made c =
+    let old = c.args.self.now.nodes.items in
+    let now = c.exchange_below.new.self.nodes.items in
+    let top = c.in-Some.top in
+    let leaf = c.args.leaf.now in
+    let R : Option Root → Type 0 = λ r. IsRootIn old r in
+    let T : Option Root → Type 0 = λ r. tree_at now (Some top) ≡ replaced_by_keys leaf c.args.new (tree_at old r) in
+    subst T (sym c.in-Some.is)
+    (tree_kept old now (Some top) c.exchange_below.ensures.added (subst R c.in-Some.is c.requires.root.there)
+    ∙ replaced_none old top leaf c.args.new (sym c.in_ok-exchange_below-in-Some.ensures.found ∙ c.if-not-branch.true))
+
+pub returns-then-not-branch-clause-root : goal.returns-then-not-branch-clause-root
+returns-then-not-branch-clause-root c =
+    let old = c.args.self.now.nodes.items in
+    let R : Option Root → Type 0 = λ r. IsSoundRoot old r in
+    sound_kept old c.exchange_below.new.self.nodes.items (Some c.in-Some.top) c.exchange_below.ensures.added (subst R c.in-Some.is c.requires.root)
+
+pub returns-then-not-branch-clause-kept : goal.returns-then-not-branch-clause-kept
+returns-then-not-branch-clause-kept c = λ other h. tree_kept c.args.self.now.nodes.items c.exchange_below.new.self.nodes.items other c.exchange_below.ensures.added h
+
+pub returns-else-not-branch-clause-made : goal.returns-else-not-branch-clause-made
+returns-else-not-branch-clause-made c =
+    let old = c.args.self.now.nodes.items in
+    let now = c.exchange_below.new.self.nodes.items in
+    let top = c.in-Some.top in
+    let leaf = c.args.leaf.now in
+    let made = c.exchange_below.new.made.items in
+    let held = sym c.in_ok-exchange_below-in-Some.ensures.found ∙ c.if-not-branch.false in
+    let row = left_row old now top leaf (Some c.args.new) c.new-made.result.items made c.new-made.ensures.items held (c.in_ok-exchange_below-in-Some.ensures.made no_more) in
+    let only = ap only_root (sym c.as_slice.ensures.value) ∙ sym c.only_node.ensures in
+    let T : Option Root → Type 0 = λ r. tree_at now c.only_node.result ≡ replaced_by_keys leaf c.args.new (tree_at old r) in
+    subst T (sym c.in-Some.is) (replaced_left old now top c.only_node.result leaf c.args.new made held row only)
+
+pub returns-else-not-branch-clause-root : goal.returns-else-not-branch-clause-root
+returns-else-not-branch-clause-root c =
+    let old = c.args.self.now.nodes.items in
+    let now = c.exchange_below.new.self.nodes.items in
+    let top = c.in-Some.top in
+    let leaf = c.args.leaf.now in
+    let made = c.exchange_below.new.made.items in
+    let tree = tree_at old c.args.root in
+    let held = sym c.in_ok-exchange_below-in-Some.ensures.found ∙ c.if-not-branch.false in
+    let row = left_row old now top leaf (Some c.args.new) c.new-made.result.items made c.new-made.ensures.items held (c.in_ok-exchange_below-in-Some.ensures.made no_more) in
+    let only = ap only_root (sym c.as_slice.ensures.value) ∙ sym c.only_node.ensures in
+    let T : Option Root → Type 0 = λ r. tree_at now c.only_node.result ≡ replaced_by_keys leaf c.args.new (tree_at old r) in
+    let is = subst T (sym c.in-Some.is) (replaced_left old now top c.only_node.result leaf c.args.new made held row only) in
+    sound_by now c.only_node.result (replaced_by_keys leaf c.args.new tree) (option_linked now made c.only_node.result c.in_ok-exchange_below-in-Some.ensures.there only) is
+    (c.a_replacement_leaves_the_keys_of_branches.ensures.keys leaf c.args.new 0 None tree c.requires.key.0 c.requires.root.bounded)
+    (c.a_replacement_keeps_what_nodes_are.ensures.keys leaf c.args.new tree c.requires.key.1 c.requires.root.keys)
+
+pub returns-else-not-branch-clause-kept : goal.returns-else-not-branch-clause-kept
+returns-else-not-branch-clause-kept c = λ other h. tree_kept c.args.self.now.nodes.items c.exchange_below.new.self.nodes.items other c.exchange_below.ensures.added h

@@ -1,0 +1,144 @@
+// A leaf gives way to another of its key, or to none: this adds the nodes of one path.
+
+ghost use Rattle.std.specs.Prelude.{◌≡◌, ◌<◌, ◌++◌, ℕ, true, IfOk, OnOk, Option, None, length, slice_get};
+ghost use Rattle.index_tree.specs.Removal.{holds};
+ghost use Rattle.index_tree.specs.Shape.{contents, count, fits};
+ghost use Rattle.index_tree.specs.declared.leaf.Leaf.{Leaf as ALeaf};
+ghost use Rattle.index_media.specs.KeyedKeys.{AreKeysBounded};
+ghost use Rattle.index_media.specs.KeyedRemoval.{replaced_by_keys};
+ghost use Rattle.index_media.specs.KeyedRow.{KeyedRow, no_more, bare};
+ghost use Rattle.node_table.specs.Exchange.{IsExchange, exchanged, exchanged_node, links_to};
+ghost use Rattle.node_table.specs.NodeView.{views, row_of, children_in};
+ghost use Rattle.node_table.specs.Sound.{IsSoundView};
+ghost use Rattle.node_table.specs.Staging.{row_before, AreLinksIn, IsAdded};
+
+use crate::bisect::{begin_below, begin_within};
+use crate::holding::same;
+use crate::link::Link;
+use crate::node::Root;
+use crate::rank::rank;
+use crate::table::NodeTable;
+use index_media::{
+    a_removal_keeps_what_nodes_are, a_replacement_keeps_what_nodes_are,
+    a_replacement_leaves_the_keys_of_branches,
+};
+use index_tree::Leaf;
+use std::alloc::{AllocError, Global};
+use ubifs_base::Memory;
+
+/// What is left of a node's children may be a node's, if any are left; a replacement leaves as many.
+fn exchange_keeps_nodes()
+    ensures sound { (fanout level : ℕ) (gone : ALeaf) (come : Option ALeaf) (row : KeyedRow) → IsExchange gone come
+        → IsSoundView fanout (record { level = level; place = None; children = row }) → 0 < count (bare (exchanged gone come row))
+        → IsSoundView fanout (record { level = level; place = None; children = exchanged gone come row }) }
+    ensures number { (gone come : ALeaf) (row : KeyedRow) → count (bare (replaced_by_keys gone come row)) ≡ count (bare row) }
+{
+    a_removal_keeps_what_nodes_are();
+    a_replacement_keeps_what_nodes_are();
+    a_replacement_leaves_the_keys_of_branches();
+}
+
+/// Pushes a link to a leaf, if there is one.
+fn push_leaf(come: Option<Leaf>, made: &mut Vec<Link>) -> Result<(), AllocError>
+    ensures { OnOk result (made.new.items ≡ made.old.items ++ links_to come) }
+{
+    match come {
+        None => Ok(()),
+        Some(leaf) => {
+            made.push(Link::ToLeaf(leaf))?;
+            Ok(())
+        }
+    }
+}
+
+impl NodeTable {
+    /// Adds the nodes of one path below a node, where a leaf gives way, and pushes a link to what stands for the node, if it has
+    /// children left. False where the leaf isn't there: the node's own link is pushed.
+    #[cycle(exchanging)]
+    pub(crate) fn exchange_below(
+        &mut self,
+        alloc: Global,
+        top: Root,
+        gone: &Leaf,
+        come: Option<Leaf>,
+        made: &mut Vec<Link>,
+    ) -> Result<bool, Memory>
+        requires top { top.number < length self.old.nodes.items }
+        requires there { AreLinksIn (length self.old.nodes.items) made.old.items }
+        requires key { IsExchange gone.now come }
+        ensures found { IfOk result (λ found. found ≡ holds gone.now (contents (bare (children_in (slice_get (views self.old.nodes.items) top.number))))) }
+        ensures made { (rest : KeyedRow) → OnOk result (row_before (views self.new.nodes.items) made.new.items rest ≡ row_before (views self.old.nodes.items) made.old.items (exchanged_node gone.now come top.key (slice_get (views self.old.nodes.items) top.number) rest)) }
+        ensures there { OnOk result (AreLinksIn (length self.new.nodes.items) made.new.items) }
+        ensures added { IsAdded self.old.nodes.items self.new.nodes.items }
+        ensures fanout { self.new.fanout ≡ self.old.fanout }
+    {
+        exchange_keeps_nodes();
+        let node = self.copy_of(alloc, top.number)?;
+        let mut links = Vec::new(alloc);
+        if self.exchange_among(alloc, node.links.as_slice(), gone, come, &mut links)? {
+            if links.is_empty() {
+                return Ok(true);
+            }
+            self.push_node(node.level, top.key, links, made)?;
+            return Ok(true);
+        }
+        made.push(Link::ToNode {
+            key: top.key,
+            number: top.number,
+        })?;
+        Ok(false)
+    }
+
+    /// The same among these links, and pushes all of them.
+    #[cycle(exchanging)]
+    fn exchange_among(
+        &mut self,
+        alloc: Global,
+        links: &[Link],
+        gone: &Leaf,
+        come: Option<Leaf>,
+        made: &mut Vec<Link>,
+    ) -> Result<bool, Memory>
+        requires sound { fits self.old.fanout (bare (row_of (views self.old.nodes.items) links.now)) ≡ true }
+        requires bounded { AreKeysBounded 0 None (row_of (views self.old.nodes.items) links.now) }
+        requires there { AreLinksIn (length self.old.nodes.items) made.old.items }
+        requires key { IsExchange gone.now come }
+        ensures found { IfOk result (λ found. found ≡ holds gone.now (contents (bare (row_of (views self.old.nodes.items) links.now)))) }
+        ensures made { OnOk result (row_before (views self.new.nodes.items) made.new.items no_more ≡ row_before (views self.old.nodes.items) made.old.items (exchanged gone.now come (row_of (views self.old.nodes.items) links.now))) }
+        ensures there { OnOk result (AreLinksIn (length self.new.nodes.items) made.new.items) }
+        ensures added { IsAdded self.old.nodes.items self.new.nodes.items }
+        ensures fanout { self.new.fanout ≡ self.old.fanout }
+    {
+        match links.split_first() {
+            None => Ok(false),
+            Some((link, rest)) => {
+                if begin_below(rest, rank(&gone.key)) {
+                    made.push(*link)?;
+                    return self.exchange_among(alloc, rest, gone, come, made);
+                }
+                match *link {
+                    Link::ToLeaf(leaf) => {
+                        if same(&leaf, gone) {
+                            push_leaf(come, made)?;
+                            made.extend_from_slice(rest)?;
+                            return Ok(true);
+                        }
+                        made.push(*link)?;
+                        self.exchange_among(alloc, rest, gone, come, made)
+                    }
+                    Link::ToNode { key, number } => {
+                        if self.exchange_below(alloc, Root { key, number }, gone, come, made)? {
+                            made.extend_from_slice(rest)?;
+                            return Ok(true);
+                        }
+                        if begin_within(rest, rank(&gone.key)) {
+                            return self.exchange_among(alloc, rest, gone, come, made);
+                        }
+                        made.extend_from_slice(rest)?;
+                        Ok(false)
+                    }
+                }
+            }
+        }
+    }
+}

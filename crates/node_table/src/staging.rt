@@ -1,0 +1,97 @@
+// Several changes are staged one over the other: all of them, or none.
+
+ghost use Rattle.std.specs.Prelude.{◌≡◌, IfOk, OnErr};
+ghost use Rattle.node_table.specs.Changing.{IsChange, AreChanges, changed, changed_by, leaves_after, leaves_after_all};
+ghost use Rattle.node_table.specs.NodeView.{tree_at, leaves_at};
+ghost use Rattle.node_table.specs.Staging.{IsAdded, IsSoundRoot};
+
+use crate::change::Change;
+use crate::node::Root;
+use crate::table::NodeTable;
+use index_media::{
+    a_removal_leaves_the_keys_of_branches, a_replacement_leaves_the_keys_of_branches,
+    an_insertion_goes_by_the_keys_of_branches,
+};
+use std::alloc::Global;
+use ubifs_base::Memory;
+
+impl NodeTable {
+    /// Stages one change; a root of none is the empty index.
+    fn stage_one(
+        &mut self,
+        alloc: Global,
+        root: Option<Root>,
+        change: &Change,
+    ) -> Result<Option<Root>, Memory>
+        requires root { IsSoundRoot self.old.nodes.items root }
+        requires change { IsChange change.now }
+        ensures made { IfOk result (λ made. tree_at self.new.nodes.items made ≡ changed self.old.fanout change.now (tree_at self.old.nodes.items root)) }
+        ensures leaves { IfOk result (λ made. leaves_at self.new.nodes.items made ≡ leaves_after change.now (leaves_at self.old.nodes.items root)) }
+        ensures root { IfOk result (λ made. IsSoundRoot self.new.nodes.items made) }
+        ensures added { IsAdded self.old.nodes.items self.new.nodes.items }
+        ensures fanout { self.new.fanout ≡ self.old.fanout }
+    {
+        an_insertion_goes_by_the_keys_of_branches();
+        a_removal_leaves_the_keys_of_branches();
+        a_replacement_leaves_the_keys_of_branches();
+        match *change {
+            Change::Insert(leaf) => {
+                let made = self.insert(alloc, root, leaf)?;
+                Ok(Some(made))
+            }
+            Change::Remove(leaf) => self.remove(alloc, root, &leaf),
+            Change::Replace { gone, come } => self.replace(alloc, root, &gone, come),
+        }
+    }
+
+    /// Stages these changes; after `Memory` some nodes may have been added.
+    fn stage_all(
+        &mut self,
+        alloc: Global,
+        root: Option<Root>,
+        changes: &[Change],
+    ) -> Result<Option<Root>, Memory>
+        requires root { IsSoundRoot self.old.nodes.items root }
+        requires changes { AreChanges changes.now }
+        ensures made { IfOk result (λ made. tree_at self.new.nodes.items made ≡ changed_by self.old.fanout changes.now (tree_at self.old.nodes.items root)) }
+        ensures leaves { IfOk result (λ made. leaves_at self.new.nodes.items made ≡ leaves_after_all changes.now (leaves_at self.old.nodes.items root)) }
+        ensures root { IfOk result (λ made. IsSoundRoot self.new.nodes.items made) }
+        ensures added { IsAdded self.old.nodes.items self.new.nodes.items }
+        ensures fanout { self.new.fanout ≡ self.old.fanout }
+    {
+        let mut made = root;
+        for change in changes {
+            made = self.stage_one(alloc, made, change)?;
+        }
+        Ok(made)
+    }
+
+    /// Stages changes, each over what the ones before it make, and answers the root that the last of them makes. To adopt them
+    /// all is to keep that root. All nodes stay where they stood, so below each root stands what stood there.
+    ///
+    /// After `Memory` the table is as before.
+    pub fn stage(
+        &mut self,
+        alloc: Global,
+        root: Option<Root>,
+        changes: &[Change],
+    ) -> Result<Option<Root>, Memory>
+        requires root { IsSoundRoot self.old.nodes.items root }
+        requires changes { AreChanges changes.now }
+        ensures made { IfOk result (λ made. tree_at self.new.nodes.items made ≡ changed_by self.old.fanout changes.now (tree_at self.old.nodes.items root)) }
+        ensures leaves { IfOk result (λ made. leaves_at self.new.nodes.items made ≡ leaves_after_all changes.now (leaves_at self.old.nodes.items root)) }
+        ensures root { IfOk result (λ made. IsSoundRoot self.new.nodes.items made) }
+        ensures added { IsAdded self.old.nodes.items self.new.nodes.items }
+        ensures err { OnErr result (self.new.nodes.items ≡ self.old.nodes.items) }
+        ensures fanout { self.new.fanout ≡ self.old.fanout }
+    {
+        let number = self.nodes.len();
+        match self.stage_all(alloc, root, changes) {
+            Ok(made) => Ok(made),
+            Err(fault) => {
+                self.nodes.truncate(number);
+                Err(fault)
+            }
+        }
+    }
+}
