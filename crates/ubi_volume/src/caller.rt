@@ -109,8 +109,8 @@ pub fn unmap_all<V: Volume>(volume: &mut V) -> Result<(), VolFault>
 }
 
 /// Writes the first bytes to LEB 0 of a volume of its own, lets a cut fall into its change to the second ones, and reads what
-/// was left once the volume is revived: the second bytes where the pattern's lowest digit is 1, else the first. Nothing but
-/// the change fails.
+/// was left once the volume is revived: the second bytes where the pattern's lowest digit is 1, else the first. It answers
+/// `Memory` alone, since of its calls only the change fails.
 pub fn read_after_cut(
     alloc: Global,
     shape: VolShape,
