@@ -16,4 +16,4 @@ apply_group-requires c =
       names = tt;
       sound = ready.sound;
     } in
-    subst (λ (group : List Change). MayApply (files_state c.args.fs.now) group (record { credits = 0; bytes = 0; nodes = 0; class = Ordinary })) (sym c.new.ensures) none
+    record { group = subst (λ (group : List Change). MayApply (files_state c.args.fs.now) group (record { credits = 0; bytes = 0; nodes = 0; class = Ordinary })) (sym c.new.ensures) none }
