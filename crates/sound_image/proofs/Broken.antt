@@ -6,15 +6,17 @@ use Rattle.std.proofs.lemmas.List.Elements.{All-head, All-tail}
 use Rattle.ubifs_base.specs.NodeLaws.{IsBytes}
 use Rattle.ubifs_base.specs.declared.node_type.NodeType.TheVariants as types
 use Rattle.ubifs_base.specs.declared.raw_geometry.RawGeometry.{RawGeometry}
+use Rattle.media_lpt.specs.declared.lprop.Lprop.{Lprop}
 use Rattle.media_sys.specs.declared.master.Master.{Master}
 use Rattle.small_areas.specs.Addresses.{addresses_of, first_past}
 use Rattle.small_areas.specs.MasterLaws.{OneNode, OneText, one_latest}
 use Rattle.small_areas.specs.declared.placed_master.PlacedMaster.{PlacedMaster}
 use Rattle.leb_scan.specs.Text.{is_blank, nodes_of}
 use Rattle.leb_scan.specs.declared.found.Found.{Found}
+use Rattle.bud_log.specs.LogText.{LogText}
+use Rattle.index_media.specs.PlacedRow.{PlacedRow}
 use Rattle.leb_scan.specs.declared.tail.Tail.TheVariants.{Clean}
 use Rattle.sound_image.specs.Breaches.{IsMisplaced, IsNoOrphan, IsWrittenEnd, IsWrongSum}
-use Rattle.sound_image.specs.Image.{Image}
 use Rattle.sound_image.specs.Masters.{HasMasters}
 use Rattle.sound_image.specs.OrphanLists.{HasOrphanLists}
 use Rattle.sound_image.specs.Space.{HasErasedEnds, HasSums}
@@ -25,7 +27,7 @@ two_parts true b h = (refl, h)
 two_parts false b h = absurd cc
 
 -- each byte of unwritten ones is 255
-blank_byte : (bytes : List ℕ) (i : ℕ) → is_blank bytes ≡ true → get_or bytes i 255 ≡ 255
+pub blank_byte : (bytes : List ℕ) (i : ℕ) → is_blank bytes ≡ true → get_or bytes i 255 ≡ 255
 blank_byte [] i h = refl
 blank_byte (b ∷ bytes) zero h = eqb-true b 255 (two_parts (b == 255) (is_blank bytes) h).0
 blank_byte (b ∷ bytes) (suc i) h = blank_byte bytes i (two_parts (b == 255) (is_blank bytes) h).1
@@ -35,12 +37,12 @@ blank_behind bytes from place behind h =
     let e : from + (place - from) ≡ place = omega (arith, behind) in
     ap (λ (k : ℕ). get_or bytes k 255) (sym e) ∙ sym (get_or-drop from bytes (place - from) 255) ∙ blank_byte (drop from bytes) (place - from) h
 
-pub sums_broken : (image : Image) (at : Wrong) → IsWrongSum image at → HasSums image.geo image.props image.placed → ⊥
-sums_broken image at wrong h = wrong.other (h at.lnum wrong.prop wrong.has)
+pub sums_broken : (geo : RawGeometry) (props : List Lprop) (placed : PlacedRow) (at : Wrong) → IsWrongSum geo props placed at → HasSums geo props placed → ⊥
+sums_broken geo props placed at wrong h = wrong.other (h at.lnum wrong.prop wrong.has)
 
-pub ends_broken : (contents : ℕ → List ℕ) (image : Image) (at : Wrong) → IsWrittenEnd contents image at → HasErasedEnds contents image.geo image.latest.master image.props image.log → ⊥
-ends_broken contents image at wrong h =
-    wrong.byte (blank_behind (contents at.lnum) (image.geo.leb_size - wrong.prop.free) at.offs wrong.behind (h wrong.no_bud at.lnum wrong.prop wrong.has wrong.some wrong.not_all wrong.elsewhere))
+pub ends_broken : (contents : ℕ → List ℕ) (geo : RawGeometry) (master : Master) (props : List Lprop) (log : List LogText) (at : Wrong) → IsWrittenEnd contents geo master props log at → HasErasedEnds contents geo master props log → ⊥
+ends_broken contents geo master props log at wrong h =
+    wrong.byte (blank_behind (contents at.lnum) (geo.leb_size - wrong.prop.free) at.offs wrong.behind (h wrong.no_bud at.lnum wrong.prop wrong.has wrong.some wrong.not_all wrong.elsewhere))
 
 pub masters_broken : OneNode → OneText → (contents : ℕ → List ℕ) (geo : RawGeometry) (latest : PlacedMaster) (at : Wrong) → ((k : ℕ) → IsBytes (contents k)) → IsMisplaced contents geo at → HasMasters contents geo latest → ⊥
 masters_broken node text contents geo latest at fits wrong h =

@@ -1,15 +1,23 @@
 -- The rules one by one, and the tree of a sound image.
-use Rattle.std.proofs.Common.{◌≡◌, ℕ, Bool, true, false, List, [], ◌∷◌, refl}
-use Rattle.std.specs.Prelude.{◌==◌, ◌&&◌, ◌||◌, not, nat_lt, if◌then◌else◌, length}
+use Rattle.std.proofs.Common.{◌≡◌, ℕ, Bool, true, false, List, [], ◌∷◌, Option, Some, None, refl}
+use Rattle.std.specs.Prelude.{◌==◌, ◌&&◌, ◌||◌, not, nat_lt, if◌then◌else◌, All, length}
 use Rattle.std.specs.List.{list_all}
+use Rattle.std.specs.Map.{values_of}
+use Rattle.std.proofs.lemmas.List.Elements.{All-nil}
+use Rattle.std.proofs.lemmas.Map.Views.{All-values-insert_entry}
+use Rattle.fs_model.specs.declared.change.Change.{Change}
+use Rattle.fs_model.specs.declared.change.Change.TheVariants.{SetBlock, SetEntry, SetInode, DropEntry, CutBlocks, DropInode}
+use Rattle.fs_model.specs.declared.inode.Entry.{Entry}
 use Rattle.fs_model.specs.declared.inode.Inode.{Inode}
-use Rattle.fs_model.specs.Files.{Tree}
+use Rattle.fs_model.specs.Files.{Entries, Tree, name_cmp}
 use Rattle.fs_model.specs.Path.{is_dir}
-use Rattle.fs_model.specs.Proper.{is_sound_dir, is_sound_inode, names_of}
+use Rattle.fs_model.specs.Proper.{is_sound_dir, is_sound_entry, is_sound_inode, names_of}
+use Rattle.leaf_map.specs.Kept.{Kept, shown_by}
+use Rattle.leaf_map.specs.Shown.{entries_of, with_entry}
 use Rattle.sound_image.specs.Image.{Image}
 use Rattle.sound_image.specs.Rules.{Meets}
 use Rattle.sound_image.specs.Sound.{SoundImage}
-use Rattle.sound_image.specs.Tree.{has_its_links, is_in_place}
+use Rattle.sound_image.specs.Tree.{has_its_links, is_in_place, is_named_well}
 use Rattle.sound_image.specs.declared.rule.Rule.{Rule}
 use Rattle.sound_image.specs.declared.rule.Rule.TheVariants.{Superblock, Masters, Properties, Index, Log, Buds, Leaves, Sums, Ends, Orphans, Tree as OfTree, Links}
 
@@ -66,3 +74,20 @@ sound_inodes tree (e ∷ inodes) a b =
     let x = two_parts (is_in_place tree e) (list_all (is_in_place tree) inodes) a in
     let y = two_parts (has_its_links tree e) (list_all (has_its_links tree) inodes) b in
     both_true (is_sound_inode tree e) (list_all (is_sound_inode tree) inodes) (one_inode tree e x.0 y.0) (sound_inodes tree inodes x.1 y.1)
+
+-- ---- entries
+in_entries : (tree : Tree) (shown : Option Change) (entries : Entries) → is_named_well tree shown ≡ true → All (λ (e : Entry). is_sound_entry tree e ≡ true) (values_of entries) → All (λ (e : Entry). is_sound_entry tree e ≡ true) (values_of (with_entry shown entries))
+in_entries tree None entries own h = h
+in_entries tree (Some (SetEntry e)) entries own h = All-values-insert_entry name_cmp (e.dir, e.name) e (λ (x : Entry). is_sound_entry tree x ≡ true) entries h own
+in_entries tree (Some (SetInode ino inode)) entries own h = h
+in_entries tree (Some (SetBlock ino number bytes)) entries own h = h
+in_entries tree (Some (DropEntry dir name)) entries own h = h
+in_entries tree (Some (CutBlocks ino old_size new_size)) entries own h = h
+in_entries tree (Some (DropInode ino)) entries own h = h
+
+-- what leaves show soundly is sound among the entries of their tree
+pub sound_entries : (tree : Tree) (kept : List Kept) → list_all (λ x. is_named_well tree (shown_by x)) kept ≡ true → All (λ (e : Entry). is_sound_entry tree e ≡ true) (values_of (entries_of kept))
+sound_entries tree [] h = All-nil (λ (e : Entry). is_sound_entry tree e ≡ true)
+sound_entries tree (x ∷ kept) h =
+    let both = two_parts (is_named_well tree (shown_by x)) (list_all (λ y. is_named_well tree (shown_by y)) kept) h in
+    in_entries tree (shown_by x) (entries_of kept) both.0 (sound_entries tree kept both.1)

@@ -30,9 +30,12 @@ no_magic (b ∷ bytes) (suc len) blank e =
     let bad : is_blank (49 ∷ bytes) ≡ true = subst P e blank in
     absurd cc
 
-no_frame : (leb body : List ℕ) (place : ℕ) (type : NodeType) → is_blank (drop place leb) ≡ true → HasFrameAt leb place type body → ⊥
+pub no_node : (leb body : List ℕ) (place len sqnum kind group : ℕ) → is_blank (drop place leb) ≡ true → IsNode (take len (drop place leb)) sqnum kind group body → ⊥
 unfolding node_bytes
-no_frame leb body place type blank h = no_magic (drop place leb) h.len blank (ap (λ (b : List ℕ). get_or b 0 0) h.framed.spelled)
+no_node leb body place len sqnum kind group blank h = no_magic (drop place leb) len blank (ap (λ (b : List ℕ). get_or b 0 0) h.spelled)
+
+no_frame : (leb body : List ℕ) (place : ℕ) (type : NodeType) → is_blank (drop place leb) ≡ true → HasFrameAt leb place type body → ⊥
+no_frame leb body place type blank h = no_node leb body place h.len h.sqnum (type_number type) h.group blank h.framed
 
 pub blank_known : (leb : List ℕ) (place : ℕ) → is_blank (drop place leb) ≡ true → IsKnownAt leb place
 blank_known leb place blank what (inl (is, body, frame, c)) = no_frame leb body place types.Data blank frame
@@ -44,7 +47,7 @@ pub bytes_drop : (n : ℕ) (bytes : List ℕ) → IsBytes bytes → IsBytes (dro
 bytes_drop n bytes fits = λ i. rw get_or-drop (fits (n + i))
 
 -- two nodes from one place on, of which the first is no longer, have the same bytes
-same_front : (bytes a b : List ℕ) (n m k1 k2 s1 s2 g1 g2 : ℕ) → IsBytes bytes → n ≤ m → IsNode (take n bytes) s1 k1 g1 a → IsNode (take m bytes) s2 k2 g2 b → take n bytes ≡ take m bytes
+pub same_front : (bytes a b : List ℕ) (n m k1 k2 s1 s2 g1 g2 : ℕ) → IsBytes bytes → n ≤ m → IsNode (take n bytes) s1 k1 g1 a → IsNode (take m bytes) s2 k2 g2 b → take n bytes ≡ take m bytes
 same_front bytes a b n m k1 k2 s1 s2 g1 g2 fits less ha hb =
     let whole = take m bytes in
     let front : take n whole ≡ take n bytes = take-take n m bytes less in

@@ -1,11 +1,12 @@
 -- The least image is sound.
 use Rattle.std.proofs.Common.{◌≡◌, ℕ, zero, suc, ◌+◌, ◌-◌, ◌*◌, ◌^◌, ◌<◌, ◌≤◌, nat_lt, Bool, true, false, List, [], ◌∷◌, Some, None, slice_get, drop, refl, ap, sym, ◌∙◌, subst, inl, inr, arith}
-use Rattle.std.specs.Prelude.{◌≢◌, ◌⊎◌, All, cond, map}
+use Rattle.std.specs.Prelude.{◌≢◌, ◌⊎◌, All, IsSome, cond, map}
 use Rattle.std.specs.Int.Count.{count_leading_zeros, ones}
 use Rattle.std.proofs.Math.Nat.{le_refl}
 use Rattle.std.proofs.lemmas.Bool.{leb-true, ltb-false, ltb-true}
 use Rattle.std.proofs.lemmas.List.Elements.{All-nil, All-cons}
 use Rattle.ubifs_base.specs.Geometry.{IsGeometry}
+use Rattle.ubifs_base.specs.NodeLaws.{IsBytes}
 use Rattle.ubifs_base.specs.Properties.{fls, height_from, tree_height, tree_len}
 use Rattle.ubifs_base.specs.R5.{r5_of}
 use Rattle.ubifs_base.specs.declared.key.Key.TheVariants.{Ino}
@@ -14,25 +15,25 @@ use Rattle.index_tree.specs.Order.{key_rank}
 use Rattle.index_tree.specs.Removal.{same_leaf}
 use Rattle.index_tree.specs.declared.leaf.Leaf.{Leaf}
 use Rattle.index_media.specs.PlacedRow.{branch_to, ended, leaf_at, are_disjoint}
-use Rattle.index_media.specs.Stored.{AreStored}
+use Rattle.index_media.specs.Stored.{AreStored, IsIndexNodeAt}
 use Rattle.media_sys.specs.SystemNode.{commit_start, written}
 use Rattle.small_areas.specs.Addresses.{addresses_of, first_past}
 use Rattle.leb_scan.specs.Text.{is_blank}
 use Rattle.leb_scan.specs.TextLaws.{blank_later}
 use Rattle.leb_scan.specs.declared.tail.Tail.TheVariants.{Clean}
 use Rattle.bud_log.specs.LogText.{LogText}
-use Rattle.leaf_map.specs.Kept.{Kept}
-use Rattle.leaf_map.specs.Parts.{Parts}
-use Rattle.leaf_map.specs.Recovered.{recovered_of, spare_copies, tree_found}
-use Rattle.sound_image.specs.Image.{parts_of}
+use Rattle.change_nodes.specs.Nodes.{change_of}
+use Rattle.leaf_map.specs.Kept.{Placed}
+use Rattle.leaf_map.specs.Recovered.{tree_found}
+use Rattle.sound_image.specs.Image.{Image, parts_of}
 use Rattle.sound_image.specs.Index.{HasIndex}
-use Rattle.sound_image.specs.Leaves.{HasItsNode, HasLeaves, IsReplaced, IsSoundLeaf, lost_leaves}
+use Rattle.sound_image.specs.Leaves.{HasItsNode, HasLeaves, IsPlacedIn, IsSoundLeaf, leaves_recovered, missing_leaves}
 use Rattle.sound_image.specs.OrphanLists.{HasOrphanNodes}
-use Rattle.sound_image.specs.Properties.{is_marked_index, prop_of}
+use Rattle.sound_image.specs.Properties.{is_marked_index, is_unmarked, prop_of}
 use Rattle.sound_image.specs.Space.{committed_bytes}
 use Rattle.sound_image.specs.Sound.{SoundImage}
-use Rattle.sound_image.specs.Tree.{HasLinks, HasTree, ShowsItsNode}
-use Rattle.sound_image.specs.Worked.{IsLeastVolume, least_geometry, least_image, least_index, least_master, least_props, least_super, root_kept, root_leaf, root_placed}
+use Rattle.sound_image.specs.Tree.{HasLinks, HasTree, IsCopy, ShowsItsNode}
+use Rattle.sound_image.specs.Worked.{IsLeastVolume, least_branch, least_geometry, least_image, least_index, least_master, least_props, least_super, root_kept, root_leaf, root_placed}
 use Rattle.sound_image.proofs.AloneTexts.{blank_orphans}
 use Rattle.sound_image.proofs.FreshLog.{has_fresh_log, start_text}
 use Rattle.sound_image.proofs.KnownNodes.{plain_known}
@@ -41,7 +42,7 @@ least_tree_len : tree_len least_geometry ≡ 36
 unfolding fls count_leading_zeros tree_height height_from
 least_tree_len = refl
 
-in_range : IsGeometry least_geometry
+pub in_range : IsGeometry least_geometry
 unfolding ones
 in_range = record {
   min_io = (refl, leb-true 8 8 refl, leb-true 8 16384 refl);
@@ -55,18 +56,19 @@ in_range = record {
   fanout = (leb-true 3 8 refl, leb-true 8 256 refl);
 }
 
-least_placed : first_past (addresses_of least_geometry least_master) ≡ None
+pub least_placed : first_past (addresses_of least_geometry least_master) ≡ None
 unfolding fls count_leading_zeros
 least_placed = refl
 
 -- ---- the index
-least_stored : (contents : ℕ → List ℕ) → IsLeastVolume contents → AreStored contents 1 least_index
+least_stored : (contents : ℕ → List ℕ) → IsIndexNodeAt contents least_branch (record { level = 0; branches = branch_to root_leaf ∷ [] }) → AreStored contents 1 least_index
 unfolding AreStored
-least_stored contents h = (ltb-true 0 1 refl, h.index, (refl, tt), tt)
+least_stored contents h = (ltb-true 0 1 refl, h, (refl, tt), tt)
 
-has_index : (contents : ℕ → List ℕ) → IsLeastVolume contents → HasIndex contents least_geometry least_master least_props least_index
+pub has_index : (contents : ℕ → List ℕ) (props : List Lprop) → is_marked_index least_geometry props 11 ≡ true → IsIndexNodeAt contents least_branch (record { level = 0; branches = branch_to root_leaf ∷ [] })
+    → HasIndex contents least_geometry least_master props least_index
 unfolding key_rank
-has_index contents h = record {
+has_index contents props marked h = record {
   key = root_leaf.key;
   index = record {
     children = leaf_at root_leaf ended;
@@ -77,48 +79,54 @@ has_index contents h = record {
     bounded = (leb-true 0 (key_rank (Ino 1)) refl, tt, (le_refl (key_rank (Ino 1)), tt, tt), tt);
   };
   first = refl;
-  marked = All-cons (λ (lnum : ℕ). is_marked_index least_geometry least_props lnum ≡ true) 11 [] refl (All-nil (λ (lnum : ℕ). is_marked_index least_geometry least_props lnum ≡ true));
+  marked = All-cons (λ (lnum : ℕ). is_marked_index least_geometry props lnum ≡ true) 11 [] marked (All-nil (λ (lnum : ℕ). is_marked_index least_geometry props lnum ≡ true));
 }
 
 -- ---- what is recovered
-least_kept : (recovered_of (parts_of (least_image []))).kept ≡ root_kept ∷ []
-unfolding key_rank same_leaf r5_of
-least_kept = refl
 
-nothing_lost : lost_leaves [] (spare_copies (parts_of (least_image []))) (least_image []).committed ≡ []
+least_recovered : leaves_recovered (parts_of (least_image [])) ≡ root_leaf ∷ []
 unfolding key_rank same_leaf r5_of
-nothing_lost = refl
+least_recovered = refl
 
-root_node : (contents : ℕ → List ℕ) → IsLeastVolume contents → HasItsNode contents root_leaf
-root_node contents h = record {
+nothing_missing : missing_leaves (parts_of (least_image [])) ≡ []
+unfolding key_rank same_leaf r5_of
+nothing_missing = refl
+
+-- with other properties it says the same otherwise
+abbrev pub least_with : List Lprop → List LogText → Image
+least_with props log = record (least_image log) { props = props }
+
+root_node : (contents : ℕ → List ℕ) → IsBytes (contents 10) → IsPlacedIn contents root_placed → HasItsNode contents root_leaf
+root_node contents fits leaf = record {
   node = root_placed;
   placed = record { lnum = refl; offs = refl; len = refl };
-  stands = h.leaf;
+  stands = leaf;
   key = refl;
-  known = plain_known contents root_placed (h.bytes 10) h.leaf (refl, refl);
+  known = plain_known contents root_placed fits leaf (refl, refl);
 }
 
-has_leaves : (contents : ℕ → List ℕ) (log : List LogText) → IsLeastVolume contents → parts_of (least_image log) ≡ parts_of (least_image []) → HasLeaves contents (least_image log)
-has_leaves contents log h same =
-    let P : Kept → Type 0 = λ x. IsSoundLeaf contents least_geometry least_props x.leaf in
-    let kept : (recovered_of (parts_of (least_image log))).kept ≡ root_kept ∷ [] = ap (λ (parts : Parts). (recovered_of parts).kept) same ∙ least_kept in
-    let Q : List Kept → Type 0 = λ xs. All P xs in
-    let D : List Kept → Type 0 = λ xs. are_disjoint (map (λ x. branch_to x.leaf) xs) ≡ true in
-    let R : Parts → Type 0 = λ parts. All (IsReplaced parts.nodes) (lost_leaves parts.named (spare_copies parts) (least_image []).committed) in
-    let N : List Leaf → Type 0 = λ xs. All (IsReplaced []) xs in
-    let none : R (parts_of (least_image [])) = subst N (sym nothing_lost) (All-nil (IsReplaced [])) in
+pub has_leaves : (contents : ℕ → List ℕ) (props : List Lprop) (log : List LogText) → IsBytes (contents 10) → IsPlacedIn contents root_placed → is_blank (contents 9) ≡ true → is_unmarked least_geometry props 10 ≡ true
+    → parts_of (least_image log) ≡ parts_of (least_image []) → HasLeaves contents (least_with props log)
+has_leaves contents props log fits leaf orphans unmarked same =
+    let P : Leaf → Type 0 = λ leaf. IsSoundLeaf contents least_geometry props leaf in
+    let leaves : leaves_recovered (parts_of (least_image log)) ≡ root_leaf ∷ [] = ap leaves_recovered same ∙ least_recovered in
+    let Q : List Leaf → Type 0 = λ xs. All P xs in
+    let D : List Leaf → Type 0 = λ xs. are_disjoint (map branch_to xs) ≡ true in
     record {
-      committed = (refl, (record { lnum = refl; offs = refl; len = refl }, h.leaf), tt);
-      listed = ([], [], refl, record { items = []; end = 0; tail = Clean; is_text = record { stand = refl; ends = h.orphans }; listed = refl }, refl);
-      sound = subst Q (sym kept) (All-cons P root_kept [] (root_node contents h, refl) (All-nil P));
-      replaced = subst R (sym same) none;
-      apart = subst D (sym kept) refl;
+      committed = (refl, (record { lnum = refl; offs = refl; len = refl }, leaf), tt);
+      listed = ([], [], refl, record { items = []; end = 0; tail = Clean; is_text = record { stand = refl; ends = orphans }; listed = refl }, refl);
+      sound = subst Q (sym leaves) (All-cons P root_leaf [] (root_node contents fits leaf, unmarked) (All-nil P));
+      replaced = ap missing_leaves same ∙ nothing_missing;
+      apart = subst D (sym leaves) refl;
     }
 
 -- ---- the tree
 has_tree : (contents : ℕ → List ℕ) → IsLeastVolume contents → HasTree contents (parts_of (least_image []))
 unfolding key_rank same_leaf r5_of
 has_tree contents h = record {
+  changes = All-nil (λ (x : Placed). IsSome (change_of x.node));
+  copies = All-nil (IsCopy (parts_of (least_image [])));
+  named = refl;
   shown = All-cons (ShowsItsNode contents) root_kept [] (record { sqnum = 2; group = 0; is = h.leaf.is; shown = refl }) (All-nil (ShowsItsNode contents));
   apart = refl;
   root = refl;
@@ -177,18 +185,22 @@ orphans_at contents h lnum low high =
     let P : ℕ → Type 0 = λ k. HasOrphanNodes (contents k) in
     subst P (sym here) (blank_orphans (contents 9) h.orphans)
 
+-- the text of its log, with a gap so long
+abbrev pub least_text : ℕ → LogText
+least_text gap = start_text 3 (written 1 0 (commit_start (record { cmt_no = 0 }))) 1 0 gap
+
 pub least_is_sound : (contents : ℕ → List ℕ) → IsLeastVolume contents → (log : List LogText) × SoundImage contents (least_image log)
 least_is_sound contents h =
-    let text : LogText = start_text 3 (written 1 0 (commit_start (record { cmt_no = 0 }))) 1 0 h.log.start.gap in (
+    let text : LogText = least_text h.log.start.gap in (
       text ∷ [],
       record {
         superblock = record { node = least_super; begins = h.super; known = refl; geometry = refl; in_range = in_range };
         masters = record { is_latest = h.masters; in_areas = least_placed };
         properties = h.properties;
-        index = has_index contents h;
+        index = has_index contents least_props refl h.index;
         log = has_fresh_log contents least_geometry least_master 1 (leb-true 3 4 refl) (ltb-true 1 (2 ^ 64) refl) (ltb-true 0 (2 ^ 64) refl) h.log;
         buds = record { of_buds = refl; sound = tt };
-        leaves = has_leaves contents (text ∷ []) h refl;
+        leaves = has_leaves contents least_props (text ∷ []) (h.bytes 10) h.leaf h.orphans refl refl;
         sums = has_sums;
         ends = λ no_bud lnum prop has some not_all other. has_ends contents h lnum prop has other;
         orphans = orphans_at contents h;

@@ -14,17 +14,18 @@ use Rattle.small_areas.specs.MasterLaws.{OneNode, take_bytes}
 use Rattle.index_media.specs.PlacedRow.{PlacedRow, ended, node_at, branches_of}
 use Rattle.index_media.specs.Stored.{AreStored, IsIndexNodeAt, IsStoredIndex}
 use Rattle.sound_image.specs.Index.{HasIndex, root_branch}
-use Rattle.sound_image.specs.Superblock.{HasSuperblock}
+use Rattle.sound_image.specs.Superblock.{BeginsWithSuper, HasSuperblock}
 
 super_same : (m n : Super) → superblock m ≡ superblock n → m ≡ n
 super_same m n h = cc
 
+-- a LEB begins with one superblock
+pub one_super : OneNode → (leb : List ℕ) (m n : Super) → IsBytes leb → BeginsWithSuper leb m → BeginsWithSuper leb n → m ≡ n
+one_super one leb m n fits x y = super_same m n (one (take 4096 leb) x.sqnum x.group y.sqnum y.group (superblock m) (superblock n) (take_bytes 4096 leb fits) x.is y.is).2
+
 -- one geometry
 pub one_geometry : OneNode → (contents : ℕ → List ℕ) (a b : RawGeometry) → IsBytes (contents 0) → HasSuperblock contents a → HasSuperblock contents b → a ≡ b
-one_geometry one contents a b fits x y =
-    let leb = contents 0 in
-    let same = super_same x.node y.node (one (take 4096 leb) x.begins.sqnum x.begins.group y.begins.sqnum y.begins.group (superblock x.node) (superblock y.node) (take_bytes 4096 leb fits) x.begins.is y.begins.is).2 in
-    x.geometry ∙ ap geometry_of same ∙ sym y.geometry
+one_geometry one contents a b fits x y = x.geometry ∙ ap geometry_of (one_super one (contents 0) x.node y.node fits x.begins y.begins) ∙ sym y.geometry
 
 -- a root's branch leads to one index
 abbrev pub OneIndex : Type 0

@@ -1,5 +1,5 @@
 -- What breaks a rule, where, and with which values; and which breach is the first.
-use Rattle.std.specs.Prelude.{◌≡◌, ◌≢◌, ◌⊎◌, ℕ, ◌+◌, ◌-◌, ◌<◌, ◌≤◌, ◌==◌, ◌&&◌, ◌||◌, not, false, IsTrue, IsFalse, Bool, List, [], ◌∷◌, ◌++◌, Option, Some, None, get_or, length}
+use Rattle.std.specs.Prelude.{◌≡◌, ◌≢◌, ◌⊎◌, ℕ, ◌+◌, ◌-◌, ◌<◌, ◌≤◌, ◌==◌, ◌&&◌, ◌||◌, not, IsTrue, IsFalse, Bool, List, [], ◌∷◌, ◌++◌, Option, Some, None, get_or, length}
 use Rattle.std.specs.List.{list_any}
 use Rattle.ubifs_base.specs.Areas.{orph_first, main_first}
 use Rattle.ubifs_base.specs.GeometryFaults.{IsFirstOut, tested_fields}
@@ -12,6 +12,7 @@ use Rattle.ubifs_base.specs.declared.raw_geometry.GeomField.TheVariants as geome
 use Rattle.ubifs_base.specs.declared.raw_geometry.RawGeometry.{RawGeometry}
 use Rattle.media_lpt.specs.declared.lprop.Lprop.{Lprop}
 use Rattle.media_sys.specs.Features.{features_of, first_of, geometry_of}
+use Rattle.media_sys.specs.declared.master.Master.{Master}
 use Rattle.media_sys.specs.declared.feature.Feature.{Feature}
 use Rattle.media_sys.specs.declared.super_field.SuperField.{SuperField}
 use Rattle.media_sys.specs.declared.super_field.SuperField.TheVariants as superblock
@@ -23,32 +24,39 @@ use Rattle.leb_scan.specs.declared.tail.Tail.{Tail}
 use Rattle.leb_scan.specs.declared.tail.Tail.TheVariants.{Torn}
 use Rattle.small_areas.specs.Addresses.{addresses_of, first_past}
 use Rattle.small_areas.specs.Masters.{HasNoMaster, IsLatest}
+use Rattle.small_areas.specs.Orphans.{AreOrphans}
 use Rattle.small_areas.specs.declared.placed_master.PlacedMaster.{PlacedMaster}
 use Rattle.bud_log.specs.Buds.{buds_of}
 use Rattle.bud_log.specs.Log.{references_of}
+use Rattle.bud_log.specs.LogText.{LogText}
 use Rattle.bud_log.specs.declared.head_at.HeadAt.{HeadAt}
-use Rattle.index_media.specs.PlacedRow.{PlacedRow}
+use Rattle.index_tree.specs.Shape.{contents as leaves_in}
+use Rattle.index_tree.specs.declared.leaf.Leaf.{Leaf}
+use Rattle.index_media.specs.PlacedRow.{PlacedRow, plain}
+use Rattle.change_nodes.specs.Nodes.{change_of}
 use Rattle.fs_model.specs.declared.change.Change.{Change}
 use Rattle.fs_model.specs.declared.change.Change.TheVariants.{SetEntry, SetInode}
 use Rattle.fs_model.specs.declared.inode.Inode.{Inode}
+use Rattle.fs_model.specs.declared.inode.Kind.TheVariants.{Dir}
 use Rattle.fs_model.specs.Files.{Tree, inode_at}
-use Rattle.fs_model.specs.Path.{is_dir}
-use Rattle.fs_model.specs.Proper.{is_sound_entry, names_of}
-use Rattle.leaf_map.specs.Kept.{Kept, shown_by}
+use Rattle.fs_model.specs.Proper.{has_kind, names_of}
+use Rattle.leaf_map.specs.Kept.{Kept, Placed, node_key, shown_by}
 use Rattle.leaf_map.specs.LeafMap.{shows_same}
-use Rattle.leaf_map.specs.Parts.{Committed}
+use Rattle.leaf_map.specs.Parts.{Committed, Parts}
 use Rattle.leaf_map.specs.Recovered.{recovered_of, tree_found}
 use Rattle.sound_image.specs.Buds.{MayStandInBud}
 use Rattle.sound_image.specs.Frames.{NeedsFeature}
 use Rattle.sound_image.specs.Image.{Image, parts_of}
-use Rattle.sound_image.specs.Index.{HasIndex}
-use Rattle.sound_image.specs.Leaves.{HasLeaves}
+use Rattle.sound_image.specs.IndexBreaches.{IsWrongIndex}
+use Rattle.sound_image.specs.LeafBreaches.{IsWrongLeaf}
+use Rattle.sound_image.specs.Leaves.{AreCommitted, empty_names}
 use Rattle.sound_image.specs.LogBreaches.{IsBrokenLog}
-use Rattle.sound_image.specs.Properties.{HasProperties, prop_of}
+use Rattle.sound_image.specs.Properties.{prop_of}
+use Rattle.sound_image.specs.PropertyBreaches.{IsWrongProperty}
 use Rattle.sound_image.specs.Rules.{MeetsBefore}
 use Rattle.sound_image.specs.Space.{committed_bytes}
 use Rattle.sound_image.specs.Superblock.{BeginsWithSuper, HasSuperblock}
-use Rattle.sound_image.specs.Tree.{ShowsItsNode, has_its_links, is_in_place}
+use Rattle.sound_image.specs.Tree.{IsCopy, ShowsItsNode, has_its_links, is_in_place, is_named_well}
 use Rattle.sound_image.specs.Wrong.{IsFirstWrong, IsOneOf, Misfit, Wrong, differs, needs, type_byte}
 use Rattle.sound_image.specs.declared.breach.Breach.{Breach}
 use Rattle.sound_image.specs.declared.breach.Breach.TheVariants.{Super as InSuper, Feature as NeedsOne, NoMaster, Damaged}
@@ -75,26 +83,26 @@ pub record IsWrongInBud (contents : ℕ → List ℕ) (bud : HeadAt) (at : Wrong
       ⊎ ((what : Feature) × NeedsFeature (contents bud.lnum) at.offs what × ((at.offs ≡ end) ⊎ ((found : Found) × IsOneOf found (nodes_of items) × (at.offs ≡ found.offs))) × (at.misfit ≡ needs what))
 
 -- in one of the buds
-abbrev pub IsWrongInBuds : (ℕ → List ℕ) → Image → Wrong → Type 0
-IsWrongInBuds contents image at = (bud : HeadAt) × IsOneOf bud (buds_of (references_of image.log)) × IsWrongInBud contents bud at
+abbrev pub IsWrongInBuds : (ℕ → List ℕ) → List HeadAt → Wrong → Type 0
+IsWrongInBuds contents buds at = (bud : HeadAt) × IsOneOf bud buds × IsWrongInBud contents bud at
 
 -- the free, dirty and committed bytes of a main LEB aren't all its bytes
-pub record IsWrongSum (image : Image) (at : Wrong) : Type 0 where
+pub record IsWrongSum (geo : RawGeometry) (props : List Lprop) (placed : PlacedRow) (at : Wrong) : Type 0 where
   pub prop : Lprop
-  pub has : prop_of image.geo image.props at.lnum ≡ Some prop
+  pub has : prop_of geo props at.lnum ≡ Some prop
   pub start : at.offs ≡ 0
-  pub other : prop.free + prop.dirty + committed_bytes image.placed at.lnum ≢ image.geo.leb_size
-  pub values : at.misfit ≡ differs image.geo.leb_size (prop.free + prop.dirty + committed_bytes image.placed at.lnum)
+  pub other : prop.free + prop.dirty + committed_bytes placed at.lnum ≢ geo.leb_size
+  pub values : at.misfit ≡ differs geo.leb_size (prop.free + prop.dirty + committed_bytes placed at.lnum)
 
 -- where the log names no bud, a byte is written among the free ones at the end of a main LEB
-pub record IsWrittenEnd (contents : ℕ → List ℕ) (image : Image) (at : Wrong) : Type 0 where
-  pub no_bud : references_of image.log ≡ []
+pub record IsWrittenEnd (contents : ℕ → List ℕ) (geo : RawGeometry) (master : Master) (props : List Lprop) (log : List LogText) (at : Wrong) : Type 0 where
+  pub no_bud : references_of log ≡ []
   pub prop : Lprop
-  pub has : prop_of image.geo image.props at.lnum ≡ Some prop
+  pub has : prop_of geo props at.lnum ≡ Some prop
   pub some : 0 < prop.free
-  pub not_all : prop.free < image.geo.leb_size
-  pub elsewhere : at.lnum ≢ image.latest.master.ihead_lnum
-  pub behind : image.geo.leb_size - prop.free ≤ at.offs
+  pub not_all : prop.free < geo.leb_size
+  pub elsewhere : at.lnum ≢ master.ihead_lnum
+  pub behind : geo.leb_size - prop.free ≤ at.offs
   pub byte : get_or (contents at.lnum) at.offs 255 ≢ 255
   pub values : at.misfit ≡ differs 255 (get_or (contents at.lnum) at.offs 255)
 
@@ -121,45 +129,64 @@ number_of x = by (shown_by x)
     by (Some (SetEntry e)) = e.ino
     by other = (key_words x.leaf.key).0
 
--- whether a leaf shows an entry, or a directory, that is out of its place; or inode 1, which is no directory
+-- whether a leaf shows a name or a directory that is out of its place, or inode 1, which is no directory
 abbrev pub is_misfit : Tree → Option Change → Bool
-is_misfit tree (Some (SetEntry e)) = not (is_sound_entry tree e)
-is_misfit tree (Some (SetInode ino inode)) = not (is_in_place tree (ino, inode)) || ((ino == 1) && not (is_dir inode.kind))
-is_misfit tree other = false
+is_misfit tree (Some (SetInode ino inode)) = not (is_in_place tree (ino, inode)) || ((ino == 1) && not (has_kind tree 1 Dir))
+is_misfit tree other = not (is_named_well tree other)
 
--- A recovered leaf doesn't show what stands at its place, or shows what one before it shows, or what is out of its place; or there is no inode 1.
-abbrev pub IsWrongInTree : (ℕ → List ℕ) → Image → Wrong → Type 0
-IsWrongInTree contents image at =
-    ((x : Kept) × IsOneOf x (recovered_of (parts_of image)).kept × IsAtNode x (differs (number_of x) 0) at
-    × ((ShowsItsNode contents x → ⊥)
-    ⊎ (IsTrue (is_misfit (tree_found (parts_of image)) (shown_by x))
-    ⊎ ((before : List Kept) × (behind : List Kept) × ((recovered_of (parts_of image)).kept ≡ before ++ (x ∷ behind)) × IsTrue (list_any (λ y. shows_same (shown_by y) (shown_by x)) before)))))
-    ⊎ ((inode_at (tree_found (parts_of image)) 1 ≡ None) × (at ≡ record { lnum = image.latest.master.root_lnum; offs = image.latest.master.root_offs; misfit = differs 1 0 }))
+-- what a node of the journal says is no change, or a node of the collector's is no copy; the inode number of its key is wanted
+abbrev pub IsWrongNode : Parts → Wrong → Type 0
+IsWrongNode parts at =
+    (x : Placed) × ((IsOneOf x parts.nodes × (change_of x.node ≡ None)) ⊎ (IsOneOf x parts.copies × (IsCopy parts x → ⊥)))
+    × (at ≡ record { lnum = x.lnum; offs = x.offs; misfit = differs (key_words (node_key x.node)).0 0 })
+
+-- a recovered leaf doesn't show what stands at its place, or shows what one before it shows, or what is out of its place
+abbrev pub IsWrongThere : (ℕ → List ℕ) → Parts → Kept → Type 0
+IsWrongThere contents parts x =
+    (ShowsItsNode contents x → ⊥)
+    ⊎ (IsTrue (is_misfit (tree_found parts) (shown_by x))
+    ⊎ ((before : List Kept) × (behind : List Kept) × ((recovered_of parts).kept ≡ before ++ (x ∷ behind)) × IsTrue (list_any (λ y. shows_same (shown_by y) (shown_by x)) before)))
+
+-- A node isn't what it should be, a recovered leaf is wrong, a name is one of inode number 0, or there is no inode 1, which is wrong at the root of the index.
+abbrev pub IsWrongInTree : (ℕ → List ℕ) → Master → Parts → Wrong → Type 0
+IsWrongInTree contents master parts at =
+    IsWrongNode parts at
+    ⊎ (((x : Kept) × IsOneOf x (recovered_of parts).kept × IsAtNode x (differs (number_of x) 0) at × IsWrongThere contents parts x)
+    ⊎ (((leaf : Leaf) × IsOneOf leaf (empty_names parts) × (at ≡ record { lnum = leaf.lnum; offs = leaf.offs; misfit = differs 0 0 }))
+    ⊎ ((inode_at (tree_found parts) 1 ≡ None) × (at ≡ record { lnum = master.root_lnum; offs = master.root_offs; misfit = differs 1 0 }))))
 
 -- a leaf shows an inode that is no directory and has other links than names, or none
-pub record IsWrongLink (image : Image) (at : Wrong) : Type 0 where
+pub record IsWrongLink (parts : Parts) (at : Wrong) : Type 0 where
   pub x : Kept
-  pub one : IsOneOf x (recovered_of (parts_of image)).kept
+  pub one : IsOneOf x (recovered_of parts).kept
   pub ino : ℕ
   pub inode : Inode
   pub shows : shown_by x ≡ Some (SetInode ino inode)
-  pub other : IsFalse (has_its_links (tree_found (parts_of image)) (ino, inode))
-  pub is : IsAtNode x (differs (length (names_of (tree_found (parts_of image)) ino)) inode.nlink) at
+  pub other : IsFalse (has_its_links (tree_found parts) (ino, inode))
+  pub is : IsAtNode x (differs (length (names_of (tree_found parts) ino)) inode.nlink) at
 
--- A rule is broken first here. Of the properties, the index and the leaves no place is told: this says only that the rule is broken.
+-- The committed leaves and the orphans are read, and among the leaves after recovery one is wrong first.
+pub record IsBrokenLeaf (contents : ℕ → List ℕ) (image : Image) (at : Wrong) : Type 0 where
+  pub committed : List Committed
+  pub listed : List ℕ
+  pub are_committed : AreCommitted contents (leaves_in (plain image.placed)) committed
+  pub are_listed : AreOrphans contents (orph_first image.geo) image.geo.orph_lebs listed
+  pub first : IsFirstWrong (IsWrongLeaf contents image.geo image.props (parts_of (record image { committed = committed; listed = listed }))) at
+
+-- A rule is broken first here, with what is wrong.
 abbrev pub IsBroken : (ℕ → List ℕ) → Image → Rule → Wrong → Type 0
 IsBroken contents image rules.Superblock at = ⊥
 IsBroken contents image rules.Masters at = IsFirstWrong (IsMisplaced contents image.geo) at
-IsBroken contents image rules.Properties at = (props : List Lprop) → HasProperties contents image.geo image.latest.master props → ⊥
-IsBroken contents image rules.Index at = (placed : PlacedRow) → HasIndex contents image.geo image.latest.master image.props placed → ⊥
+IsBroken contents image rules.Properties at = IsFirstWrong (IsWrongProperty contents image.geo image.latest.master) at
+IsBroken contents image rules.Index at = IsFirstWrong (IsWrongIndex contents image.geo image.latest.master image.props) at
 IsBroken contents image rules.Log at = IsBrokenLog contents image.geo image.latest.master at
-IsBroken contents image rules.Buds at = IsFirstWrong (IsWrongInBuds contents image) at
-IsBroken contents image rules.Leaves at = (committed : List Committed) (listed : List ℕ) → HasLeaves contents (record image { committed = committed; listed = listed }) → ⊥
-IsBroken contents image rules.Sums at = IsFirstWrong (IsWrongSum image) at
-IsBroken contents image rules.Ends at = IsFirstWrong (IsWrittenEnd contents image) at
+IsBroken contents image rules.Buds at = IsFirstWrong (IsWrongInBuds contents (buds_of (references_of image.log))) at
+IsBroken contents image rules.Leaves at = IsBrokenLeaf contents image at
+IsBroken contents image rules.Sums at = IsFirstWrong (IsWrongSum image.geo image.props image.placed) at
+IsBroken contents image rules.Ends at = IsFirstWrong (IsWrittenEnd contents image.geo image.latest.master image.props image.log) at
 IsBroken contents image rules.Orphans at = IsFirstWrong (IsNoOrphan contents image.geo) at
-IsBroken contents image rules.Tree at = IsFirstWrong (IsWrongInTree contents image) at
-IsBroken contents image rules.Links at = IsFirstWrong (IsWrongLink image) at
+IsBroken contents image rules.Tree at = IsFirstWrong (IsWrongInTree contents image.latest.master (parts_of image)) at
+IsBroken contents image rules.Links at = IsFirstWrong (IsWrongLink (parts_of image)) at
 
 -- this rule is the first that is broken: the contents meet all before it
 abbrev pub IsFirstBroken : (ℕ → List ℕ) → Rule → Wrong → Type 0

@@ -1,6 +1,7 @@
 -- What an image says, part by part.
-use Rattle.std.specs.Prelude.{ℕ, List, map}
+use Rattle.std.specs.Prelude.{◌≡◌, ℕ, ◌<◌, ◌≤◌, List, [], length, map}
 use Rattle.ubifs_base.specs.JournalHead.{head_number}
+use Rattle.ubifs_base.specs.NodeLaws.{IsBytes}
 use Rattle.ubifs_base.specs.declared.raw_geometry.RawGeometry.{RawGeometry}
 use Rattle.media_lpt.specs.declared.lprop.Lprop.{Lprop}
 use Rattle.media_sys.specs.declared.ref_node.RefNode.{RefNode}
@@ -10,6 +11,12 @@ use Rattle.bud_log.specs.LogText.{LogText}
 use Rattle.index_media.specs.PlacedRow.{PlacedRow}
 use Rattle.journal_scan.specs.Journal.{BudRead, copies_in, nodes_in}
 use Rattle.leaf_map.specs.Parts.{Committed, Named, Parts}
+
+-- Contents as a volume has them: each LEB has its bytes, as many as the geometry says, and behind the last LEB there is none.
+pub record AreOfVolume (contents : ℕ → List ℕ) (geo : RawGeometry) : Type 0 where
+  pub bytes : (lnum : ℕ) → IsBytes (contents lnum)
+  pub full : (lnum : ℕ) → lnum < geo.leb_cnt → length (contents lnum) ≡ geo.leb_size
+  pub none : (lnum : ℕ) → geo.leb_cnt ≤ lnum → contents lnum ≡ []
 
 -- The geometry, the latest master, the properties of the main LEBs, the committed index, the texts of the log that are read,
 -- what was read of each bud, the committed leaves with what stands at their places, and the list of orphans.

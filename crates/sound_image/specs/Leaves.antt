@@ -1,20 +1,21 @@
 -- The rule on leaves (`dbg_walk_index` with `check_leaf` of Linux fs/ubifs).
-use Rattle.std.specs.Prelude.{◌≡◌, ℕ, ⊤, ◌+◌, ◌≤◌, ◌==◌, false, IsTrue, if◌then◌else◌, List, [], ◌∷◌, ◌++◌, All, Option, Some, None, length, take, drop, map}
+use Rattle.std.specs.Prelude.{◌≡◌, ℕ, ⊤, ◌+◌, ◌≤◌, ◌==◌, ◌&&◌, not, Bool, false, IsTrue, if◌then◌else◌, List, [], ◌∷◌, ◌++◌, All, Option, Some, None, filter, length, take, drop, map}
 use Rattle.std.specs.List.{list_any}
 use Rattle.std.specs.Option.{option_map_or}
 use Rattle.ubifs_base.specs.Areas.{orph_first}
 use Rattle.ubifs_base.specs.declared.raw_geometry.RawGeometry.{RawGeometry}
-use Rattle.media_leaf.specs.LeafNode.{IsLeafNode}
+use Rattle.media_leaf.specs.LeafNode.{IsLeafNode, LeafNode, entry}
 use Rattle.media_lpt.specs.declared.lprop.Lprop.{Lprop}
 use Rattle.index_tree.specs.Order.{key_rank, leaf_rank}
+use Rattle.index_tree.specs.Removal.{same_leaf}
 use Rattle.index_tree.specs.Shape.{contents as leaves_in}
 use Rattle.index_tree.specs.declared.leaf.Leaf.{Leaf}
 use Rattle.index_media.specs.PlacedRow.{plain, branch_to, are_disjoint}
 use Rattle.small_areas.specs.Orphans.{AreOrphans}
-use Rattle.fs_model.specs.Path.{is_empty}
+use Rattle.fs_model.specs.Path.{is_empty, is_same_name}
 use Rattle.change_nodes.specs.Nodes.{leaf_key}
-use Rattle.leaf_map.specs.Kept.{Kept, Placed}
-use Rattle.leaf_map.specs.Parts.{Committed, Named, own_node}
+use Rattle.leaf_map.specs.Kept.{Placed, kept_at, shown}
+use Rattle.leaf_map.specs.Parts.{Committed, Named, Parts, in_bud, is_shown, own_node}
 use Rattle.leaf_map.specs.Recovered.{leaf_at, copies_left, recovered_of, spare_copies}
 use Rattle.sound_image.specs.Frames.{IsKnownAt}
 use Rattle.sound_image.specs.Image.{Image, parts_of}
@@ -55,21 +56,58 @@ pub record HasItsNode (contents : ℕ → List ℕ) (leaf : Leaf) : Type 0 where
 abbrev pub IsSoundLeaf : (ℕ → List ℕ) → RawGeometry → List Lprop → Leaf → Type 0
 IsSoundLeaf contents geo props leaf = HasItsNode contents leaf × IsTrue (is_unmarked geo props leaf.lnum)
 
--- the committed leaves that recovery can't find: names, of which neither the node nor a copy of it can be read
-abbrev pub lost_leaves : List Named → List Placed → List Committed → List Leaf
+-- the committed leaves that recovery can't find: names, of which neither the node nor a copy of it can be read, or whose node names no inode
+abbrev pub lost_leaves : List Named → List Placed → List Committed → List Committed
 lost_leaves named copies [] = []
 lost_leaves named copies (x ∷ committed) =
-    (if is_empty (leaf_at copies x (own_node named x)) then x.leaf ∷ [] else []) ++ lost_leaves named (copies_left copies x (own_node named x)) committed
+    (if is_empty (leaf_at copies x (own_node named x)) then x ∷ [] else []) ++ lost_leaves named (copies_left copies x (own_node named x)) committed
 
--- the journal has a node of a leaf's key
-abbrev pub IsReplaced : List Placed → Leaf → Type 0
-IsReplaced nodes leaf = IsTrue (list_any (λ (x : Placed). option_map_or (λ key. key_rank key == leaf_rank leaf) (leaf_key x.node) false) nodes)
+-- whether an intact node of a leaf's key and length stands at its place, but shows nothing: of a name, an entry of inode number 0
+abbrev pub names_nothing : List Named → Committed → Bool
+names_nothing named x = by x.found
+  where
+    by : Option Placed → Bool
+    by None = false
+    by (Some found) = not (in_bud named x.leaf) && (not (is_shown (shown found.node)) && same_leaf x.leaf (kept_at found).leaf)
+
+-- whether two entries have the same directory and name
+abbrev pub have_same_name : LeafNode → LeafNode → Bool
+have_same_name (entry a) (entry b) = (a.dir == b.dir) && is_same_name a.name b.name
+have_same_name a b = false
+
+-- whether the journal has a node of a leaf's key
+abbrev pub has_node_of_key : List Placed → Leaf → Bool
+has_node_of_key nodes leaf = list_any (λ (y : Placed). option_map_or (λ key. key_rank key == leaf_rank leaf) (leaf_key y.node) false) nodes
+
+-- whether the journal has a node of a lost leaf's name; where the name can't be read, one of its key
+abbrev pub is_replaced : List Named → List Placed → Committed → Bool
+is_replaced named nodes x = by (if names_nothing named x then x.found else None)
+  where
+    by : Option Placed → Bool
+    by None = has_node_of_key nodes x.leaf
+    by (Some found) = list_any (λ (y : Placed). have_same_name found.node y.node) nodes
+
+-- the lost leaves that the journal hasn't replaced
+abbrev pub left_behind : Parts → List Committed
+left_behind parts = filter (λ x. not (is_replaced parts.named parts.nodes x)) (lost_leaves parts.named (spare_copies parts) parts.committed)
+
+-- of these, those of which no node can be read
+abbrev pub missing_leaves : Parts → List Leaf
+missing_leaves parts = map (λ x. x.leaf) (filter (λ x. not (names_nothing parts.named x)) (left_behind parts))
+
+-- and those whose node names no inode
+abbrev pub empty_names : Parts → List Leaf
+empty_names parts = map (λ x. x.leaf) (filter (λ x. names_nothing parts.named x) (left_behind parts))
+
+-- the leaves of the index after recovery
+abbrev pub leaves_recovered : Parts → List Leaf
+leaves_recovered parts = map (λ x. x.leaf) (recovered_of parts).kept ++ empty_names parts
 
 -- The committed leaves and the orphans are read. After recovery each leaf of the index has an intact node of its key and length
--- at its place, in a main LEB that isn't marked as the index's, and no two leaves overlap. What can't be found was replaced by the journal.
+-- at its place, in a main LEB that isn't marked as the index's, and no two leaves overlap. What can't be read was replaced by the journal.
 pub record HasLeaves (contents : ℕ → List ℕ) (image : Image) : Type 0 where
   pub committed : AreCommitted contents (leaves_in (plain image.placed)) image.committed
   pub listed : AreOrphans contents (orph_first image.geo) image.geo.orph_lebs image.listed
-  pub sound : All (λ (x : Kept). IsSoundLeaf contents image.geo image.props x.leaf) (recovered_of (parts_of image)).kept
-  pub replaced : All (IsReplaced (parts_of image).nodes) (lost_leaves (parts_of image).named (spare_copies (parts_of image)) image.committed)
-  pub apart : IsTrue (are_disjoint (map (λ x. branch_to x.leaf) (recovered_of (parts_of image)).kept))
+  pub sound : All (λ (leaf : Leaf). IsSoundLeaf contents image.geo image.props leaf) (leaves_recovered (parts_of image))
+  pub replaced : missing_leaves (parts_of image) ≡ []
+  pub apart : IsTrue (are_disjoint (map branch_to (leaves_recovered (parts_of image))))

@@ -14,6 +14,9 @@ pub mod Sound
 pub mod Rules
 pub mod Wrong
 pub mod LogBreaches
+pub mod PropertyBreaches
+pub mod IndexBreaches
+pub mod LeafBreaches
 pub mod Breaches
 pub mod Laid
 pub mod Worked

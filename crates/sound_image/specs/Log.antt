@@ -1,5 +1,5 @@
 -- The rule on the log (`ubifs_replay_journal` and `replay_log_leb` of Linux fs/ubifs).
-use Rattle.std.specs.Prelude.{◌≡◌, ◌⊎◌, ⊤, ℕ, ◌<◌, ◌≤◌, Bool, false, IsTrue, IsSome, Some, List, [], ◌∷◌, length}
+use Rattle.std.specs.Prelude.{◌≡◌, ◌⊎◌, ⊤, ℕ, ◌%◌, ◌<◌, ◌≤◌, Bool, false, IsTrue, IsSome, Some, List, [], ◌∷◌, length}
 use Rattle.std.specs.List.{AllByRecursion}
 use Rattle.ubifs_base.specs.Areas.{main_first}
 use Rattle.ubifs_base.specs.declared.raw_geometry.RawGeometry.{RawGeometry}
@@ -10,11 +10,12 @@ use Rattle.bud_log.specs.Log.{IsLogLeb, Stops, references_of}
 use Rattle.bud_log.specs.LogText.{LogText, BeginsCommit, begins_with, start_of, is_start_alone}
 use Rattle.bud_log.specs.Writing.{IsAmong, IsOlder, IsChain}
 
--- a reference names a place of a main LEB
+-- a reference names a place of a main LEB, at which a node may stand
 pub record NamesMain (geo : RawGeometry) (node : RefNode) : Type 0 where
   pub low : main_first geo ≤ node.lnum
   pub high : node.lnum < geo.leb_cnt
   pub inside : node.offs ≤ geo.leb_size
+  pub even : node.offs % 8 ≡ 0
 
 -- of texts that are read one after another, each but the last has a clean tail, or the next one begins with a commit start
 abbrev pub EndWhole : List LogText → Type 0

@@ -1,13 +1,15 @@
 -- What breaks the rule on the log, in five parts.
-use Rattle.std.specs.Prelude.{◌≡◌, ◌≢◌, ◌⊎◌, ℕ, ◌-◌, ◌<◌, ◌≤◌, IsFalse, List, [], ◌∷◌, ◌++◌, Some, None, length}
+use Rattle.std.specs.Prelude.{◌≡◌, ◌≢◌, ◌⊎◌, ℕ, ◌-◌, ◌*◌, ◌/◌, ◌%◌, ◌<◌, ◌≤◌, ◌==◌, if◌then◌else◌, IsFalse, List, [], ◌∷◌, ◌++◌, Option, Some, None, length}
 use Rattle.std.specs.Option.{option_or}
 use Rattle.ubifs_base.specs.Areas.{main_first}
+use Rattle.ubifs_base.specs.declared.node_type.NodeType.TheVariants as types
 use Rattle.ubifs_base.specs.declared.raw_geometry.RawGeometry.{RawGeometry}
 use Rattle.media_sys.specs.declared.master.Master.{Master}
 use Rattle.media_sys.specs.declared.ref_node.RefNode.{RefNode}
 use Rattle.leb_scan.specs.declared.found.Found.{Found}
 use Rattle.leb_scan.specs.declared.tail.Tail.TheVariants.{Torn}
 use Rattle.small_areas.specs.Addresses.{in_area, in_leb, past_limit}
+use Rattle.small_areas.specs.declared.misplaced.Misplaced.{Misplaced}
 use Rattle.bud_log.specs.Log.{IsLogLeb, Stops}
 use Rattle.bud_log.specs.LogText.{LogText, IsTextOf, IsReferenceAt, BeginsCommit, begins_with, start_of}
 use Rattle.bud_log.specs.Writing.{IsAmong, IsChain}
@@ -32,17 +34,26 @@ pub record IsReadOfLog (contents : ℕ → List ℕ) (geo : RawGeometry) (from s
   pub chain : IsChain contents geo from start first more past
   pub stops : Stops contents from start past
 
+-- the multiple of 8 at or below an offset, and the offset, where it is none itself
+abbrev pub uneven : ℕ → Option Misplaced
+uneven offs = if offs % 8 == 0 then None else Some (record { wanted = offs / 8 * 8; found = offs })
+
+-- what is wrong with the place that a reference names, first: its LEB is no main LEB, its offset passes the LEB, or is no multiple of 8
+abbrev pub misnamed : RawGeometry → RefNode → Option Misplaced
+misnamed geo node = option_or (past_limit (in_area node.lnum (main_first geo) geo.leb_cnt)) (option_or (past_limit (in_leb node.offs geo.leb_size)) (uneven node.offs))
+
 -- second: a reference of one of the texts names a place that is none of a main LEB; the limit is that of an address
 pub record NamesNoMain (contents : ℕ → List ℕ) (geo : RawGeometry) (texts : List LogText) (at : Wrong) : Type 0 where
   pub text : LogText
   pub one : IsOneOf text texts
   pub found : Found
   pub stands : IsOneOf found text.nodes
+  pub kind : found.kind ≡ types.Reference
   pub node : RefNode
   pub is : IsReferenceAt (contents text.ends.lnum) found node
   pub wanted : ℕ
   pub there : ℕ
-  pub past : option_or (past_limit (in_area node.lnum (main_first geo) geo.leb_cnt)) (past_limit (in_leb node.offs geo.leb_size)) ≡ Some (record { wanted = wanted; found = there })
+  pub past : misnamed geo node ≡ Some (record { wanted = wanted; found = there })
   pub at_is : at ≡ record { lnum = text.ends.lnum; offs = found.offs; misfit = differs wanted there }
 
 -- third: a text has a torn tail, and the next one begins with no commit start
@@ -80,11 +91,13 @@ pub record LooksNewer (contents : ℕ → List ℕ) (geo : RawGeometry) (start :
   pub offs : at.offs ≡ 0
   pub values : at.misfit ≡ differs start found.sqnum
 
--- the second to the fifth, of what is read
+-- the second to the fifth, of these texts
+abbrev pub IsBrokenIn : (ℕ → List ℕ) → RawGeometry → ℕ → List LogText → Wrong → Type 0
+IsBrokenIn contents geo start texts at = IsFirstOr (NamesNoMain contents geo texts) (IsFirstOr (IsTornWithin contents texts) (IsFirstOr (HasNoneSpare geo texts) (IsFirstWrong (LooksNewer contents geo start texts)))) at
+
+-- and of what is read
 abbrev pub IsBrokenBehindStart : (ℕ → List ℕ) → RawGeometry → Master → Wrong → Type 0
-IsBrokenBehindStart contents geo master at =
-    (start : ℕ) × (texts : List LogText) × IsReadOfLog contents geo master.log_lnum start texts
-    × IsFirstOr (NamesNoMain contents geo texts) (IsFirstOr (IsTornWithin contents texts) (IsFirstOr (HasNoneSpare geo texts) (IsFirstWrong (LooksNewer contents geo start texts)))) at
+IsBrokenBehindStart contents geo master at = (start : ℕ) × (texts : List LogText) × IsReadOfLog contents geo master.log_lnum start texts × IsBrokenIn contents geo start texts at
 
 -- The log is broken here: by the first part of the five by which something is wrong, at its first place.
 abbrev pub IsBrokenLog : (ℕ → List ℕ) → RawGeometry → Master → Wrong → Type 0

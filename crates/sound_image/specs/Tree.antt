@@ -1,17 +1,22 @@
 -- The rules on the recovered tree: directories and entries, and links (`dbg_check_filesystem` of Linux fs/ubifs).
-use Rattle.std.specs.Prelude.{ℕ, ◌==◌, ◌&&◌, ◌||◌, nat_lt, not, Bool, IsTrue, List, All, length, take, drop}
-use Rattle.std.specs.List.{list_all}
-use Rattle.std.specs.Map.{values_of}
+use Rattle.std.specs.Prelude.{◌≡◌, ◌⊎◌, ℕ, ◌==◌, ◌&&◌, ◌||◌, nat_lt, not, is_some, Bool, true, IsSome, IsTrue, List, [], All, Option, Some, length, take, drop}
+use Rattle.std.specs.List.{list_all, list_any}
 use Rattle.media_leaf.specs.LeafNode.{IsLeafNode}
+use Rattle.fs_model.specs.declared.change.Change.{Change}
+use Rattle.fs_model.specs.declared.change.Change.TheVariants.{SetEntry}
 use Rattle.fs_model.specs.declared.inode.Inode.{Inode}
 use Rattle.fs_model.specs.declared.inode.Kind.TheVariants.{Dir}
 use Rattle.fs_model.specs.Files.{Tree}
 use Rattle.fs_model.specs.Path.{is_dir}
 use Rattle.fs_model.specs.Proper.{has_kind, is_sound_dir, is_sound_entry, names_of}
-use Rattle.leaf_map.specs.Kept.{Kept, shown_by}
+use Rattle.index_tree.specs.Order.{leaf_rank}
+use Rattle.change_nodes.specs.Nodes.{change_of}
+use Rattle.leaf_map.specs.Allowed.{IsOwnNode}
+use Rattle.leaf_map.specs.Kept.{Kept, Placed, kept_at, shown_by}
 use Rattle.leaf_map.specs.LeafMap.{are_apart}
-use Rattle.leaf_map.specs.Parts.{Parts, is_shown}
+use Rattle.leaf_map.specs.Parts.{Parts, is_shown, own_node}
 use Rattle.leaf_map.specs.Recovered.{recovered_of, tree_found}
+use Rattle.sound_image.specs.Leaves.{empty_names}
 
 -- what a leaf is told to be is what stands at its place, and it shows an inode of a known kind, a block or a name
 pub record ShowsItsNode (contents : ℕ → List ℕ) (x : Kept) : Type 0 where
@@ -20,17 +25,30 @@ pub record ShowsItsNode (contents : ℕ → List ℕ) (x : Kept) : Type 0 where
   pub is : IsLeafNode (take x.leaf.len (drop x.leaf.offs (contents x.leaf.lnum))) sqnum group x.node
   pub shown : IsTrue (is_shown (shown_by x))
 
+-- A node of the collector's is a copy: of the own node of a committed leaf, or of one whose own node can't be read.
+abbrev pub IsCopy : Parts → Placed → Type 0
+IsCopy parts copy = IsOwnNode parts.named parts.committed copy.node ⊎ IsTrue (list_any (λ x. not (is_some (own_node parts.named x)) && (leaf_rank x.leaf == leaf_rank (kept_at copy).leaf)) parts.committed)
+
 -- whether an inode is no directory, or the root, or a directory that has one entry and is reached from the root
 abbrev pub is_in_place : Tree → ℕ × Inode → Bool
 is_in_place tree e = not (is_dir e.1.kind) || is_sound_dir tree e.0
 
--- Each recovered leaf shows what stands at its place, and no two show the same. Inode 1 is a directory; each entry stands in a directory,
+-- whether a leaf shows no name, or one that stands in a directory and names an inode of its kind, which isn't the root
+abbrev pub is_named_well : Tree → Option Change → Bool
+is_named_well tree (Some (SetEntry e)) = is_sound_entry tree e
+is_named_well tree other = true
+
+-- Each node that the journal has says a change of the tree, and each one of the collector's is a copy. Each recovered leaf shows what
+-- stands at its place, no two show the same, and no name is one of inode number 0. Inode 1 is a directory; each entry stands in a directory,
 -- and its inode is there, of its kind, and not the root; each directory but the root has one entry and is reached from the root.
 pub record HasTree (contents : ℕ → List ℕ) (parts : Parts) : Type 0 where
+  pub changes : All (λ (x : Placed). IsSome (change_of x.node)) parts.nodes
+  pub copies : All (IsCopy parts) parts.copies
+  pub named : empty_names parts ≡ []
   pub shown : All (ShowsItsNode contents) (recovered_of parts).kept
   pub apart : IsTrue (are_apart (recovered_of parts).kept)
   pub root : IsTrue (has_kind (tree_found parts) 1 Dir)
-  pub entries : IsTrue (list_all (is_sound_entry (tree_found parts)) (values_of (tree_found parts).entries))
+  pub entries : IsTrue (list_all (λ x. is_named_well (tree_found parts) (shown_by x)) (recovered_of parts).kept)
   pub dirs : IsTrue (list_all (is_in_place (tree_found parts)) (tree_found parts).inodes)
 
 -- whether an inode is a directory, or has as many links as names, and one at least

@@ -1,5 +1,5 @@
 -- The least image, by hand: two main LEBs, the root directory's inode in one, an index of one node in the other.
-use Rattle.std.specs.Prelude.{ℕ, IsTrue, true, false, List, [], ◌∷◌, Some, drop, replicate}
+use Rattle.std.specs.Prelude.{◌≡◌, ℕ, IsTrue, true, false, List, [], ◌∷◌, Some, take, drop, replicate}
 use Rattle.ubifs_base.specs.Geometry.{plain_geometry}
 use Rattle.ubifs_base.specs.NodeLaws.{IsBytes}
 use Rattle.ubifs_base.specs.declared.key.Key.TheVariants.{Ino}
@@ -140,6 +140,47 @@ least_image log = record {
   committed = record { leaf = root_leaf; found = Some root_placed } ∷ [];
   listed = [];
 }
+
+-- its latest master, if the root of the index stands behind the last LEB
+abbrev pub misplaced_latest : PlacedMaster
+misplaced_latest = record least_latest { master = record least_master { root_lnum = 13 } }
+
+-- contents that begin as such a volume does: with this superblock and this latest master
+pub record BeginsLeast (contents : ℕ → List ℕ) (node : Super) (latest : PlacedMaster) : Type 0 where
+  pub bytes : (lnum : ℕ) → IsBytes (contents lnum)
+  pub super : BeginsWithSuper (contents 0) node
+  pub masters : IsLatest (contents 1) (contents 2) latest
+
+-- and in which its index, its leaf and these properties stand, and the start of this commit in the log
+pub record IsLeastWith (contents : ℕ → List ℕ) (props : List Lprop) (cmt_no : ℕ) : Type 0 where
+  pub begins : BeginsLeast contents least_super least_latest
+  pub log : IsFreshLog contents least_geometry 3 1 cmt_no
+  pub properties : HasProperties contents least_geometry least_master props
+  pub orphans : IsTrue (is_blank (contents 9))
+  pub leaf : IsPlacedIn contents root_placed
+  pub index : IsIndexNodeAt contents least_branch (record { level = 0; branches = branch_to root_leaf ∷ [] })
+
+-- of each main LEB eight dirty bytes more are told than there are
+abbrev pub dirtier_props : List Lprop
+dirtier_props = record { free = 16208; dirty = 24; index = false } ∷ record { free = 16336; dirty = 8; index = true } ∷ []
+
+-- no main LEB is marked as the index's
+abbrev pub unmarked_props : List Lprop
+unmarked_props = record { free = 16208; dirty = 16; index = false } ∷ record { free = 16336; dirty = 0; index = false } ∷ []
+
+-- contents in which bytes 0xFF stand where the root of the tree of properties should
+pub record LacksItsProperties (contents : ℕ → List ℕ) : Type 0 where
+  pub begins : BeginsLeast contents least_super least_latest
+  pub properties : take 11 (drop 15 (contents 7)) ≡ replicate 11 255
+
+-- contents without its leaf: LEB 10 is erased
+pub record LacksItsLeaf (contents : ℕ → List ℕ) : Type 0 where
+  pub begins : BeginsLeast contents least_super least_latest
+  pub log : IsFreshLog contents least_geometry 3 1 0
+  pub properties : HasProperties contents least_geometry least_master least_props
+  pub orphans : IsTrue (is_blank (contents 9))
+  pub leaf : IsTrue (is_blank (contents 10))
+  pub index : IsIndexNodeAt contents least_branch (record { level = 0; branches = branch_to root_leaf ∷ [] })
 
 -- contents in which its nodes stand, and nothing else is written
 pub record IsLeastVolume (contents : ℕ → List ℕ) : Type 0 where

@@ -1,11 +1,14 @@
 // Laws: what the rules promise, and that what is written meets them.
 
-ghost use Rattle.std.specs.Prelude.{◌≡◌, ◌⊎◌, ◌<◌, ◌≤◌, ◌^◌, ℕ, All, IsTrue, List, None, Some, [], ◌∷◌, drop, length};
+ghost use Rattle.std.specs.Prelude.{◌≡◌, ◌⊎◌, ◌<◌, ◌≤◌, ◌^◌, ℕ, All, IsTrue, List, None, Some, [], ◌∷◌, drop, length, map};
 ghost use Rattle.std.specs.List.{AllByRecursion, list_all};
+ghost use Rattle.std.specs.Map.{values_of};
 ghost use Rattle.ubifs_base.specs.Geometry.{IsGeometry};
 ghost use Rattle.ubifs_base.specs.NodeLaws.{IsBytes};
 ghost use Rattle.ubifs_base.specs.declared.raw_geometry.RawGeometry.{RawGeometry};
 ghost use Rattle.media_lpt.specs.declared.lprop.Lprop.{Lprop};
+ghost use Rattle.media_sys.specs.declared.feature.Feature.TheVariants.{KeyHash};
+ghost use Rattle.media_sys.specs.declared.super_field.SuperField.TheVariants.{MinIo};
 ghost use Rattle.media_sys.specs.declared.master.Master.{Master};
 ghost use Rattle.small_areas.specs.Addresses.{addresses_of, first_past};
 ghost use Rattle.small_areas.specs.Masters.{IsLatest};
@@ -16,19 +19,21 @@ ghost use Rattle.lpt_area.specs.declared.lpt_at.LptAt.{LptAt};
 ghost use Rattle.leb_scan.specs.Text.{is_blank, nodes_of};
 ghost use Rattle.leb_scan.specs.declared.found.Found.{Found};
 ghost use Rattle.leb_scan.specs.declared.tail.Tail.TheVariants.{Clean};
+ghost use Rattle.bud_log.specs.Buds.{buds_of};
 ghost use Rattle.bud_log.specs.Log.{IsLog, IsLogLeb, Log, references_of};
 ghost use Rattle.bud_log.specs.LogText.{LogText, begins_with, start_of};
 ghost use Rattle.bud_log.specs.Writing.{IsAmong, IsOlder};
 ghost use Rattle.index_media.specs.PlacedRow.{PlacedRow};
-ghost use Rattle.fs_model.specs.Proper.{has_kind, is_sound_inode};
+ghost use Rattle.fs_model.specs.Proper.{has_kind, is_sound_entry, is_sound_inode};
 ghost use Rattle.fs_model.specs.declared.inode.Kind.TheVariants.{Dir};
-ghost use Rattle.journal_scan.specs.Journal.{BudRead, IsBudRead};
+ghost use Rattle.journal_scan.specs.Journal.{BudRead, IsBudRead, IsReadable};
+ghost use Rattle.journal_scan.specs.Places.{HavePlaces};
 ghost use Rattle.leaf_map.specs.Kept.{Placed};
 ghost use Rattle.leaf_map.specs.Recovered.{tree_found};
-ghost use Rattle.sound_image.specs.Breaches.{IsMisplaced, IsNoOrphan, IsWrittenEnd, IsWrongSum};
-ghost use Rattle.sound_image.specs.Buds.{IsSoundBud, MayStandInBud};
+ghost use Rattle.sound_image.specs.Breaches.{IsBroken, IsFirstBreach};
+ghost use Rattle.sound_image.specs.Buds.{IsSoundBud, MayStandInBud, bud_text};
 ghost use Rattle.sound_image.specs.Frames.{IsKnownAt};
-ghost use Rattle.sound_image.specs.Image.{Image, parts_of};
+ghost use Rattle.sound_image.specs.Image.{AreOfVolume, Image, parts_of};
 ghost use Rattle.sound_image.specs.Index.{HasIndex};
 ghost use Rattle.sound_image.specs.Laid.{IsFreshLog, IsPlainLeaf};
 ghost use Rattle.sound_image.specs.Leaves.{IsPlacedIn};
@@ -38,15 +43,18 @@ ghost use Rattle.sound_image.specs.OrphanLists.{HasOrphanLists, HasOrphanNodes};
 ghost use Rattle.sound_image.specs.Properties.{HasProperties};
 ghost use Rattle.sound_image.specs.Rules.{Meets};
 ghost use Rattle.sound_image.specs.Sound.{SoundImage};
-ghost use Rattle.sound_image.specs.Space.{HasErasedEnds, HasSums};
-ghost use Rattle.sound_image.specs.Superblock.{HasSuperblock};
-ghost use Rattle.sound_image.specs.Worked.{IsLeastVolume, least_image};
+ghost use Rattle.sound_image.specs.Superblock.{BeginsWithSuper, HasSuperblock};
+ghost use Rattle.sound_image.specs.Worked.{BeginsLeast, IsLeastVolume, IsLeastWith, LacksItsLeaf, LacksItsProperties, dirtier_props, least_image, least_props, least_super, misplaced_latest, unmarked_props};
 ghost use Rattle.sound_image.specs.Wrong.{Wrong};
+ghost use Rattle.sound_image.specs.declared.breach.Breach.{Breach as ABreach};
 ghost use Rattle.sound_image.specs.declared.rule.Rule.{Rule as ARule};
 
 use index_media::a_root_leads_to_one_index;
+use journal_scan::nodes_have_places;
 use leb_scan::one_text;
 use lpt_area::{one_list, still_there};
+use media_leaf::one_node as one_leaf;
+use media_lpt::one_node as one_nnode;
 use media_sys::one_node;
 
 /// Contents say one geometry, one latest master, one list of properties and one index.
@@ -72,6 +80,8 @@ pub fn the_tree_of_a_sound_image_hangs_together()
     ensures rules { (contents : ℕ → List ℕ) (image : Image) (rule : ARule) → SoundImage contents image → Meets contents image rule }
     ensures all { (contents : ℕ → List ℕ) (image : Image) → ((rule : ARule) → Meets contents image rule) → SoundImage contents image }
     ensures root { (contents : ℕ → List ℕ) (image : Image) → SoundImage contents image → IsTrue (has_kind (tree_found (parts_of image)) 1 Dir) }
+    ensures entries { (contents : ℕ → List ℕ) (image : Image) → SoundImage contents image
+        → All (λ e. IsTrue (is_sound_entry (tree_found (parts_of image)) e)) (values_of (tree_found (parts_of image)).entries) }
     ensures inodes { (contents : ℕ → List ℕ) (image : Image) → SoundImage contents image
         → IsTrue (list_all (is_sound_inode (tree_found (parts_of image))) (tree_found (parts_of image)).inodes) }
 {}
@@ -121,16 +131,55 @@ pub fn the_least_image_is_sound()
     ensures { (contents : ℕ → List ℕ) → IsLeastVolume contents → (log : List LogText) × SoundImage contents (least_image log) }
 {}
 
-/// Contents with a place at which something is wrong don't meet its rule: on masters, sums, free ends and the orphan area.
-pub fn what_is_wrong_breaks_a_rule()
-    ensures masters { (contents : ℕ → List ℕ) (geo : RawGeometry) (latest : PlacedMaster) (at : Wrong) → ((k : ℕ) → IsBytes (contents k))
-        → IsMisplaced contents geo at → HasMasters contents geo latest → ⊥ }
-    ensures sums { (image : Image) (at : Wrong) → IsWrongSum image at → HasSums image.geo image.props image.placed → ⊥ }
-    ensures ends { (contents : ℕ → List ℕ) (image : Image) (at : Wrong) → IsWrittenEnd contents image at
-        → HasErasedEnds contents image.geo image.latest.master image.props image.log → ⊥ }
-    ensures orphans { (contents : ℕ → List ℕ) (geo : RawGeometry) (at : Wrong) → ((k : ℕ) → IsBytes (contents k))
-        → IsNoOrphan contents geo at → HasOrphanLists contents geo → ⊥ }
+/// What is wrong by a rule breaks it. So sound contents have no first breach, and all others one at most: no two rules, places, values
+/// or features are told of the same contents.
+pub fn a_first_breach_is_one()
+    ensures rule { (contents : ℕ → List ℕ) (image : Image) (rule : ARule) (at : Wrong) → ((k : ℕ) → IsBytes (contents k))
+        → IsBroken contents image rule at → Meets contents image rule → ⊥ }
+    ensures sound { (contents : ℕ → List ℕ) (image : Image) (a : ABreach) → ((k : ℕ) → IsBytes (contents k)) → SoundImage contents image → IsFirstBreach contents a → ⊥ }
+    ensures one { (contents : ℕ → List ℕ) (a b : ABreach) → ((k : ℕ) → IsBytes (contents k)) → IsFirstBreach contents a → IsFirstBreach contents b → a ≡ b }
+{
+    one_node();
+    one_leaf();
+    one_nnode();
+    one_text();
+    one_list();
+    still_there();
+    a_root_leads_to_one_index();
+}
+
+/// What the log of a sound image names can be read. The nodes that a mount takes of it stand at places of their own, which the log
+/// names, and are of the grammar.
+pub fn a_mount_can_read_a_sound_image()
+    ensures readable { (contents : ℕ → List ℕ) (image : Image) → AreOfVolume contents image.geo → SoundImage contents image
+        → AllByRecursion IsReadable (map (bud_text contents) (buds_of (references_of image.log))) }
+    ensures places { (contents : ℕ → List ℕ) (image : Image) → SoundImage contents image
+        → HavePlaces (parts_of image).named (parts_of image).copies (parts_of image).nodes }
+{
+    nodes_have_places();
+}
+
+/// Damaged images by hand, each told exactly: another hash of names, a size of units that is no power of two, no master, a root
+/// behind the last LEB, a log of another commit, and too many dirty bytes in both main LEBs, of which the first is told.
+pub fn damaged_images_are_told()
+    ensures feature { (contents : ℕ → List ℕ) → BeginsWithSuper (contents 0) (record least_super { key_hash = 1 }) → IsFirstBreach contents (ABreach.Feature KeyHash 0 0) }
+    ensures field { (contents : ℕ → List ℕ) → BeginsWithSuper (contents 0) (record least_super { min_io_size = 100 }) → IsFirstBreach contents (ABreach.Super MinIo) }
+    ensures none { (contents : ℕ → List ℕ) → BeginsWithSuper (contents 0) least_super → IsTrue (is_blank (contents 1)) → IsTrue (is_blank (contents 2))
+        → IsFirstBreach contents ABreach.NoMaster }
+    ensures root { (contents : ℕ → List ℕ) → BeginsLeast contents least_super misplaced_latest → IsFirstBreach contents (ABreach.Damaged ARule.Masters 1 0 12 13) }
+    ensures commit { (contents : ℕ → List ℕ) → IsLeastWith contents least_props 7 → IsFirstBreach contents (ABreach.Damaged ARule.Log 3 0 0 7) }
+    ensures sum { (contents : ℕ → List ℕ) → IsLeastWith contents dirtier_props 0 → IsFirstBreach contents (ABreach.Damaged ARule.Sums 10 0 16384 16392) }
 {
     one_node();
     one_text();
+}
+
+/// And three more: a tree of properties whose root is erased, the root of the index in a LEB that isn't marked as the index's, and a
+/// leaf whose LEB is erased.
+pub fn lost_nodes_are_told()
+    ensures properties { (contents : ℕ → List ℕ) → LacksItsProperties contents → IsFirstBreach contents (ABreach.Damaged ARule.Properties 7 15 32782 65535) }
+    ensures index { (contents : ℕ → List ℕ) → IsLeastWith contents unmarked_props 0 → IsFirstBreach contents (ABreach.Damaged ARule.Index 11 0 1 0) }
+    ensures leaf { (contents : ℕ → List ℕ) → LacksItsLeaf contents → IsFirstBreach contents (ABreach.Damaged ARule.Leaves 10 0 0 255) }
+{
+    one_node();
 }

@@ -12,9 +12,10 @@ mod rule;
 
 pub use crate::breach::Breach;
 pub use crate::laws::{
-    a_bud_of_plain_nodes_is_sound, a_fresh_log_meets_the_rule, a_log_that_was_read_meets_the_rule,
-    contents_say_one_thing, plain_nodes_need_no_feature, the_least_image_is_sound,
-    the_tree_of_a_sound_image_hangs_together, what_is_written_meets_the_rules,
-    what_is_wrong_breaks_a_rule,
+    a_bud_of_plain_nodes_is_sound, a_first_breach_is_one, a_fresh_log_meets_the_rule,
+    a_log_that_was_read_meets_the_rule, a_mount_can_read_a_sound_image, contents_say_one_thing,
+    damaged_images_are_told, lost_nodes_are_told, plain_nodes_need_no_feature,
+    the_least_image_is_sound, the_tree_of_a_sound_image_hangs_together,
+    what_is_written_meets_the_rules,
 };
 pub use crate::rule::Rule;

@@ -1,0 +1,12 @@
+use Rattle.sound_image.proofs.WorkedLeaves.{lost_leaf_row, unmarked_row}
+use Rattle.sound_image.proofs.WorkedTrees.{erased_tree_row}
+use Rattle.sound_image.proofs.laws.lost_nodes_are_told.Goals as goal
+
+pub returns-clause-index : goal.returns-clause-index
+returns-clause-index c = unmarked_row c.one_node.ensures
+
+pub returns-clause-leaf : goal.returns-clause-leaf
+returns-clause-leaf c = lost_leaf_row
+
+pub returns-clause-properties : goal.returns-clause-properties
+returns-clause-properties c = erased_tree_row
