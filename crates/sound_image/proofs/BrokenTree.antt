@@ -102,9 +102,13 @@ no_root tree root none = let e : true ≡ false = sym root ∙ ap (λ (o : Optio
 
 pub tree_broken : (contents : ℕ → List ℕ) (master : Master) (parts : Parts) (at : Wrong) → IsWrongInTree contents master parts at → HasTree contents parts → ⊥
 tree_broken contents master parts at (inl node) h = node_broken contents parts at h node
-tree_broken contents master parts at (inr (inl (x, one, is, there))) h = there_broken contents parts x one h there
-tree_broken contents master parts at (inr (inr (inl (leaf, one, is)))) h = none_of leaf (empty_names parts) one h.named
-tree_broken contents master parts at (inr (inr (inr (none, is)))) h = no_root (tree_found parts) h.root none
+tree_broken contents master parts at (inr (inl (x, before, behind, e, again, is))) h =
+    let P : List Kept → Type 0 = λ xs. are_apart xs ≡ true in
+    let f : true ≡ false = sym again ∙ none_before before behind x (subst P e h.found) in
+    absurd cc
+tree_broken contents master parts at (inr (inr (inl (x, one, is, there)))) h = there_broken contents parts x one h there
+tree_broken contents master parts at (inr (inr (inr (inl (leaf, one, is))))) h = none_of leaf (empty_names parts) one h.named
+tree_broken contents master parts at (inr (inr (inr (inr (none, is))))) h = no_root (tree_found parts) h.root none
 
 pub links_broken : (parts : Parts) (at : Wrong) → IsWrongLink parts at → HasLinks (tree_found parts) → ⊥
 links_broken parts at wrong h =

@@ -17,6 +17,7 @@ use Rattle.index_tree.specs.declared.leaf.Leaf.{Leaf}
 use Rattle.index_media.specs.PlacedRow.{branch_to, ended, leaf_at, are_disjoint}
 use Rattle.index_media.specs.Stored.{AreStored, IsIndexNodeAt}
 use Rattle.media_sys.specs.SystemNode.{commit_start, written}
+use Rattle.small_areas.specs.Orphans.{AreOrphans}
 use Rattle.small_areas.specs.Addresses.{addresses_of, first_past}
 use Rattle.leb_scan.specs.Text.{is_blank}
 use Rattle.leb_scan.specs.TextLaws.{blank_later}
@@ -92,6 +93,10 @@ nothing_missing : missing_leaves (parts_of (least_image [])) ≡ []
 unfolding key_rank same_leaf r5_of
 nothing_missing = refl
 
+-- nothing is written in the orphan area
+pub no_orphans : (contents : ℕ → List ℕ) → is_blank (contents 9) ≡ true → AreOrphans contents 9 1 []
+no_orphans contents blank = ([], [], refl, record { items = []; end = 0; tail = Clean; is_text = record { stand = refl; ends = blank }; listed = refl }, refl)
+
 -- with other properties it says the same otherwise
 abbrev pub least_with : List Lprop → List LogText → Image
 least_with props log = record (least_image log) { props = props }
@@ -105,7 +110,7 @@ root_node contents fits leaf = record {
   known = plain_known contents root_placed fits leaf (refl, refl);
 }
 
-pub has_leaves : (contents : ℕ → List ℕ) (props : List Lprop) (log : List LogText) → IsBytes (contents 10) → IsPlacedIn contents root_placed → is_blank (contents 9) ≡ true → is_unmarked least_geometry props 10 ≡ true
+pub has_leaves : (contents : ℕ → List ℕ) (props : List Lprop) (log : List LogText) → IsBytes (contents 10) → IsPlacedIn contents root_placed → AreOrphans contents 9 1 [] → is_unmarked least_geometry props 10 ≡ true
     → parts_of (least_image log) ≡ parts_of (least_image []) → HasLeaves contents (least_with props log)
 has_leaves contents props log fits leaf orphans unmarked same =
     let P : Leaf → Type 0 = λ leaf. IsSoundLeaf contents least_geometry props leaf in
@@ -114,7 +119,7 @@ has_leaves contents props log fits leaf orphans unmarked same =
     let D : List Leaf → Type 0 = λ xs. are_disjoint (map branch_to xs) ≡ true in
     record {
       committed = (refl, (record { lnum = refl; offs = refl; len = refl }, leaf), tt);
-      listed = ([], [], refl, record { items = []; end = 0; tail = Clean; is_text = record { stand = refl; ends = orphans }; listed = refl }, refl);
+      listed = orphans;
       sound = subst Q (sym leaves) (All-cons P root_leaf [] (root_node contents fits leaf, unmarked) (All-nil P));
       replaced = ap missing_leaves same ∙ nothing_missing;
       apart = subst D (sym leaves) refl;
@@ -127,6 +132,7 @@ has_tree contents h = record {
   changes = All-nil (λ (x : Placed). IsSome (change_of x.node));
   copies = All-nil (IsCopy (parts_of (least_image [])));
   named = refl;
+  found = refl;
   shown = All-cons (ShowsItsNode contents) root_kept [] (record { sqnum = 2; group = 0; is = h.leaf.is; shown = refl }) (All-nil (ShowsItsNode contents));
   apart = refl;
   root = refl;
@@ -158,7 +164,7 @@ both_by lnum prop false e has = both_at (lnum - 10) lnum prop (ltb-false lnum 10
 one_of_both : (lnum : ℕ) (prop : Lprop) → prop_of least_geometry least_props lnum ≡ Some prop → IsOneOfBoth lnum prop
 one_of_both lnum prop has = both_by lnum prop (nat_lt lnum 10) refl has
 
-has_sums : (lnum : ℕ) (prop : Lprop) → prop_of least_geometry least_props lnum ≡ Some prop → prop.free + prop.dirty + committed_bytes least_index lnum ≡ 16384
+pub has_sums : (lnum : ℕ) (prop : Lprop) → prop_of least_geometry least_props lnum ≡ Some prop → prop.free + prop.dirty + committed_bytes least_index lnum ≡ 16384
 has_sums lnum prop has = elim (one_of_both lnum prop has) [
   | inl (here, is) ↦
       let P : ℕ → Type 0 = λ k. prop.free + prop.dirty + committed_bytes least_index k ≡ 16384 in
@@ -170,12 +176,12 @@ has_sums lnum prop has = elim (one_of_both lnum prop has) [
       subst P (sym here) (subst Q is refl)
 ]
 
-has_ends : (contents : ℕ → List ℕ) → IsLeastVolume contents → (lnum : ℕ) (prop : Lprop) → prop_of least_geometry least_props lnum ≡ Some prop → lnum ≢ 11 → is_blank (drop (16384 - prop.free) (contents lnum)) ≡ true
+pub has_ends : (contents : ℕ → List ℕ) → is_blank (drop 160 (contents 10)) ≡ true → (lnum : ℕ) (prop : Lprop) → prop_of least_geometry least_props lnum ≡ Some prop → lnum ≢ 11 → is_blank (drop (16384 - prop.free) (contents lnum)) ≡ true
 has_ends contents h lnum prop has other = elim (one_of_both lnum prop has) [
   | inl (here, is) ↦
       let P : ℕ → Type 0 = λ k. is_blank (drop (16384 - prop.free) (contents k)) ≡ true in
       let Q : Lprop → Type 0 = λ p. is_blank (drop (16384 - p.free) (contents 10)) ≡ true in
-      subst P (sym here) (subst Q is (blank_later (contents 10) 160 176 h.behind (omega arith)))
+      subst P (sym here) (subst Q is (blank_later (contents 10) 160 176 h (omega arith)))
   | inr (here, is) ↦ absurd (other here)
 ]
 
@@ -200,9 +206,9 @@ least_is_sound contents h =
         index = has_index contents least_props refl h.index;
         log = has_fresh_log contents least_geometry least_master 1 (leb-true 3 4 refl) (ltb-true 1 (2 ^ 64) refl) (ltb-true 0 (2 ^ 64) refl) h.log;
         buds = record { of_buds = refl; sound = tt };
-        leaves = has_leaves contents least_props (text ∷ []) (h.bytes 10) h.leaf h.orphans refl refl;
+        leaves = has_leaves contents least_props (text ∷ []) (h.bytes 10) h.leaf (no_orphans contents h.orphans) refl refl;
         sums = has_sums;
-        ends = λ no_bud lnum prop has some not_all other. has_ends contents h lnum prop has other;
+        ends = λ no_bud lnum prop has some not_all other. has_ends contents h.behind lnum prop has other;
         orphans = orphans_at contents h;
         tree = has_tree contents h;
         links = has_links;

@@ -21,6 +21,7 @@ pub mod Readable
 pub mod WorkedRows
 pub mod WorkedLeaves
 pub mod WorkedTrees
+pub mod WorkedEnds
 pub mod ListLebs
 pub mod PlainBuds
 pub mod ReadLog

@@ -24,6 +24,7 @@ use Rattle.small_areas.specs.declared.placed_master.PlacedMaster.{PlacedMaster}
 use Rattle.bud_log.specs.Buds.{buds_of}
 use Rattle.bud_log.specs.Log.{references_of}
 use Rattle.bud_log.specs.LogText.{LogText}
+use Rattle.journal_scan.specs.Journal.{BudRead}
 use Rattle.index_media.specs.PlacedRow.{PlacedRow, plain}
 use Rattle.index_tree.specs.Shape.{contents as leaves_in}
 use Rattle.leaf_map.specs.Parts.{Committed, Parts}
@@ -480,3 +481,18 @@ none_wrong laws contents image (NeedsOne what lnum offs) fits h x = elim (by_rul
 ]
 none_wrong laws contents image NoMaster fits h (geo, super, one, two) = no_master laws.text contents image.latest fits one two h.masters.is_latest
 none_wrong laws contents image (Damaged rule lnum offs wanted found) fits h x = not_met laws contents rule (at_values lnum offs wanted found) image fits x (sound_before contents image rule h) (meets_each contents image rule h)
+
+-- ---- one image
+image_same : (m : PlacedMaster) (g1 g2 : RawGeometry) (p1 p2 : List Lprop) (r1 r2 : PlacedRow) (t1 t2 : List LogText) (b1 b2 : List BudRead) (c1 c2 : List Committed) (l1 l2 : List ℕ) → g1 ≡ g2 → p1 ≡ p2 → r1 ≡ r2 → t1 ≡ t2 → b1 ≡ b2 → c1 ≡ c2 → l1 ≡ l2
+    → let a : Image = record { geo = g1; latest = m; props = p1; placed = r1; log = t1; buds = b1; committed = c1; listed = l1 } in
+    let b : Image = record { geo = g2; latest = m; props = p2; placed = r2; log = t2; buds = b2; committed = c2; listed = l2 } in
+    a ≡ b
+image_same m g1 g2 p1 p2 r1 r2 t1 t2 b1 b2 c1 c2 l1 l2 g p r t b c l = rw (g, p, r, t, b, c, l) refl
+
+pub one_image : Laws → (contents : ℕ → List ℕ) (a b : Image) → ((k : ℕ) → IsBytes (contents k)) → SoundImage contents a → SoundImage contents b → (a.latest.master ≡ b.latest.master) × (record b { latest = a.latest } ≡ a)
+one_image laws contents a b fits x y =
+    let h = agree laws contents a b Links fits (sound_before contents a Links x) (sound_before contents b Links y) in (
+      h.master (ltb-true 2 12 refl),
+      image_same a.latest b.geo a.geo b.props a.props b.placed a.placed b.log a.log b.buds a.buds b.committed a.committed b.listed a.listed (sym (h.geo (ltb-true 1 12 refl))) (sym (h.props (ltb-true 3 12 refl))) (sym (h.placed (ltb-true 4 12 refl)))
+      (sym (h.log (ltb-true 5 12 refl))) (sym (h.buds (ltb-true 6 12 refl))) (sym (h.committed (ltb-true 7 12 refl))) (sym (h.listed (ltb-true 7 12 refl))),
+    )

@@ -9,6 +9,7 @@ use Rattle.ubifs_base.specs.declared.node_type.NodeType.TheVariants as types
 use Rattle.ubifs_base.specs.declared.raw_geometry.GeomField.TheVariants as geometry
 use Rattle.ubifs_base.specs.Properties.{fls}
 use Rattle.media_sys.specs.declared.master.Master.{Master}
+use Rattle.small_areas.specs.Orphans.{AreOrphans}
 use Rattle.small_areas.specs.declared.misplaced.Misplaced.{Misplaced}
 use Rattle.small_areas.specs.declared.placed_master.PlacedMaster.{PlacedMaster}
 use Rattle.bud_log.specs.Buds.{buds_of}
@@ -40,7 +41,7 @@ use Rattle.sound_image.specs.Wrong.{Misfit, Wrong, comes_before, differs, featur
 use Rattle.sound_image.specs.declared.breach.Breach.TheVariants.{Super as InSuper, Feature as NeedsOne, NoMaster, Damaged}
 use Rattle.sound_image.specs.declared.rule.Rule.TheVariants as rules
 use Rattle.sound_image.proofs.FreshLog.{has_fresh_log}
-use Rattle.sound_image.proofs.LeastImage.{has_index, has_leaves, in_range, least_placed, least_text, least_with}
+use Rattle.sound_image.proofs.LeastImage.{has_index, has_leaves, in_range, least_placed, least_text, least_with, no_orphans}
 use Rattle.sound_image.proofs.OneLog.{one_log_text}
 
 -- ---- the superblock
@@ -243,33 +244,33 @@ commit_row one text contents h =
     )
 
 -- ---- a byte of LEB 10 is told as dirty that is not
-prop_low : (props : List Lprop) (lnum : ℕ) (prop : Lprop) → prop_of least_geometry props lnum ≡ Some prop → 10 ≤ lnum
+pub prop_low : (props : List Lprop) (lnum : ℕ) (prop : Lprop) → prop_of least_geometry props lnum ≡ Some prop → 10 ≤ lnum
 prop_low props lnum prop has = by (nat_lt lnum 10) refl has
   where
     by : (below : Bool) → nat_lt lnum 10 ≡ below → cond below None (slice_get props (lnum - 10)) ≡ Some prop → 10 ≤ lnum
     by true e k = absurd cc
     by false e k = ltb-false lnum 10 e
 
-prop_same : (a b : Lprop) → Some a ≡ Some b → a ≡ b
+pub prop_same : (a b : Lprop) → Some a ≡ Some b → a ≡ b
 prop_same a b e = cc
 
-least_leaves : (contents : ℕ → List ℕ) (props : List Lprop) (h : IsLeastWith contents props 0) → is_unmarked least_geometry props 10 ≡ true → HasLeaves contents (least_with props (least_text h.log.start.gap ∷ []))
-least_leaves contents props h unmarked = has_leaves contents props (least_text h.log.start.gap ∷ []) (h.begins.bytes 10) h.leaf h.orphans unmarked refl
+least_leaves : (contents : ℕ → List ℕ) (props : List Lprop) (h : IsLeastWith contents props 0) → AreOrphans contents 9 1 [] → is_unmarked least_geometry props 10 ≡ true → HasLeaves contents (least_with props (least_text h.log.start.gap ∷ []))
+least_leaves contents props h orphans unmarked = has_leaves contents props (least_text h.log.start.gap ∷ []) (h.begins.bytes 10) h.leaf orphans unmarked refl
 
-up_to_leaves : (contents : ℕ → List ℕ) (props : List Lprop) (h : IsLeastWith contents props 0) → is_marked_index least_geometry props 11 ≡ true → is_unmarked least_geometry props 10 ≡ true
+pub up_to_leaves : (contents : ℕ → List ℕ) (props : List Lprop) (h : IsLeastWith contents props 0) → AreOrphans contents 9 1 [] → is_marked_index least_geometry props 11 ≡ true → is_unmarked least_geometry props 10 ≡ true
     → MeetsBefore contents (least_with props (least_text h.log.start.gap ∷ [])) rules.Sums
-up_to_leaves contents props h marked unmarked =
+up_to_leaves contents props h orphans marked unmarked =
     let image : Image = least_with props (least_text h.log.start.gap ∷ []) in
     before_sums contents image (begins_least contents props 0 (least_text h.log.start.gap ∷ []) marked h)
     (has_fresh_log contents least_geometry least_master 1 (leb-true 3 4 refl) (ltb-true 1 (2 ^ 64) refl) (ltb-true 0 (2 ^ 64) refl) h.log)
-    (record { of_buds = refl; sound = tt }) (least_leaves contents props h unmarked)
+    (record { of_buds = refl; sound = tt }) (least_leaves contents props h orphans unmarked)
 
-pub sum_row : (contents : ℕ → List ℕ) → IsLeastWith contents dirtier_props 0 → IsFirstBreach contents (Damaged rules.Sums 10 0 16384 16392)
-sum_row contents h =
+pub sum_row : (contents : ℕ → List ℕ) → IsLeastWith contents dirtier_props 0 → is_blank (contents 9) ≡ true → IsFirstBreach contents (Damaged rules.Sums 10 0 16384 16392)
+sum_row contents h blank =
     let at : Wrong = record { lnum = 10; offs = 0; misfit = differs 16384 16392 } in
     let first : Lprop = record { free = 16208; dirty = 24; index = false } in (
       least_with dirtier_props (least_text h.log.start.gap ∷ []),
-      up_to_leaves contents dirtier_props h refl refl,
+      up_to_leaves contents dirtier_props h (no_orphans contents blank) refl refl,
       record {
         wrong = record { prop = first; has = refl; start = refl; other = λ e. let bytes : 16392 ≡ 16384 = e in omega (arith, bytes); values = refl };
         least = λ other wrong.

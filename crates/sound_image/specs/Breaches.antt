@@ -43,7 +43,7 @@ use Rattle.fs_model.specs.Proper.{has_kind, names_of}
 use Rattle.leaf_map.specs.Kept.{Kept, Placed, node_key, shown_by}
 use Rattle.leaf_map.specs.LeafMap.{shows_same}
 use Rattle.leaf_map.specs.Parts.{Committed, Parts}
-use Rattle.leaf_map.specs.Recovered.{recovered_of, tree_found}
+use Rattle.leaf_map.specs.Recovered.{leaves_found, recovered_of, tree_found}
 use Rattle.sound_image.specs.Buds.{MayStandInBud}
 use Rattle.sound_image.specs.Frames.{NeedsFeature}
 use Rattle.sound_image.specs.Image.{Image, parts_of}
@@ -147,13 +147,19 @@ IsWrongThere contents parts x =
     ⊎ (IsTrue (is_misfit (tree_found parts) (shown_by x))
     ⊎ ((before : List Kept) × (behind : List Kept) × ((recovered_of parts).kept ≡ before ++ (x ∷ behind)) × IsTrue (list_any (λ y. shows_same (shown_by y) (shown_by x)) before)))
 
--- A node isn't what it should be, a recovered leaf is wrong, a name is one of inode number 0, or there is no inode 1, which is wrong at the root of the index.
+-- a leaf that is found shows what one before it shows
+abbrev pub IsRepeated : Parts → Wrong → Type 0
+IsRepeated parts at =
+    (x : Kept) × (before : List Kept) × (behind : List Kept) × (leaves_found parts ≡ before ++ (x ∷ behind)) × IsTrue (list_any (λ y. shows_same (shown_by y) (shown_by x)) before) × IsAtNode x (differs (number_of x) 0) at
+
+-- A node isn't what it should be, a leaf is repeated, a recovered leaf is wrong, a name is one of inode number 0, or there is no inode 1, which is wrong at the root of the index.
 abbrev pub IsWrongInTree : (ℕ → List ℕ) → Master → Parts → Wrong → Type 0
 IsWrongInTree contents master parts at =
     IsWrongNode parts at
+    ⊎ (IsRepeated parts at
     ⊎ (((x : Kept) × IsOneOf x (recovered_of parts).kept × IsAtNode x (differs (number_of x) 0) at × IsWrongThere contents parts x)
     ⊎ (((leaf : Leaf) × IsOneOf leaf (empty_names parts) × (at ≡ record { lnum = leaf.lnum; offs = leaf.offs; misfit = differs 0 0 }))
-    ⊎ ((inode_at (tree_found parts) 1 ≡ None) × (at ≡ record { lnum = master.root_lnum; offs = master.root_offs; misfit = differs 1 0 }))))
+    ⊎ ((inode_at (tree_found parts) 1 ≡ None) × (at ≡ record { lnum = master.root_lnum; offs = master.root_offs; misfit = differs 1 0 })))))
 
 -- a leaf shows an inode that is no directory and has other links than names, or none
 pub record IsWrongLink (parts : Parts) (at : Wrong) : Type 0 where

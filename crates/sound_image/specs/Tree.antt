@@ -12,10 +12,10 @@ use Rattle.fs_model.specs.Proper.{has_kind, is_sound_dir, is_sound_entry, names_
 use Rattle.index_tree.specs.Order.{leaf_rank}
 use Rattle.change_nodes.specs.Nodes.{change_of}
 use Rattle.leaf_map.specs.Allowed.{IsOwnNode}
-use Rattle.leaf_map.specs.Kept.{Kept, Placed, kept_at, shown_by}
+use Rattle.leaf_map.specs.Kept.{Kept, Placed, kept_at, shown, shown_by}
 use Rattle.leaf_map.specs.LeafMap.{are_apart}
 use Rattle.leaf_map.specs.Parts.{Parts, is_shown, own_node}
-use Rattle.leaf_map.specs.Recovered.{recovered_of, tree_found}
+use Rattle.leaf_map.specs.Recovered.{leaves_found, recovered_of, tree_found}
 use Rattle.sound_image.specs.Leaves.{empty_names}
 
 -- what a leaf is told to be is what stands at its place, and it shows an inode of a known kind, a block or a name
@@ -25,9 +25,11 @@ pub record ShowsItsNode (contents : ℕ → List ℕ) (x : Kept) : Type 0 where
   pub is : IsLeafNode (take x.leaf.len (drop x.leaf.offs (contents x.leaf.lnum))) sqnum group x.node
   pub shown : IsTrue (is_shown (shown_by x))
 
--- A node of the collector's is a copy: of the own node of a committed leaf, or of one whose own node can't be read.
+-- A node of the collector's is a copy: of the own node of a committed leaf, or of one whose own node can't be read; it shows an inode, a block or a name.
 abbrev pub IsCopy : Parts → Placed → Type 0
-IsCopy parts copy = IsOwnNode parts.named parts.committed copy.node ⊎ IsTrue (list_any (λ x. not (is_some (own_node parts.named x)) && (leaf_rank x.leaf == leaf_rank (kept_at copy).leaf)) parts.committed)
+IsCopy parts copy =
+    IsOwnNode parts.named parts.committed copy.node
+    ⊎ IsTrue (is_shown (shown copy.node) && list_any (λ x. not (is_some (own_node parts.named x)) && (leaf_rank x.leaf == leaf_rank (kept_at copy).leaf)) parts.committed)
 
 -- whether an inode is no directory, or the root, or a directory that has one entry and is reached from the root
 abbrev pub is_in_place : Tree → ℕ × Inode → Bool
@@ -38,13 +40,14 @@ abbrev pub is_named_well : Tree → Option Change → Bool
 is_named_well tree (Some (SetEntry e)) = is_sound_entry tree e
 is_named_well tree other = true
 
--- Each node that the journal has says a change of the tree, and each one of the collector's is a copy. Each recovered leaf shows what
--- stands at its place, no two show the same, and no name is one of inode number 0. Inode 1 is a directory; each entry stands in a directory,
+-- Each node that the journal has says a change of the tree, and each one of the collector's is a copy. No two leaves show the same, neither
+-- of those that are found nor of those after recovery. Each of the latter shows what stands at its place, and no name is one of inode number 0. Inode 1 is a directory; each entry stands in a directory,
 -- and its inode is there, of its kind, and not the root; each directory but the root has one entry and is reached from the root.
 pub record HasTree (contents : ℕ → List ℕ) (parts : Parts) : Type 0 where
   pub changes : All (λ (x : Placed). IsSome (change_of x.node)) parts.nodes
   pub copies : All (IsCopy parts) parts.copies
   pub named : empty_names parts ≡ []
+  pub found : IsTrue (are_apart (leaves_found parts))
   pub shown : All (ShowsItsNode contents) (recovered_of parts).kept
   pub apart : IsTrue (are_apart (recovered_of parts).kept)
   pub root : IsTrue (has_kind (tree_found parts) 1 Dir)

@@ -1,5 +1,5 @@
 -- The least image, by hand: two main LEBs, the root directory's inode in one, an index of one node in the other.
-use Rattle.std.specs.Prelude.{◌≡◌, ℕ, IsTrue, true, false, List, [], ◌∷◌, Some, take, drop, replicate}
+use Rattle.std.specs.Prelude.{◌≡◌, ℕ, ◌<◌, ◌≤◌, IsTrue, true, false, List, [], ◌∷◌, Some, get_or, take, drop, replicate}
 use Rattle.ubifs_base.specs.Geometry.{plain_geometry}
 use Rattle.ubifs_base.specs.NodeLaws.{IsBytes}
 use Rattle.ubifs_base.specs.declared.key.Key.TheVariants.{Ino}
@@ -7,6 +7,7 @@ use Rattle.ubifs_base.specs.declared.raw_geometry.RawGeometry.{RawGeometry}
 use Rattle.media_leaf.specs.LeafNode.{inode}
 use Rattle.media_leaf.specs.declared.ino_node.InoNode.{InoNode}
 use Rattle.media_lpt.specs.declared.lprop.Lprop.{Lprop}
+use Rattle.media_sys.specs.SystemNode.{commit_start, written}
 use Rattle.media_sys.specs.declared.branch.Branch.{Branch}
 use Rattle.media_sys.specs.declared.master.Master.{Master}
 use Rattle.media_sys.specs.declared.super_node.Super.{Super}
@@ -20,7 +21,7 @@ use Rattle.bud_log.specs.LogText.{LogText}
 use Rattle.leaf_map.specs.Kept.{Kept, Placed}
 use Rattle.sound_image.specs.Image.{Image}
 use Rattle.sound_image.specs.Index.{root_branch}
-use Rattle.sound_image.specs.Laid.{IsFreshLog}
+use Rattle.sound_image.specs.Laid.{BeginsAlone, IsFreshLog}
 use Rattle.sound_image.specs.Leaves.{IsPlacedIn}
 use Rattle.sound_image.specs.Properties.{HasProperties}
 use Rattle.sound_image.specs.Superblock.{BeginsWithSuper}
@@ -156,7 +157,6 @@ pub record IsLeastWith (contents : ℕ → List ℕ) (props : List Lprop) (cmt_n
   pub begins : BeginsLeast contents least_super least_latest
   pub log : IsFreshLog contents least_geometry 3 1 cmt_no
   pub properties : HasProperties contents least_geometry least_master props
-  pub orphans : IsTrue (is_blank (contents 9))
   pub leaf : IsPlacedIn contents root_placed
   pub index : IsIndexNodeAt contents least_branch (record { level = 0; branches = branch_to root_leaf ∷ [] })
 
@@ -181,6 +181,19 @@ pub record LacksItsLeaf (contents : ℕ → List ℕ) : Type 0 where
   pub orphans : IsTrue (is_blank (contents 9))
   pub leaf : IsTrue (is_blank (contents 10))
   pub index : IsIndexNodeAt contents least_branch (record { level = 0; branches = branch_to root_leaf ∷ [] })
+
+-- contents like it, in which a byte is written among the free ones of LEB 10
+pub record HasWrittenEnd (contents : ℕ → List ℕ) : Type 0 where
+  pub like : IsLeastWith contents least_props 0
+  pub orphans : IsTrue (is_blank (contents 9))
+  pub erased : (place : ℕ) → 176 ≤ place → place < 200 → get_or (contents 10) place 255 ≡ 255
+  pub byte : get_or (contents 10) 200 255 ≡ 0
+
+-- contents like it, in which the start of a commit stands where orphans may
+pub record HasStartForOrphans (contents : ℕ → List ℕ) : Type 0 where
+  pub like : IsLeastWith contents least_props 0
+  pub behind : IsTrue (is_blank (drop 160 (contents 10)))
+  pub start : BeginsAlone (contents 9) (written 1 0 (commit_start (record { cmt_no = 0 })))
 
 -- contents in which its nodes stand, and nothing else is written
 pub record IsLeastVolume (contents : ℕ → List ℕ) : Type 0 where

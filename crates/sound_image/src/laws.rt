@@ -44,7 +44,7 @@ ghost use Rattle.sound_image.specs.Properties.{HasProperties};
 ghost use Rattle.sound_image.specs.Rules.{Meets};
 ghost use Rattle.sound_image.specs.Sound.{SoundImage};
 ghost use Rattle.sound_image.specs.Superblock.{BeginsWithSuper, HasSuperblock};
-ghost use Rattle.sound_image.specs.Worked.{BeginsLeast, IsLeastVolume, IsLeastWith, LacksItsLeaf, LacksItsProperties, dirtier_props, least_image, least_props, least_super, misplaced_latest, unmarked_props};
+ghost use Rattle.sound_image.specs.Worked.{BeginsLeast, HasStartForOrphans, HasWrittenEnd, IsLeastVolume, IsLeastWith, LacksItsLeaf, LacksItsProperties, dirtier_props, least_image, least_props, least_super, misplaced_latest, unmarked_props};
 ghost use Rattle.sound_image.specs.Wrong.{Wrong};
 ghost use Rattle.sound_image.specs.declared.breach.Breach.{Breach as ABreach};
 ghost use Rattle.sound_image.specs.declared.rule.Rule.{Rule as ARule};
@@ -57,17 +57,22 @@ use media_leaf::one_node as one_leaf;
 use media_lpt::one_node as one_nnode;
 use media_sys::one_node;
 
-/// Contents say one geometry, one latest master, one list of properties and one index.
+/// Contents say one geometry, one latest master, one list of properties and one index. Sound ones say one image, but for where its latest
+/// master stands, if both copies are it.
 pub fn contents_say_one_thing()
     ensures geometry { (contents : ℕ → List ℕ) (a b : RawGeometry) → IsBytes (contents 0) → HasSuperblock contents a → HasSuperblock contents b → a ≡ b }
     ensures master { (contents : ℕ → List ℕ) (geo other : RawGeometry) (a b : PlacedMaster) → ((k : ℕ) → IsBytes (contents k))
         → HasMasters contents geo a → HasMasters contents other b → a.master ≡ b.master }
     ensures properties { (contents : ℕ → List ℕ) (geo : RawGeometry) (master : Master) (a b : List Lprop) → ((k : ℕ) → IsBytes (contents k))
         → HasProperties contents geo master a → HasProperties contents geo master b → a ≡ b }
+    ensures image { (contents : ℕ → List ℕ) (a b : Image) → ((k : ℕ) → IsBytes (contents k)) → SoundImage contents a → SoundImage contents b
+        → (a.latest.master ≡ b.latest.master) × (record b { latest = a.latest } ≡ a) }
     ensures index { (contents : ℕ → List ℕ) (geo : RawGeometry) (master : Master) (props : List Lprop) (a b : PlacedRow) → ((k : ℕ) → IsBytes (contents k))
         → HasIndex contents geo master props a → HasIndex contents geo master props b → a ≡ b }
 {
     one_node();
+    one_leaf();
+    one_nnode();
     one_text();
     one_list();
     still_there();
@@ -168,18 +173,21 @@ pub fn damaged_images_are_told()
         → IsFirstBreach contents ABreach.NoMaster }
     ensures root { (contents : ℕ → List ℕ) → BeginsLeast contents least_super misplaced_latest → IsFirstBreach contents (ABreach.Damaged ARule.Masters 1 0 12 13) }
     ensures commit { (contents : ℕ → List ℕ) → IsLeastWith contents least_props 7 → IsFirstBreach contents (ABreach.Damaged ARule.Log 3 0 0 7) }
-    ensures sum { (contents : ℕ → List ℕ) → IsLeastWith contents dirtier_props 0 → IsFirstBreach contents (ABreach.Damaged ARule.Sums 10 0 16384 16392) }
+    ensures sum { (contents : ℕ → List ℕ) → IsLeastWith contents dirtier_props 0 → IsTrue (is_blank (contents 9)) → IsFirstBreach contents (ABreach.Damaged ARule.Sums 10 0 16384 16392) }
 {
     one_node();
     one_text();
 }
 
-/// And three more: a tree of properties whose root is erased, the root of the index in a LEB that isn't marked as the index's, and a
-/// leaf whose LEB is erased.
+/// And five more: a tree of properties whose root is erased, the root of the index in a LEB that isn't marked as the index's, a
+/// leaf whose LEB is erased, a byte among free ones, and the start of a commit where orphans may stand.
 pub fn lost_nodes_are_told()
     ensures properties { (contents : ℕ → List ℕ) → LacksItsProperties contents → IsFirstBreach contents (ABreach.Damaged ARule.Properties 7 15 32782 65535) }
     ensures index { (contents : ℕ → List ℕ) → IsLeastWith contents unmarked_props 0 → IsFirstBreach contents (ABreach.Damaged ARule.Index 11 0 1 0) }
     ensures leaf { (contents : ℕ → List ℕ) → LacksItsLeaf contents → IsFirstBreach contents (ABreach.Damaged ARule.Leaves 10 0 0 255) }
+    ensures end { (contents : ℕ → List ℕ) → HasWrittenEnd contents → IsFirstBreach contents (ABreach.Damaged ARule.Ends 10 200 255 0) }
+    ensures orphans { (contents : ℕ → List ℕ) → HasStartForOrphans contents → IsFirstBreach contents (ABreach.Damaged ARule.Orphans 9 0 11 10) }
 {
     one_node();
+    one_text();
 }

@@ -1,5 +1,6 @@
 use Rattle.sound_image.proofs.WorkedLeaves.{lost_leaf_row, unmarked_row}
 use Rattle.sound_image.proofs.WorkedTrees.{erased_tree_row}
+use Rattle.sound_image.proofs.WorkedEnds.{no_orphan_row, written_end_row}
 use Rattle.sound_image.proofs.laws.lost_nodes_are_told.Goals as goal
 
 pub returns-clause-index : goal.returns-clause-index
@@ -10,3 +11,9 @@ returns-clause-leaf c = lost_leaf_row
 
 pub returns-clause-properties : goal.returns-clause-properties
 returns-clause-properties c = erased_tree_row
+
+pub returns-clause-end : goal.returns-clause-end
+returns-clause-end c = written_end_row
+
+pub returns-clause-orphans : goal.returns-clause-orphans
+returns-clause-orphans c = no_orphan_row c.one_text.ensures
