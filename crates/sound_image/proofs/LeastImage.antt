@@ -185,11 +185,11 @@ has_ends contents h lnum prop has other = elim (one_of_both lnum prop has) [
   | inr (here, is) ↦ absurd (other here)
 ]
 
-orphans_at : (contents : ℕ → List ℕ) → IsLeastVolume contents → (lnum : ℕ) → 9 ≤ lnum → lnum < 10 → HasOrphanNodes (contents lnum)
-orphans_at contents h lnum low high =
+pub orphans_at : (contents : ℕ → List ℕ) → is_blank (contents 9) ≡ true → (lnum : ℕ) → 9 ≤ lnum → lnum < 10 → HasOrphanNodes (contents lnum)
+orphans_at contents blank lnum low high =
     let here : lnum ≡ 9 = omega (arith, low, high) in
     let P : ℕ → Type 0 = λ k. HasOrphanNodes (contents k) in
-    subst P (sym here) (blank_orphans (contents 9) h.orphans)
+    subst P (sym here) (blank_orphans (contents 9) blank)
 
 -- the text of its log, with a gap so long
 abbrev pub least_text : ℕ → LogText
@@ -209,7 +209,7 @@ least_is_sound contents h =
         leaves = has_leaves contents least_props (text ∷ []) (h.bytes 10) h.leaf (no_orphans contents h.orphans) refl refl;
         sums = has_sums;
         ends = λ no_bud lnum prop has some not_all other. has_ends contents h.behind lnum prop has other;
-        orphans = orphans_at contents h;
+        orphans = orphans_at contents h.orphans;
         tree = has_tree contents h;
         links = has_links;
       },

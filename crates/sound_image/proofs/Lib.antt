@@ -22,6 +22,7 @@ pub mod WorkedRows
 pub mod WorkedLeaves
 pub mod WorkedTrees
 pub mod WorkedEnds
+pub mod WorkedFiles
 pub mod ListLebs
 pub mod PlainBuds
 pub mod ReadLog

@@ -494,5 +494,5 @@ one_image laws contents a b fits x y =
     let h = agree laws contents a b Links fits (sound_before contents a Links x) (sound_before contents b Links y) in (
       h.master (ltb-true 2 12 refl),
       image_same a.latest b.geo a.geo b.props a.props b.placed a.placed b.log a.log b.buds a.buds b.committed a.committed b.listed a.listed (sym (h.geo (ltb-true 1 12 refl))) (sym (h.props (ltb-true 3 12 refl))) (sym (h.placed (ltb-true 4 12 refl)))
-      (sym (h.log (ltb-true 5 12 refl))) (sym (h.buds (ltb-true 6 12 refl))) (sym (h.committed (ltb-true 7 12 refl))) (sym (h.listed (ltb-true 7 12 refl))),
+          (sym (h.log (ltb-true 5 12 refl))) (sym (h.buds (ltb-true 6 12 refl))) (sym (h.committed (ltb-true 7 12 refl))) (sym (h.listed (ltb-true 7 12 refl))),
     )

@@ -1,15 +1,14 @@
 -- Damaged images in which something is written where nothing should be.
-use Rattle.std.proofs.Common.{◌≡◌, ℕ, ◌+◌, ◌-◌, ◌^◌, ◌<◌, ◌≤◌, true, false, List, [], ◌∷◌, ◌++◌, Some, length, drop, get_or, refl, ap, sym, ◌∙◌, subst, inl, inr, arith}
-use Rattle.std.specs.Prelude.{◌≢◌, ◌⊎◌, All}
+use Rattle.std.proofs.Common.{◌≡◌, ℕ, ◌+◌, ◌-◌, ◌^◌, ◌≤◌, false, List, [], ◌∷◌, ◌++◌, Some, length, get_or, refl, ap, sym, ◌∙◌, subst, inl, inr, arith}
+use Rattle.std.specs.Prelude.{◌≢◌, All}
 use Rattle.std.proofs.lemmas.Bool.{cases_lt, leb-true, ltb-true}
 use Rattle.std.proofs.lemmas.List.Elements.{All-head, All-tail}
 use Rattle.ubifs_base.specs.NodeType.{type_number}
-use Rattle.ubifs_base.specs.declared.node_type.NodeType.{NodeType}
 use Rattle.ubifs_base.specs.declared.node_type.NodeType.TheVariants as types
 use Rattle.media_lpt.specs.declared.lprop.Lprop.{Lprop}
 use Rattle.media_sys.specs.SystemNode.{commit_start, written}
 use Rattle.leb_scan.specs.Gaps.{IsPadding, gap_items, gap_padding_alone}
-use Rattle.leb_scan.specs.Text.{IsText, is_blank, nodes_of}
+use Rattle.leb_scan.specs.Text.{IsText, nodes_of}
 use Rattle.leb_scan.specs.declared.found.Found.{Found}
 use Rattle.leb_scan.specs.declared.tail.Tail.TheVariants.{Clean}
 use Rattle.small_areas.specs.MasterLaws.{OneText}
@@ -20,8 +19,8 @@ use Rattle.sound_image.specs.Image.{Image}
 use Rattle.sound_image.specs.Properties.{prop_of}
 use Rattle.sound_image.specs.Rules.{MeetsBefore}
 use Rattle.sound_image.specs.Space.{HasErasedEnds, HasSums}
-use Rattle.sound_image.specs.Worked.{HasStartForOrphans, HasWrittenEnd, least_geometry, least_image, least_props}
-use Rattle.sound_image.specs.Wrong.{IsOneOf, Wrong, differs, type_byte}
+use Rattle.sound_image.specs.Worked.{HasStartForOrphans, HasWrittenEnd, least_geometry, least_props}
+use Rattle.sound_image.specs.Wrong.{Wrong, differs}
 use Rattle.sound_image.specs.declared.breach.Breach.TheVariants.{Damaged}
 use Rattle.sound_image.specs.declared.rule.Rule.TheVariants as rules
 use Rattle.sound_image.proofs.AloneTexts.{alone_items, alone_text, found_first}
@@ -30,7 +29,7 @@ use Rattle.sound_image.proofs.LeastImage.{has_ends, has_sums, least_text, least_
 use Rattle.sound_image.proofs.Lists.{all_at}
 use Rattle.sound_image.proofs.WorkedRows.{not_before, prop_low, prop_same, up_to_leaves}
 
-before_ends : (contents : ℕ → List ℕ) (image : Image) → MeetsBefore contents image rules.Sums → HasSums image.geo image.props image.placed → MeetsBefore contents image rules.Ends
+pub before_ends : (contents : ℕ → List ℕ) (image : Image) → MeetsBefore contents image rules.Sums → HasSums image.geo image.props image.placed → MeetsBefore contents image rules.Ends
 before_ends contents image h sums rules.Superblock n = h rules.Superblock (ltb-true 1 8 refl)
 before_ends contents image h sums rules.Masters n = h rules.Masters (ltb-true 2 8 refl)
 before_ends contents image h sums rules.Properties n = h rules.Properties (ltb-true 3 8 refl)
@@ -44,7 +43,7 @@ before_ends contents image h sums rules.Orphans n = absurd (omega (arith, n))
 before_ends contents image h sums rules.Tree n = absurd (omega (arith, n))
 before_ends contents image h sums rules.Links n = absurd (omega (arith, n))
 
-before_orphans : (contents : ℕ → List ℕ) (image : Image) → MeetsBefore contents image rules.Ends → HasErasedEnds contents image.geo image.latest.master image.props image.log → MeetsBefore contents image rules.Orphans
+pub before_orphans : (contents : ℕ → List ℕ) (image : Image) → MeetsBefore contents image rules.Ends → HasErasedEnds contents image.geo image.latest.master image.props image.log → MeetsBefore contents image rules.Orphans
 before_orphans contents image h ends rules.Superblock n = h rules.Superblock (ltb-true 1 9 refl)
 before_orphans contents image h ends rules.Masters n = h rules.Masters (ltb-true 2 9 refl)
 before_orphans contents image h ends rules.Properties n = h rules.Properties (ltb-true 3 9 refl)
@@ -82,15 +81,15 @@ written_end_row contents h =
         least = λ other wrong.
             let low = prop_low least_props other.lnum wrong.prop wrong.has in
             let behind : other.lnum ≡ 10 → 176 ≤ other.offs = λ here.
-                let P : ℕ → Type 0 = λ k. prop_of least_geometry least_props k ≡ Some wrong.prop in
-                let Q : Lprop → Type 0 = λ p. 16384 - p.free ≤ other.offs in
-                subst Q (sym (prop_same first wrong.prop (subst P here wrong.has))) wrong.behind in
+            let P : ℕ → Type 0 = λ k. prop_of least_geometry least_props k ≡ Some wrong.prop in
+            let Q : Lprop → Type 0 = λ p. 16384 - p.free ≤ other.offs in
+            subst Q (sym (prop_same first wrong.prop (subst P here wrong.has))) wrong.behind in
             let later : other.lnum ≡ 10 → 200 ≤ other.offs = λ here. elim (cases_lt other.offs 200) [
               | inl less ↦ let B : ℕ → Type 0 = λ k. get_or (contents k) other.offs 255 ≢ 255 in absurd (subst B here wrong.byte (h.erased other.offs (behind here) less))
               | inr high ↦ high
             ] in
             let values : other.lnum ≡ 10 → other.offs ≡ 200 → other.misfit ≡ differs 255 0 = λ here there.
-                wrong.values ∙ ap (λ (k : ℕ). differs 255 (get_or (contents k) other.offs 255)) here ∙ ap (λ (k : ℕ). differs 255 (get_or (contents 10) k 255)) there ∙ ap (differs 255) byte in
+            wrong.values ∙ ap (λ (k : ℕ). differs 255 (get_or (contents k) other.offs 255)) here ∙ ap (λ (k : ℕ). differs 255 (get_or (contents 10) k 255)) there ∙ ap (differs 255) byte in
             not_before other at low later values;
       },
     )
@@ -123,10 +122,10 @@ no_orphan_row text contents h =
     let is_text = alone_text (contents 9) bytes 1 0 (commit_start (record { cmt_no = 0 })) h.start (start_is 1 0 (ltb-true 1 (2 ^ 64) refl) (ltb-true 0 (2 ^ 64) refl)) (λ e. absurd cc) in
     let items = alone_items bytes 1 0 (commit_start (record { cmt_no = 0 })) gap in
     let listed : AreOrphans contents 9 1 [] =
-        ([], [], refl, record { items = items; end = length bytes + gap; tail = Clean; is_text = is_text; listed = inl (λ e. absurd cc, none_listed (contents 9) (nodes_of (gap_items (length bytes) gap)) padding) }, refl) in (
+    ([], [], refl, record { items = items; end = length bytes + gap; tail = Clean; is_text = is_text; listed = inl (λ e. absurd cc, none_listed (contents 9) (nodes_of (gap_items (length bytes) gap)) padding) }, refl) in (
       least_with least_props log,
       before_orphans contents (least_with least_props log) (before_ends contents (least_with least_props log) (up_to_leaves contents least_props h.like listed refl refl) has_sums)
-      (λ no_bud lnum prop has some not_all other. has_ends contents h.behind lnum prop has other),
+          (λ no_bud lnum prop has some not_all other. has_ends contents h.behind lnum prop has other),
       record {
         wrong = record {
           low = leb-true 9 9 refl;

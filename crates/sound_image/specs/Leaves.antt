@@ -1,6 +1,6 @@
 -- The rule on leaves (`dbg_walk_index` with `check_leaf` of Linux fs/ubifs).
-use Rattle.std.specs.Prelude.{◌≡◌, ℕ, ⊤, ◌+◌, ◌≤◌, ◌==◌, ◌&&◌, not, Bool, false, IsTrue, if◌then◌else◌, List, [], ◌∷◌, ◌++◌, All, Option, Some, None, filter, length, take, drop, map}
-use Rattle.std.specs.List.{list_any}
+use Rattle.std.specs.Prelude.{◌≡◌, ℕ, ⊤, ◌+◌, ◌≤◌, ◌==◌, ◌&&◌, not, Bool, false, IsTrue, if◌then◌else◌, List, [], ◌∷◌, ◌++◌, All, Option, Some, None, filter, is_some, length, take, drop, map}
+use Rattle.std.specs.List.{find, list_any}
 use Rattle.std.specs.Option.{option_map_or}
 use Rattle.ubifs_base.specs.Areas.{orph_first}
 use Rattle.ubifs_base.specs.declared.raw_geometry.RawGeometry.{RawGeometry}
@@ -16,7 +16,7 @@ use Rattle.fs_model.specs.Path.{is_empty, is_same_name}
 use Rattle.change_nodes.specs.Nodes.{leaf_key}
 use Rattle.leaf_map.specs.Kept.{Placed, kept_at, shown}
 use Rattle.leaf_map.specs.Parts.{Committed, Named, Parts, in_bud, is_shown, own_node}
-use Rattle.leaf_map.specs.Recovered.{leaf_at, copies_left, recovered_of, spare_copies}
+use Rattle.leaf_map.specs.Recovered.{leaf_at, copies_left, leaves_found, recovered_of, spare_copies}
 use Rattle.sound_image.specs.Frames.{IsKnownAt}
 use Rattle.sound_image.specs.Image.{Image, parts_of}
 use Rattle.sound_image.specs.Properties.{is_unmarked}
@@ -75,29 +75,45 @@ abbrev pub have_same_name : LeafNode → LeafNode → Bool
 have_same_name (entry a) (entry b) = (a.dir == b.dir) && is_same_name a.name b.name
 have_same_name a b = false
 
--- whether the journal has a node of a leaf's key
-abbrev pub has_node_of_key : List Placed → Leaf → Bool
-has_node_of_key nodes leaf = list_any (λ (y : Placed). option_map_or (λ key. key_rank key == leaf_rank leaf) (leaf_key y.node) false) nodes
+-- whether one of some committed leaves has a node that can be read, with this node's name
+abbrev pub is_read_name : List Named → List Committed → Placed → Bool
+is_read_name named committed y = list_any (λ x. not (in_bud named x.leaf) && option_map_or (λ (found : Placed). have_same_name found.node y.node) x.found false) committed
 
--- whether the journal has a node of a lost leaf's name; where the name can't be read, one of its key
-abbrev pub is_replaced : List Named → List Placed → Committed → Bool
-is_replaced named nodes x = by (if names_nothing named x then x.found else None)
-  where
-    by : Option Placed → Bool
-    by None = has_node_of_key nodes x.leaf
-    by (Some found) = list_any (λ (y : Placed). have_same_name found.node y.node) nodes
+-- the nodes of the journal that may stand for names that can't be read: no leaf that can be read, and none that is found, has their name
+abbrev pub spare_names : Parts → List Placed
+spare_names parts = filter (λ y. not (is_read_name parts.named parts.committed y) && not (list_any (λ k. have_same_name k.node y.node) (leaves_found parts))) parts.nodes
 
--- the lost leaves that the journal hasn't replaced
-abbrev pub left_behind : Parts → List Committed
-left_behind parts = filter (λ x. not (is_replaced parts.named parts.nodes x)) (lost_leaves parts.named (spare_copies parts) parts.committed)
+-- the node that stands for a lost leaf whose name can't be read: the first of its key
+abbrev pub stands_for : List Placed → Leaf → Option Placed
+stands_for names leaf = find (λ y. option_map_or (λ key. key_rank key == leaf_rank leaf) (leaf_key y.node) false) names
 
--- of these, those of which no node can be read
+-- the nodes of other names
+abbrev pub names_left : List Placed → Option Placed → List Placed
+names_left names None = names
+names_left names (Some y) = filter (λ z. not (have_same_name y.node z.node)) names
+
+-- the leaves among lost ones that the journal hasn't replaced, where no node can be read: each takes a name of its key, and no two the same
+abbrev pub unnamed : List Named → List Placed → List Committed → List Leaf
+unnamed named names [] = []
+unnamed named names (x ∷ lost) =
+    if names_nothing named x then unnamed named names lost
+    else (if is_some (stands_for names x.leaf) then [] else x.leaf ∷ []) ++ unnamed named (names_left names (stands_for names x.leaf)) lost
+
+-- whether the journal has a node of the name of a lost leaf that can be read
+abbrev pub is_renamed : List Placed → Committed → Bool
+is_renamed nodes x = option_map_or (λ (found : Placed). list_any (λ y. have_same_name found.node y.node) nodes) x.found false
+
+-- the leaves that are lost
+abbrev pub lost_of : Parts → List Committed
+lost_of parts = lost_leaves parts.named (spare_copies parts) parts.committed
+
+-- those of them that the journal hasn't replaced: those of which no node can be read
 abbrev pub missing_leaves : Parts → List Leaf
-missing_leaves parts = map (λ x. x.leaf) (filter (λ x. not (names_nothing parts.named x)) (left_behind parts))
+missing_leaves parts = unnamed parts.named (spare_names parts) (lost_of parts)
 
 -- and those whose node names no inode
 abbrev pub empty_names : Parts → List Leaf
-empty_names parts = map (λ x. x.leaf) (filter (λ x. names_nothing parts.named x) (left_behind parts))
+empty_names parts = map (λ x. x.leaf) (filter (λ x. names_nothing parts.named x && not (is_renamed parts.nodes x)) (lost_of parts))
 
 -- the leaves of the index after recovery
 abbrev pub leaves_recovered : Parts → List Leaf

@@ -195,6 +195,20 @@ pub record HasStartForOrphans (contents : ℕ → List ℕ) : Type 0 where
   pub behind : IsTrue (is_blank (drop 160 (contents 10)))
   pub start : BeginsAlone (contents 9) (written 1 0 (commit_start (record { cmt_no = 0 })))
 
+-- its leaf, if inode 1 is a file
+abbrev pub file_placed : Placed
+file_placed = record root_placed { node = inode (record root_inode { mode = 0o100755 }) }
+
+-- contents like it, in which inode 1 is a file
+pub record HasRootFile (contents : ℕ → List ℕ) : Type 0 where
+  pub begins : BeginsLeast contents least_super least_latest
+  pub log : IsFreshLog contents least_geometry 3 1 0
+  pub properties : HasProperties contents least_geometry least_master least_props
+  pub orphans : IsTrue (is_blank (contents 9))
+  pub leaf : IsPlacedIn contents file_placed
+  pub behind : IsTrue (is_blank (drop 160 (contents 10)))
+  pub index : IsIndexNodeAt contents least_branch (record { level = 0; branches = branch_to root_leaf ∷ [] })
+
 -- contents in which its nodes stand, and nothing else is written
 pub record IsLeastVolume (contents : ℕ → List ℕ) : Type 0 where
   pub bytes : (lnum : ℕ) → IsBytes (contents lnum)

@@ -44,7 +44,7 @@ ghost use Rattle.sound_image.specs.Properties.{HasProperties};
 ghost use Rattle.sound_image.specs.Rules.{Meets};
 ghost use Rattle.sound_image.specs.Sound.{SoundImage};
 ghost use Rattle.sound_image.specs.Superblock.{BeginsWithSuper, HasSuperblock};
-ghost use Rattle.sound_image.specs.Worked.{BeginsLeast, HasStartForOrphans, HasWrittenEnd, IsLeastVolume, IsLeastWith, LacksItsLeaf, LacksItsProperties, dirtier_props, least_image, least_props, least_super, misplaced_latest, unmarked_props};
+ghost use Rattle.sound_image.specs.Worked.{BeginsLeast, HasRootFile, HasStartForOrphans, HasWrittenEnd, IsLeastVolume, IsLeastWith, LacksItsLeaf, LacksItsProperties, dirtier_props, least_image, least_props, least_super, misplaced_latest, unmarked_props};
 ghost use Rattle.sound_image.specs.Wrong.{Wrong};
 ghost use Rattle.sound_image.specs.declared.breach.Breach.{Breach as ABreach};
 ghost use Rattle.sound_image.specs.declared.rule.Rule.{Rule as ARule};
@@ -179,13 +179,14 @@ pub fn damaged_images_are_told()
     one_text();
 }
 
-/// And five more: a tree of properties whose root is erased, the root of the index in a LEB that isn't marked as the index's, a
-/// leaf whose LEB is erased, a byte among free ones, and the start of a commit where orphans may stand.
+/// And six more: a tree of properties whose root is erased, the root of the index in a LEB that isn't marked as the index's, a leaf
+/// whose LEB is erased, a byte among free ones, the start of a commit where orphans may stand, and a file as inode 1.
 pub fn lost_nodes_are_told()
     ensures properties { (contents : ℕ → List ℕ) → LacksItsProperties contents → IsFirstBreach contents (ABreach.Damaged ARule.Properties 7 15 32782 65535) }
     ensures index { (contents : ℕ → List ℕ) → IsLeastWith contents unmarked_props 0 → IsFirstBreach contents (ABreach.Damaged ARule.Index 11 0 1 0) }
     ensures leaf { (contents : ℕ → List ℕ) → LacksItsLeaf contents → IsFirstBreach contents (ABreach.Damaged ARule.Leaves 10 0 0 255) }
     ensures end { (contents : ℕ → List ℕ) → HasWrittenEnd contents → IsFirstBreach contents (ABreach.Damaged ARule.Ends 10 200 255 0) }
+    ensures tree { (contents : ℕ → List ℕ) → HasRootFile contents → IsFirstBreach contents (ABreach.Damaged ARule.Tree 10 0 1 0) }
     ensures orphans { (contents : ℕ → List ℕ) → HasStartForOrphans contents → IsFirstBreach contents (ABreach.Damaged ARule.Orphans 9 0 11 10) }
 {
     one_node();

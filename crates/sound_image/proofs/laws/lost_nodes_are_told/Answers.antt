@@ -1,6 +1,7 @@
 use Rattle.sound_image.proofs.WorkedLeaves.{lost_leaf_row, unmarked_row}
 use Rattle.sound_image.proofs.WorkedTrees.{erased_tree_row}
 use Rattle.sound_image.proofs.WorkedEnds.{no_orphan_row, written_end_row}
+use Rattle.sound_image.proofs.WorkedFiles.{root_file_row}
 use Rattle.sound_image.proofs.laws.lost_nodes_are_told.Goals as goal
 
 pub returns-clause-index : goal.returns-clause-index
@@ -17,3 +18,6 @@ returns-clause-end c = written_end_row
 
 pub returns-clause-orphans : goal.returns-clause-orphans
 returns-clause-orphans c = no_orphan_row c.one_text.ensures
+
+pub returns-clause-tree : goal.returns-clause-tree
+returns-clause-tree c = root_file_row
