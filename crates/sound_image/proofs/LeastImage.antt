@@ -22,17 +22,21 @@ use Rattle.small_areas.specs.Addresses.{addresses_of, first_past}
 use Rattle.leb_scan.specs.Text.{is_blank}
 use Rattle.leb_scan.specs.TextLaws.{blank_later}
 use Rattle.leb_scan.specs.declared.tail.Tail.TheVariants.{Clean}
+use Rattle.media_sys.specs.declared.ref_node.RefNode.{RefNode}
+use Rattle.bud_log.specs.Log.{references_of}
 use Rattle.bud_log.specs.LogText.{LogText}
 use Rattle.change_nodes.specs.Nodes.{change_of}
 use Rattle.leaf_map.specs.Kept.{Placed}
+use Rattle.leaf_map.specs.SpaceFound.{space_found}
 use Rattle.leaf_map.specs.Recovered.{tree_found}
-use Rattle.sound_image.specs.Image.{Image, parts_of}
+use Rattle.sound_image.specs.Image.{Image, named_by, parts_of}
 use Rattle.sound_image.specs.Index.{HasIndex}
 use Rattle.sound_image.specs.Leaves.{HasItsNode, HasLeaves, IsPlacedIn, IsSoundLeaf, leaves_recovered, missing_leaves}
 use Rattle.sound_image.specs.OrphanLists.{HasOrphanNodes}
 use Rattle.sound_image.specs.Properties.{is_marked_index, is_unmarked, prop_of}
 use Rattle.sound_image.specs.Space.{committed_bytes}
 use Rattle.sound_image.specs.Sound.{SoundImage}
+use Rattle.sound_image.specs.Summary.{is_clean, main_area_of, space_of_image}
 use Rattle.sound_image.specs.Tree.{HasLinks, HasTree, IsCopy, ShowsItsNode}
 use Rattle.sound_image.specs.Worked.{IsLeastVolume, least_branch, least_geometry, least_image, least_index, least_master, least_props, least_super, root_kept, root_leaf, root_placed}
 use Rattle.sound_image.proofs.AloneTexts.{blank_orphans}
@@ -214,3 +218,13 @@ least_is_sound contents h =
         links = has_links;
       },
     )
+
+-- ---- what is told of it
+least_space : space_of_image (least_image []) ≡ record { used = 160; held = 0; credits = 0; empty = 0; index = 1; weight = 1; main = 2 }
+unfolding key_rank same_leaf r5_of
+least_space = refl
+
+pub least_is_told : (log : List LogText) → references_of log ≡ [] → (is_clean (least_image log) ≡ true) × (space_of_image (least_image log) ≡ record { used = 160; held = 0; credits = 0; empty = 0; index = 1; weight = 1; main = 2 })
+least_is_told log none =
+    let same : parts_of (least_image log) ≡ parts_of (least_image []) = ap (λ (nodes : List RefNode). record (parts_of (least_image [])) { named = map named_by nodes }) none in
+    (refl, ap (space_found (main_area_of (least_image []))) same ∙ least_space)

@@ -11,6 +11,7 @@ pub mod Space
 pub mod OrphanLists
 pub mod Tree
 pub mod Sound
+pub mod Summary
 pub mod Rules
 pub mod Wrong
 pub mod LogBreaches

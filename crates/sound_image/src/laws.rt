@@ -43,6 +43,7 @@ ghost use Rattle.sound_image.specs.OrphanLists.{HasOrphanLists, HasOrphanNodes};
 ghost use Rattle.sound_image.specs.Properties.{HasProperties};
 ghost use Rattle.sound_image.specs.Rules.{Meets};
 ghost use Rattle.sound_image.specs.Sound.{SoundImage};
+ghost use Rattle.sound_image.specs.Summary.{is_clean, space_of_image};
 ghost use Rattle.sound_image.specs.Superblock.{BeginsWithSuper, HasSuperblock};
 ghost use Rattle.sound_image.specs.Worked.{BeginsLeast, HasRootFile, HasStartForOrphans, HasWrittenEnd, IsLeastVolume, IsLeastWith, LacksItsLeaf, LacksItsProperties, dirtier_props, least_image, least_props, least_super, misplaced_latest, unmarked_props};
 ghost use Rattle.sound_image.specs.Wrong.{Wrong};
@@ -131,9 +132,12 @@ pub fn a_bud_of_plain_nodes_is_sound()
         → AllByRecursion (λ (p : Placed). IsPlainLeaf p.node) x.nodes → IsSoundBud x }
 {}
 
-/// The least image by hand is sound: each rule is met, and all together.
+/// The least image by hand is sound: each rule is met, and all together. It is clean, and its two main LEBs are told: one with the root's
+/// 160 bytes, and one of the index.
 pub fn the_least_image_is_sound()
-    ensures { (contents : ℕ → List ℕ) → IsLeastVolume contents → (log : List LogText) × SoundImage contents (least_image log) }
+    ensures told { (log : List LogText) → references_of log ≡ []
+        → IsTrue (is_clean (least_image log)) × (space_of_image (least_image log) ≡ record { used = 160; held = 0; credits = 0; empty = 0; index = 1; weight = 1; main = 2 }) }
+    ensures sound { (contents : ℕ → List ℕ) → IsLeastVolume contents → (log : List LogText) × SoundImage contents (least_image log) }
 {}
 
 /// What is wrong by a rule breaks it. So sound contents have no first breach, and all others one at most: no two rules, places, values
