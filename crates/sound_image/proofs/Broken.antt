@@ -21,16 +21,13 @@ use Rattle.sound_image.specs.Masters.{HasMasters}
 use Rattle.sound_image.specs.OrphanLists.{HasOrphanLists}
 use Rattle.sound_image.specs.Space.{HasErasedEnds, HasSums}
 use Rattle.sound_image.specs.Wrong.{Wrong}
-
-two_parts : (a b : Bool) → (a && b) ≡ true → (a ≡ true) × (b ≡ true)
-two_parts true b h = (refl, h)
-two_parts false b h = absurd cc
+use Rattle.sound_image.proofs.Lists.{two_true}
 
 -- each byte of unwritten ones is 255
 pub blank_byte : (bytes : List ℕ) (i : ℕ) → is_blank bytes ≡ true → get_or bytes i 255 ≡ 255
 blank_byte [] i h = refl
-blank_byte (b ∷ bytes) zero h = eqb-true b 255 (two_parts (b == 255) (is_blank bytes) h).0
-blank_byte (b ∷ bytes) (suc i) h = blank_byte bytes i (two_parts (b == 255) (is_blank bytes) h).1
+blank_byte (b ∷ bytes) zero h = eqb-true b 255 (two_true (b == 255) (is_blank bytes) h).0
+blank_byte (b ∷ bytes) (suc i) h = blank_byte bytes i (two_true (b == 255) (is_blank bytes) h).1
 
 blank_behind : (bytes : List ℕ) (from place : ℕ) → from ≤ place → is_blank (drop from bytes) ≡ true → get_or bytes place 255 ≡ 255
 blank_behind bytes from place behind h =

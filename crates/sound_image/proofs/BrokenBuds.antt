@@ -16,20 +16,16 @@ use Rattle.sound_image.specs.Breaches.{IsWrongInBud, IsWrongInBuds}
 use Rattle.sound_image.specs.Buds.{HasBuds, IsSoundBud, MayStandInBud, bud_text}
 use Rattle.sound_image.specs.Frames.{IsKnownAt, NeedsFeature}
 use Rattle.sound_image.specs.Wrong.{Wrong}
-use Rattle.sound_image.proofs.Lists.{all_at}
-
--- the first of each list, and the others
-text_parts : (a b : BudText) (xs ys : List BudText) → a ∷ xs ≡ b ∷ ys → (a ≡ b) × (xs ≡ ys)
-text_parts a b xs ys h = (cc, cc)
+use Rattle.sound_image.proofs.Lists.{all_at, cons_parts}
 
 -- what was read of one of the LEBs
 read_of : (contents : ℕ → List ℕ) (before behind : List HeadAt) (bud : HeadAt) (reads : List BudRead) → map (λ x. x.bud) reads ≡ map (bud_text contents) (before ++ (bud ∷ behind)) → AllByRecursion IsSoundBud reads
     → (read : BudRead) × (read.bud ≡ bud_text contents bud) × IsSoundBud read
 read_of contents [] behind bud [] e h = absurd cc
 read_of contents (b ∷ before) behind bud [] e h = absurd cc
-read_of contents [] behind bud (read ∷ reads) e h = (read, (text_parts read.bud (bud_text contents bud) (map (λ x. x.bud) reads) (map (bud_text contents) behind) e).0, h.0)
+read_of contents [] behind bud (read ∷ reads) e h = (read, (cons_parts read.bud (bud_text contents bud) (map (λ x. x.bud) reads) (map (bud_text contents) behind) e).0, h.0)
 read_of contents (b ∷ before) behind bud (read ∷ reads) e h =
-    read_of contents before behind bud reads (text_parts read.bud (bud_text contents b) (map (λ x. x.bud) reads) (map (bud_text contents) (before ++ (bud ∷ behind))) e).1 h.1
+    read_of contents before behind bud reads (cons_parts read.bud (bud_text contents b) (map (λ x. x.bud) reads) (map (bud_text contents) (before ++ (bud ∷ behind))) e).1 h.1
 
 -- the text of bytes that are the same, from the same offset on
 moved : (a b : List ℕ) (from to : ℕ) (items : List Item) (end : ℕ) (tail : Tail) → a ≡ b → from ≡ to → IsText a from items end tail → IsText b to items end tail

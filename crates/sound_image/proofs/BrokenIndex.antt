@@ -25,7 +25,7 @@ use Rattle.sound_image.specs.IndexBreaches.{HasIndexNodeOf, IsWanted, IsWrongInd
 use Rattle.sound_image.specs.Properties.{is_marked_index}
 use Rattle.sound_image.specs.Wrong.{Misfit, Wrong}
 use Rattle.sound_image.proofs.KnownNodes.{bytes_drop, same_front}
-use Rattle.sound_image.proofs.Lists.{two_true}
+use Rattle.sound_image.proofs.Lists.{cons_parts, two_true}
 use Rattle.sound_image.proofs.OneReads.{part_bytes}
 
 -- Where a node is wanted, one stands with these children, and all below it is in order.
@@ -150,9 +150,6 @@ same_key most behind rest e = by rest ∙ ap (λ (branches : List Branch). optio
     by (leaf_at x row) = refl
     by (node_at branch children row) = refl
 
-cons_same : (a b : Branch) (xs ys : List Branch) → a ∷ xs ≡ b ∷ ys → (a ≡ b) × (xs ≡ ys)
-cons_same a b xs ys h = (cc, cc)
-
 on_level : (levels : ℕ) (branches : List Branch) (wanted : NodeWanted) → wanted.level ≡ Some levels → is_off_level wanted (record { level = levels; branches = branches }) ≡ false
 on_level levels branches wanted e = ap (λ (level : Option ℕ). option_map_or (λ n. not (levels == n)) level false) e ∙ ap not (eq-eqb levels levels refl)
 
@@ -164,7 +161,7 @@ child_in_order contents geo props most wanted levels least [] behind ended some 
 child_in_order contents geo props most wanted levels least (b ∷ before) behind ended some stored e fit bounded marked level above = absurd cc
 child_in_order contents geo props most wanted levels least before behind (leaf_at x rest) some stored e fit bounded marked level above = let none = stored.0 in absurd (omega (arith, some, none))
 child_in_order contents geo props most wanted levels least [] behind (node_at branch children rest) some stored e fit bounded marked level above =
-    let same = cons_same branch wanted.branch (branches_of rest) behind e in
+    let same = cons_parts branch wanted.branch (branches_of rest) behind e in
     let P : ℕ → Type 0 = λ lnum. IsTrue (is_marked_index geo props lnum) in
     let parts = marked_parts P branch children rest marked in
     let own = fit_parts geo.fanout branch children rest fit in
@@ -188,7 +185,7 @@ child_in_order contents geo props most wanted levels least [] behind (node_at br
       all_marked = parts.1;
     }
 child_in_order contents geo props most wanted levels least (b ∷ before) behind (node_at branch children rest) some stored e fit bounded marked level above =
-    let same = cons_same branch b (branches_of rest) (before ++ (wanted.branch ∷ behind)) e in
+    let same = cons_parts branch b (branches_of rest) (before ++ (wanted.branch ∷ behind)) e in
     let P : ℕ → Type 0 = λ lnum. IsTrue (is_marked_index geo props lnum) in
     child_in_order contents geo props most wanted levels (branch_rank branch) before behind rest some stored.3 same.1 (fit_parts geo.fanout branch children rest fit).2 bounded.3 (marked_parts P branch children rest marked).2 level above
 

@@ -20,6 +20,7 @@ use Rattle.sound_image.specs.LogBreaches.{HasNoneSpare, IsBrokenBehindStart, IsB
 use Rattle.sound_image.specs.Wrong.{IsFirstOr, IsFirstWrong, Wrong}
 use Rattle.sound_image.proofs.FirstWrong.{one_first, one_first_or}
 use Rattle.sound_image.proofs.OneLog.{one_log_text, one_reading, one_reference}
+use Rattle.sound_image.proofs.Lists.{cons_parts}
 
 pub reading_of : (contents : ℕ → List ℕ) (geo : RawGeometry) (master : Master) (texts : List LogText) (h : HasLog contents geo master texts) → IsReadOfLog contents geo master.log_lnum h.start texts
 reading_of contents geo master texts h = record { first = h.first; more = h.more; whole = h.whole; past = h.past; chain = h.chain; stops = h.stops }
@@ -43,9 +44,6 @@ start_broken one unique contents geo master texts at fits h wrong =
 each_of_run : (contents : ℕ → List ℕ) (geo : RawGeometry) (from number lnum past : ℕ) (before behind : List LogText) (text : LogText) → Run contents geo from number lnum (before ++ (text ∷ behind)) past → IsTextOf (contents text.ends.lnum) text.ends.lnum text
 each_of_run contents geo from number lnum past [] behind text h = let P : ℕ → Type 0 = λ n. IsTextOf (contents n) n text in subst P (sym h.1.here) h.1
 each_of_run contents geo from number lnum past (b ∷ before) behind text h = each_of_run contents geo from number (next_leb geo lnum) past before behind text h.3
-
-cons_parts : (a b : LogText) (xs ys : List LogText) → a ∷ xs ≡ b ∷ ys → (a ≡ b) × (xs ≡ ys)
-cons_parts a b xs ys h = (cc, cc)
 
 each_text : (contents : ℕ → List ℕ) (geo : RawGeometry) (from start : ℕ) (texts before behind : List LogText) (text : LogText) → IsReadOfLog contents geo from start texts → texts ≡ before ++ (text ∷ behind) → IsTextOf (contents text.ends.lnum) text.ends.lnum text
 each_text contents geo from start texts [] behind text h e =

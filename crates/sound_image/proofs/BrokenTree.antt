@@ -3,6 +3,7 @@ use Rattle.std.proofs.Common.{◌≡◌, ℕ, Bool, true, false, List, [], ◌�
 use Rattle.std.specs.Prelude.{◌==◌, ◌&&◌, ◌||◌, not, IsSome}
 use Rattle.std.specs.List.{list_all, list_any}
 use Rattle.std.specs.Option.{option_map_or}
+use Rattle.std.proofs.lemmas.Bool.{not_from_true}
 use Rattle.media_sys.specs.declared.master.Master.{Master}
 use Rattle.fs_model.specs.declared.change.Change.{Change}
 use Rattle.fs_model.specs.declared.change.Change.TheVariants.{SetBlock, SetEntry, SetInode, DropEntry, CutBlocks, DropInode}
@@ -61,17 +62,13 @@ not_both true true e = refl
 not_both false true e = refl
 not_both a false e = absurd cc
 
-not_of : (a : Bool) → a ≡ true → not a ≡ false
-not_of true e = refl
-not_of false e = absurd cc
-
 in_its_place : (tree : Tree) (kept : List Kept) (x : Kept) (shown : Option Change) → tree.inodes ≡ inodes_of kept → IsOneOf x kept → shown_by x ≡ shown → list_all (λ y. is_named_well tree (shown_by y)) kept ≡ true
     → list_all (is_in_place tree) tree.inodes ≡ true → has_kind tree 1 Dir ≡ true → is_misfit tree shown ≡ false
 in_its_place tree kept x (Some (SetInode ino inode)) inodes one e names dirs root =
     let L : List (ℕ × Inode) → Type 0 = λ xs. IsOneOf (ino, inode) xs in
     both_false (is_in_place tree (ino, inode)) ((ino == 1) && not (has_kind tree 1 Dir))
     (test_at (is_in_place tree) (ino, inode) tree.inodes (subst L (sym inodes) (one_inode_shown kept x ino inode one e)) dirs) (not_both (ino == 1) (has_kind tree 1 Dir) root)
-in_its_place tree kept x (Some (SetEntry entry)) inodes one e names dirs root = not_of (is_named_well tree (Some (SetEntry entry))) (ap (is_named_well tree) (sym e) ∙ test_at (λ (y : Kept). is_named_well tree (shown_by y)) x kept one names)
+in_its_place tree kept x (Some (SetEntry entry)) inodes one e names dirs root = not_from_true (is_named_well tree (Some (SetEntry entry))) (ap (is_named_well tree) (sym e) ∙ test_at (λ (y : Kept). is_named_well tree (shown_by y)) x kept one names)
 in_its_place tree kept x None inodes one e names dirs root = refl
 in_its_place tree kept x (Some (SetBlock ino number bytes)) inodes one e names dirs root = refl
 in_its_place tree kept x (Some (DropEntry dir name)) inodes one e names dirs root = refl

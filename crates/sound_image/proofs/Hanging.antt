@@ -20,6 +20,7 @@ use Rattle.sound_image.specs.Sound.{SoundImage}
 use Rattle.sound_image.specs.Tree.{has_its_links, is_in_place, is_named_well}
 use Rattle.sound_image.specs.declared.rule.Rule.{Rule}
 use Rattle.sound_image.specs.declared.rule.Rule.TheVariants.{Superblock, Masters, Properties, Index, Log, Buds, Leaves, Sums, Ends, Orphans, Tree as OfTree, Links}
+use Rattle.sound_image.proofs.Lists.{two_true}
 
 pub meets_each : (contents : ℕ → List ℕ) (image : Image) (rule : Rule) → SoundImage contents image → Meets contents image rule
 meets_each contents image Superblock h = h.superblock
@@ -57,10 +58,6 @@ both_tests true place some same a b = a
 both_tests false place true same a b = b
 both_tests false place false same a b = absurd cc
 
-two_parts : (a b : Bool) → (a && b) ≡ true → (a ≡ true) × (b ≡ true)
-two_parts true b h = (refl, h)
-two_parts false b h = absurd cc
-
 both_true : (a b : Bool) → a ≡ true → b ≡ true → (a && b) ≡ true
 both_true true b h k = k
 both_true false b h k = absurd cc
@@ -71,8 +68,8 @@ one_inode tree (ino, inode) a b = both_tests (is_dir inode.kind) (is_sound_dir t
 pub sound_inodes : (tree : Tree) (inodes : List (ℕ × Inode)) → list_all (is_in_place tree) inodes ≡ true → list_all (has_its_links tree) inodes ≡ true → list_all (is_sound_inode tree) inodes ≡ true
 sound_inodes tree [] a b = refl
 sound_inodes tree (e ∷ inodes) a b =
-    let x = two_parts (is_in_place tree e) (list_all (is_in_place tree) inodes) a in
-    let y = two_parts (has_its_links tree e) (list_all (has_its_links tree) inodes) b in
+    let x = two_true (is_in_place tree e) (list_all (is_in_place tree) inodes) a in
+    let y = two_true (has_its_links tree e) (list_all (has_its_links tree) inodes) b in
     both_true (is_sound_inode tree e) (list_all (is_sound_inode tree) inodes) (one_inode tree e x.0 y.0) (sound_inodes tree inodes x.1 y.1)
 
 -- ---- entries
@@ -89,5 +86,5 @@ in_entries tree (Some (DropInode ino)) entries own h = h
 pub sound_entries : (tree : Tree) (kept : List Kept) → list_all (λ x. is_named_well tree (shown_by x)) kept ≡ true → All (λ (e : Entry). is_sound_entry tree e ≡ true) (values_of (entries_of kept))
 sound_entries tree [] h = All-nil (λ (e : Entry). is_sound_entry tree e ≡ true)
 sound_entries tree (x ∷ kept) h =
-    let both = two_parts (is_named_well tree (shown_by x)) (list_all (λ y. is_named_well tree (shown_by y)) kept) h in
+    let both = two_true (is_named_well tree (shown_by x)) (list_all (λ y. is_named_well tree (shown_by y)) kept) h in
     in_entries tree (shown_by x) (entries_of kept) both.0 (sound_entries tree kept both.1)

@@ -9,6 +9,10 @@ pub two_true : (a b : Bool) → (a && b) ≡ true → (a ≡ true) × (b ≡ tru
 two_true true b h = (refl, h)
 two_true false b h = absurd cc
 
+-- the first of a list, and the others
+pub cons_parts : {X : Type 0} (a b : X) (xs ys : List X) → a ∷ xs ≡ b ∷ ys → (a ≡ b) × (xs ≡ ys)
+cons_parts a b xs ys h = (cc, cc)
+
 -- at one of a list
 pub all_at : {X : Type 0} (P : X → Type 0) (x : X) (xs : List X) → IsOneOf x xs → All P xs → P x
 all_at {X = X} P x xs (before, behind, e) h = let Q : List X → Type 0 = λ ys. All P ys in at before (subst Q e h)

@@ -18,6 +18,7 @@ use Rattle.leaf_map.specs.Kept.{Placed}
 use Rattle.sound_image.specs.Buds.{HasBuds, IsSoundBud, bud_text}
 use Rattle.sound_image.proofs.KnownNodes.{one_frame}
 use Rattle.sound_image.proofs.OneReads.{OneLeaf, part_bytes}
+use Rattle.sound_image.proofs.Lists.{cons_parts}
 
 -- types of leaves are below 5, and those of system nodes aren't
 entry_low : (attribute : Bool) → (if attribute then 3 else 2) ≤ 4
@@ -81,9 +82,6 @@ one_read text one a b fits e h k =
     let nodes = ap nodes_of same.0 in
     read_same a.bud b.bud a.nodes b.nodes a.sqnum b.sqnum a.tail b.tail e (one_leaves one b.bud (nodes_of k.items) a.nodes b.nodes fits (subst Q nodes (subst P e h.leaves)) k.leaves) (h.sqnum ∙ ap greatest_found nodes ∙ sym k.sqnum) same.2
 
-text_parts : (a b : BudText) (xs ys : List BudText) → a ∷ xs ≡ b ∷ ys → (a ≡ b) × (xs ≡ ys)
-text_parts a b xs ys h = (cc, cc)
-
 reads_same : OneText → OneLeaf → (contents : ℕ → List ℕ) (buds : List HeadAt) (a b : List BudRead) → ((k : ℕ) → IsBytes (contents k)) → map (λ x. x.bud) a ≡ map (bud_text contents) buds → map (λ x. x.bud) b ≡ map (bud_text contents) buds
     → AllByRecursion IsSoundBud a → AllByRecursion IsSoundBud b → a ≡ b
 reads_same text one contents [] [] [] fits e f h k = refl
@@ -92,8 +90,8 @@ reads_same text one contents [] [] (y ∷ b) fits e f h k = absurd cc
 reads_same text one contents (bud ∷ buds) [] b fits e f h k = absurd cc
 reads_same text one contents (bud ∷ buds) (x ∷ a) [] fits e f h k = absurd cc
 reads_same text one contents (bud ∷ buds) (x ∷ a) (y ∷ b) fits e f h k =
-    let p = text_parts x.bud (bud_text contents bud) (map (λ z. z.bud) a) (map (bud_text contents) buds) e in
-    let q = text_parts y.bud (bud_text contents bud) (map (λ z. z.bud) b) (map (bud_text contents) buds) f in
+    let p = cons_parts x.bud (bud_text contents bud) (map (λ z. z.bud) a) (map (bud_text contents) buds) e in
+    let q = cons_parts y.bud (bud_text contents bud) (map (λ z. z.bud) b) (map (bud_text contents) buds) f in
     let P : BudText → Type 0 = λ t. IsBytes t.bytes in
     ap (λ (z : BudRead). z ∷ a) (one_read text one x y (subst P (sym q.0) (fits bud.lnum)) (p.0 ∙ sym q.0) h.0.is_read k.0.is_read)
     ∙ ap (λ (zs : List BudRead). y ∷ zs) (reads_same text one contents buds a b fits p.1 q.1 h.1 k.1)

@@ -26,7 +26,7 @@ use Rattle.sound_image.specs.declared.rule.Rule.TheVariants as rules
 use Rattle.sound_image.proofs.AloneTexts.{alone_items, alone_text, found_first}
 use Rattle.sound_image.proofs.FreshLog.{start_is}
 use Rattle.sound_image.proofs.LeastImage.{has_ends, has_sums, least_text, least_with, no_orphans}
-use Rattle.sound_image.proofs.Lists.{all_at}
+use Rattle.sound_image.proofs.Lists.{all_at, cons_parts}
 use Rattle.sound_image.proofs.WorkedRows.{not_before, prop_low, prop_same, up_to_leaves}
 
 pub before_ends : (contents : ℕ → List ℕ) (image : Image) → MeetsBefore contents image rules.Sums → HasSums image.geo image.props image.placed → MeetsBefore contents image rules.Ends
@@ -100,14 +100,11 @@ none_listed : (leb : List ℕ) (nodes : List Found) → All IsPadding nodes → 
 none_listed leb [] h = refl
 none_listed leb (found ∷ nodes) h = let kind = All-head IsPadding found nodes h in inl (λ e. absurd cc, none_listed leb nodes (All-tail IsPadding found nodes h))
 
-found_parts : (a b : Found) (xs ys : List Found) → a ∷ xs ≡ b ∷ ys → (a ≡ b) × (xs ≡ ys)
-found_parts a b xs ys h = (cc, cc)
-
 -- one that is no padding is the first
 only_first : (first found : Found) (nodes before behind : List Found) → All IsPadding nodes → found.kind ≢ types.Padding → first ∷ nodes ≡ before ++ (found ∷ behind) → first ≡ found
-only_first first found nodes [] behind h other e = (found_parts first found nodes behind e).0
+only_first first found nodes [] behind h other e = (cons_parts first found nodes behind e).0
 only_first first found nodes (b ∷ before) behind h other e =
-    let rest = (found_parts first b nodes (before ++ (found ∷ behind)) e).1 in
+    let rest = (cons_parts first b nodes (before ++ (found ∷ behind)) e).1 in
     let P : List Found → Type 0 = λ xs. All IsPadding xs in
     absurd (other (all_at IsPadding found (before ++ (found ∷ behind)) (before, behind, refl) (subst P rest h)))
 

@@ -28,7 +28,7 @@ use Rattle.sound_image.specs.declared.rule.Rule.TheVariants as rules
 use Rattle.sound_image.proofs.FreshLog.{has_fresh_log}
 use Rattle.sound_image.proofs.KnownNodes.{plain_known}
 use Rattle.sound_image.proofs.LeastImage.{has_ends, has_index, has_sums, least_placed, least_text, no_orphans, orphans_at}
-use Rattle.sound_image.proofs.Lists.{none_of}
+use Rattle.sound_image.proofs.Lists.{cons_parts, none_of}
 use Rattle.sound_image.proofs.WorkedEnds.{before_ends, before_orphans}
 use Rattle.sound_image.proofs.WorkedRows.{before_sums, least_super_has, not_before}
 
@@ -106,13 +106,9 @@ has_file contents log h same =
       apart = subst D (sym leaves) refl;
     }
 
--- one of a list of one
-kept_parts : (a b : Kept) (xs ys : List Kept) → a ∷ xs ≡ b ∷ ys → (a ≡ b) × (xs ≡ ys)
-kept_parts a b xs ys h = (cc, cc)
-
 one_alone : (a x : Kept) (before behind : List Kept) → a ∷ [] ≡ before ++ (x ∷ behind) → (before ≡ []) × (a ≡ x)
-one_alone a x [] behind h = (refl, (kept_parts a x [] behind h).0)
-one_alone a x (b ∷ before) behind h = absurd (none_of x (before ++ (x ∷ behind)) (before, behind, refl) (sym (kept_parts a b [] (before ++ (x ∷ behind)) h).1))
+one_alone a x [] behind h = (refl, (cons_parts a x [] behind h).0)
+one_alone a x (b ∷ before) behind h = absurd (none_of x (before ++ (x ∷ behind)) (before, behind, refl) (sym (cons_parts a b [] (before ++ (x ∷ behind)) h).1))
 
 abbrev at_root : Wrong
 at_root = record { lnum = 10; offs = 0; misfit = differs 1 0 }

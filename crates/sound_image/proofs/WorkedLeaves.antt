@@ -31,7 +31,7 @@ use Rattle.sound_image.proofs.BrokenIndex.{lacks_none, one_said}
 use Rattle.sound_image.proofs.FreshLog.{has_fresh_log}
 use Rattle.sound_image.proofs.KnownNodes.{blank_known, no_node}
 use Rattle.sound_image.proofs.LeastImage.{has_index, least_placed, least_text, least_with}
-use Rattle.sound_image.proofs.Lists.{none_of}
+use Rattle.sound_image.proofs.Lists.{cons_parts, none_of}
 use Rattle.sound_image.proofs.WorkedRows.{before_index, before_leaves, least_super_has, not_before}
 
 -- ---- the root of the index stands in a LEB that isn't marked
@@ -109,9 +109,6 @@ root_frame contents node place stands =
 
 no_leaf_node : (contents : ℕ → List ℕ) (len : ℕ) → is_blank (contents 10) ≡ true → HasLeafNodeOf contents root_leaf len → ⊥
 no_leaf_node contents len blank h = no_node (contents 10) h.is.body 0 len h.sqnum (type_of h.node) h.group blank h.is.framed
-
-cons_parts : (a b : Leaf) (xs ys : List Leaf) → a ∷ xs ≡ b ∷ ys → (a ≡ b) × (xs ≡ ys)
-cons_parts a b xs ys h = (cc, cc)
 
 one_alone : (leaf : Leaf) (before behind : List Leaf) → root_leaf ∷ [] ≡ before ++ (leaf ∷ behind) → root_leaf ≡ leaf
 one_alone leaf [] behind h = (cons_parts root_leaf leaf [] behind h).0
