@@ -1,15 +1,14 @@
 -- Removals and replacements keep what an index is: how many children nodes have, the level of leaves, and that keys are keys.
-use Rattle.std.proofs.Common.{◌≡◌, ℕ, ◌+◌, ◌-◌, ◌<◌, ◌≤◌, true, false, refl, ap, sym, ◌∙◌, subst, arith, inl, inr}
-use Rattle.std.specs.Prelude.{Option, ◌==◌}
+use Rattle.std.proofs.Common.{◌≡◌, ℕ, ◌+◌, ◌-◌, ◌<◌, ◌≤◌, true, false, refl, ap, arith, inl, inr}
+use Rattle.std.specs.Prelude.{◌==◌}
 use Rattle.std.proofs.lemmas.Bool.{cases_Bool, eqb-false}
 use Rattle.ubifs_base.specs.Key.{IsKey}
-use Rattle.ubifs_base.specs.declared.key.Key.{Key}
 use Rattle.index_tree.specs.Levels.{levelled}
 use Rattle.index_tree.specs.Removal.{same_leaf, holds}
 use Rattle.index_tree.specs.Shape.{contents, count, fits, lone}
 use Rattle.index_tree.specs.declared.leaf.Leaf.{Leaf}
 use Rattle.index_media.specs.InsertionSound.{AreKeys, fit_node, fits_node, level_node, node_level, level_leaf, leaf_level}
-use Rattle.index_media.specs.KeyedRemoval.{keyed_tidied, removed_by_keys, keyed_collapsed, without_leaf_by_keys, replaced_by_keys}
+use Rattle.index_media.specs.KeyedRemoval.{removed_by_keys, keyed_collapsed, without_leaf_by_keys, replaced_by_keys}
 use Rattle.index_media.specs.KeyedRow.{KeyedRow, no_more, leaf_in, node_in, bare}
 
 some_children : (n : ℕ) → (n == 0) ≡ false → 0 < n

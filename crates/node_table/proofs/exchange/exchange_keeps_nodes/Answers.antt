@@ -1,4 +1,4 @@
-use Rattle.std.proofs.Common.{◌≡◌, arith}
+use Rattle.std.proofs.Common.{arith}
 use Rattle.std.specs.Prelude.{None}
 use Rattle.node_table.proofs.ExchangeSound.{exchange_sound}
 use Rattle.node_table.proofs.exchange.exchange_keeps_nodes.Goals as goal

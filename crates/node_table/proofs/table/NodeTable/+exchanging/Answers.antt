@@ -1,8 +1,8 @@
-use Rattle.std.proofs.Common.{None, Bool, true, false, List, ◌≡◌, ◌∷◌, ◌++◌, ◌-◌, ◌<◌, [], ap, sym, subst, ◌∙◌, arith, length}
+use Rattle.std.proofs.Common.{None, Bool, false, List, ◌≡◌, ◌∷◌, ◌++◌, ◌-◌, ◌<◌, [], ap, sym, subst, ◌∙◌, arith, length}
 use Rattle.std.proofs.lemmas.Bool.Decides.{nat_tests}
 use Rattle.std.specs.Prelude.{IfOk, OnOk, slice_get}
 use Rattle.index_tree.specs.Removal.{holds}
-use Rattle.index_tree.specs.Shape.{contents, count, done}
+use Rattle.index_tree.specs.Shape.{contents, done}
 use Rattle.index_media.specs.InsertionSound.{fit_node}
 use Rattle.index_media.specs.KeyedRow.{KeyedRow, no_more, bare}
 use Rattle.node_table.specs.Exchange.{exchanged, links_to}
@@ -11,7 +11,7 @@ use Rattle.node_table.specs.Sound.{IsSoundView}
 use Rattle.node_table.specs.Staging.{row_before, AreLinksIn}
 use Rattle.node_table.specs.Walk.{inside}
 use Rattle.node_table.specs.declared.link.Link.{Link}
-use Rattle.node_table.specs.declared.link.Link.TheVariants.{ToLeaf, ToNode}
+use Rattle.node_table.specs.declared.link.Link.TheVariants.{ToNode}
 use Rattle.node_table.proofs.Exchanged.{lower_inside, behind_bounded, found_outside, found_inside, other_leaf, none_among, among_out, among_taken, among_below, among_beside, among_on, links_to_in, rest_kept, below_stays, below_gone, below_left, left_sound}
 use Rattle.node_table.proofs.Inserted.{first_there, rest_there, rest_fits, row_kept, made_row}
 use Rattle.node_table.proofs.Rows.{row_size, linked_size}

@@ -1,5 +1,4 @@
-use Rattle.std.proofs.Common.{ap, sym, ◌∙◌, length, arith}
-use Rattle.std.specs.Prelude.{Some}
+use Rattle.std.proofs.Common.{sym, length, arith}
 use Rattle.node_table.proofs.Inserted.{all_there}
 use Rattle.node_table.proofs.Removed.{only_linked, links_fit, sunk_to}
 use Rattle.node_table.proofs.table.NodeTable.+sink_root.Goals as goal

@@ -1,4 +1,4 @@
-use Rattle.std.proofs.Common.{Option, List, ◌≡◌, ap, sym, subst, ◌∙◌}
+use Rattle.std.proofs.Common.{Option, ◌≡◌, ap, sym, subst, ◌∙◌}
 use Rattle.std.specs.Prelude.{IfOk}
 use Rattle.index_tree.specs.Removal.{without}
 use Rattle.index_tree.specs.Shape.{contents}
