@@ -143,7 +143,7 @@ among_all test (k ∷ taken) n h i = let p = and_parts (test k) (list_all test t
     by first rest (inr e) = rest e
 
 -- ---- the event
-abbrev ended_store : Store → Next → Store
+abbrev pub ended_store : Store → Next → Store
 ended_store m next = record m {
   now = next.view;
   next = None;

@@ -32,7 +32,7 @@ end_bud buds k zero n (Some first ∷ ends) at same are e =
 end_bud buds k (suc head) n (None ∷ ends) at same are e = end_bud buds (k + 1) head n ends at (omega (arith, same)) are e
 end_bud buds k (suc head) n (Some first ∷ ends) at same are e = end_bud buds (k + 1) head n ends at (omega (arith, same)) are.1 e
 
-last_passes : (test : ℕ → Bool) (head l : ℕ) (buds : List Bud) → list_all (λ bud. test bud.lnum) buds ≡ true → last_bud buds head ≡ Some l → test l ≡ true
+pub last_passes : (test : ℕ → Bool) (head l : ℕ) (buds : List Bud) → list_all (λ bud. test bud.lnum) buds ≡ true → last_bud buds head ≡ Some l → test l ≡ true
 last_passes test head l [] h e = absurd cc
 last_passes test head l (bud ∷ buds) h e = let p = and_parts (test bud.lnum) (list_all (λ bud. test bud.lnum) buds) h in by (λ k same. last_passes test head k buds p.1 same) p.0 (last_bud buds head) refl (bud.head == head) e
   where
@@ -93,7 +93,7 @@ text_rows n items (leb ∷ lebs) = by (leb.lnum == n) (text_rows n items lebs)
     by false rest = ap (λ (z : List Row). (leb.lnum, leb.role) ∷ z) rest
 
 -- ---- a group
-placed_in : (lnum offs : ℕ) (group : List Carried) → StandFrom lnum offs (map (λ c. c.placed) group) → AreIn lnum group
+pub placed_in : (lnum offs : ℕ) (group : List Carried) → StandFrom lnum offs (map (λ c. c.placed) group) → AreIn lnum group
 placed_in lnum offs [] s = tt
 placed_in lnum offs (c ∷ group) s = (s.0, placed_in lnum (offs + nodes_len (c.placed ∷ [])) group s.3)
 

@@ -69,7 +69,7 @@ part_buds m part buds h =
     buds_pass (λ bud. has_role kind.Bud (after_part m part).lebs bud.lnum) (λ bud groups. refl) part.head part.group buds
     ∙ all_weaker (λ (bud : Bud). has_role kind.Bud m.lebs bud.lnum) (λ bud. has_role kind.Bud (after_part m part).lebs bud.lnum) (λ bud e. of_same kind.Bud m (after_part m part) (part_rows m part) bud.lnum e) buds h
 
-part_taking : (m : Store) (part : Part) → IsTaking m m.next → IsTaking (after_part m part) (after_part m part).next
+pub part_taking : (m : Store) (part : Part) → IsTaking m m.next → IsTaking (after_part m part) (after_part m part).next
 part_taking m part t =
     taking_buds (with_group part.head part.group) (length part.group) m (after_part m part) m.next (of_same kind.Taken m (after_part m part) (part_rows m part)) (of_same kind.Index m (after_part m part) (part_rows m part)) (part_buds m part) t
 

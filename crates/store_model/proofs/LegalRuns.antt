@@ -6,7 +6,7 @@ use Rattle.index_tree.specs.Removal.{same_leaf}
 use Rattle.store_model.specs.Events.{after, Begin, Move, Open, put, run, Start, Sync}
 use Rattle.store_model.specs.Legal.{AreLegal, CanBegin, CanFree, CanMove, CanOpen, CanPut, CanStart, IsPart, IsIndexAfter}
 use Rattle.store_model.specs.Store.{Store}
-use Rattle.store_model.specs.Worked.{bb_entry, bb_inode, bb_leaves, changed_index, collected, moving_file, moving_root, put_am, putting_bb, rooted, two_leaves, whole_commit}
+use Rattle.store_model.specs.Worked.{bb_entry, bb_inode, bb_leaves, changed_index, collected, moving_entry, moving_file, moving_root, one_file, put_am, putting_bb, rooted, whole_commit}
 use Rattle.store_model.proofs.LegalPut.{can, opened}
 
 -- ---- a commit
@@ -63,11 +63,11 @@ pub legal_commit : AreLegal rooted whole_commit
 legal_commit = (opened, (can, (tt, (starts, (puts, (omega arith, ((refl, refl), (refl, tt))))))))
 
 -- ---- a collection
-begins : CanBegin two_leaves 20
+begins : CanBegin one_file 20
 begins = record { idle = refl; leaf_leb = refl }
 
 abbrev begun : Store
-begun = after (Begin 20) two_leaves
+begun = after (Begin 20) one_file
 
 opens : CanOpen begun 0 24
 opens = record { head_is = omega arith; empty = refl; log = refl; settled = record { empty = omega arith; index = omega arith } }
@@ -89,9 +89,9 @@ root_moves = record {
 abbrev half : Store
 half = after (Move moving_root) ready
 
-file_moves : CanMove half moving_file
+entry_moves : CanMove half moving_entry
 unfolding key_rank r5_of same_leaf
-file_moves = record {
+entry_moves = record {
   live = inr (inl refl);
   victim = refl;
   node_is = refl;
@@ -100,13 +100,27 @@ file_moves = record {
   index = record { contents_are = refl; weight = omega arith; places = tt };
 }
 
+abbrev two_moved : Store
+two_moved = after (Move moving_entry) half
+
+file_moves : CanMove two_moved moving_file
+unfolding key_rank r5_of same_leaf
+file_moves = record {
+  live = inr (inr (inl refl));
+  victim = refl;
+  node_is = refl;
+  sqnum = refl;
+  fits = ((refl, refl, refl, tt), omega arith);
+  index = record { contents_are = refl; weight = omega arith; places = tt };
+}
+
 abbrev copied : Store
-copied = after Sync (after (Move moving_file) half)
+copied = after Sync (after (Move moving_file) two_moved)
 
 frees : CanFree copied
 unfolding key_rank r5_of same_leaf
 frees = record { synced = record { counts = refl; none_held = refl; orphans = refl }; empty = refl }
 
 -- each event of the collection
-pub legal_collection : AreLegal two_leaves collected
-legal_collection = (begins, (opens, (root_moves, (file_moves, (tt, (frees, tt))))))
+pub legal_collection : AreLegal one_file collected
+legal_collection = (begins, (opens, (root_moves, (entry_moves, (file_moves, (tt, (frees, tt)))))))

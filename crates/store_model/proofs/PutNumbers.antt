@@ -75,7 +75,7 @@ part_next m part (Some next) at follows n = record {
   kept = kept_still m.sqnum (last_number m.sqnum (numbered part.group)) (no_less m.sqnum (numbered part.group) follows) next.view.kept n.kept;
 }
 
-part_numbers : (m : Store) (part : Part) → (part.head ≡ 1) ⊎ (part.head ≡ 2) → AreNext m.sqnum (numbered part.group) → HasNumbers m → HasNumbers (after_part m part)
+pub part_numbers : (m : Store) (part : Part) → (part.head ≡ 1) ⊎ (part.head ≡ 2) → AreNext m.sqnum (numbered part.group) → HasNumbers m → HasNumbers (after_part m part)
 part_numbers m part at follows n = record {
   both = (
     record {

@@ -60,7 +60,7 @@ next_since : (m : Store) (part : Part) (at : At) (next : Option Next) → end_at
 next_since m part at None e a s = tt
 next_since m part at (Some next) e a s = view_since m part next.view at e a s
 
-part_since : (m : Store) (part : Part) → IsPart m part → AreApart m → HasSince m m.next → HasSince (after_part m part) (after_part m part).next
+pub part_since : (m : Store) (part : Part) → IsPart m part → AreApart m → HasSince m m.next → HasSince (after_part m part) (after_part m part).next
 part_since m part is a s = by (end_at m.ends part.head) refl is.fits
   where
     by : (o : Option At) → end_at m.ends part.head ≡ o → FitHead m o (map (λ c. c.placed) part.group) → HasSince (after_part m part) (after_part m part).next

@@ -1,20 +1,42 @@
--- A worked store meets the invariant.
-use Rattle.std.proofs.Common.{◌≡◌, ◌≤◌, ℕ, zero, suc, arith, ◌∙◌, refl, sym, subst, inl, [], ◌∷◌, List}
+-- Worked stores meet the invariant.
+use Rattle.std.proofs.Common.{◌≡◌, ◌≤◌, ℕ, zero, suc, arith, ◌∙◌, refl, sym, subst, inl, inr, [], ◌∷◌, List}
+use Rattle.std.specs.Int.Count.{count_leading_zeros, ones}
 use Rattle.std.specs.List.{IsDistinct}
 use Rattle.std.specs.Prelude.{map}
+use Rattle.ubifs_base.specs.Geometry.{IsGeometry}
+use Rattle.ubifs_base.specs.Properties.{fls, height_from, tree_height, tree_len}
 use Rattle.ubifs_base.specs.R5.{r5_of}
 use Rattle.index_tree.specs.Distinct.{AreDistinct}
 use Rattle.index_tree.specs.Order.{key_rank}
 use Rattle.index_tree.specs.Removal.{same_leaf}
+use Rattle.media_lpt.specs.declared.leb_kind.LebKind.TheVariants as kind
+use Rattle.fs_model.specs.Files.{Tree}
 use Rattle.fs_model.specs.Proper.{IsProper}
 use Rattle.fs_model.specs.Recovery.{KeepsSynced, recovered, taken}
 use Rattle.store_model.specs.Fits.{faced_now}
 use Rattle.store_model.specs.Heads.{heads_of}
-use Rattle.store_model.specs.Invariant.{AreProper, AreWholeOrLeft, HasCommitted, HasFiles, IsStore}
-use Rattle.store_model.specs.Worked.{root_tree, rooted}
+use Rattle.store_model.specs.Indexed.{IsIndexed}
+use Rattle.store_model.specs.Invariant.{AreOfViews, AreProper, AreWholeOrLeft, HasCommitted, HasFiles, IsStore}
+use Rattle.store_model.specs.Texts.{AreTexts, IsLaidOut}
+use Rattle.store_model.specs.Worked.{am_tree, geo, one_file, root_tree, rooted}
 
 root_is_proper : IsProper root_tree
 root_is_proper = record {
+  inodes_ascend = refl;
+  blocks_ascend = refl;
+  entries_ascend = refl;
+  inode_nodes = refl;
+  block_nodes = refl;
+  entry_nodes = refl;
+  root = refl;
+  entries = refl;
+  inodes = refl;
+  linked = refl;
+  numbers = refl;
+}
+
+file_is_proper : IsProper am_tree
+file_is_proper = record {
   inodes_ascend = refl;
   blocks_ascend = refl;
   entries_ascend = refl;
@@ -32,16 +54,36 @@ none : {A : Type 0} → (n : ℕ) → suc n ≤ 0 → A
 none n high = absurd (omega (arith, high))
 
 -- nothing was put, so a cut leaves the committed tree
-same_tree : (counts : List ℕ) → KeepsSynced (heads_of [] (0 ∷ 0 ∷ 0 ∷ [])) counts → recovered root_tree (taken (heads_of [] (0 ∷ 0 ∷ 0 ∷ [])) counts) ≡ root_tree
-same_tree [] keeps = absurd keeps
-same_tree (suc n ∷ counts) (low, high, rest) = none n high
-same_tree (zero ∷ []) (low, high, rest) = absurd rest
-same_tree (zero ∷ suc n ∷ counts) (l, h, (low, high, rest)) = none n high
-same_tree (zero ∷ zero ∷ []) (l, h, (low, high, rest)) = absurd rest
-same_tree (zero ∷ zero ∷ suc n ∷ counts) (l, h, (k, i, (low, high, rest))) = none n high
-same_tree (zero ∷ zero ∷ zero ∷ []) keeps = refl
-same_tree (zero ∷ zero ∷ zero ∷ n ∷ counts) (l, h, (k, i, (low, high, rest))) = absurd rest
+same_tree : (tree : Tree) (counts : List ℕ) → recovered tree (taken (heads_of [] (0 ∷ 0 ∷ 0 ∷ [])) (0 ∷ 0 ∷ 0 ∷ [])) ≡ tree → KeepsSynced (heads_of [] (0 ∷ 0 ∷ 0 ∷ [])) counts
+    → recovered tree (taken (heads_of [] (0 ∷ 0 ∷ 0 ∷ [])) counts) ≡ tree
+same_tree tree [] still keeps = absurd keeps
+same_tree tree (suc n ∷ counts) still (low, high, rest) = none n high
+same_tree tree (zero ∷ []) still (low, high, rest) = absurd rest
+same_tree tree (zero ∷ suc n ∷ counts) still (l, h, (low, high, rest)) = none n high
+same_tree tree (zero ∷ zero ∷ []) still (l, h, (low, high, rest)) = absurd rest
+same_tree tree (zero ∷ zero ∷ suc n ∷ counts) still (l, h, (k, i, (low, high, rest))) = none n high
+same_tree tree (zero ∷ zero ∷ zero ∷ []) still keeps = still
+same_tree tree (zero ∷ zero ∷ zero ∷ n ∷ counts) still (l, h, (k, i, (low, high, rest))) = absurd rest
 
+worked_tree_len : tree_len geo ≡ 102
+unfolding fls count_leading_zeros tree_height height_from
+worked_tree_len = refl
+
+geometry : IsGeometry geo
+unfolding ones
+geometry = record {
+  min_io = (refl, omega arith, omega arith);
+  leb_size = (omega arith, omega arith, refl, omega arith);
+  log_lebs = (omega arith, omega arith);
+  lpt_lebs = (omega arith, omega arith);
+  orph_lebs = (omega arith, omega arith);
+  leb_cnt = (omega arith, omega arith);
+  max_leb_cnt = omega arith;
+  one_leb = omega (arith, worked_tree_len);
+  fanout = (omega arith, omega arith);
+}
+
+-- ---- the root alone
 files : HasFiles rooted
 unfolding key_rank r5_of same_leaf
 files = record { leaves = record { keyed = (refl, tt); ordered = refl; apart = refl }; tree = refl; index = refl }
@@ -51,7 +93,7 @@ unfolding key_rank r5_of
 committed = record { leaves = record { keyed = (refl, tt); ordered = refl; apart = refl }; tree = refl; inodes = (tt, tt); highest = refl; copies = tt }
 
 proper : AreProper (faced_now rooted)
-proper tree r = subst IsProper (sym (same_tree r.counts r.synced) ∙ sym r.tree_is) root_is_proper
+proper tree r = subst IsProper (sym (same_tree root_tree r.counts refl r.synced) ∙ sym r.tree_is) root_is_proper
 
 whole : AreWholeOrLeft rooted (faced_now rooted)
 whole lnum = inl ((λ _. (inl (refl, inl refl), refl)), tt)
@@ -60,9 +102,32 @@ distinct : AreDistinct (map (λ x. x.leaf) rooted.live)
 unfolding IsDistinct
 distinct = (tt, tt)
 
-pub is_store : IsStore rooted
+-- a LEB without a text
+laid : {lnum : ℕ} → IsLaidOut geo (record { lnum = lnum; role = kind.Free; text = [] })
+laid = record { places = refl; fits = omega arith }
+
+texts : AreTexts rooted
+unfolding key_rank r5_of
+texts = record {
+  laid = (record { places = refl; fits = omega arith }, (record { places = refl; fits = omega arith }, (laid, (laid, (laid, (laid, (laid, (laid, (laid, (laid, (laid, (laid, tt))))))))))));
+  buds = record { distinct = refl; each = tt };
+  later = tt;
+  ends = (tt, (tt, (tt, tt)));
+  written = tt;
+}
+
+indexed : IsIndexed rooted
+unfolding key_rank r5_of
+indexed = record { now = record { nodes = (inr refl, tt); apart = refl }; next = tt; last = (inl (refl, refl), tt) }
+
+of_views : AreOfViews rooted
+of_views = record { live = ((inr (inl refl), tt), tt); held = tt }
+
+pub root_is_store : IsStore rooted
 unfolding key_rank r5_of same_leaf
-is_store = record {
+root_is_store = record {
+  geometry = geometry;
+  main = refl;
   files = files;
   views = record { committed = (committed, tt); carried = (tt, tt) };
   distinct = distinct;
@@ -77,6 +142,68 @@ is_store = record {
   apart = record { numbers = refl; used = refl; buds = refl; ends = tt; index = refl; leaves = refl; victim = refl };
   taking = tt;
   since = tt;
+  standing = record { texts = texts; indexed = indexed; of_views = of_views };
+  weight = (omega arith, tt);
+  covered = record { fits = omega arith };
+  settled = record { empty = omega arith; index = omega arith };
+}
+
+-- ---- a file with its name
+file_files : HasFiles one_file
+unfolding key_rank r5_of same_leaf
+file_files = record { leaves = record { keyed = (refl, (refl, (refl, tt))); ordered = refl; apart = refl }; tree = refl; index = refl }
+
+file_committed : HasCommitted one_file.now
+unfolding key_rank r5_of
+file_committed = record { leaves = record { keyed = (refl, (refl, (refl, tt))); ordered = refl; apart = refl }; tree = refl; inodes = (tt, (tt, (tt, tt))); highest = refl; copies = tt }
+
+file_proper : AreProper (faced_now one_file)
+file_proper tree r = subst IsProper (sym (same_tree am_tree r.counts refl r.synced) ∙ sym r.tree_is) file_is_proper
+
+file_whole : AreWholeOrLeft one_file (faced_now one_file)
+file_whole lnum = inl ((λ _. (inl (refl, inl refl), refl)), ((λ _. (inl (refl, inr (inl refl)), refl)), ((λ _. (inl (refl, inr (inr (inl refl))), refl)), tt)))
+
+file_distinct : AreDistinct (map (λ x. x.leaf) one_file.live)
+unfolding IsDistinct key_rank r5_of same_leaf
+file_distinct = ((refl, (refl, tt)), ((refl, tt), (tt, tt)))
+
+file_texts : AreTexts one_file
+unfolding key_rank r5_of
+file_texts = record {
+  laid = (record { places = refl; fits = omega arith }, (record { places = refl; fits = omega arith }, (laid, (laid, (laid, (laid, (laid, (laid, (laid, (laid, (laid, (laid, tt))))))))))));
+  buds = record { distinct = refl; each = tt };
+  later = tt;
+  ends = (tt, (tt, (tt, tt)));
+  written = tt;
+}
+
+file_indexed : IsIndexed one_file
+unfolding key_rank r5_of
+file_indexed = record { now = record { nodes = (inr refl, tt); apart = refl }; next = tt; last = (inl (refl, refl), tt) }
+
+file_of_views : AreOfViews one_file
+file_of_views = record { live = ((inr (inl refl), tt), ((inr (inr (inl refl)), tt), ((inr (inr (inr (inl refl))), tt), tt))); held = tt }
+
+pub file_is_store : IsStore one_file
+unfolding key_rank r5_of same_leaf
+file_is_store = record {
+  geometry = geometry;
+  main = refl;
+  files = file_files;
+  views = record { committed = (file_committed, tt); carried = (tt, tt) };
+  distinct = file_distinct;
+  places = refl;
+  stands = (inl (refl, inl refl), (inl (refl, inr (inl refl)), (inl (refl, inr (inr (inl refl))), tt)));
+  proper = (file_proper, tt);
+  history = (refl, tt);
+  numbers = record { both = (record { base = refl; data_nodes = refl; apart = refl; kept = refl }, tt); live = refl; synced = refl };
+  whole_or_left = (file_whole, tt);
+  orphans = ((refl, tt), tt);
+  nameless_are = refl;
+  apart = record { numbers = refl; used = refl; buds = refl; ends = tt; index = refl; leaves = refl; victim = refl };
+  taking = tt;
+  since = tt;
+  standing = record { texts = file_texts; indexed = file_indexed; of_views = file_of_views };
   weight = (omega arith, tt);
   covered = record { fits = omega arith };
   settled = record { empty = omega arith; index = omega arith };

@@ -1,8 +1,11 @@
 -- What is always so of a store.
 use Rattle.std.specs.Prelude.{◌≡◌, ◌⊎◌, ℕ, ◌+◌, ◌≤◌, ◌==◌, ◌&&◌, ◌||◌, nat_le, IsTrue, not, Bool, true, false, if◌then◌else◌, List, [], ◌∷◌, ◌++◌, length, map, get_or, Option, Some, None, is_some}
-use Rattle.std.specs.List.{flat_map, list_all, list_any, AllByRecursion}
+use Rattle.std.specs.List.{flat_map, list_all, list_any, range_with_len, AllByRecursion}
 use Rattle.std.specs.Option.{option_or}
 use Rattle.std.specs.Ordering.{nat_cmp}
+use Rattle.ubifs_base.specs.declared.raw_geometry.RawGeometry.{RawGeometry}
+use Rattle.ubifs_base.specs.Areas.{main_first, main_lebs}
+use Rattle.ubifs_base.specs.Geometry.{IsGeometry}
 use Rattle.media_leaf.specs.LeafNode.{IsLeaf}
 use Rattle.media_lpt.specs.declared.leb_kind.LebKind.{LebKind}
 use Rattle.media_lpt.specs.declared.leb_kind.LebKind.TheVariants as kind
@@ -23,9 +26,11 @@ use Rattle.leaf_map.specs.Recovered.{highest_key}
 use Rattle.leaf_map.specs.Shown.{tree_of}
 use Rattle.store_model.specs.Fits.{AreLeft, Faced, faced_now, named_by}
 use Rattle.store_model.specs.Heads.{copies_of, counts_of, groups_of, heads_of, numbered, synced_since}
-use Rattle.store_model.specs.Legal.{are_distinct, IsCarried}
+use Rattle.store_model.specs.Indexed.{IsIndexed}
+use Rattle.store_model.specs.Legal.{are_distinct, IsCarried, IsLeafOf}
 use Rattle.store_model.specs.Lebs.{has_leaf, has_role, is_among, is_victim_of, IsStoreSettled, space_of, weight_of}
 use Rattle.store_model.specs.Store.{At, Bud, Carried, Item, leaf, branching, gap, Leb, Moving, Next, Store, View}
+use Rattle.store_model.specs.Texts.{AreTexts}
 
 -- ---- both views
 -- what a running commit's master will lead to, whose list is the one that the medium has then
@@ -197,6 +202,30 @@ HasSince m (Some next) = IsSince m next.view
 abbrev pub IsLight : Store → Faced → Type 0
 IsLight m f = shape_weight m.geo.fanout m.index.shape ≤ weight_of m.geo f.view
 
+-- ---- what the lists of a state have to do with one another
+-- one row for each LEB of the main area, in order
+abbrev pub main_lnums : RawGeometry → List ℕ
+main_lnums geo = range_with_len (main_first geo) (main_lebs geo)
+
+-- a leaf is one of a view's, or stands in one of its buds
+abbrev pub IsOfView : View → Kept → Type 0
+IsOfView view x = IsTrue (in_bud (map named_by view.buds) x.leaf) ⊎ IsLeafOf view.kept x
+
+abbrev pub IsOfNext : Option Next → Kept → Type 0
+IsOfNext None x = Unit {0}
+IsOfNext (Some next) x = IsOfView next.view x
+
+-- Each live leaf, and each held one, is one of a view's or was put since, by either master.
+pub record AreOfViews (m : Store) : Type 0 where
+  pub live : AllByRecursion (λ x. IsOfView m.now x × IsOfNext m.next x) m.live
+  pub held : AllByRecursion (λ x. IsOfView m.now x × IsOfNext m.next x) m.held
+
+-- What stands where: nodes, buds and heads in the texts of LEBs, the nodes of the indexes, and the leaves of each view.
+pub record IsStanding (m : Store) : Type 0 where
+  pub texts : AreTexts m
+  pub indexed : IsIndexed m
+  pub of_views : AreOfViews m
+
 -- ---- the invariant
 -- The live leaves are leaves of an index and show the files, and the index has them in order.
 pub record HasFiles (m : Store) : Type 0 where
@@ -216,6 +245,9 @@ pub record HasViews (m : Store) : Type 0 where
   pub carried : OfBoth m (λ f. AreCarried f.view)
 
 pub record IsStore (m : Store) : Type 0 where
+  -- its numbers are a volume's, and each LEB of the main area has a row
+  pub geometry : IsGeometry m.geo
+  pub main : map (λ leb. leb.lnum) m.lebs ≡ main_lnums m.geo
   pub files : HasFiles m
   pub views : HasViews m
   -- no two leaves stand at one place, and each node of the index has a place or is dirty
@@ -238,6 +270,8 @@ pub record IsStore (m : Store) : Type 0 where
   pub taking : IsTaking m m.next
   -- what came since a running commit began
   pub since : HasSince m m.next
+  -- nodes, buds, heads and the nodes of the index stand in the texts of LEBs, and leaves are of the views
+  pub standing : IsStanding m
   -- the index weighs no more than the views allow
   pub weight : OfBoth m (IsLight m)
   -- what was granted is covered, and a commit has LEBs

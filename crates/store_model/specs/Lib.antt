@@ -2,11 +2,13 @@ pub mod Backing
 pub mod Events
 pub mod Fits
 pub mod Heads
+pub mod Indexed
 pub mod Invariant
 pub mod Lebs
 pub mod Legal
 pub mod Passes
 pub mod Recovery
 pub mod Store
+pub mod Texts
 pub mod Worked
 pub mod WorkedRun

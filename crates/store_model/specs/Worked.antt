@@ -1,5 +1,6 @@
 -- Stores worked by hand: a put, a sync, a commit with a put inside, a collection, and an orphan that is closed while a commit runs.
 use Rattle.std.specs.Prelude.{ℕ, false, List, [], ◌∷◌, length, map, take, Some, None}
+use Rattle.std.specs.List.{flat_map}
 use Rattle.ubifs_base.specs.declared.raw_geometry.RawGeometry.{RawGeometry}
 use Rattle.media_lpt.specs.declared.leb_kind.LebKind.{LebKind}
 use Rattle.media_lpt.specs.declared.leb_kind.LebKind.TheVariants as kind
@@ -14,14 +15,14 @@ use Rattle.leaf_map.specs.Kept.{Kept, Placed, kept_at}
 use Rattle.leaf_map.specs.Parts.{Committed, Parts}
 use Rattle.leaf_map.specs.Recovered.{recovered_of}
 use Rattle.leaf_map.specs.Worked.{am, at, bb, file, name, root}
-use Rattle.store_model.specs.Events.{Begin, Copying, credit, Drop, End, Event, Free, granted, Move, Offer, Open, Payment, Put, Putting, Start, Sync, Write}
+use Rattle.store_model.specs.Events.{Begin, Copying, credit, Drop, End, Event, Free, granted, Move, node_items, Offer, Open, Payment, Put, Putting, Start, Sync, view_branchings, Write}
 use Rattle.store_model.specs.Fits.{named_by, read_nodes}
 use Rattle.store_model.specs.Heads.{copies_of, heads_of}
 use Rattle.store_model.specs.Store.{Bud, Carried, Index, Item, leaf, Leb, Store, View}
 
--- 174 index nodes go into a LEB
+-- 174 index nodes go into a LEB, and the main area is LEBs 20 to 31
 abbrev pub geo : RawGeometry
-geo = record { leb_size = 15360; min_io = 8; log_lebs = 3; lpt_lebs = 2; orph_lebs = 1; leb_cnt = 32; max_leb_cnt = 32; fanout = 3; lsave_cnt = 0; big = false }
+geo = record { leb_size = 15360; min_io = 8; log_lebs = 3; lpt_lebs = 13; orph_lebs = 1; leb_cnt = 32; max_leb_cnt = 32; fanout = 3; lsave_cnt = 0; big = false }
 
 -- an index of one node, above these leaves
 abbrev pub shape_of : List Kept → Shape
@@ -67,7 +68,7 @@ opened nodes tree = record {
   held = [];
   ends = None ∷ None ∷ None ∷ [];
   synced = 0 ∷ 0 ∷ 0 ∷ [];
-  lebs = leb 20 kind.Leaf (map leaf nodes) ∷ leb 21 kind.Index [] ∷ map (λ lnum. leb lnum kind.Free []) (22 ∷ 23 ∷ 24 ∷ 25 ∷ 26 ∷ 27 ∷ 28 ∷ 29 ∷ 30 ∷ 31 ∷ []);
+  lebs = leb 20 kind.Leaf (map leaf nodes) ∷ leb 21 kind.Index (flat_map (node_items geo) (view_branchings (view_of (map kept_at nodes) tree) 21 4)) ∷ map (λ lnum. leb lnum kind.Free []) (22 ∷ 23 ∷ 24 ∷ 25 ∷ 26 ∷ 27 ∷ 28 ∷ 29 ∷ 30 ∷ 31 ∷ []);
   moving = None;
   orphans = [];
   listed = [];
@@ -192,33 +193,46 @@ abbrev pub roles : Store → List LebKind
 roles m = map (λ leb. leb.role) m.lebs
 
 -- ---- a collection
--- LEB 20 holds the root and a file of 2 links, which are copied to LEB 24
-abbrev pub file_node : Placed
-file_node = at 20 160 2 (SetInode 65 (file 2))
+-- LEB 20 holds the root and a file with its name, which are copied to LEB 24
+abbrev pub file_entry : Placed
+file_entry = at 20 160 2 (SetEntry (name am 65))
 
-abbrev pub two_leaves : Store
-two_leaves = opened (root_node ∷ file_node ∷ []) (record { inodes = (1, new_dir 493 0) ∷ (65, file 2) ∷ []; blocks = []; entries = []; highest = 65 })
+abbrev pub file_node : Placed
+file_node = at 20 224 3 (SetInode 65 (file 1))
+
+abbrev pub one_file : Store
+one_file = opened (root_node ∷ file_entry ∷ file_node ∷ []) am_tree
 
 abbrev pub root_copy : Placed
 root_copy = at 24 0 1 root
 
+abbrev pub entry_copy : Placed
+entry_copy = at 24 160 2 (SetEntry (name am 65))
+
 abbrev pub file_copy : Placed
-file_copy = at 24 160 2 (SetInode 65 (file 2))
+file_copy = at 24 224 3 (SetInode 65 (file 1))
+
+-- a leaf is copied, and these are the live leaves then
+abbrev pub moving_to : Placed → Placed → List Placed → Copying
+moving_to original copy live = record { leaf = kept_at original; copy = copy; index = changed_index (map kept_at live) }
 
 abbrev pub moving_root : Copying
-moving_root = record { leaf = kept_at root_node; copy = root_copy; index = changed_index (map kept_at (root_copy ∷ file_node ∷ [])) }
+moving_root = moving_to root_node root_copy (root_copy ∷ file_entry ∷ file_node ∷ [])
+
+abbrev pub moving_entry : Copying
+moving_entry = moving_to file_entry entry_copy (root_copy ∷ entry_copy ∷ file_node ∷ [])
 
 abbrev pub moving_file : Copying
-moving_file = record { leaf = kept_at file_node; copy = file_copy; index = changed_index (map kept_at (root_copy ∷ file_copy ∷ [])) }
+moving_file = moving_to file_node file_copy (root_copy ∷ entry_copy ∷ file_copy ∷ [])
 
 abbrev pub half_collected : List Event
 half_collected = Begin 20 ∷ Open 0 24 ∷ Move moving_root ∷ Sync ∷ []
 
 abbrev pub all_copied : List Event
-all_copied = Begin 20 ∷ Open 0 24 ∷ Move moving_root ∷ Move moving_file ∷ Sync ∷ []
+all_copied = Begin 20 ∷ Open 0 24 ∷ Move moving_root ∷ Move moving_entry ∷ Move moving_file ∷ Sync ∷ []
 
 abbrev pub collected : List Event
-collected = Begin 20 ∷ Open 0 24 ∷ Move moving_root ∷ Move moving_file ∷ Sync ∷ Free ∷ []
+collected = Begin 20 ∷ Open 0 24 ∷ Move moving_root ∷ Move moving_entry ∷ Move moving_file ∷ Sync ∷ Free ∷ []
 
 -- ---- an orphan that is closed while a commit runs
 -- file 65 loses its name and is synced, a commit starts whose list has it, and the file is closed before the commit ends

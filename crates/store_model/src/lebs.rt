@@ -1,11 +1,17 @@
 // Laws of LEBs: what each is for.
 
-ghost use Rattle.std.specs.Prelude.{◌≡◌, ◌≤◌, ◌+◌, ℕ, List};
-ghost use Rattle.store_model.specs.Events.{after, Begin, Drop, End, Free, Offer, Open, Put, Putting, Start, Sync, Write};
+ghost use Rattle.std.specs.Prelude.{◌≡◌, ◌≤◌, ◌+◌, ℕ, List, map};
+ghost use Rattle.store_model.specs.Events.{after, Begin, Drop, End, Event, Free, Offer, Open, Put, Putting, Start, Sync, Write};
 ghost use Rattle.store_model.specs.Invariant.{AreApart, HasSince, IsTaking};
 ghost use Rattle.store_model.specs.Lebs.{space_of};
 ghost use Rattle.store_model.specs.Legal.{IsLegalEvent};
 ghost use Rattle.store_model.specs.Store.{Index as AnyIndex, Store as AnyStore};
+
+/// Which LEBs there are no event changes, nor the numbers of the volume: a row stays for each LEB of the main area.
+pub fn each_event_keeps_the_main_area()
+    ensures geometry { (m : AnyStore) (event : Event) → (after event m).geo ≡ m.geo }
+    ensures lebs { (m : AnyStore) (event : Event) → map (λ leb. leb.lnum) (after event m).lebs ≡ map (λ leb. leb.lnum) m.lebs }
+{}
 
 /// A put, a LEB that is opened, a sync and an inode that is dropped leave each LEB for one thing. Leaves stand in leaf LEBs and
 /// buds, heads in their last buds, and the committed index in its own LEBs; a LEB without a leaf is empty, or a victim.

@@ -11,6 +11,7 @@ mod law;
 mod lebs;
 mod passes;
 mod recovery;
+mod texts;
 mod worked;
 
 pub use crate::backing::{
@@ -30,8 +31,11 @@ pub use crate::lebs::{
 };
 pub use crate::passes::a_collection_gains;
 pub use crate::recovery::{a_store_is_recovered, what_fits_is_recovered, what_fits_loses_no_leaf};
+pub use crate::texts::{
+    leaves_are_of_the_views, live_leaves_stand, nodes_of_the_index_stay, texts_have_what_was_put,
+};
 pub use crate::worked::{
     a_collection_is_told, a_commit_is_told, a_long_run_is_told, a_put_is_told, a_sync_is_told,
     a_worked_store_is_one, an_orphan_closed_in_a_commit_is_told, cuts_of_a_long_run_are_told,
-    worked_runs_are_legal,
+    worked_runs_are_legal, worked_states_stand,
 };

@@ -7,10 +7,10 @@ ghost use Rattle.leaf_map.specs.Shown.{tree_of};
 ghost use Rattle.leaf_map.specs.Worked.{places};
 ghost use Rattle.store_model.specs.Events.{next_list, Offer, run, Sync};
 ghost use Rattle.store_model.specs.Fits.{faces};
-ghost use Rattle.store_model.specs.Invariant.{IsStore};
+ghost use Rattle.store_model.specs.Invariant.{IsStanding, IsStore};
 ghost use Rattle.store_model.specs.Lebs.{space_of, lent};
 ghost use Rattle.store_model.specs.Legal.{AreLegal};
-ghost use Rattle.store_model.specs.Worked.{all_copied, allowed, am_tree, bb_tree, bud_rows, closed_in_commit, collected, half_collected, left_parts, places_found, put_am, put_root, roles, root_tree, rooted, two_leaves, until_offer, whole_commit};
+ghost use Rattle.store_model.specs.Worked.{all_copied, allowed, am_tree, bb_tree, bud_rows, closed_in_commit, collected, half_collected, left_parts, one_file, places_found, put_am, put_root, roles, root_tree, rooted, until_offer, whole_commit};
 ghost use Rattle.store_model.specs.WorkedRun.{collection, collection_rows, copying, first_commit, first_rows, found_am, found_bb, found_last, found_root, found_rows, least, most, rows, run_all, second_commit, second_rows, started, uncopied, unlinked};
 
 /// A group that is put to a LEB just opened: its leaves stand there and show the tree, and a cut leaves it or not.
@@ -43,12 +43,12 @@ pub fn a_commit_is_told()
 
 /// A collection: after half of it the leaves stand at their originals, after all copies at these, and its victim is freed.
 pub fn a_collection_is_told()
-    ensures half { places_found (left_parts (run half_collected two_leaves).now 0 1 []) ≡ (20, 0) ∷ (20, 160) ∷ [] }
-    ensures whole { places_found (left_parts (run all_copied two_leaves).now 0 2 []) ≡ (24, 0) ∷ (24, 160) ∷ [] }
-    ensures copies { (run all_copied two_leaves).synced ≡ 2 ∷ 0 ∷ 0 ∷ [] }
-    ensures lent { lent (run half_collected two_leaves).moving ≡ 1 }
-    ensures victim { roles (run all_copied two_leaves) ≡ kind.Leaf ∷ kind.Index ∷ kind.Free ∷ kind.Free ∷ kind.Bud ∷ kind.Free ∷ kind.Free ∷ kind.Free ∷ kind.Free ∷ kind.Free ∷ kind.Free ∷ kind.Free ∷ [] }
-    ensures freed { space_of (run collected two_leaves) ≡ record { used = 320; held = 0; credits = 1; empty = 10; index = 1; weight = 1; main = 12 } }
+    ensures half { places_found (left_parts (run half_collected one_file).now 0 1 []) ≡ (20, 0) ∷ (20, 160) ∷ (20, 224) ∷ [] }
+    ensures whole { places_found (left_parts (run all_copied one_file).now 0 3 []) ≡ (24, 0) ∷ (24, 160) ∷ (24, 224) ∷ [] }
+    ensures copies { (run all_copied one_file).synced ≡ 3 ∷ 0 ∷ 0 ∷ [] }
+    ensures lent { lent (run half_collected one_file).moving ≡ 1 }
+    ensures victim { roles (run all_copied one_file) ≡ kind.Leaf ∷ kind.Index ∷ kind.Free ∷ kind.Free ∷ kind.Bud ∷ kind.Free ∷ kind.Free ∷ kind.Free ∷ kind.Free ∷ kind.Free ∷ kind.Free ∷ kind.Free ∷ [] }
+    ensures freed { space_of (run collected one_file) ≡ record { used = 384; held = 0; credits = 1; empty = 10; index = 1; weight = 2; main = 12 } }
 {}
 
 /// An orphan that is closed while a commit runs is still on the list after its end, and on the next one; so a mount drops it.
@@ -84,10 +84,21 @@ pub fn cuts_of_a_long_run_are_told()
 pub fn worked_runs_are_legal()
     ensures put { AreLegal rooted put_am }
     ensures commit { AreLegal rooted whole_commit }
-    ensures collection { AreLegal two_leaves collected }
+    ensures collection { AreLegal one_file collected }
 {}
 
-/// A store to which nothing was put yet is a store: each line of the invariant holds of it.
+/// A store to which nothing was put yet is a store, with the root alone or with a file: each line of the invariant holds of it.
 pub fn a_worked_store_is_one()
-    ensures { IsStore rooted }
+    ensures root { IsStore rooted }
+    ensures file { IsStore one_file }
+{}
+
+/// Along the runs nodes stand in the texts of their LEBs, heads end there, the nodes of both indexes stand at their places, and each
+/// leaf is a view's or in its buds: after a put, with a commit that is offered, after its end, with half a collection, and after it.
+pub fn worked_states_stand()
+    ensures put { IsStanding (run put_am rooted) }
+    ensures offered { IsStanding (run until_offer rooted) }
+    ensures ended { IsStanding (run whole_commit rooted) }
+    ensures half { IsStanding (run half_collected one_file) }
+    ensures collected { IsStanding (run collected one_file) }
 {}

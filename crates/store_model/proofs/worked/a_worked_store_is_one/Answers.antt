@@ -1,5 +1,8 @@
-use Rattle.store_model.proofs.WorkedStore.{is_store}
+use Rattle.store_model.proofs.WorkedStore.{file_is_store, root_is_store}
 use Rattle.store_model.proofs.worked.a_worked_store_is_one.Goals as goal
 
-pub returns : goal.returns
-returns c = is_store
+pub returns-clause-root : goal.returns-clause-root
+returns-clause-root c = root_is_store
+
+pub returns-clause-file : goal.returns-clause-file
+returns-clause-file c = file_is_store
