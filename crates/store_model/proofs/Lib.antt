@@ -1,3 +1,4 @@
+mod AllViews
 mod Apart
 mod BackingCalls
 mod BackingEnds

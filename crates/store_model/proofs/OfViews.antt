@@ -90,13 +90,13 @@ of_more : (a b : View) (x : Kept) → HasMoreBuds a b → IsOfView a x → IsOfV
 of_more a b x more (inl h) = inl (more.buds x.leaf h)
 of_more a b x more (inr h) = inr (rw more.kept h)
 
-abbrev HasMoreNext : Option Next → Option Next → Type 0
+abbrev pub HasMoreNext : Option Next → Option Next → Type 0
 HasMoreNext a b = (x : Kept) → IsOfNext a x → IsOfNext b x
 
-both_more : (m k : Store) → HasMoreBuds m.now k.now → HasMoreNext m.next k.next → (x : Kept) → IsOfView m.now x × IsOfNext m.next x → IsOfView k.now x × IsOfNext k.next x
+pub both_more : (m k : Store) → HasMoreBuds m.now k.now → HasMoreNext m.next k.next → (x : Kept) → IsOfView m.now x × IsOfNext m.next x → IsOfView k.now x × IsOfNext k.next x
 both_more m k now next x h = (of_more m.now k.now x now h.0, next x h.1)
 
-next_more : (change : List Bud → List Bud) (n : ℕ) (next : Option Next) → ((buds : List Bud) (leaf : Leaf) → in_bud (map named_by buds) leaf ≡ true → in_bud (map named_by (change buds)) leaf ≡ true)
+pub next_more : (change : List Bud → List Bud) (n : ℕ) (next : Option Next) → ((buds : List Bud) (leaf : Leaf) → in_bud (map named_by buds) leaf ≡ true → in_bud (map named_by (change buds)) leaf ≡ true)
     → HasMoreNext next (option_map (in_next change n) next)
 next_more change n None more x h = tt
 next_more change n (Some next) more x h = of_more next.view (record next.view { buds = change next.view.buds; put = next.view.put + n }) x (record { kept = refl; buds = more next.view.buds }) h
@@ -152,7 +152,7 @@ put_buds h group buds leaf is = ap (λ (ns : List Named). in_bud ns leaf) (named
 reaches : (from low n : ℕ) → from ≤ low → low ≤ n → nat_le from n ≡ true
 reaches from low n a b = grind (arith, a, b)
 
-bud_begins : (lebs : List Leb) (head lnum offs : ℕ) (buds : List Bud) → items_len (text_in lebs lnum) ≤ offs → last_bud buds head ≡ Some lnum → AllByRecursion (IsBudIn lebs) buds
+pub bud_begins : (lebs : List Leb) (head lnum offs : ℕ) (buds : List Bud) → items_len (text_in lebs lnum) ≤ offs → last_bud buds head ≡ Some lnum → AllByRecursion (IsBudIn lebs) buds
     → list_any (λ b. (b.lnum == lnum) && nat_le b.from offs) (map named_by buds) ≡ true
 bud_begins lebs head lnum offs [] low e all = absurd cc
 bud_begins lebs head lnum offs (bud ∷ buds) low e all = by (λ s. bud_begins lebs head lnum offs buds low s all.1) (last_bud buds head) refl (bud.head == head) e

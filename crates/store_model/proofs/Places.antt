@@ -13,7 +13,7 @@ use Rattle.store_model.specs.Indexed.{AreBranchingsAt, committed_index, IsBranch
 use Rattle.store_model.specs.Heads.{with_group}
 use Rattle.store_model.specs.Invariant.{AreApart, AreAtBuds, IsTaking}
 use Rattle.store_model.specs.Lebs.{changed_leb, freed, has_role, is_among, is_role}
-use Rattle.store_model.specs.Legal.{are_distinct, AreParts, FitHead, IsPart, KeepPlaces, rows_of, StandsBelow}
+use Rattle.store_model.specs.Legal.{are_distinct, AreParts, FitHead, has_placed_children, IsPart, KeepPlaces, rows_of, StandsBelow}
 use Rattle.store_model.specs.Store.{At, Bud, Index, leaf, Leb, Next, Place, Store, View}
 use Rattle.store_model.specs.Texts.{text_in}
 use Rattle.store_model.proofs.LebDrops.{dropped_store}
@@ -167,20 +167,22 @@ next_index : (m : Store) (new : List Leb) (next : Option Next) → KeepIndex m.l
 next_index m new None keeps taking is = tt
 next_index m new (Some next) keeps taking is = next_stays m new next keeps taking is
 
-indexed : (m k : Store) → KeepsIndexes m k → KeepIndex m.lebs k.lebs → AreApart m → IsTaking m m.next → KeepPlaces (last_index m) (rows_of k.index.shape) k.index.places → IsIndexed m → IsIndexed k
-indexed m k same keeps a taking kept is = record {
+indexed : (m k : Store) → KeepsIndexes m k → KeepIndex m.lebs k.lebs → AreApart m → IsTaking m m.next → KeepPlaces (last_index m) (rows_of k.index.shape) k.index.places → has_placed_children k.index ≡ true → IsIndexed m
+    → IsIndexed k
+indexed m k same keeps a taking kept children is = record {
   now = let now = now_stays m k.lebs a keeps is.now in record { nodes = rw (same.shape, same.places) now.nodes; apart = rw same.places now.apart };
   next = same.next (next_index m k.lebs m.next keeps taking is.next);
   last = rw same.last kept;
+  children = children;
 }
 
 pub sync_indexed : (m : Store) → AreApart m → IsTaking m m.next → IsIndexed m → IsIndexed (sync m)
-sync_indexed m a taking is = indexed m (sync m) (record { shape = refl; places = refl; next = λ x. x; last = refl }) (sync_keeps m a) a taking is.last is
+sync_indexed m a taking is = indexed m (sync m) (record { shape = refl; places = refl; next = λ x. x; last = refl }) (sync_keeps m a) a taking is.last is.children is
 
-pub drop_indexed : (m : Store) (ino : ℕ) (index : Index) → KeepPlaces m.index (rows_of index.shape) index.places → AreApart m → IsTaking m m.next → IsIndexed m → IsIndexed (drop_inode ino index m)
-drop_indexed m ino index kept a taking is =
+pub drop_indexed : (m : Store) (ino : ℕ) (index : Index) → KeepPlaces m.index (rows_of index.shape) index.places → has_placed_children index ≡ true → AreApart m → IsTaking m m.next → IsIndexed m → IsIndexed (drop_inode ino index m)
+drop_indexed m ino index kept children a taking is =
     indexed m (drop_inode ino index m) (record { shape = refl; places = refl; next = λ x. x; last = refl }) (freed_keep (dropped_store ino index m) m.lebs (to_rows m a).numbers) a taking
-    (keep_through (last_index m) m.index (rows_of index.shape) index.places is.last kept) is
+    (keep_through (last_index m) m.index (rows_of index.shape) index.places is.last kept) children is
 
 -- what is put to buds is no matter of a view's index
 later_index : (lebs : List Leb) (change : List Bud → List Bud) (n : ℕ) (next : Option Next) → IsNextIndexIn lebs next → IsNextIndexIn lebs (option_map (in_next change n) next)
@@ -195,12 +197,12 @@ last_same change n now (Some next) = refl
 pub open_indexed : (m : Store) (head lnum : ℕ) → has_role kind.Free m.lebs lnum ≡ true → AreApart m → IsTaking m m.next → IsIndexed m → IsIndexed (open_leb head lnum m)
 open_indexed m head lnum empty a taking is =
     let more : List Bud → List Bud = λ buds. buds ++ new_bud head lnum 0 ∷ [] in
-    indexed m (open_leb head lnum m) (record { shape = refl; places = refl; next = later_index (open_leb head lnum m).lebs more 0 m.next; last = last_same more 0 m.now m.next }) (open_keeps_index m head lnum empty a) a taking is.last is
+    indexed m (open_leb head lnum m) (record { shape = refl; places = refl; next = later_index (open_leb head lnum m).lebs more 0 m.next; last = last_same more 0 m.now m.next }) (open_keeps_index m head lnum empty a) a taking is.last is.children is
 
 part_indexed : (m : Store) (part : Part) → IsPart m part → AreApart m → IsTaking m m.next → IsIndexed m → IsIndexed (after_part m part)
 part_indexed m part can a taking is =
     let more : List Bud → List Bud = with_group part.head part.group in
-    indexed m (after_part m part) (record { shape = refl; places = refl; next = later_index (after_part m part).lebs more (length part.group) m.next; last = last_same more (length part.group) m.now m.next }) (part_keeps m part can a) a taking is.last is
+    indexed m (after_part m part) (record { shape = refl; places = refl; next = later_index (after_part m part).lebs more (length part.group) m.next; last = last_same more (length part.group) m.now m.next }) (part_keeps m part can a) a taking is.last is.children is
 
 parts_indexed : (parts : List Part) (m : Store) → AreParts m parts → AreApart m → IsTaking m m.next → IsIndexed m → IsIndexed (fold after_part m parts)
 parts_indexed [] m are a taking is = is
@@ -211,8 +213,8 @@ parts_index : (parts : List Part) (m : Store) → (fold after_part m parts).inde
 parts_index [] m = refl
 parts_index (part ∷ parts) m = parts_index parts (after_part m part)
 
-pub put_indexed : (m : Store) (p : Putting) → AreParts m p.parts → KeepPlaces m.index (rows_of p.index.shape) p.index.places → AreApart m → IsTaking m m.next → IsIndexed m → IsIndexed (put p m)
-put_indexed m p are kept a taking is = by p.payment (parts_indexed p.parts m are a taking is)
+pub put_indexed : (m : Store) (p : Putting) → AreParts m p.parts → KeepPlaces m.index (rows_of p.index.shape) p.index.places → has_placed_children p.index ≡ true → AreApart m → IsTaking m m.next → IsIndexed m → IsIndexed (put p m)
+put_indexed m p are kept children a taking is = by p.payment (parts_indexed p.parts m are a taking is)
   where
     end : Store
     end = fold after_part m p.parts
@@ -221,5 +223,5 @@ put_indexed m p are kept a taking is = by p.payment (parts_indexed p.parts m are
     later is = keep_through (last_index end) end.index (rows_of p.index.shape) p.index.places is.last (subst (λ (i : Index). KeepPlaces i (rows_of p.index.shape) p.index.places) (sym (parts_index p.parts m)) kept)
 
     by : (payment : Payment) → IsIndexed end → IsIndexed (record (paid payment end) { index = p.index })
-    by credit is = record { now = is.now; next = is.next; last = later is }
-    by granted is = record { now = is.now; next = is.next; last = later is }
+    by credit is = record { now = is.now; next = is.next; last = later is; children = children }
+    by granted is = record { now = is.now; next = is.next; last = later is; children = children }

@@ -17,7 +17,7 @@ put_stands = record {
     ends = (tt, ((refl, refl), (tt, tt)));
     written = (refl, tt);
   };
-  indexed = record { now = record { nodes = (inr refl, tt); apart = refl }; next = tt; last = tt };
+  indexed = record { now = record { nodes = (inr refl, tt); apart = refl }; next = tt; last = tt; children = refl };
   of_views = record { live = ((inr (inl refl), tt), ((inl refl, tt), ((inl refl, tt), tt))); held = tt };
 }
 
@@ -31,7 +31,7 @@ offered_stands = record {
     ends = (tt, ((refl, refl), (tt, tt)));
     written = (refl, tt);
   };
-  indexed = record { now = record { nodes = (inr refl, tt); apart = refl }; next = record { nodes = (inr refl, tt); apart = refl }; last = tt };
+  indexed = record { now = record { nodes = (inr refl, tt); apart = refl }; next = record { nodes = (inr refl, tt); apart = refl }; last = tt; children = refl };
   of_views = record { live = ((inr (inl refl), inr (inl refl)), ((inl refl, inr (inr (inl refl))), ((inl refl, inl refl), ((inl refl, inr (inr (inr (inl refl)))), ((inl refl, inl refl), tt))))); held = tt };
 }
 
@@ -45,7 +45,7 @@ ended_stands = record {
     ends = (tt, ((refl, refl), (tt, tt)));
     written = (refl, tt);
   };
-  indexed = record { now = record { nodes = (inr refl, tt); apart = refl }; next = tt; last = tt };
+  indexed = record { now = record { nodes = (inr refl, tt); apart = refl }; next = tt; last = tt; children = refl };
   of_views = record { live = ((inr (inl refl), tt), ((inr (inr (inl refl)), tt), ((inl refl, tt), ((inr (inr (inr (inl refl))), tt), ((inl refl, tt), tt))))); held = tt };
 }
 
@@ -59,7 +59,7 @@ half_stands = record {
     ends = ((refl, refl), (tt, (tt, tt)));
     written = (refl, tt);
   };
-  indexed = record { now = record { nodes = (inr refl, tt); apart = refl }; next = tt; last = tt };
+  indexed = record { now = record { nodes = (inr refl, tt); apart = refl }; next = tt; last = tt; children = refl };
   of_views = record { live = ((inl refl, tt), ((inr (inr (inl refl)), tt), ((inr (inr (inr (inl refl))), tt), tt))); held = tt };
 }
 
@@ -73,6 +73,6 @@ collected_stands = record {
     ends = ((refl, refl), (tt, (tt, tt)));
     written = (refl, tt);
   };
-  indexed = record { now = record { nodes = (inr refl, tt); apart = refl }; next = tt; last = tt };
+  indexed = record { now = record { nodes = (inr refl, tt); apart = refl }; next = tt; last = tt; children = refl };
   of_views = record { live = ((inl refl, tt), ((inl refl, tt), ((inl refl, tt), tt))); held = tt };
 }

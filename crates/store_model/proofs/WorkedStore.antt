@@ -118,7 +118,7 @@ texts = record {
 
 indexed : IsIndexed rooted
 unfolding key_rank r5_of
-indexed = record { now = record { nodes = (inr refl, tt); apart = refl }; next = tt; last = (inl (refl, refl), tt) }
+indexed = record { now = record { nodes = (inr refl, tt); apart = refl }; next = tt; last = (inl (refl, refl), tt); children = refl }
 
 of_views : AreOfViews rooted
 of_views = record { live = ((inr (inl refl), tt), tt); held = tt }
@@ -179,7 +179,7 @@ file_texts = record {
 
 file_indexed : IsIndexed one_file
 unfolding key_rank r5_of
-file_indexed = record { now = record { nodes = (inr refl, tt); apart = refl }; next = tt; last = (inl (refl, refl), tt) }
+file_indexed = record { now = record { nodes = (inr refl, tt); apart = refl }; next = tt; last = (inl (refl, refl), tt); children = refl }
 
 file_of_views : AreOfViews one_file
 file_of_views = record { live = ((inr (inl refl), tt), ((inr (inr (inl refl)), tt), ((inr (inr (inr (inl refl))), tt), tt))); held = tt }

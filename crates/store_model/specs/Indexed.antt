@@ -5,7 +5,7 @@ use Rattle.std.specs.Option.{option_map, option_map_or}
 use Rattle.index_tree.specs.Listing.{ListedNode, listed}
 use Rattle.store_model.specs.Events.{below_of}
 use Rattle.store_model.specs.Lebs.{is_among}
-use Rattle.store_model.specs.Legal.{KeepPlaces, rows_of}
+use Rattle.store_model.specs.Legal.{has_placed_children, KeepPlaces, rows_of}
 use Rattle.store_model.specs.Store.{Branching, Index, Item, leaf, branching, gap, Leb, Next, Place, Store, View}
 use Rattle.store_model.specs.Texts.{item_len, text_in}
 
@@ -62,3 +62,5 @@ pub record IsIndexed (m : Store) : Type 0 where
   pub now : IsIndexIn m.lebs [] m.now
   pub next : IsNextIndexIn m.lebs m.next
   pub last : HasLastPlaces m
+  -- a node that has a place has no child without one
+  pub children : IsTrue (has_placed_children m.index)

@@ -1,10 +1,10 @@
 -- When a store may do what: the condition of each event.
-use Rattle.std.specs.Prelude.{◌≡◌, ◌⊎◌, ℕ, ◌+◌, ◌<◌, ◌≤◌, zero, suc, IsTrue, true, false, not, Bool, List, [], ◌∷◌, ◌++◌, length, map, Option, Some, None, is_some, nat_le, nat_lt, ◌==◌, ◌&&◌, ◌-◌, ◌%◌, if◌then◌else◌}
+use Rattle.std.specs.Prelude.{◌≡◌, ◌⊎◌, ℕ, ◌+◌, ◌<◌, ◌≤◌, zero, suc, IsTrue, true, false, not, Bool, List, [], ◌∷◌, ◌++◌, length, map, Option, Some, None, is_some, nat_le, nat_lt, ◌==◌, ◌&&◌, ◌||◌, ◌-◌, ◌%◌, drop, take, if◌then◌else◌}
 use Rattle.std.specs.List.{flat_map, list_all, list_any, AllByRecursion}
 use Rattle.media_leaf.specs.LeafNode.{IsLeaf}
 use Rattle.media_lpt.specs.declared.leb_kind.LebKind.TheVariants as kind
 use Rattle.index_tree.specs.Shape.{Shape, done, leaf, node, contents, node_count, shape_weight}
-use Rattle.index_tree.specs.Listing.{height}
+use Rattle.index_tree.specs.Listing.{height, listed, ListedNode}
 use Rattle.fs_model.specs.declared.space.Class.TheVariants.{Removal}
 use Rattle.fs_model.specs.declared.space.Grant.{Grant}
 use Rattle.fs_model.specs.declared.space.Need.{Need}
@@ -49,11 +49,23 @@ KeepPlaces old (row ∷ rows) [] = ⊥
 KeepPlaces old (row ∷ rows) (None ∷ places) = KeepPlaces old rows places
 KeepPlaces old (row ∷ rows) (Some place ∷ places) = StandsBelow row place (rows_of old.shape) old.places × KeepPlaces old rows places
 
--- The index of these leaves, after so many nodes were put: it weighs at most so much more, and a node that changed has lost its place.
+-- a node that has a place has no child without one; these nodes wait for their parents, the oldest first
+abbrev pub are_placed_below : List (Option Place) → List ListedNode → List (Option Place) → Bool
+are_placed_below waiting [] places = true
+are_placed_below waiting (first ∷ nodes) [] = true
+are_placed_below waiting (first ∷ nodes) (at ∷ places) =
+    let children = if first.level == 0 then 0 else first.count in
+    (not (is_some at) || list_all (λ o. is_some o) (take children waiting)) && are_placed_below (drop children waiting ++ at ∷ []) nodes places
+
+abbrev pub has_placed_children : Index → Bool
+has_placed_children index = are_placed_below [] (listed index.shape) index.places
+
+-- The index of these leaves, after so many nodes were put: it weighs at most so much more, and a node that changed has lost its place, as those above it.
 pub record IsIndexAfter (m : Store) (nodes : ℕ) (live : List Kept) (index : Index) : Type 0 where
   pub contents_are : contents index.shape ≡ map (λ x. x.leaf) live
   pub weight : shape_weight m.geo.fanout index.shape ≤ shape_weight m.geo.fanout m.index.shape + nodes
   pub places : KeepPlaces m.index (rows_of index.shape) index.places
+  pub children : IsTrue (has_placed_children index)
 
 -- ---- puts and copies
 -- nodes stand one behind another

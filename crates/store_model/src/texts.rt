@@ -2,7 +2,7 @@
 
 ghost use Rattle.std.specs.List.{AllByRecursion};
 ghost use Rattle.std.specs.Prelude.{ℕ};
-ghost use Rattle.store_model.specs.Events.{after, Drop, Open, Put, Putting, Sync};
+ghost use Rattle.store_model.specs.Events.{after, Drop, Event, Open, Put, Putting, Sync};
 ghost use Rattle.store_model.specs.Indexed.{IsIndexed};
 ghost use Rattle.store_model.specs.Invariant.{AreOfViews, IsStore, Stands};
 ghost use Rattle.store_model.specs.Legal.{IsLegalEvent};
@@ -27,15 +27,12 @@ pub fn nodes_of_the_index_stay()
     ensures dropped { (m : AnyStore) (ino : ℕ) (index : AnyIndex) → IsLegalEvent m (Drop ino index) → IsStore m → IsIndexed (after (Drop ino index) m) }
 {}
 
-/// After each of them a leaf, live or held, that stands in no bud of a view is one of the leaves which that view's master leads to.
+/// After each event a leaf, live or held, that stands in no bud of a view is one of the leaves which that view's master leads to.
 pub fn leaves_are_of_the_views()
-    ensures put { (m : AnyStore) (p : Putting) → IsLegalEvent m (Put p) → IsStore m → AreOfViews (after (Put p) m) }
-    ensures open { (m : AnyStore) (head lnum : ℕ) → IsStore m → AreOfViews (after (Open head lnum) m) }
-    ensures sync { (m : AnyStore) → IsStore m → AreOfViews (after Sync m) }
-    ensures dropped { (m : AnyStore) (ino : ℕ) (index : AnyIndex) → IsStore m → AreOfViews (after (Drop ino index) m) }
+    ensures { (m : AnyStore) (event : Event) → IsLegalEvent m event → IsStore m → AreOfViews (after event m) }
 {}
 
-/// Each live leaf's node is among the items that are meant for its LEB, after each of them too.
+/// After a put, an opened LEB, a sync and a drop each live leaf's node is among the items that are meant for its LEB.
 pub fn live_leaves_stand()
     ensures put { (m : AnyStore) (p : Putting) → IsLegalEvent m (Put p) → IsStore m → AllByRecursion (Stands (after (Put p) m).lebs) (after (Put p) m).live }
     ensures open { (m : AnyStore) (head lnum : ℕ) → IsLegalEvent m (Open head lnum) → IsStore m → AllByRecursion (Stands (after (Open head lnum) m).lebs) (after (Open head lnum) m).live }
