@@ -6,6 +6,7 @@ use Rattle.index_tree.specs.Removal.{same_leaf}
 use Rattle.store_model.specs.Events.{run}
 use Rattle.store_model.specs.Invariant.{IsStanding}
 use Rattle.store_model.specs.Worked.{collected, half_collected, one_file, put_am, rooted, until_offer, whole_commit}
+use Rattle.store_model.specs.WorkedRun.{collection, first_commit, run_all, second_commit, started}
 
 pub put_stands : IsStanding (run put_am rooted)
 unfolding key_rank r5_of same_leaf
@@ -75,4 +76,19 @@ collected_stands = record {
   };
   indexed = record { now = record { nodes = (inr refl, tt); apart = refl }; next = tt; last = tt; children = refl };
   of_views = record { live = ((inl refl, tt), ((inl refl, tt), ((inl refl, tt), tt))); held = tt };
+}
+
+-- three index nodes, the root with the places of the two below it
+pub long_stands : IsStanding (run_all second_commit (run_all collection (run_all first_commit started)))
+unfolding key_rank r5_of same_leaf
+long_stands = record {
+  texts = record {
+    laid = (record { places = refl; fits = omega arith }, (record { places = refl; fits = omega arith }, (record { places = refl; fits = omega arith }, (record { places = refl; fits = omega arith }, (record { places = refl; fits = omega arith }, (record { places = refl; fits = omega arith }, (record { places = refl; fits = omega arith }, (record { places = refl; fits = omega arith }, (record { places = refl; fits = omega arith }, (record { places = refl; fits = omega arith }, (record { places = refl; fits = omega arith }, (record { places = refl; fits = omega arith }, tt))))))))))));
+    buds = record { distinct = refl; each = (record { nodes = refl; from = omega arith }, (record { nodes = refl; from = omega arith }, tt)) };
+    later = tt;
+    ends = ((refl, refl), ((refl, refl), (tt, tt)));
+    written = (refl, (refl, tt));
+  };
+  indexed = record { now = record { nodes = (inr refl, (inr refl, (inr refl, tt))); apart = refl }; next = tt; last = tt; children = refl };
+  of_views = record { live = ((inr (inl refl), tt), ((inr (inr (inl refl)), tt), ((inr (inr (inr (inr (inl refl)))), tt), tt))); held = tt };
 }

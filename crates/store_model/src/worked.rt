@@ -94,11 +94,13 @@ pub fn a_worked_store_is_one()
 {}
 
 /// Along the runs nodes stand in the texts of their LEBs, heads end there, the nodes of both indexes stand at their places, and each
-/// leaf is a view's or in its buds: after a put, with a commit that is offered, after its end, with half a collection, and after it.
+/// leaf is a view's or in its buds: after a put, with a commit that is offered, after its end, with half a collection, after it, and
+/// after the long run, whose index has two levels.
 pub fn worked_states_stand()
     ensures put { IsStanding (run put_am rooted) }
     ensures offered { IsStanding (run until_offer rooted) }
     ensures ended { IsStanding (run whole_commit rooted) }
     ensures half { IsStanding (run half_collected one_file) }
     ensures collected { IsStanding (run collected one_file) }
+    ensures long { IsStanding (run_all second_commit (run_all collection (run_all first_commit started))) }
 {}

@@ -1,4 +1,4 @@
-use Rattle.store_model.proofs.WorkedStates.{collected_stands, ended_stands, half_stands, offered_stands, put_stands}
+use Rattle.store_model.proofs.WorkedStates.{collected_stands, ended_stands, half_stands, long_stands, offered_stands, put_stands}
 use Rattle.store_model.proofs.worked.worked_states_stand.Goals as goal
 
 pub returns-clause-put : goal.returns-clause-put
@@ -15,3 +15,6 @@ returns-clause-half c = half_stands
 
 pub returns-clause-collected : goal.returns-clause-collected
 returns-clause-collected c = collected_stands
+
+pub returns-clause-long : goal.returns-clause-long
+returns-clause-long c = long_stands
