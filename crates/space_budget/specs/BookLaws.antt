@@ -10,7 +10,7 @@ use Rattle.fs_model.specs.Cover.{index_lebs, index_room}
 use Rattle.fs_model.specs.Settled.{IsCovered}
 
 -- a LEB takes an index node at least
-index_nodes-positive : (geo : RawGeometry) → IsGeometry geo → 1 ≤ index_nodes_per_leb geo
+pub index_nodes-positive : (geo : RawGeometry) → IsGeometry geo → 1 ≤ index_nodes_per_leb geo
 index_nodes-positive geo h =
     let below = div-mul-le_self (28 + 20 * geo.fanout + 7) 8 in
     let whole = div-add-mod' (28 + 20 * geo.fanout + 7) 8 in
