@@ -59,7 +59,7 @@ sync_leaves m n more tree left =
 pub open_files : (m : Store) (head lnum : ℕ) (outside : Outside) → KeepsFiles (backing_of m outside) (backing_of (open_leb head lnum m) outside)
 open_files m head lnum outside = record { tree = refl; credits = refl; grant = refl; held = omega arith; closed = omega arith }
 
-heads_open : (head lnum : ℕ) (buds : List Bud) (synced : List ℕ) → heads_of (buds ++ new_bud head lnum 0 ∷ []) synced ≡ heads_of buds synced
+pub heads_open : (head lnum : ℕ) (buds : List Bud) (synced : List ℕ) → heads_of (buds ++ new_bud head lnum 0 ∷ []) synced ≡ heads_of buds synced
 heads_open head lnum buds synced = rw (groups_open 1 head lnum buds, groups_open 2 head lnum buds) refl
 
 pub same_further : (buds : List Bud) (synced : List ℕ) → AreFurther (heads_of buds synced) (heads_of buds synced)

@@ -21,6 +21,7 @@ use Rattle.store_model.specs.Legal.{AreParts, FitHead, IsPaid, IsPart, nodes_of}
 use Rattle.store_model.specs.Store.{At, Bud, Carried, Store}
 use Rattle.store_model.proofs.Apart.{groups_other}
 use Rattle.store_model.proofs.LebPuts.{end_bud, part_apart}
+use Rattle.store_model.proofs.Numbers.{consecutive_next}
 use Rattle.store_model.proofs.PutGroups.{none_of}
 
 -- ---- the tree and the numbers
@@ -100,7 +101,7 @@ groups_added h group (bud ∷ buds) has = by (groups_added h group buds) (has_bu
         rw (m, o, m) (ap (λ gs. (bud.groups ++ group ∷ []) ++ gs) none ∙ append-nil (bud.groups ++ group ∷ []) ∙ sym (ap (λ gs. (bud.groups ++ gs) ++ group ∷ []) none ∙ ap (λ gs. gs ++ group ∷ []) (append-nil bud.groups)))
     by rest false o false m any = absurd (false≢true any)
 
-heads_put : (h : ℕ) (group : List Carried) (buds : List Bud) (synced : List ℕ) → (h ≡ 1) ⊎ (h ≡ 2) → has_bud h buds ≡ true → heads_of (with_group h group buds) synced ≡ with_group_at (heads_of buds synced) h (numbered group)
+pub heads_put : (h : ℕ) (group : List Carried) (buds : List Bud) (synced : List ℕ) → (h ≡ 1) ⊎ (h ≡ 2) → has_bud h buds ≡ true → heads_of (with_group h group buds) synced ≡ with_group_at (heads_of buds synced) h (numbered group)
 heads_put h group buds synced (inl one) has =
     let mine = subst (λ (k : ℕ). groups_of k (with_group h group buds) ≡ groups_of k buds ++ group ∷ []) one (groups_added h group buds has) in
     let other = groups_other 2 h group buds (ap (λ (k : ℕ). k == 2) one) in
@@ -125,7 +126,7 @@ part_left m part more tree is a (heads, are, left) = by (end_at m.ends part.head
     by (Some at) e fits =
         let last = end_bud m.now.buds 0 part.head part.head m.ends at (omega arith) a.ends e in
         let stand = heads_put part.head part.group m.now.buds m.synced is.head (has_last m.now.buds part.head at.lnum last) in
-        (heads, (numbered part.group, is.numbers, numbered_changes part.group, subst (λ (z : List Head). Puts (after_part m part).sqnum z more heads) stand are), left)
+        (heads, (numbered part.group, consecutive_next m.sqnum (numbered part.group) is.numbers, numbered_changes part.group, subst (λ (z : List Head). Puts (after_part m part).sqnum z more heads) stand are), left)
 
 parts_left : (parts : List Part) (m : Store) (more : List (ℕ × List Change)) (tree : Tree) → AreParts m parts → AreApart m → MightLeave (journal_of (fold after_part m parts)) more tree
     → MightLeave (journal_of m) (puts_of parts ++ more) tree

@@ -28,7 +28,7 @@ up_by : (n k : ℕ) → nat_le n (n + k) ≡ true
 up_by n k = le-leb n (n + k) (omega arith)
 
 -- ---- a copy
-groups_copied : (head : ℕ) (copy : Placed) (buds : List Bud) → groups_of head (with_copy copy buds) ≡ groups_of head buds
+pub groups_copied : (head : ℕ) (copy : Placed) (buds : List Bud) → groups_of head (with_copy copy buds) ≡ groups_of head buds
 groups_copied head copy [] = refl
 groups_copied head copy (bud ∷ buds) = by (groups_copied head copy buds) ((bud.head == 0) && not (has_bud 0 buds)) refl (bud.head == head) refl
   where
@@ -147,7 +147,9 @@ offered_next m k None up n = tt
 offered_next m k (Some next) up n = view_up m k (faced_later m next) (faced_later k (offered next)) refl up n
 
 pub offered_numbers : (m : Store) → HasNumbers m → HasNumbers (offer m)
-offered_numbers m n = same_up m (offer m) (up_by m.sqnum 2) refl refl refl (offered_next m (offer m) m.next (up_by m.sqnum 2) n.both.1) n
+offered_numbers m n =
+    let up : nat_le m.sqnum (offer m).sqnum ≡ true = le-leb m.sqnum (offer m).sqnum (omega arith) in
+    same_up m (offer m) up refl refl refl (offered_next m (offer m) m.next up n.both.1) n
 
 -- of each head no more is synced since than came
 one_since : (a all last : ℕ) → nat_le a all ≡ true → nat_le (a - (all - last)) last ≡ true

@@ -43,10 +43,10 @@ begin_apart m victim idle leaf a =
     }) a.ends
 
 -- ---- the victim is empty
-abbrev free_row : ℕ → Row → Row
+abbrev pub free_row : ℕ → Row → Row
 free_row lnum r = cond (r.0 == lnum) (r.0, kind.Free) r
 
-free_rows : (lnum : ℕ) (lebs : List Leb) → rows (changed_leb lnum emptied lebs) ≡ map (free_row lnum) (rows lebs)
+pub free_rows : (lnum : ℕ) (lebs : List Leb) → rows (changed_leb lnum emptied lebs) ≡ map (free_row lnum) (rows lebs)
 free_rows lnum [] = refl
 free_rows lnum (leb ∷ lebs) = by (leb.lnum == lnum) (free_rows lnum lebs)
   where
@@ -56,7 +56,7 @@ free_rows lnum (leb ∷ lebs) = by (leb.lnum == lnum) (free_rows lnum lebs)
     by true rest = ap (λ (z : List Row). (leb.lnum, kind.Free) ∷ z) rest
     by false rest = ap (λ (z : List Row). (leb.lnum, leb.role) ∷ z) rest
 
-free_number : (lnum : ℕ) (r : Row) → (free_row lnum r).0 ≡ r.0
+pub free_number : (lnum : ℕ) (r : Row) → (free_row lnum r).0 ≡ r.0
 free_number lnum r = by (r.0 == lnum)
   where
     by : (b : Bool) → (cond b (r.0, kind.Free) r).0 ≡ r.0
@@ -74,7 +74,7 @@ free_other role lnum n (r ∷ rs) away = by (r.0 == lnum) refl (free_other role 
         ap (λ (b : Bool). (b && is_role role kind.Free) || has_row role (map (free_row lnum) rs) n) past ∙ rest ∙ sym (ap (λ (b : Bool). (b && is_role role r.1) || has_row role rs n) past)
     by false e rest = ap (λ (z : Bool). ((r.0 == n) && is_role role r.1) || z) rest
 
-free_keeps : (role : LebKind) (lnum n : ℕ) (rs : List Row) → are_distinct (numbers_of rs) ≡ true → has_row kind.Leaf rs lnum ≡ true → is_role kind.Leaf role ≡ false → has_row role rs n ≡ true
+pub free_keeps : (role : LebKind) (lnum n : ℕ) (rs : List Row) → are_distinct (numbers_of rs) ≡ true → has_row kind.Leaf rs lnum ≡ true → is_role kind.Leaf role ≡ false → has_row role rs n ≡ true
     → has_row role (map (free_row lnum) rs) n ≡ true
 free_keeps role lnum n rs d leaf away h = free_other role lnum n rs (other_leb rs lnum n kind.Leaf role d leaf h away) ∙ h
 

@@ -20,11 +20,11 @@ use Rattle.store_model.proofs.RecoveryCopies.{either_of, not_true}
 use Rattle.store_model.proofs.Sorting.{or_false}
 
 -- how many rows have a role
-abbrev row_count : LebKind → List Row → ℕ
+abbrev pub row_count : LebKind → List Row → ℕ
 row_count role [] = 0
 row_count role (r ∷ rs) = cond (is_role role r.1) (1 + row_count role rs) (row_count role rs)
 
-count_rows : (role : LebKind) (lebs : List Leb) → role_count role lebs ≡ row_count role (rows lebs)
+pub count_rows : (role : LebKind) (lebs : List Leb) → role_count role lebs ≡ row_count role (rows lebs)
 count_rows role lebs = sym (is_count_by (λ (ls : List Leb). row_count role (rows ls)) (λ leb. is_role role leb.role) refl (λ leb ls. refl) lebs)
 
 -- ---- a put
@@ -62,7 +62,7 @@ both_one a b h = omega (arith, h)
 one_up : (a b : ℕ) → a ≤ b → a ≤ 1 + b
 one_up a b h = omega (arith, h)
 
-freed_more : (m : Store) (rs : List Row) → row_count kind.Free rs ≤ row_count kind.Free (map (freed_row m) rs)
+pub freed_more : (m : Store) (rs : List Row) → row_count kind.Free rs ≤ row_count kind.Free (map (freed_row m) rs)
 freed_more m [] = omega arith
 freed_more m ((n, kind.Free) ∷ rs) = both_one (row_count kind.Free rs) (row_count kind.Free (map (freed_row m) rs)) (freed_more m rs)
 freed_more m ((n, kind.Index) ∷ rs) = freed_more m rs

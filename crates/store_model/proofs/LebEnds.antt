@@ -223,7 +223,7 @@ end_apart m None t s a = a
 end_apart m (Some next) t s a = ended_apart m next t s a
 
 -- ---- steps between
-set_rows : (n : ℕ) (text : List Item) (lebs : List Leb) → rows (changed_leb n (λ leb. record leb { text = text }) lebs) ≡ rows lebs
+pub set_rows : (n : ℕ) (text : List Item) (lebs : List Leb) → rows (changed_leb n (λ leb. record leb { text = text }) lebs) ≡ rows lebs
 set_rows n text [] = refl
 set_rows n text (leb ∷ lebs) = by (leb.lnum == n) (set_rows n text lebs)
   where

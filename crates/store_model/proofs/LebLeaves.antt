@@ -159,7 +159,7 @@ all_filter q t (x ∷ xs) h = let p = and_parts (q x) (list_all q xs) h in by p.
     by first rest true = and_from (q x) (list_all q (filter t xs)) first rest
     by first rest false = rest
 
-all_put : (q old : Test) (new : Kept) (xs : List Kept) → q new ≡ true → list_all q xs ≡ true → list_all q (put_leaf old new xs) ≡ true
+pub all_put : (q old : Test) (new : Kept) (xs : List Kept) → q new ≡ true → list_all q xs ≡ true → list_all q (put_leaf old new xs) ≡ true
 all_put q old new [] n h = and_from (q new) true n refl
 all_put q old new (x ∷ xs) n h = let p = and_parts (q x) (list_all q xs) h in by p.0 p.1 (all_put q old new xs n p.1) (old x) (nat_le (leaf_rank x.leaf) (leaf_rank new.leaf))
   where

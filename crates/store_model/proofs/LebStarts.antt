@@ -15,10 +15,10 @@ use Rattle.store_model.proofs.LebRows.{AreRows, IsRowIn, Row, all_in, all_weaker
 use Rattle.store_model.proofs.RecoveryCopies.{either_of}
 use Rattle.store_model.proofs.RecoveryOrder.{or_left, or_right}
 
-abbrev take_row : List ℕ → Row → Row
+abbrev pub take_row : List ℕ → Row → Row
 take_row taken r = cond (is_among taken r.0) (r.0, kind.Taken) r
 
-take_rows : (taken : List ℕ) (lebs : List Leb) → rows (map (take_leb taken) lebs) ≡ map (take_row taken) (rows lebs)
+pub take_rows : (taken : List ℕ) (lebs : List Leb) → rows (map (take_leb taken) lebs) ≡ map (take_row taken) (rows lebs)
 take_rows taken [] = refl
 take_rows taken (leb ∷ lebs) = by (is_among taken leb.lnum) (take_rows taken lebs)
   where
@@ -36,7 +36,7 @@ take_number taken r = by (is_among taken r.0)
     by false = refl
 
 -- what is taken was empty
-taken_free : (rs : List Row) (taken : List ℕ) (n : ℕ) → list_all (has_row kind.Free rs) taken ≡ true → is_among taken n ≡ true → has_row kind.Free rs n ≡ true
+pub taken_free : (rs : List Row) (taken : List ℕ) (n : ℕ) → list_all (has_row kind.Free rs) taken ≡ true → is_among taken n ≡ true → has_row kind.Free rs n ≡ true
 taken_free rs [] n h i = absurd (false≢true i)
 taken_free rs (k ∷ taken) n h i = let p = and_parts (has_row kind.Free rs k) (list_all (has_row kind.Free rs) taken) h in by p.0 (taken_free rs taken n p.1) (either_of (k == n) (is_among taken n) i)
   where
@@ -61,7 +61,7 @@ take_other role taken n (r ∷ rs) away = by (is_among taken r.0) refl (take_oth
         ap (λ (b : Bool). (b && is_role role kind.Taken) || has_row role (map (take_row taken) rs) n) (apart e) ∙ rest ∙ sym (ap (λ (b : Bool). (b && is_role role r.1) || has_row role rs n) (apart e))
     by false e rest = ap (λ (z : Bool). ((r.0 == n) && is_role role r.1) || z) rest
 
-take_keeps : (role : LebKind) (taken : List ℕ) (n : ℕ) (rs : List Row) → are_distinct (numbers_of rs) ≡ true → list_all (has_row kind.Free rs) taken ≡ true → is_role kind.Free role ≡ false → has_row role rs n ≡ true
+pub take_keeps : (role : LebKind) (taken : List ℕ) (n : ℕ) (rs : List Row) → are_distinct (numbers_of rs) ≡ true → list_all (has_row kind.Free rs) taken ≡ true → is_role kind.Free role ≡ false → has_row role rs n ≡ true
     → has_row role (map (take_row taken) rs) n ≡ true
 take_keeps role taken n rs d free away h = by (is_among taken n) refl
   where

@@ -22,11 +22,11 @@ use Rattle.store_model.proofs.RecoveryCopies.{either_of}
 use Rattle.store_model.proofs.RecoveryOrder.{or_left, or_right}
 
 -- LEBs with this role have it still
-abbrev Keeps : LebKind → Store → Store → Type 0
+abbrev pub Keeps : LebKind → Store → Store → Type 0
 Keeps role m k = (lnum : ℕ) → has_role role m.lebs lnum ≡ true → has_role role k.lebs lnum ≡ true
 
 -- buds that are changed so are buds
-abbrev KeepsBuds : (List Bud → List Bud) → Store → Store → Type 0
+abbrev pub KeepsBuds : (List Bud → List Bud) → Store → Store → Type 0
 KeepsBuds change m k = (buds : List Bud) → list_all (λ bud. has_role kind.Bud m.lebs bud.lnum) buds ≡ true → list_all (λ bud. has_role kind.Bud k.lebs bud.lnum) (change buds) ≡ true
 
 some_more : (a b c : Bool) → (a ≡ true → b ≡ true) → (a || c) ≡ true → (b || c) ≡ true
@@ -36,7 +36,7 @@ some_more a b c more h = by (either_of a c h)
     by (inl e) = or_left b c (more e)
     by (inr e) = or_right b c e
 
-taking_buds : (change : List Bud → List Bud) (n : ℕ) (m k : Store) (next : Option Next) → Keeps kind.Taken m k → Keeps kind.Index m k → KeepsBuds change m k → IsTaking m next → IsTaking k (option_map (in_next change n) next)
+pub taking_buds : (change : List Bud → List Bud) (n : ℕ) (m k : Store) (next : Option Next) → Keeps kind.Taken m k → Keeps kind.Index m k → KeepsBuds change m k → IsTaking m next → IsTaking k (option_map (in_next change n) next)
 taking_buds change n m k None taken index buds t = tt
 taking_buds change n m k (Some next) taken index buds t = (
   all_weaker (has_role kind.Taken m.lebs) (has_role kind.Taken k.lebs) taken next.taken t.0,
@@ -46,7 +46,7 @@ taking_buds change n m k (Some next) taken index buds t = (
   buds next.view.buds t.3,
 )
 
-taking_same : (m k : Store) (next : Option Next) → Keeps kind.Taken m k → Keeps kind.Index m k → Keeps kind.Bud m k → IsTaking m next → IsTaking k next
+pub taking_same : (m k : Store) (next : Option Next) → Keeps kind.Taken m k → Keeps kind.Index m k → Keeps kind.Bud m k → IsTaking m next → IsTaking k next
 taking_same m k None taken index buds t = tt
 taking_same m k (Some next) taken index buds t = (
   all_weaker (has_role kind.Taken m.lebs) (has_role kind.Taken k.lebs) taken next.taken t.0,
@@ -57,11 +57,11 @@ taking_same m k (Some next) taken index buds t = (
 )
 
 -- what the rows of LEBs say
-of_rows : (role : LebKind) (m k : Store) (g : Row → Row) → rows k.lebs ≡ map g (rows m.lebs) → ((lnum : ℕ) → has_row role (rows m.lebs) lnum ≡ true → has_row role (map g (rows m.lebs)) lnum ≡ true) → Keeps role m k
+pub of_rows : (role : LebKind) (m k : Store) (g : Row → Row) → rows k.lebs ≡ map g (rows m.lebs) → ((lnum : ℕ) → has_row role (rows m.lebs) lnum ≡ true → has_row role (map g (rows m.lebs)) lnum ≡ true) → Keeps role m k
 of_rows role m k g same keeps lnum h =
     role_row role k.lebs lnum ∙ ap (λ (rs : List Row). has_row role rs lnum) same ∙ keeps lnum (sym (role_row role m.lebs lnum) ∙ h)
 
-of_same : (role : LebKind) (m k : Store) → rows k.lebs ≡ rows m.lebs → Keeps role m k
+pub of_same : (role : LebKind) (m k : Store) → rows k.lebs ≡ rows m.lebs → Keeps role m k
 of_same role m k same lnum h = role_row role k.lebs lnum ∙ ap (λ (rs : List Row). has_row role rs lnum) same ∙ sym (role_row role m.lebs lnum) ∙ h
 
 part_buds : (m : Store) (part : Part) → KeepsBuds (with_group part.head part.group) m (after_part m part)

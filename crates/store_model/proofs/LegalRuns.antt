@@ -3,10 +3,11 @@ use Rattle.std.proofs.Common.{arith, refl, inl, inr, [], ◌∷◌}
 use Rattle.ubifs_base.specs.R5.{r5_of}
 use Rattle.index_tree.specs.Order.{key_rank}
 use Rattle.index_tree.specs.Removal.{same_leaf}
+use Rattle.fs_model.specs.Proper.{IsProper}
 use Rattle.store_model.specs.Events.{after, Begin, Move, Open, put, run, Start, Sync}
 use Rattle.store_model.specs.Legal.{AreLegal, CanBegin, CanFree, CanMove, CanOpen, CanPut, CanStart, IsPart, IsIndexAfter}
 use Rattle.store_model.specs.Store.{Store}
-use Rattle.store_model.specs.Worked.{bb_entry, bb_inode, bb_leaves, changed_index, collected, moving_entry, moving_file, moving_root, one_file, put_am, putting_bb, rooted, whole_commit}
+use Rattle.store_model.specs.Worked.{bb_entry, bb_inode, bb_leaves, bb_tree, changed_index, collected, moving_entry, moving_file, moving_root, one_file, put_am, putting_bb, rooted, whole_commit}
 use Rattle.store_model.proofs.LegalPut.{can, opened}
 
 -- ---- a commit
@@ -32,17 +33,33 @@ starts = record {
 abbrev started : Store
 started = after (Start (23 ∷ [])) am_synced
 
+bb_is_proper : IsProper bb_tree
+bb_is_proper = record {
+  inodes_ascend = refl;
+  blocks_ascend = refl;
+  entries_ascend = refl;
+  inode_nodes = refl;
+  block_nodes = refl;
+  entry_nodes = refl;
+  root = refl;
+  entries = refl;
+  inodes = refl;
+  linked = refl;
+  numbers = refl;
+}
+
 part : IsPart started (record { head = 1; group = bb_entry ∷ bb_inode ∷ [] })
 part = record {
   head = inl refl;
+  data_nodes = λ other. absurd (omega (arith, other));
   group = (refl, refl);
-  numbers = record { ascending = refl; above = refl };
+  numbers = (refl, (refl, tt));
   carried = (
     record { node = record { inum_fits = omega arith; kind_known = omega arith; some = omega arith; most = omega arith; plain = refl }; carries = refl },
     (record { node = record { numbered = omega arith; most = omega arith; plain = λ _. refl }; carries = refl }, tt),
   );
   fits = ((refl, refl, refl, (refl, refl, refl, tt)), omega arith);
-  revives_none = refl;
+  keeps = record { are_nodes = refl; revives_none = refl; proper = bb_is_proper };
 }
 
 index : IsIndexAfter started 2 (put putting_bb started).live (changed_index bb_leaves)

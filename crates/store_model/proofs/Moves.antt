@@ -72,7 +72,7 @@ has_key l k (Some (SetEntry x)) e h = e ∙ h
 has_key l k s e h = absurd h
 
 -- ---- leaves that move
-abbrev StaysLeaf : (Kept → Kept) → Kept → Type 0
+abbrev pub StaysLeaf : (Kept → Kept) → Kept → Type 0
 StaysLeaf go x = ((go x).leaf.key ≡ x.leaf.key) × ((go x).node ≡ x.node)
 
 moved_keyed : (go : Kept → Kept) (live : List Kept) → AllByRecursion (StaysLeaf go) live → AllByRecursion IsKeyed live → AllByRecursion IsKeyed (map go live)
@@ -132,11 +132,11 @@ more_leaves : (x : Kept) (all live : List Kept) → AllByRecursion (IsLeafOf all
 more_leaves x all [] h = tt
 more_leaves x all (y ∷ live) h = (inr h.0, more_leaves x all live h.1)
 
-all_leaves : (live : List Kept) → AllByRecursion (IsLeafOf live) live
+pub all_leaves : (live : List Kept) → AllByRecursion (IsLeafOf live) live
 all_leaves [] = tt
 all_leaves (x ∷ live) = (inl refl, more_leaves x live live (all_leaves live))
 
-copies_stay : (c : Copying) (all live : List Kept) → AreDistinct (map (λ x. x.leaf) all) → AllByRecursion IsKeyed all → IsLeafOf all c.leaf → c.copy.node ≡ c.leaf.node → AllByRecursion (IsLeafOf all) live
+pub copies_stay : (c : Copying) (all live : List Kept) → AreDistinct (map (λ x. x.leaf) all) → AllByRecursion IsKeyed all → IsLeafOf all c.leaf → c.copy.node ≡ c.leaf.node → AllByRecursion (IsLeafOf all) live
     → AllByRecursion (StaysLeaf (at_copy c)) live
 copies_stay c all [] d k i same h = tt
 copies_stay c all (x ∷ live) d k i same h = ((copy_key c all x d k i same h.0, copy_node c x), copies_stay c all live d k i same h.1)

@@ -1,5 +1,5 @@
 -- Groups that are put have the next numbers, so those of a head go on ascending and were given.
-use Rattle.std.proofs.Common.{◌≡◌, ◌<◌, ℕ, Bool, true, List, [], ◌∷◌, ◌++◌, refl, sym, ap, arith, map}
+use Rattle.std.proofs.Common.{◌≡◌, ◌<◌, ◌≤◌, ◌+◌, ◌∙◌, ℕ, suc, Bool, true, List, [], ◌∷◌, ◌++◌, length, refl, sym, ap, arith, map}
 use Rattle.std.specs.Prelude.{nat_le, nat_lt}
 use Rattle.std.specs.Cmp.{ranks, nat_cmp_is}
 use Rattle.std.specs.List.{list_all}
@@ -13,6 +13,7 @@ use Rattle.fs_model.specs.Proper.{ascends}
 use Rattle.fs_model.specs.Recovery.{Numbered}
 use Rattle.leaf_map.specs.Kept.{Kept}
 use Rattle.store_model.specs.Invariant.{are_given}
+use Rattle.store_model.specs.Legal.{AreConsecutive}
 
 -- every number passes a test that is weaker than one that every number passes
 weaker : (test weak : ℕ → Bool) → ((n : ℕ) → test n ≡ true → weak n ≡ true) → (changes : Numbered) → list_all (λ c. test c.0) changes ≡ true → list_all (λ c. weak c.0) changes ≡ true
@@ -92,6 +93,30 @@ both_all test [] changes h g = g
 both_all test (c ∷ old) changes h g =
     let p = and_parts (test c.0) (list_all (λ c. test c.0) old) h in
     rw p.0 (both_all test old changes p.1 g)
+
+-- numbers of which none is skipped are the next ones
+all_above : (n k : ℕ) (changes : Numbered) → n ≤ k → AreConsecutive k changes → list_all (λ c. nat_lt n c.0) changes ≡ true
+all_above n k [] low follow = refl
+all_above n k (c ∷ changes) low follow = rw (lt_of n c.0 (let here = follow.0 in omega (arith, here, low))) (all_above n (k + 1) changes (omega (arith, low)) follow.1)
+
+all_ascend : (k : ℕ) (changes : Numbered) → AreConsecutive k changes → ascends nat_cmp (map (λ c. c.0) changes) ≡ true
+all_ascend k [] follow = refl
+all_ascend k (c ∷ []) follow = refl
+all_ascend k (c ∷ d ∷ changes) follow =
+    rw (is_less c.0 d.0 (let here = follow.0 in let next = follow.1.0 in omega (arith, here, next))) (all_ascend (k + 1) (d ∷ changes) follow.1)
+
+pub consecutive_next : (n : ℕ) (changes : Numbered) → AreConsecutive n changes → AreNext n changes
+consecutive_next n changes follow = record { ascending = all_ascend n changes follow; above = all_above n n changes (omega arith) follow }
+
+-- and the last of them is as many further as they are
+pub last_consecutive : (n : ℕ) (changes : Numbered) → AreConsecutive n changes → last_number n changes ≡ n + length changes
+last_consecutive n [] follow = omega arith
+last_consecutive n (c ∷ changes) follow =
+    let rest = last_consecutive (n + 1) changes follow.1 in
+    ap (λ k. last_number k changes) follow.0 ∙ rest ∙ further
+  where
+    further : n + 1 + length changes ≡ n + suc (length changes)
+    further = omega arith
 
 -- numbers that were given, and a group's behind them
 pub given_after : (n : ℕ) (old changes : Numbered) → are_given n old ≡ true → AreNext n changes → are_given (last_number n changes) (old ++ changes) ≡ true

@@ -9,11 +9,11 @@ use Rattle.fs_model.specs.Journal.{AreNext, last_number}
 use Rattle.store_model.specs.Events.{after_change, after_part, Held, credit, granted, in_next, paid, Part, Payment, Putting}
 use Rattle.store_model.specs.Heads.{copies_of, counts_of, groups_of, numbered, with_group}
 use Rattle.store_model.specs.Invariant.{AreNumbered, HasNumbers, OfNext, are_given, are_within, head_numbers}
-use Rattle.store_model.specs.Legal.{AreParts}
+use Rattle.store_model.specs.Legal.{AreConsecutive, AreParts}
 use Rattle.store_model.specs.Store.{Bud, Carried, Next, Store}
 use Rattle.store_model.proofs.Apart.{apart_put}
 use Rattle.store_model.proofs.LebLeaves.{change_all}
-use Rattle.store_model.proofs.Numbers.{given_after, given_still, kept_still, no_less, none_greater}
+use Rattle.store_model.proofs.Numbers.{consecutive_next, given_after, given_still, kept_still, no_less, none_greater}
 use Rattle.store_model.proofs.PutGroups.{IsGrown, copies_put, groups_put, numbers_end}
 
 -- ---- numbers
@@ -75,8 +75,8 @@ part_next m part (Some next) at follows n = record {
   kept = kept_still m.sqnum (last_number m.sqnum (numbered part.group)) (no_less m.sqnum (numbered part.group) follows) next.view.kept n.kept;
 }
 
-pub part_numbers : (m : Store) (part : Part) → (part.head ≡ 1) ⊎ (part.head ≡ 2) → AreNext m.sqnum (numbered part.group) → HasNumbers m → HasNumbers (after_part m part)
-part_numbers m part at follows n = record {
+next_numbers : (m : Store) (part : Part) → (part.head ≡ 1) ⊎ (part.head ≡ 2) → AreNext m.sqnum (numbered part.group) → HasNumbers m → HasNumbers (after_part m part)
+next_numbers m part at follows n = record {
   both = (
     record {
       base = head_put m.sqnum 1 part.head part.group m.now.buds follows n.both.0.base;
@@ -90,6 +90,9 @@ part_numbers m part at follows n = record {
       (kept_still m.sqnum (last_number m.sqnum (numbered part.group)) (no_less m.sqnum (numbered part.group) follows) m.live n.live);
   synced = within_more m.synced (counts_of m.now.buds) (counts_of (with_group part.head part.group m.now.buds)) n.synced (counts_put part.head part.group m.now.buds);
 }
+
+pub part_numbers : (m : Store) (part : Part) → (part.head ≡ 1) ⊎ (part.head ≡ 2) → AreConsecutive m.sqnum (numbered part.group) → HasNumbers m → HasNumbers (after_part m part)
+part_numbers m part at follow n = next_numbers m part at (consecutive_next m.sqnum (numbered part.group) follow) n
 
 -- groups that can be put
 pub parts_numbers : (parts : List Part) (m : Store) → AreParts m parts → HasNumbers m → HasNumbers (fold after_part m parts)

@@ -63,7 +63,7 @@ length_uses (leb ∷ lebs) = ap (λ n. suc n) (length_uses lebs)
 pub same_length : (a b : List Leb) → uses a ≡ uses b → length a ≡ length b
 same_length a b same = sym (length_uses a) ∙ ap (λ us. length us) same ∙ length_uses b
 
-length_carried : (group : List Carried) → length (map (λ c. c.placed) group) ≡ length group
+pub length_carried : (group : List Carried) → length (map (λ c. c.placed) group) ≡ length group
 length_carried [] = refl
 length_carried (c ∷ group) = ap (λ n. suc n) (length_carried group)
 

@@ -29,13 +29,13 @@ pub record Show (live : List Kept) (tree : Tree) : Type 0 where
   pub leaves : IsLeafMap live
   pub tree_is : tree_of live tree.highest ≡ tree
 
-change_shows : TreeLaw → KeptLaw → (c : Carried) (live : List Kept) (tree : Tree) → IsCarried c → Show live tree → Show (kept_by c.change (kept_at c.placed) live) (applied tree c.change)
+pub change_shows : TreeLaw → KeptLaw → (c : Carried) (live : List Kept) (tree : Tree) → IsCarried c → Show live tree → Show (kept_by c.change (kept_at c.placed) live) (applied tree c.change)
 change_shows trees keeps c live tree is s = record {
   leaves = keeps c.change c.placed live is.node is.carries s.leaves;
   tree_is = trees c.change c.placed live tree.highest is.node is.carries s.leaves ∙ ap (λ t. applied t c.change) s.tree_is;
 }
 
-group_shows : TreeLaw → KeptLaw → (group : List Carried) (h : Held) (tree : Tree) → AllByRecursion IsCarried group → Show h.live tree
+pub group_shows : TreeLaw → KeptLaw → (group : List Carried) (h : Held) (tree : Tree) → AllByRecursion IsCarried group → Show h.live tree
     → Show (fold after_change h group).live (apply tree (changes_of group))
 group_shows trees keeps [] h tree is s = s
 group_shows trees keeps (c ∷ group) h tree is s = group_shows trees keeps group (after_change h c) (applied tree c.change) is.1 (change_shows trees keeps c h.live tree is.0 s)

@@ -131,11 +131,11 @@ nodes_read (bud ∷ buds) base other = by (λ n k. nodes_read buds n k) (bud.hea
     by rest false false = rest base other
 
 -- what is so of all is so of the first ones
-pub both_parts : (P : Carried → Type 0) (xs ys : List Carried) → AllByRecursion P (xs ++ ys) → AllByRecursion P xs × AllByRecursion P ys
+pub both_parts : {X : Type 0} (P : X → Type 0) (xs ys : List X) → AllByRecursion P (xs ++ ys) → AllByRecursion P xs × AllByRecursion P ys
 both_parts P [] ys h = (tt, h)
 both_parts P (x ∷ xs) ys h = let rest = both_parts P xs ys h.1 in ((h.0, rest.0), rest.1)
 
-pub both_join : (P : Carried → Type 0) (xs ys : List Carried) → AllByRecursion P xs → AllByRecursion P ys → AllByRecursion P (xs ++ ys)
+pub both_join : {X : Type 0} (P : X → Type 0) (xs ys : List X) → AllByRecursion P xs → AllByRecursion P ys → AllByRecursion P (xs ++ ys)
 both_join P [] ys h g = g
 both_join P (x ∷ xs) ys h g = (h.0, both_join P xs ys h.1 g)
 

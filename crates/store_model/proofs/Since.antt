@@ -17,10 +17,10 @@ use Rattle.store_model.proofs.Opens.{copies_open, groups_open}
 use Rattle.store_model.proofs.PutGroups.{copies_put}
 
 -- both lists as they are said otherwise
-same_since : {X : Type 0} (a b all last : List X) (n : ℕ) → a ≡ all → b ≡ last → CameSince all last n → CameSince a b n
+pub same_since : {X : Type 0} (a b all last : List X) (n : ℕ) → a ≡ all → b ≡ last → CameSince all last n → CameSince a b n
 same_since a b all last n e f c = record { before = c.before; is = e ∙ c.is ∙ ap (λ z. c.before ++ z) (sym f); all_synced = c.all_synced }
 
-more_since : {X : Type 0} (a b all last : List X) (x : X) (n : ℕ) → a ≡ all ++ x ∷ [] → b ≡ last ++ x ∷ [] → CameSince all last n → CameSince a b n
+pub more_since : {X : Type 0} (a b all last : List X) (x : X) (n : ℕ) → a ≡ all ++ x ∷ [] → b ≡ last ++ x ∷ [] → CameSince all last n → CameSince a b n
 more_since a b all last x n e f c = record {
   before = c.before;
   is = e ∙ ap (λ z. z ++ x ∷ []) c.is ∙ append_assoc c.before last (x ∷ []) ∙ ap (λ z. c.before ++ z) (sym f);
@@ -72,7 +72,7 @@ parts_since [] m are a s = s
 parts_since (part ∷ parts) m are a s = parts_since parts (after_part m part) are.1 (part_apart m part are.0 a) (part_since m part are.0 a s)
 
 -- a matter of what was put, of what is synced and of the heads alone
-as_since : (m k : Store) (next : Option Next) → k.now ≡ m.now → k.synced ≡ m.synced → k.ends ≡ m.ends → HasSince m next → HasSince k next
+pub as_since : (m k : Store) (next : Option Next) → k.now ≡ m.now → k.synced ≡ m.synced → k.ends ≡ m.ends → HasSince m next → HasSince k next
 as_since m k None now synced ends s = tt
 as_since m k (Some next) now synced ends s = record {
   copies = rw (now, synced) s.copies;

@@ -84,7 +84,7 @@ parts_views [] m are v = v
 parts_views (part ∷ parts) m are v = parts_views parts (after_part m part) are.1 (part_views m part are.0.carried v)
 
 -- a matter of the views alone
-next_same : (P : View → Type 0) (m k : Store) (next : Option Next) → OfNext m next (λ f. P f.view) → OfNext k next (λ f. P f.view)
+pub next_same : (P : View → Type 0) (m k : Store) (next : Option Next) → OfNext m next (λ f. P f.view) → OfNext k next (λ f. P f.view)
 next_same P m k None h = tt
 next_same P m k (Some next) h = h
 

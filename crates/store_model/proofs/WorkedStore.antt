@@ -17,6 +17,7 @@ use Rattle.store_model.specs.Fits.{faced_now}
 use Rattle.store_model.specs.Heads.{heads_of}
 use Rattle.store_model.specs.Indexed.{IsIndexed}
 use Rattle.store_model.specs.Invariant.{AreOfViews, AreProper, AreWholeOrLeft, HasCommitted, HasFiles, IsStore}
+use Rattle.store_model.specs.LogRing.{HasLogLebs}
 use Rattle.store_model.specs.Texts.{AreTexts, IsLaidOut}
 use Rattle.store_model.specs.Worked.{am_tree, geo, one_file, root_tree, rooted}
 
@@ -123,18 +124,25 @@ indexed = record { now = record { nodes = (inr refl, tt); apart = refl }; next =
 of_views : AreOfViews rooted
 of_views = record { live = ((inr (inl refl), tt), tt); held = tt }
 
+log_lebs : HasLogLebs rooted
+log_lebs = record { heads = omega arith; first = omega arith; last = omega arith; within = omega arith; unit = refl; kept = omega arith; on_the_way = tt }
+
 pub root_is_store : IsStore rooted
 unfolding key_rank r5_of same_leaf
 root_is_store = record {
   geometry = geometry;
   main = refl;
   files = files;
+  owned = record { nodes = (record { numbered = omega arith; most = omega arith; plain = λ _. refl }, tt); inodes = (tt, tt); highest = refl };
   views = record { committed = (committed, tt); carried = (tt, tt) };
   distinct = distinct;
   places = refl;
   stands = (inl (refl, inl refl), tt);
+  proper_now = root_is_proper;
   proper = (proper, tt);
+  data_head = (refl, tt);
   history = (refl, tt);
+  leads = record { named = refl; leads = refl };
   numbers = record { both = (record { base = refl; data_nodes = refl; apart = refl; kept = refl }, tt); live = refl; synced = refl };
   whole_or_left = (whole, tt);
   orphans = ((refl, tt), tt);
@@ -142,9 +150,11 @@ root_is_store = record {
   apart = record { numbers = refl; used = refl; buds = refl; ends = tt; index = refl; leaves = refl; victim = refl };
   taking = tt;
   since = tt;
+  begun = tt;
   standing = record { texts = texts; indexed = indexed; of_views = of_views };
   weight = (omega arith, tt);
-  covered = record { fits = omega arith };
+  log = log_lebs;
+  covered = record { room = record { fits = omega arith } };
   settled = record { empty = omega arith; index = omega arith };
 }
 
@@ -184,18 +194,32 @@ file_indexed = record { now = record { nodes = (inr refl, tt); apart = refl }; n
 file_of_views : AreOfViews one_file
 file_of_views = record { live = ((inr (inl refl), tt), ((inr (inr (inl refl)), tt), ((inr (inr (inr (inl refl))), tt), tt))); held = tt }
 
+file_log_lebs : HasLogLebs one_file
+file_log_lebs = record { heads = omega arith; first = omega arith; last = omega arith; within = omega arith; unit = refl; kept = omega arith; on_the_way = tt }
+
 pub file_is_store : IsStore one_file
 unfolding key_rank r5_of same_leaf
 file_is_store = record {
   geometry = geometry;
   main = refl;
   files = file_files;
+  owned = record {
+    nodes = (
+      record { numbered = omega arith; most = omega arith; plain = λ _. refl },
+      (record { inum_fits = omega arith; kind_known = omega arith; some = omega arith; most = omega arith; plain = refl }, (record { numbered = omega arith; most = omega arith; plain = λ _. refl }, tt)),
+    );
+    inodes = (tt, (tt, (tt, tt)));
+    highest = refl;
+  };
   views = record { committed = (file_committed, tt); carried = (tt, tt) };
   distinct = file_distinct;
   places = refl;
   stands = (inl (refl, inl refl), (inl (refl, inr (inl refl)), (inl (refl, inr (inr (inl refl))), tt)));
+  proper_now = file_is_proper;
   proper = (file_proper, tt);
+  data_head = (refl, tt);
   history = (refl, tt);
+  leads = record { named = refl; leads = refl };
   numbers = record { both = (record { base = refl; data_nodes = refl; apart = refl; kept = refl }, tt); live = refl; synced = refl };
   whole_or_left = (file_whole, tt);
   orphans = ((refl, tt), tt);
@@ -203,8 +227,10 @@ file_is_store = record {
   apart = record { numbers = refl; used = refl; buds = refl; ends = tt; index = refl; leaves = refl; victim = refl };
   taking = tt;
   since = tt;
+  begun = tt;
   standing = record { texts = file_texts; indexed = file_indexed; of_views = file_of_views };
   weight = (omega arith, tt);
-  covered = record { fits = omega arith };
+  log = file_log_lebs;
+  covered = record { room = record { fits = omega arith } };
   settled = record { empty = omega arith; index = omega arith };
 }

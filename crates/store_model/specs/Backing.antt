@@ -8,6 +8,7 @@ use Rattle.fs_model.specs.Backing.{BackingState}
 use Rattle.fs_model.specs.Files.{Tree}
 use Rattle.fs_model.specs.Journal.{Journal, Medium}
 use Rattle.fs_model.specs.Orphan.{without_nameless}
+use Rattle.space_budget.specs.Books.{BookState}
 use Rattle.store_model.specs.Events.{Part}
 use Rattle.store_model.specs.Heads.{begun_of, changes_of, heads_of}
 use Rattle.store_model.specs.Lebs.{is_victim, space_of}
@@ -51,6 +52,10 @@ journal_of m = record {
   later = option_map_or (λ next. next.view.put) m.next 0;
   medium = Some (medium_of m);
 }
+
+-- the numbers of a store as a book has them, with what is granted
+abbrev pub book_of : Store → BookState
+book_of m = record { geo = m.geo; space = space_of m; grant = m.grant }
 
 -- all that there is to say of a store as a backing
 abbrev pub backing_of : Store → Outside → BackingState

@@ -1,5 +1,5 @@
 -- What a store does, and what it makes of the state.
-use Rattle.std.specs.Prelude.{ℕ, suc, zero, ◌+◌, ◌-◌, ◌*◌, ◌/◌, ◌%◌, ◌==◌, ◌&&◌, nat_le, not, Bool, true, false, if◌then◌else◌, List, [], ◌∷◌, ◌++◌, length, filter, fold, map, sum_by, take, drop, get_or, Option, Some, None}
+use Rattle.std.specs.Prelude.{ℕ, suc, zero, ◌+◌, ◌-◌, ◌*◌, ◌/◌, ◌%◌, ◌==◌, ◌&&◌, nat_le, nat_lt, not, Bool, true, false, if◌then◌else◌, List, [], ◌∷◌, ◌++◌, length, filter, fold, map, sum_by, take, drop, get_or, Option, Some, None}
 use Rattle.std.specs.List.{flat_map, list_any, find}
 use Rattle.std.specs.Option.{option_map, option_map_or}
 use Rattle.ubifs_base.specs.declared.raw_geometry.RawGeometry.{RawGeometry}
@@ -159,11 +159,15 @@ put p m = record (paid p.payment (fold after_part m p.parts)) { index = p.index 
 abbrev pub reference_len : RawGeometry → ℕ
 reference_len geo = whole_units geo 64
 
+-- the LEB of the log behind another, round the ring
+abbrev pub next_log_leb : RawGeometry → ℕ → ℕ
+next_log_leb geo leb = if nat_lt (leb + 1) geo.log_lebs then leb + 1 else 0
+
 -- the log with one reference more, in the next LEB where the last one is full
 abbrev pub with_reference : RawGeometry → LogAt → LogAt
 with_reference geo log =
     if nat_le (log.offs + reference_len geo) geo.leb_size then record log { offs = log.offs + reference_len geo }
-    else record { leb = (log.leb + 1) % geo.log_lebs; offs = reference_len geo }
+    else record { leb = next_log_leb geo log.leb; offs = reference_len geo }
 
 -- a bud that nothing was put to
 abbrev pub new_bud : ℕ → ℕ → ℕ → Bud
@@ -252,7 +256,7 @@ open_buds head (at ∷ ends) = open_bud head at ++ open_buds (suc head) ends
 
 -- a section starts with a commit's start, of 32 bytes, and a reference for each open head (`struct ubifs_cs_node` of ubifs-media.h)
 abbrev pub new_section : RawGeometry → LogAt → List Bud → LogAt
-new_section geo log buds = record { leb = (log.leb + 1) % geo.log_lebs; offs = whole_units geo (32 + 64 * length buds) }
+new_section geo log buds = record { leb = next_log_leb geo log.leb; offs = whole_units geo (32 + 64 * length buds) }
 
 -- the inodes without a name, and those closed since the last commit's start that its list names
 abbrev pub next_list : Store → List ℕ
@@ -263,7 +267,7 @@ abbrev pub view_now : Store → List ℕ → View
 view_now m taken = record {
   cmt_no = m.now.cmt_no + 1;
   highest = m.tree.highest;
-  section = (m.log.leb + 1) % m.geo.log_lebs;
+  section = next_log_leb m.geo m.log.leb;
   shape = m.index.shape;
   places = all_places m.geo taken 0 (clean_places m);
   kept = m.live;
@@ -329,9 +333,14 @@ write_index m (Some next) =
 abbrev pub offered : Next → Next
 offered next = record next { offered = true }
 
+-- a list of orphans is one node, and none where it is empty
+abbrev pub list_nodes : List ℕ → ℕ
+list_nodes [] = 0
+list_nodes (ino ∷ inos) = 1
+
 -- the list of orphans is written, and a copy of the master may be
 abbrev pub offer : Store → Store
-offer m = record m { next = option_map offered m.next; sqnum = m.sqnum + 2 }
+offer m = record m { next = option_map offered m.next; sqnum = m.sqnum + option_map_or (λ next. list_nodes next.listed) m.next 0 + 1 }
 
 -- what a LEB is for once a commit has ended that leads to this view
 abbrev pub role_then : View → Leb → LebKind → Leb

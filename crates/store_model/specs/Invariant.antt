@@ -6,6 +6,7 @@ use Rattle.std.specs.Ordering.{nat_cmp}
 use Rattle.ubifs_base.specs.declared.raw_geometry.RawGeometry.{RawGeometry}
 use Rattle.ubifs_base.specs.Areas.{main_first, main_lebs}
 use Rattle.ubifs_base.specs.Geometry.{IsGeometry}
+use Rattle.ubifs_base.specs.Key.{key_words}
 use Rattle.media_leaf.specs.LeafNode.{IsLeaf}
 use Rattle.media_lpt.specs.declared.leb_kind.LebKind.{LebKind}
 use Rattle.media_lpt.specs.declared.leb_kind.LebKind.TheVariants as kind
@@ -17,18 +18,21 @@ use Rattle.fs_model.specs.Files.{Tree}
 use Rattle.fs_model.specs.Orphan.{nameless, without_nameless}
 use Rattle.fs_model.specs.Proper.{IsProper, ascends}
 use Rattle.fs_model.specs.Recovery.{IsRecovered, Numbered, recovered, taken}
-use Rattle.fs_model.specs.Settled.{IsCovered}
 use Rattle.leaf_map.specs.Allowed.{HasInode, IsNodeOf}
 use Rattle.leaf_map.specs.Kept.{Kept, kept_at, shown_by}
 use Rattle.leaf_map.specs.LeafMap.{IsLeafMap}
 use Rattle.leaf_map.specs.Parts.{in_bud}
 use Rattle.leaf_map.specs.Recovered.{highest_key}
 use Rattle.leaf_map.specs.Shown.{tree_of}
+use Rattle.space_budget.specs.Books.{AreGrantsCovered}
+use Rattle.store_model.specs.Backing.{book_of}
+use Rattle.store_model.specs.Begun.{HasBegun, JournalLeads}
 use Rattle.store_model.specs.Fits.{AreLeft, Faced, faced_now, named_by}
 use Rattle.store_model.specs.Heads.{copies_of, counts_of, groups_of, heads_of, numbered, synced_since}
 use Rattle.store_model.specs.Indexed.{IsIndexed}
-use Rattle.store_model.specs.Legal.{are_distinct, IsCarried, IsLeafOf}
-use Rattle.store_model.specs.Lebs.{has_leaf, has_role, is_among, is_victim_of, IsStoreSettled, space_of, weight_of}
+use Rattle.store_model.specs.Legal.{are_distinct, is_block, IsCarried, IsLeafOf}
+use Rattle.store_model.specs.Lebs.{has_leaf, has_role, is_among, is_victim_of, IsStoreSettled, weight_of}
+use Rattle.store_model.specs.LogRing.{HasLogLebs}
 use Rattle.store_model.specs.Store.{At, Bud, Carried, Item, leaf, branching, gap, Leb, Moving, Next, Store, View}
 use Rattle.store_model.specs.Texts.{AreTexts}
 
@@ -124,6 +128,14 @@ all_carried buds = flat_map (λ bud. flat_map (λ group. group) bud.groups) buds
 -- the nodes of a view's groups carry their changes
 abbrev pub AreCarried : View → Type 0
 AreCarried view = AllByRecursion IsCarried (all_carried view.buds)
+
+-- the head of data has blocks alone
+abbrev pub HasBlocks : View → Type 0
+HasBlocks view = IsTrue (list_all (λ c. is_block c.1) (head_numbers view.buds 2))
+
+-- so it is of both views
+abbrev pub HasDataHead : Store → Type 0
+HasDataHead m = OfBoth m (λ f. HasBlocks f.view)
 
 -- ---- orphans
 -- an inode leaf without links is listed
@@ -233,6 +245,12 @@ pub record HasFiles (m : Store) : Type 0 where
   pub tree : tree_of m.live m.tree.highest ≡ m.tree
   pub index : contents m.index.shape ≡ map (λ x. x.leaf) m.live
 
+-- Each node of the live leaves is in the grammar, each block among them has its inode, and none of their keys a number above the highest.
+pub record AreOwned (m : Store) : Type 0 where
+  pub nodes : AllByRecursion (λ x. IsLeaf x.node) m.live
+  pub inodes : AllByRecursion (λ x. HasInode m.tree (shown_by x)) m.live
+  pub highest : IsTrue (list_all (λ x. nat_le (key_words x.leaf.key).0 m.tree.highest) m.live)
+
 -- Numbers ascend and were given; no more is synced than was put.
 pub record HasNumbers (m : Store) : Type 0 where
   pub both : OfBoth m (AreNumbered m)
@@ -249,16 +267,21 @@ pub record IsStore (m : Store) : Type 0 where
   pub geometry : IsGeometry m.geo
   pub main : map (λ leb. leb.lnum) m.lebs ≡ main_lnums m.geo
   pub files : HasFiles m
+  pub owned : AreOwned m
   pub views : HasViews m
   -- no two leaves stand at one place, and each node of the index has a place or is dirty
   pub distinct : AreDistinct (map (λ x. x.leaf) m.live)
   pub places : length m.index.places ≡ node_count m.index.shape
   -- each live leaf's node is meant at its place
   pub stands : AllByRecursion (Stands m.lebs) m.live
-  -- each tree that a cut may leave is proper
+  -- the files are a proper tree, and so is each that a cut may leave
+  pub proper_now : IsProper m.tree
   pub proper : OfBoth m AreProper
+  -- the head of data has blocks alone
+  pub data_head : HasDataHead m
   -- what all groups lead to is the tree
   pub history : OfBoth m (LeadsTo m.tree)
+  pub leads : JournalLeads m
   pub numbers : HasNumbers m
   -- of each LEB all committed leaves stand, or none needs to
   pub whole_or_left : OfBoth m (AreWholeOrLeft m)
@@ -268,12 +291,15 @@ pub record IsStore (m : Store) : Type 0 where
   -- what each LEB is for
   pub apart : AreApart m
   pub taking : IsTaking m m.next
-  -- what came since a running commit began
+  -- what came since a running commit began, and what it began on
   pub since : HasSince m m.next
+  pub begun : HasBegun m m.next
   -- nodes, buds, heads and the nodes of the index stand in the texts of LEBs, and leaves are of the views
   pub standing : IsStanding m
   -- the index weighs no more than the views allow
   pub weight : OfBoth m (IsLight m)
+  -- the log has a LEB for the next section
+  pub log : HasLogLebs m
   -- what was granted is covered, and a commit has LEBs
-  pub covered : IsCovered m.geo (space_of m)
+  pub covered : AreGrantsCovered (book_of m)
   pub settled : IsStoreSettled m

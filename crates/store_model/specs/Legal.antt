@@ -1,6 +1,8 @@
 -- When a store may do what: the condition of each event.
-use Rattle.std.specs.Prelude.{◌≡◌, ◌⊎◌, ℕ, ◌+◌, ◌<◌, ◌≤◌, zero, suc, IsTrue, true, false, not, Bool, List, [], ◌∷◌, ◌++◌, length, map, Option, Some, None, is_some, nat_le, nat_lt, ◌==◌, ◌&&◌, ◌||◌, ◌-◌, ◌%◌, drop, take, if◌then◌else◌}
+use Rattle.std.specs.Prelude.{◌≡◌, ◌⊎◌, ℕ, ◌+◌, ◌<◌, ◌≤◌, zero, suc, IsTrue, true, false, not, Bool, List, [], ◌∷◌, ◌++◌, length, map, Option, Some, None, is_some, nat_le, nat_lt, ◌==◌, ◌&&◌, ◌||◌, ◌-◌, drop, take, if◌then◌else◌}
 use Rattle.std.specs.List.{flat_map, list_all, list_any, AllByRecursion}
+use Rattle.std.specs.Option.{option_map}
+use Rattle.ubifs_base.specs.declared.raw_geometry.RawGeometry.{RawGeometry}
 use Rattle.media_leaf.specs.LeafNode.{IsLeaf}
 use Rattle.media_lpt.specs.declared.leb_kind.LebKind.TheVariants as kind
 use Rattle.index_tree.specs.Shape.{Shape, done, leaf, node, contents, node_count, shape_weight}
@@ -8,7 +10,14 @@ use Rattle.index_tree.specs.Listing.{height, listed, ListedNode}
 use Rattle.fs_model.specs.declared.space.Class.TheVariants.{Removal}
 use Rattle.fs_model.specs.declared.space.Grant.{Grant}
 use Rattle.fs_model.specs.declared.space.Need.{Need}
-use Rattle.fs_model.specs.Journal.{AreNext}
+use Rattle.fs_model.specs.declared.change.Change.{Change}
+use Rattle.fs_model.specs.declared.change.Change.TheVariants.{SetBlock}
+use Rattle.fs_model.specs.Backing.{is_node}
+use Rattle.fs_model.specs.Change.{apply}
+use Rattle.fs_model.specs.Files.{Tree}
+use Rattle.fs_model.specs.Journal.{base_head, data_head}
+use Rattle.fs_model.specs.Proper.{IsProper}
+use Rattle.fs_model.specs.Recovery.{Numbered}
 use Rattle.fs_model.specs.Orphan.{all_revive_none}
 use Rattle.change_nodes.specs.Texts.{leaf_len}
 use Rattle.leaf_map.specs.After.{Carries}
@@ -95,14 +104,31 @@ pub record IsCarried (c : Carried) : Type 0 where
   pub node : IsLeaf c.placed.node
   pub carries : Carries c.change c.placed.node
 
--- A group that can be put: at the end of its head, with the next numbers, and it brings back no inode.
+-- no number is skipped: the first is the one behind the last that was given, and each is followed by the next
+abbrev pub AreConsecutive : ℕ → Numbered → Type 0
+AreConsecutive sqnum [] = Unit {0}
+AreConsecutive sqnum (c ∷ changes) = (c.0 ≡ sqnum + 1) × AreConsecutive (sqnum + 1) changes
+
+-- whether a change sets a block
+abbrev pub is_block : Change → Bool
+is_block (SetBlock ino block bytes) = true
+is_block change = false
+
+-- a group that leaves a proper tree: leaf nodes can carry its changes, and it brings back no inode
+pub record KeepsProper (tree : Tree) (group : List Change) : Type 0 where
+  pub are_nodes : IsTrue (list_all is_node group)
+  pub revives_none : IsTrue (all_revive_none tree group)
+  pub proper : IsProper (apply tree group)
+
+-- A group that can be put: at the end of its head, with the next numbers, and it leaves a proper tree. The base takes any group, the head of data takes blocks alone.
 pub record IsPart (m : Store) (part : Part) : Type 0 where
-  pub head : (part.head ≡ 1) ⊎ (part.head ≡ 2)
+  pub head : (part.head ≡ base_head) ⊎ (part.head ≡ data_head)
+  pub data_nodes : part.head ≡ data_head → IsTrue (list_all is_block (changes_of part.group))
   pub group : AreGroup part.group
-  pub numbers : AreNext m.sqnum (numbered part.group)
+  pub numbers : AreConsecutive m.sqnum (numbered part.group)
   pub carried : AllByRecursion IsCarried part.group
   pub fits : FitHead m (end_at m.ends part.head) (map (λ c. c.placed) part.group)
-  pub revives_none : IsTrue (all_revive_none m.tree (changes_of part.group))
+  pub keeps : KeepsProper m.tree (changes_of part.group)
 
 abbrev pub AreParts : Store → List Part → Type 0
 AreParts m [] = Unit {0}
@@ -128,13 +154,26 @@ pub record CanPut (m : Store) (p : Putting) : Type 0 where
   pub settled : IsStoreSettled (put p m)
 
 -- ---- other events
+-- how many LEBs of the log one goes on from one to another, round the ring
+abbrev pub log_steps : RawGeometry → ℕ → ℕ → ℕ
+log_steps geo from leb = if nat_lt leb from then leb + geo.log_lebs - from else leb - from
+
 -- how many LEBs of the log its sections have
 abbrev pub log_count : Store → ℕ
-log_count m = (m.log.leb + m.geo.log_lebs - m.now.section) % m.geo.log_lebs + 1
+log_count m = log_steps m.geo m.now.section m.log.leb + 1
 
--- The log has room for a reference: in its last LEB, or in a further one that isn't kept for the next section and for a mount's.
+-- how many LEBs of the log are kept: one for a mount's section, and one for the next section while no commit runs
+abbrev pub kept_lebs : Option ℕ → ℕ
+kept_lebs None = 2
+kept_lebs (Some section) = 1
+
+-- where the section of a running commit starts
+abbrev pub next_section : Store → Option ℕ
+next_section m = option_map (λ next. next.view.section) m.next
+
+-- The log has room for a reference: in its last LEB, or in a further one that isn't kept.
 abbrev pub has_log_room : Store → Bool
-has_log_room m = if nat_le (m.log.offs + reference_len m.geo) m.geo.leb_size then true else nat_lt (log_count m + (if is_some m.next then 1 else 2)) m.geo.log_lebs
+has_log_room m = if nat_le (m.log.offs + reference_len m.geo) m.geo.leb_size then true else nat_lt (log_count m + kept_lebs (next_section m)) m.geo.log_lebs
 
 pub record CanOpen (m : Store) (head lnum : ℕ) : Type 0 where
   pub head_is : head < 3
@@ -183,7 +222,7 @@ abbrev pub are_distinct : List ℕ → Bool
 are_distinct [] = true
 are_distinct (n ∷ numbers) = not (list_any (λ k. k == n) numbers) && are_distinct numbers
 
--- All is synced, and no LEB is lent to a collection. It takes as many empty LEBs as the index asks for, one more is there, and the log has one for a section.
+-- All is synced, and no LEB is lent to a collection. It takes as many empty LEBs as the index asks for, one more is there, and the log has one for the section beside that for a mount's.
 pub record CanStart (m : Store) (taken : List ℕ) : Type 0 where
   pub idle : m.next ≡ None
   -- the leaves copied so far would be committed in that LEB, and the others in the victim, so neither came back
@@ -193,7 +232,7 @@ pub record CanStart (m : Store) (taken : List ℕ) : Type 0 where
   pub distinct : IsTrue (are_distinct taken)
   pub count : length taken ≡ taken_lebs m.geo (space_of m) (node_count m.index.shape) (dirty_count m.index.places)
   pub spare : length taken < role_count kind.Free m.lebs
-  pub log : log_count m < m.geo.log_lebs
+  pub log : log_count m + kept_lebs None ≤ m.geo.log_lebs
 
 -- a commit runs, and this is so of it
 abbrev pub IfRunning : Store → (Next → Type 0) → Type 0

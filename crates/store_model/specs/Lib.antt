@@ -1,4 +1,5 @@
 pub mod Backing
+pub mod Begun
 pub mod Events
 pub mod Fits
 pub mod Heads
@@ -6,6 +7,7 @@ pub mod Indexed
 pub mod Invariant
 pub mod Lebs
 pub mod Legal
+pub mod LogRing
 pub mod Passes
 pub mod Recovery
 pub mod Store

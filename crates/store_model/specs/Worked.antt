@@ -159,10 +159,10 @@ allowed view base = recovered view.tree (taken (heads_of view.buds (0 ∷ 0 ∷ 
 -- ---- a commit with a put inside
 -- a file `bb` is made while a commit runs, behind `am`
 abbrev pub bb_entry : Carried
-bb_entry = in_group 1 (carry 22 224 30 (SetEntry (name bb 66)))
+bb_entry = in_group 1 (carry 22 224 16 (SetEntry (name bb 66)))
 
 abbrev pub bb_inode : Carried
-bb_inode = in_group 2 (carry 22 288 31 (SetInode 66 (file 1)))
+bb_inode = in_group 2 (carry 22 288 17 (SetInode 66 (file 1)))
 
 abbrev pub bb_leaves : List Kept
 bb_leaves = map kept_at (root_node ∷ am_entry.placed ∷ bb_entry.placed ∷ am_inode.placed ∷ bb_inode.placed ∷ [])

@@ -41,10 +41,10 @@ inode_bb = in_group 2 (carry 22 288 17 (SetInode 66 (file 1)))
 
 -- the name `am` goes, of a file that somebody has open
 abbrev pub entry_gone : Carried
-entry_gone = in_group 1 (carry 22 448 23 (DropEntry 1 am))
+entry_gone = in_group 1 (carry 22 448 22 (DropEntry 1 am))
 
 abbrev pub inode_left : Carried
-inode_left = in_group 2 (carry 22 512 24 (SetInode 65 (file 0)))
+inode_left = in_group 2 (carry 22 512 23 (SetInode 65 (file 0)))
 
 -- the root's node is copied to LEB 21
 abbrev pub copy_21 : Placed
@@ -197,7 +197,7 @@ first_rows =
     ∷ (record { space = 384 ∷ 0 ∷ 8 ∷ 1 ∷ 3 ∷ []; log = (1, 96); sqnum = 15; synced = 0 ∷ 1 ∷ 0 ∷ []; buds = (1, 22, 0) ∷ []; later = (1, 22, 224) ∷ []; live = places_am; listed = []; closed = [] })
     ∷ (record { space = 608 ∷ 0 ∷ 8 ∷ 1 ∷ 5 ∷ []; log = (1, 96); sqnum = 17; synced = 0 ∷ 1 ∷ 0 ∷ []; buds = (1, 22, 0) ∷ []; later = (1, 22, 224) ∷ []; live = places_bb; listed = []; closed = [] })
     ∷ (record { space = 608 ∷ 0 ∷ 8 ∷ 1 ∷ 5 ∷ []; log = (1, 96); sqnum = 18; synced = 0 ∷ 1 ∷ 0 ∷ []; buds = (1, 22, 0) ∷ []; later = (1, 22, 224) ∷ []; live = places_bb; listed = []; closed = [] })
-    ∷ (record { space = 608 ∷ 0 ∷ 9 ∷ 1 ∷ 4 ∷ []; log = (1, 96); sqnum = 21; synced = 0 ∷ 0 ∷ 0 ∷ []; buds = (1, 22, 224) ∷ []; later = []; live = places_bb; listed = []; closed = [] })
+    ∷ (record { space = 608 ∷ 0 ∷ 9 ∷ 1 ∷ 4 ∷ []; log = (1, 96); sqnum = 20; synced = 0 ∷ 0 ∷ 0 ∷ []; buds = (1, 22, 224) ∷ []; later = []; live = places_bb; listed = []; closed = [] })
     ∷ []
 
 abbrev pub collection_rows : List Row
@@ -205,7 +205,7 @@ collection_rows =
     (record {
       space = 608 ∷ 0 ∷ 9 ∷ 1 ∷ 4 ∷ [];
       log = (1, 160);
-      sqnum = 22;
+      sqnum = 21;
       synced = 1 ∷ 1 ∷ 0 ∷ [];
       buds = (1, 22, 224) ∷ (0, 21, 0) ∷ [];
       later = [];
@@ -229,10 +229,10 @@ places_last = (21, 0) ∷ (22, 224) ∷ (22, 288) ∷ []
 
 abbrev pub second_rows : List Row
 second_rows =
-    (record { space = 544 ∷ 224 ∷ 9 ∷ 1 ∷ 6 ∷ []; log = (1, 160); sqnum = 24; synced = 1 ∷ 1 ∷ 0 ∷ []; buds = buds_old; later = []; live = places_open; listed = []; closed = [] })
-    ∷ (record { space = 544 ∷ 0 ∷ 9 ∷ 1 ∷ 6 ∷ []; log = (1, 160); sqnum = 24; synced = 1 ∷ 2 ∷ 0 ∷ []; buds = buds_old; later = []; live = places_open; listed = []; closed = [] })
-    ∷ (record { space = 544 ∷ 0 ∷ 8 ∷ 1 ∷ 6 ∷ []; log = (2, 160); sqnum = 27; synced = 1 ∷ 2 ∷ 0 ∷ []; buds = buds_old; later = buds_new; live = places_open; listed = []; closed = [] })
-    ∷ (record { space = 384 ∷ 0 ∷ 8 ∷ 1 ∷ 6 ∷ []; log = (2, 160); sqnum = 27; synced = 1 ∷ 2 ∷ 0 ∷ []; buds = buds_old; later = buds_new; live = places_last; listed = []; closed = 65 ∷ [] })
-    ∷ (record { space = 384 ∷ 0 ∷ 8 ∷ 1 ∷ 6 ∷ []; log = (2, 160); sqnum = 30; synced = 1 ∷ 2 ∷ 0 ∷ []; buds = buds_old; later = buds_new; live = places_last; listed = []; closed = 65 ∷ [] })
-    ∷ (record { space = 384 ∷ 0 ∷ 9 ∷ 1 ∷ 4 ∷ []; log = (2, 160); sqnum = 33; synced = 0 ∷ 0 ∷ 0 ∷ []; buds = buds_new; later = []; live = places_last; listed = 65 ∷ []; closed = 65 ∷ [] })
+    (record { space = 544 ∷ 224 ∷ 9 ∷ 1 ∷ 6 ∷ []; log = (1, 160); sqnum = 23; synced = 1 ∷ 1 ∷ 0 ∷ []; buds = buds_old; later = []; live = places_open; listed = []; closed = [] })
+    ∷ (record { space = 544 ∷ 0 ∷ 9 ∷ 1 ∷ 6 ∷ []; log = (1, 160); sqnum = 23; synced = 1 ∷ 2 ∷ 0 ∷ []; buds = buds_old; later = []; live = places_open; listed = []; closed = [] })
+    ∷ (record { space = 544 ∷ 0 ∷ 8 ∷ 1 ∷ 6 ∷ []; log = (2, 160); sqnum = 26; synced = 1 ∷ 2 ∷ 0 ∷ []; buds = buds_old; later = buds_new; live = places_open; listed = []; closed = [] })
+    ∷ (record { space = 384 ∷ 0 ∷ 8 ∷ 1 ∷ 6 ∷ []; log = (2, 160); sqnum = 26; synced = 1 ∷ 2 ∷ 0 ∷ []; buds = buds_old; later = buds_new; live = places_last; listed = []; closed = 65 ∷ [] })
+    ∷ (record { space = 384 ∷ 0 ∷ 8 ∷ 1 ∷ 6 ∷ []; log = (2, 160); sqnum = 29; synced = 1 ∷ 2 ∷ 0 ∷ []; buds = buds_old; later = buds_new; live = places_last; listed = []; closed = 65 ∷ [] })
+    ∷ (record { space = 384 ∷ 0 ∷ 9 ∷ 1 ∷ 4 ∷ []; log = (2, 160); sqnum = 32; synced = 0 ∷ 0 ∷ 0 ∷ []; buds = buds_new; later = []; live = places_last; listed = 65 ∷ []; closed = 65 ∷ [] })
     ∷ []

@@ -1,12 +1,15 @@
 // Laws of a store as a backing: its events are what a backing's clauses say of its calls.
 
-ghost use Rattle.std.specs.Prelude.{◌≡◌, ℕ, List, Some, ◌∷◌, []};
+ghost use Rattle.std.specs.Prelude.{◌≡◌, ℕ, List, map, Some, ◌∷◌, []};
 ghost use Rattle.fs_model.specs.declared.backing_answers.Started.TheVariants.{Began};
 ghost use Rattle.fs_model.specs.declared.page_node.PageNode.{PageNode as AnyPage};
 ghost use Rattle.fs_model.specs.Backing.{IsCommitted, IsDropped, IsGroupPut, IsPagePut, IsStarted, IsSynced, KeepsCommit, KeepsFiles, page_puts};
 ghost use Rattle.fs_model.specs.Journal.{Leaves};
+ghost use Rattle.fs_model.specs.Orphan.{nameless};
+ghost use Rattle.fs_model.specs.Proper.{IsProper};
 ghost use Rattle.store_model.specs.Backing.{Outside, backing_of, journal_of, puts_of};
-ghost use Rattle.store_model.specs.Events.{after, credit, Drop, End, granted, Open, Part, Put, Putting, Start, Sync};
+ghost use Rattle.store_model.specs.Begun.{HasBegun, JournalLeads};
+ghost use Rattle.store_model.specs.Events.{after, credit, Drop, End, Event, granted, Open, Part, Put, Putting, Start, Sync};
 ghost use Rattle.store_model.specs.Heads.{changes_of};
 ghost use Rattle.store_model.specs.Invariant.{AreApart, HasNumbers, HasSince};
 ghost use Rattle.store_model.specs.Legal.{IsLegalEvent};
@@ -51,8 +54,23 @@ pub fn a_commits_start_is_a_backings()
     ensures cut { (m : AnyStore) (taken : List ℕ) → Leaves (journal_of m) (journal_of (after (Start taken) m)) [] }
 {}
 
-/// A commit's end is a backing's: what it began on is committed, and of each head those groups stay that came since. The files stay.
+/// Each event keeps what a running commit began on: of each head some groups came before, of lower numbers and all synced, and they
+/// lead to the tree on which it began. At its start these are all groups.
+pub fn each_event_keeps_what_a_commit_began_on()
+    ensures { (m : AnyStore) (event : Event) → IsLegalEvent m event → AreApart m → HasSince m m.next → HasNumbers m → JournalLeads m → HasBegun m m.next → HasBegun (after event m) (after event m).next }
+{}
+
+/// Each event keeps it that all groups, put on what was committed, lead to the files, but for what has no name. At a commit's end what
+/// came since leads there from the tree on which it began.
+pub fn each_event_keeps_what_the_journal_leads_to()
+    ensures { (m : AnyStore) (event : Event) → IsLegalEvent m event → IsProper m.tree → map (λ orphan. orphan.ino) m.orphans ≡ nameless m.tree → AreApart m → HasNumbers m → HasBegun m m.next
+        → JournalLeads m → JournalLeads (after event m) }
+{}
+
+/// A commit's end is a backing's: what it began on is committed, and of each head those groups stay that came since. The files stay, and a
+/// cut leaves nothing that it didn't leave before.
 pub fn a_commits_end_is_a_backings()
     ensures ended { (m : AnyStore) (next : AnyNext) (outside : Outside) → m.next ≡ Some next → HasSince m m.next → IsCommitted (backing_of m outside) (backing_of (after End m) outside) }
     ensures files { (m : AnyStore) (outside : Outside) → KeepsFiles (backing_of m outside) (backing_of (after End m) outside) }
+    ensures cut { (m : AnyStore) → HasBegun m m.next → Leaves (journal_of m) (journal_of (after End m)) [] }
 {}

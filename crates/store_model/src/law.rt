@@ -1,16 +1,27 @@
 // Laws of the events: what each keeps of the invariant.
 
-ghost use Rattle.std.specs.Prelude.{◌≡◌, ℕ, ◌+◌, ◌≤◌, List, map, None, Some};
+ghost use Rattle.std.specs.Prelude.{◌≡◌, ℕ, ◌+◌, ◌≤◌, List, ◌∷◌, [], length, map, None, Some};
+ghost use Rattle.ubifs_base.specs.Geometry.{IsGeometry};
 ghost use Rattle.index_tree.specs.Distinct.{AreDistinct};
+ghost use Rattle.fs_model.specs.declared.change.Change.{Change};
+ghost use Rattle.fs_model.specs.declared.change.Change.TheVariants.{SetBlock, SetInode};
+ghost use Rattle.fs_model.specs.declared.page_node.PageNode.{PageNode as AnyPage};
 ghost use Rattle.fs_model.specs.declared.space.Grant.{Grant as AnyGrant};
+ghost use Rattle.fs_model.specs.Backing.{FitsGroup, FitsPage};
+ghost use Rattle.fs_model.specs.Change.{apply};
+ghost use Rattle.fs_model.specs.Files.{Tree};
+ghost use Rattle.fs_model.specs.Proper.{IsProper};
+ghost use Rattle.leaf_map.specs.Allowed.{IsNodeOf};
 ghost use Rattle.space_sums.specs.Spaces.{IsAfterGroup, IsAfterPage};
 ghost use Rattle.store_model.specs.Backing.{Outside, backing_of};
-ghost use Rattle.store_model.specs.Events.{after, Begin, credit, Drop, Event, Free, granted, nodes_len, Open, Put, Putting, Start, Sync};
-ghost use Rattle.store_model.specs.Invariant.{HasFiles, HasNumbers, HasViews};
+ghost use Rattle.store_model.specs.Events.{after, Begin, Copying, credit, Drop, End, Event, Free, granted, Move, nodes_len, Offer, Open, Put, Putting, Start, Sync, Write};
+ghost use Rattle.store_model.specs.Invariant.{AreOwned, HasDataHead, HasFiles, HasNumbers, HasViews, OfBoth};
 ghost use Rattle.store_model.specs.Lebs.{IsStoreSettled, lent, space_of};
-ghost use Rattle.store_model.specs.Legal.{IsAllSynced, IsLegalEvent, need_of, nodes_of};
+ghost use Rattle.store_model.specs.Legal.{IsAllSynced, IsLegalEvent, KeepsProper, need_of, nodes_of};
+ghost use Rattle.store_model.specs.LogRing.{HasLogLebs};
 ghost use Rattle.store_model.specs.Store.{Index as AnyIndex, Store as AnyStore};
 
+use fs_laws::trees_built_alike_are_proper;
 use leaf_map::{
     a_change_of_leaves_is_one_of_the_tree, a_copy_changes_no_tree, bytes_of_leaves_add_up,
 };
@@ -72,6 +83,57 @@ pub fn each_event_keeps_the_numbers()
     an_opened_leb_keeps_the_files();
     a_drop_keeps_the_files();
 }
+
+/// Each event keeps the blocks with their inodes: a block of no inode becomes no leaf, and an inode goes with its blocks. No key has a
+/// number above the highest.
+pub fn each_event_keeps_blocks_with_their_inodes()
+    ensures { (m : AnyStore) (event : Event) → IsLegalEvent m event → AreDistinct (map (λ x. x.leaf) m.live) → HasFiles m → AreOwned m → AreOwned (after event m) }
+{
+    a_change_of_leaves_is_one_of_the_tree();
+}
+
+/// A copy keeps what was committed, where the leaf that is copied is a committed one of both views.
+pub fn a_copy_keeps_what_was_committed()
+    ensures { (m : AnyStore) (c : Copying) → IsLegalEvent m (Move c) → AreOwned m → OfBoth m (λ f. IsNodeOf f.view.kept c.leaf.node) → HasViews m → HasViews (after (Move c) m) }
+{}
+
+/// A commit keeps what was committed: it starts on the files as they are, and its view is the one at its end. So does a collection's
+/// begin and end.
+pub fn a_commit_keeps_what_was_committed()
+    ensures started { (m : AnyStore) (taken : List ℕ) → HasFiles m → AreOwned m → HasViews m → HasViews (after (Start taken) m) }
+    ensures written { (m : AnyStore) → HasViews m → HasViews (after Write m) }
+    ensures offered { (m : AnyStore) → HasViews m → HasViews (after Offer m) }
+    ensures ended { (m : AnyStore) → HasViews m → HasViews (after End m) }
+    ensures begun { (m : AnyStore) (victim : ℕ) → HasViews m → HasViews (after (Begin victim) m) }
+    ensures freed { (m : AnyStore) → HasViews m → HasViews (after Free m) }
+{}
+
+/// Each event keeps the head of data, which has blocks alone.
+pub fn each_event_keeps_the_head_of_data()
+    ensures { (m : AnyStore) (event : Event) → IsLegalEvent m event → HasDataHead m → HasDataHead (after event m) }
+{}
+
+/// Each event keeps the log: it ends at a unit of a LEB of the ring, and a LEB is left for the next section and one for a mount's.
+/// So a commit finds one for its section.
+pub fn each_event_keeps_the_log()
+    ensures { (m : AnyStore) (event : Event) → IsLegalEvent m event → IsGeometry m.geo → HasLogLebs m → HasLogLebs (after event m) }
+{}
+
+/// A put leaves a proper tree, after each of its groups. What a backing takes under a grant is such a group, and what it takes
+/// under a credit is two, one for each head.
+pub fn a_put_leaves_a_proper_tree()
+    ensures tree { (m : AnyStore) (p : Putting) → IsLegalEvent m (Put p) → IsProper m.tree → IsProper (after (Put p) m).tree }
+    ensures group { (tree : Tree) (grant : AnyGrant) (group : List Change) → FitsGroup tree grant group → KeepsProper tree group }
+    ensures inode { (tree : Tree) (page : AnyPage) → IsProper tree → FitsPage tree page → KeepsProper tree (SetInode page.ino page.inode ∷ []) }
+    ensures block { (tree : Tree) (page : AnyPage) → FitsPage tree page → KeepsProper (apply tree (SetInode page.ino page.inode ∷ [])) (SetBlock page.ino page.block page.bytes ∷ []) }
+{
+    trees_built_alike_are_proper();
+}
+
+/// A put skips no number: the last one that was given rises by its nodes.
+pub fn a_put_skips_no_number()
+    ensures { (m : AnyStore) (p : Putting) → IsLegalEvent m (Put p) → (after (Put p) m).sqnum ≡ m.sqnum + length (nodes_of p.parts) }
+{}
 
 /// A put and a LEB that is opened leave a store from which a commit can start and end.
 pub fn a_put_leaves_room_for_a_commit()

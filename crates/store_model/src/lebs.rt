@@ -1,7 +1,10 @@
 // Laws of LEBs: what each is for.
 
-ghost use Rattle.std.specs.Prelude.{◌≡◌, ◌≤◌, ◌+◌, ℕ, List, map};
-ghost use Rattle.store_model.specs.Events.{after, Begin, Drop, End, Event, Free, Offer, Open, Put, Putting, Start, Sync, Write};
+ghost use Rattle.std.specs.Prelude.{◌≡◌, ◌≤◌, ◌+◌, ℕ, List, length, map, None, Some};
+ghost use Rattle.ubifs_base.specs.Geometry.{IsGeometry};
+ghost use Rattle.index_tree.specs.Shape.{node_count};
+ghost use Rattle.store_model.specs.Events.{after, Begin, Copying, Drop, End, Event, Free, Move, Offer, Open, Put, Putting, Start, Sync, Write};
+ghost use Rattle.store_model.specs.Indexed.{HasLastPlaces};
 ghost use Rattle.store_model.specs.Invariant.{AreApart, HasSince, IsTaking};
 ghost use Rattle.store_model.specs.Lebs.{space_of};
 ghost use Rattle.store_model.specs.Legal.{IsLegalEvent};
@@ -22,9 +25,11 @@ pub fn lebs_keep_what_they_are_for()
     ensures dropped { (m : AnyStore) (ino : ℕ) (index : AnyIndex) → IsLegalEvent m (Drop ino index) → AreApart m → AreApart (after (Drop ino index) m) }
 {}
 
-/// A collection's begin and the freeing of its victim leave each LEB for one thing, too: the victim is a leaf LEB until it is empty.
+/// A collection leaves each LEB for one thing, too: the victim is a leaf LEB until it is empty, and a copy stands in the bud of the
+/// collector's head.
 pub fn a_collection_keeps_what_lebs_are_for()
     ensures begun { (m : AnyStore) (victim : ℕ) → IsLegalEvent m (Begin victim) → AreApart m → AreApart (after (Begin victim) m) }
+    ensures moved { (m : AnyStore) (c : Copying) → IsLegalEvent m (Move c) → AreApart m → AreApart (after (Move c) m) }
     ensures freed { (m : AnyStore) → IsLegalEvent m Free → AreApart m → AreApart (after Free m) }
 {}
 
@@ -36,6 +41,15 @@ pub fn a_commit_keeps_what_lebs_are_for()
     ensures offered { (m : AnyStore) → AreApart m → AreApart (after Offer m) }
     ensures ended { (m : AnyStore) → IsTaking m m.next → HasSince m m.next → AreApart m → AreApart (after End m) }
 {}
+
+/// Each event leaves each LEB for one thing. At a commit's end that is so of the LEBs that it took, and of what came since it began.
+pub fn each_event_keeps_what_lebs_are_for()
+    ensures { (m : AnyStore) (event : Event) → IsLegalEvent m event → IsTaking m m.next → HasSince m m.next → AreApart m → AreApart (after event m) }
+{
+    lebs_keep_what_they_are_for();
+    a_collection_keeps_what_lebs_are_for();
+    a_commit_keeps_what_lebs_are_for();
+}
 
 /// A commit that runs keeps the LEBs that it took, through each of them, and its index is to stand in these and in those of the
 /// committed one.
@@ -53,6 +67,23 @@ pub fn a_running_commit_gets_what_is_put()
     ensures sync { (m : AnyStore) → HasSince m m.next → HasSince (after Sync m) (after Sync m).next }
     ensures dropped { (m : AnyStore) (ino : ℕ) (index : AnyIndex) → HasSince m m.next → HasSince (after (Drop ino index) m) (after (Drop ino index) m).next }
 {}
+
+/// Each event keeps the LEBs that a running commit took, and where its index is to stand: in these and in those of the committed one.
+/// At a commit's start each node of the index that keeps its place is one of the committed index.
+pub fn each_event_keeps_what_a_commit_took()
+    ensures { (m : AnyStore) (event : Event) → IsLegalEvent m event → IsGeometry m.geo → AreApart m → length m.index.places ≡ node_count m.index.shape
+        → HasLastPlaces m → IsTaking m m.next → IsTaking (after event m) (after event m).next }
+{
+    a_running_commit_keeps_its_lebs();
+}
+
+/// Each event keeps what came since a running commit began: at its start nothing came yet, and all before is synced; a copy stands
+/// in the buds of both views; and after its end no commit runs.
+pub fn each_event_keeps_what_came_since()
+    ensures { (m : AnyStore) (event : Event) → IsLegalEvent m event → AreApart m → HasSince m m.next → HasSince (after event m) (after event m).next }
+{
+    a_running_commit_gets_what_is_put();
+}
 
 /// The numbers of admission count roles. A put opens no LEB, a LEB that is opened was empty, a sync empties some, and none of
 /// them changes how many LEBs the index has.

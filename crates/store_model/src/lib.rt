@@ -7,6 +7,7 @@
 #![tactic(auto)]
 
 mod backing;
+mod grants;
 mod law;
 mod lebs;
 mod passes;
@@ -17,17 +18,22 @@ mod worked;
 pub use crate::backing::{
     a_commits_end_is_a_backings, a_commits_start_is_a_backings, a_drop_is_a_backings,
     a_put_is_a_backings, a_sync_is_a_backings, an_opened_leb_is_no_backings,
+    each_event_keeps_what_a_commit_began_on, each_event_keeps_what_the_journal_leads_to,
 };
+pub use crate::grants::{a_store_stays_settled, what_was_granted_stays_covered};
 pub use crate::law::{
-    a_drop_keeps_the_files, a_lent_leb_comes_back, a_put_keeps_the_files,
-    a_put_leaves_room_for_a_commit, a_put_spends_what_was_granted, a_sync_comes_first,
-    a_sync_keeps_the_files, an_opened_leb_keeps_the_files, bytes_follow_the_leaves,
-    each_event_keeps_the_files, each_event_keeps_the_numbers,
+    a_commit_keeps_what_was_committed, a_copy_keeps_what_was_committed, a_drop_keeps_the_files,
+    a_lent_leb_comes_back, a_put_keeps_the_files, a_put_leaves_a_proper_tree,
+    a_put_leaves_room_for_a_commit, a_put_skips_no_number, a_put_spends_what_was_granted,
+    a_sync_comes_first, a_sync_keeps_the_files, an_opened_leb_keeps_the_files,
+    bytes_follow_the_leaves, each_event_keeps_blocks_with_their_inodes, each_event_keeps_the_files,
+    each_event_keeps_the_head_of_data, each_event_keeps_the_log, each_event_keeps_the_numbers,
 };
 pub use crate::lebs::{
     a_collection_keeps_what_lebs_are_for, a_commit_keeps_what_lebs_are_for,
-    a_running_commit_gets_what_is_put, a_running_commit_keeps_its_lebs, lebs_are_counted,
-    lebs_keep_what_they_are_for,
+    a_running_commit_gets_what_is_put, a_running_commit_keeps_its_lebs,
+    each_event_keeps_what_a_commit_took, each_event_keeps_what_came_since,
+    each_event_keeps_what_lebs_are_for, lebs_are_counted, lebs_keep_what_they_are_for,
 };
 pub use crate::passes::a_collection_gains;
 pub use crate::recovery::{a_store_is_recovered, what_fits_is_recovered, what_fits_loses_no_leaf};

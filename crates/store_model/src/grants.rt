@@ -1,0 +1,39 @@
+// Laws of what was granted, which stays covered, and of steps that leave a store settled.
+
+ghost use Rattle.std.specs.Prelude.{ℕ, List};
+ghost use Rattle.space_budget.specs.Books.{AreGrantsCovered};
+ghost use Rattle.store_model.specs.Backing.{book_of};
+ghost use Rattle.store_model.specs.Events.{after, Begin, Copying, Drop, Free, Move, Open, Put, Putting, Start, Sync};
+ghost use Rattle.store_model.specs.Invariant.{AreApart, HasFiles};
+ghost use Rattle.store_model.specs.Lebs.{IsStoreSettled};
+ghost use Rattle.store_model.specs.Legal.{IsLegalEvent};
+ghost use Rattle.store_model.specs.Store.{Index as AnyIndex, Store as AnyStore};
+
+use crate::law::{a_put_spends_what_was_granted, bytes_follow_the_leaves};
+use space_sums::{what_takes_no_more_keeps_what_was_granted, what_was_admitted_can_be_put};
+
+/// What was granted stays covered, the credits and the next group's bytes and nodes: a put takes no more than what pays for it, and
+/// neither bytes nor weight grow where a LEB is opened, all is synced, an inode goes, a victim is freed or a commit starts.
+pub fn what_was_granted_stays_covered()
+    ensures put { (m : AnyStore) (p : Putting) → IsLegalEvent m (Put p) → HasFiles m → AreGrantsCovered (book_of m) → AreGrantsCovered (book_of (after (Put p) m)) }
+    ensures opened { (m : AnyStore) (head lnum : ℕ) → IsLegalEvent m (Open head lnum) → AreApart m → AreGrantsCovered (book_of m) → AreGrantsCovered (book_of (after (Open head lnum) m)) }
+    ensures synced { (m : AnyStore) → AreGrantsCovered (book_of m) → AreGrantsCovered (book_of (after Sync m)) }
+    ensures dropped { (m : AnyStore) (ino : ℕ) (index : AnyIndex) → IsLegalEvent m (Drop ino index) → HasFiles m → AreGrantsCovered (book_of m) → AreGrantsCovered (book_of (after (Drop ino index) m)) }
+    ensures freed { (m : AnyStore) → IsLegalEvent m Free → AreApart m → AreGrantsCovered (book_of m) → AreGrantsCovered (book_of (after Free m)) }
+    ensures started { (m : AnyStore) (taken : List ℕ) → IsLegalEvent m (Start taken) → AreApart m → AreGrantsCovered (book_of m) → AreGrantsCovered (book_of (after (Start taken) m)) }
+{
+    a_put_spends_what_was_granted();
+    bytes_follow_the_leaves();
+    what_was_admitted_can_be_put();
+    what_takes_no_more_keeps_what_was_granted();
+}
+
+/// A store stays settled, also as the end of a running commit leaves it, through all that opens no LEB and puts no node: a sync, an
+/// inode that goes, and a collection, whose victim is empty at last in the place of a LEB that was lent to it.
+pub fn a_store_stays_settled()
+    ensures synced { (m : AnyStore) → IsStoreSettled m → IsStoreSettled (after Sync m) }
+    ensures dropped { (m : AnyStore) (ino : ℕ) (index : AnyIndex) → IsStoreSettled m → IsStoreSettled (after (Drop ino index) m) }
+    ensures begun { (m : AnyStore) (victim : ℕ) → IsLegalEvent m (Begin victim) → IsStoreSettled m → IsStoreSettled (after (Begin victim) m) }
+    ensures moved { (m : AnyStore) (c : Copying) → IsStoreSettled m → IsStoreSettled (after (Move c) m) }
+    ensures freed { (m : AnyStore) → AreApart m → IsStoreSettled m → IsStoreSettled (after Free m) }
+{}
