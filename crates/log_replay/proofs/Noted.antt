@@ -62,7 +62,7 @@ entry_shows node false false (Some kind) = refl
 entry_named : (node : DentNode) (s : Option Change) → shown (entry node) ≡ s → may_be_name s ≡ false → ⊥
 entry_named node s e h = false≢true (sym h ∙ sym (ap may_be_name e) ∙ entry_shows node node.attribute (node.inum == 0) (kind_of_type node.kind))
 
-content_inode : (node : LeafNode) (ino : ℕ) (set : AnInode) → shown node ≡ Some (SetInode ino set) → content_of node ≡ Inode ino (is_linked (Some (SetInode ino set)))
+pub content_inode : (node : LeafNode) (ino : ℕ) (set : AnInode) → shown node ≡ Some (SetInode ino set) → content_of node ≡ Inode ino (is_linked (Some (SetInode ino set)))
 content_inode (inode node) ino set e = inode_told node ino set (kind_of_bits (bits_of node.mode)) e
 content_inode (block node) ino set e = absurd cc
 content_inode (entry node) ino set e = absurd (entry_named node (Some (SetInode ino set)) e refl)
@@ -93,7 +93,7 @@ entry_told node q false true k h e = absurd cc
 entry_told node q false false None h e = absurd cc
 entry_told node q false false (Some kind) h e = ap (λ (b : Bool). Entry node.dir node.name (not b)) h ∙ ap name_told e
 
-content_entry : (node : LeafNode) (q : AnEntry) → shown node ≡ Some (SetEntry q) → content_of node ≡ Entry q.dir q.name true
+pub content_entry : (node : LeafNode) (q : AnEntry) → shown node ≡ Some (SetEntry q) → content_of node ≡ Entry q.dir q.name true
 content_entry (inode node) q e = absurd (no_set node (SetEntry q) (kind_of_bits (bits_of node.mode)) e refl)
 content_entry (block node) q e = absurd cc
 content_entry (entry node) q e = entry_told node q node.attribute (node.inum == 0) (kind_of_type node.kind) refl e
@@ -104,14 +104,14 @@ abbrev block_told : Option Change → NodeContent
 block_told (Some (SetBlock ino number bytes)) = Block ino number
 block_told other = Unknown 0 true
 
-content_block : (node : LeafNode) (ino number : ℕ) (bytes : List ℕ) → shown node ≡ Some (SetBlock ino number bytes) → content_of node ≡ Block ino number
+pub content_block : (node : LeafNode) (ino number : ℕ) (bytes : List ℕ) → shown node ≡ Some (SetBlock ino number bytes) → content_of node ≡ Block ino number
 content_block (inode node) ino number bytes e = absurd (no_set node (SetBlock ino number bytes) (kind_of_bits (bits_of node.mode)) e refl)
 content_block (block node) ino number bytes e = ap block_told e
 content_block (entry node) ino number bytes e = absurd (entry_named node (Some (SetBlock ino number bytes)) e refl)
 content_block (truncation node) ino number bytes e = absurd cc
 
 -- ---- one leaf more
-number_at : (a b : ℕ) → (a == b) ≡ is_at (nat_cmp a) b
+pub number_at : (a b : ℕ) → (a == b) ≡ is_at (nat_cmp a) b
 number_at a b = by (is_at (nat_cmp a) b) refl
   where
     by : (c : Bool) → is_at (nat_cmp a) b ≡ c → (a == b) ≡ c
@@ -142,7 +142,7 @@ place_more x kept q b e = rw e (by b)
     by true = refl
     by false = refl
 
-says_more : (x : Kept) (kept : List Kept) (s t : Standing) → IsKeyed x → Says kept s → Notes (told_leaf x) s t → Says (x ∷ kept) t
+pub says_more : (x : Kept) (kept : List Kept) (s t : Standing) → IsKeyed x → Says kept s → Notes (told_leaf x) s t → Says (x ∷ kept) t
 says_more x kept s t keyed says notes = by (shown_by x) refl keyed
   where
     by : (c : Option Change) → shown_by x ≡ c → HasKeyOf x.leaf c → Says (x ∷ kept) t

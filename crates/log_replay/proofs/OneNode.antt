@@ -249,7 +249,7 @@ entry_does node place s t false false (Some kind) h d = d
 entry_does node place s t false false None h d = absurd (false≢true h)
 
 -- an entry's node is of a known kind
-known : (k : ℕ) → k ≤ 6 → is_some (kind_of_type k) ≡ true
+pub known : (k : ℕ) → k ≤ 6 → is_some (kind_of_type k) ≡ true
 known zero h = refl
 known (suc zero) h = refl
 known (suc (suc zero)) h = refl

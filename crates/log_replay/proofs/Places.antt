@@ -319,7 +319,7 @@ found_differ named copies (x ∷ committed) c d =
     by more None e = copy more (copy_of_key x.leaf copies) refl
 
 -- ---- nodes that are applied
-kept_all : (Q : Kept → Type 0) (kept : List Kept) (new : Placed) → AllByRecursion Q kept → Q (kept_at new) → AllByRecursion Q (kept_after kept new)
+pub kept_all : (Q : Kept → Type 0) (kept : List Kept) (new : Placed) → AllByRecursion Q kept → Q (kept_at new) → AllByRecursion Q (kept_after kept new)
 kept_all Q kept new a q = by (change_of new.node)
   where
     put : (change : Change) (xs : List Kept) → AllByRecursion Q xs → AllByRecursion Q (put_leaf (is_gone change) (kept_at new) xs)
@@ -369,7 +369,7 @@ itself_shown d h = by (shown d.node) h
     by (Some (SetEntry e)) t = name_here (key e) e refl
     by s t = absurd (false≢true t)
 
-node_shown : (kept : List Kept) (n : LeafNode) → AllByRecursion IsKeyed kept → IsNodeOf kept n → is_shown (shown n) ≡ true
+pub node_shown : (kept : List Kept) (n : LeafNode) → AllByRecursion IsKeyed kept → IsNodeOf kept n → is_shown (shown n) ≡ true
 node_shown [] n k h = absurd h
 node_shown (x ∷ kept) n k (inl e) = subst (λ (z : LeafNode). is_shown (shown z) ≡ true) (sym e) (keyed_shown (shown_by x) x.leaf k.0)
   where

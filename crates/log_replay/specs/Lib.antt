@@ -1,4 +1,12 @@
 pub mod Changes
+pub mod Copies
+pub mod Moving
+pub mod Named
 pub mod Noting
+pub mod Placing
+pub mod Reading
+pub mod Replay
+pub mod Settling
 pub mod Standing
+pub mod Things
 pub mod Told

@@ -8,13 +8,26 @@
 #![tactic(auto)]
 
 mod application;
+mod candidate;
+mod committed_leaf;
+mod copies;
 mod index_calls;
 mod laws;
 mod listed;
+mod moving;
+mod named;
 mod nodes;
 mod noting;
-mod replay;
+mod placing;
+mod read_leaf;
+mod reading;
+mod recovery;
+mod replayed;
+mod settling;
 mod standing;
+mod thing;
 
+pub use crate::committed_leaf::CommittedLeaf;
 pub use crate::laws::journals_can_be_applied;
-pub use crate::replay::replay_nodes;
+pub use crate::recovery::{replay, replay_nodes};
+pub use crate::replayed::Replayed;

@@ -25,13 +25,21 @@ pub(crate) fn stand(
     ensures stands { IfOk result (λ s. (kept : List Kept) → AreLeavesOf kept index found.items → Stands kept s) }
     ensures index { IfOk result (λ s. s.index ≡ index) }
 {
-    let mut standing = Standing {
+    let mut standing = stand_empty(alloc, index);
+    note_leaves(&mut standing, found)?;
+    Ok(standing)
+}
+
+// An index of whose leaves nothing is kept.
+pub(crate) fn stand_empty(alloc: Global, index: Index) -> Standing
+    ensures says { Says [] result }
+    ensures index { result.index ≡ index }
+{
+    Standing {
         index,
         inodes: BTreeMap::new(alloc),
         names: BTreeMap::new(alloc),
-    };
-    note_leaves(&mut standing, found)?;
-    Ok(standing)
+    }
 }
 
 // Keeps what leaves show, of which nothing was kept before.
@@ -48,7 +56,7 @@ fn note_leaves(standing: &mut Standing, found: Vec<JournalNode>) -> Result<(), M
 }
 
 // Keeps what one leaf shows.
-fn note_leaf(standing: &mut Standing, node: JournalNode) -> Result<(), Memory>
+pub(crate) fn note_leaf(standing: &mut Standing, node: JournalNode) -> Result<(), Memory>
     ensures notes { OnOk result (Notes node standing.old standing.new) }
     ensures index { standing.new.index ≡ standing.old.index }
 {

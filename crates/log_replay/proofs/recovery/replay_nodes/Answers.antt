@@ -3,7 +3,7 @@ use Rattle.leaf_map.specs.Recovered.{in_order, leaves_after, leaves_found}
 use Rattle.log_replay.specs.Standing.{leaves}
 use Rattle.log_replay.specs.Told.{without_orphans}
 use Rattle.log_replay.proofs.Places.{leaves_told, nodes_told}
-use Rattle.log_replay.proofs.replay.replay_nodes.Goals as goal
+use Rattle.log_replay.proofs.recovery.replay_nodes.Goals as goal
 
 pub returns-clause-leaves : goal.returns-clause-leaves
 returns-clause-leaves c parts told =

@@ -1,0 +1,129 @@
+-- What is told of nodes says which leaf they make, and which nodes make the leaf of one inode, block or name.
+use Rattle.std.proofs.Common.{◌≡◌, Bool, true, false, cond, not, refl, sym, ap, ◌∙◌, Option, Some, None}
+use Rattle.std.specs.Prelude.{◌==◌, is_some}
+use Rattle.std.specs.Option.{option_map}
+use Rattle.std.proofs.lemmas.Bool.{false≢true}
+use Rattle.ubifs_base.specs.R5.{r5_of}
+use Rattle.ubifs_base.specs.declared.key.Key.{Key}
+use Rattle.ubifs_base.specs.declared.key.Key.TheVariants.{Dent, Xent}
+use Rattle.media_leaf.specs.LeafNode.{LeafNode, IsLeaf, inode, block, entry, truncation}
+use Rattle.media_leaf.specs.declared.dent_node.DentNode.{DentNode}
+use Rattle.media_leaf.specs.declared.ino_node.InoNode.{InoNode}
+use Rattle.fs_model.specs.declared.change.Change.{Change}
+use Rattle.fs_model.specs.declared.change.Change.TheVariants.{SetInode, SetEntry, SetBlock, DropEntry, CutBlocks, DropInode}
+use Rattle.fs_model.specs.declared.inode.Kind.{Kind}
+use Rattle.change_nodes.specs.Nodes.{bits_of, inode_of, kind_of_bits, kind_of_type}
+use Rattle.leaf_map.specs.Kept.{Placed, kept_at, node_key, shown}
+use Rattle.leaf_map.specs.LeafMap.{HasKeyOf, shows_same}
+use Rattle.leaf_map.specs.Parts.{is_shown}
+use Rattle.journal_scan.specs.Content.{content_of}
+use Rattle.journal_scan.specs.declared.node_content.NodeContent.{NodeContent}
+use Rattle.journal_scan.specs.declared.node_content.NodeContent.TheVariants.{Inode, Block, Entry, Truncation, Unknown}
+use Rattle.log_replay.specs.Things.{is_same_told, key_told}
+use Rattle.log_replay.specs.Settling.{IsSetting}
+use Rattle.log_replay.proofs.Keyed.{node_keyed}
+use Rattle.log_replay.proofs.Noted.{content_block, content_entry, content_inode}
+use Rattle.log_replay.proofs.OneNode.{known}
+
+-- the key, if something is set
+abbrev pub if_set : Bool → Key → Option Key
+if_set true key = Some key
+if_set false key = None
+
+inode_key : (node : InoNode) (l : Bool) (k : Option Kind) → key_told (cond (is_some k) (Inode node.ino l) (Unknown node.ino l)) ≡ if_set (is_shown (option_map (λ kind. SetInode node.ino (inode_of node kind)) k)) (node_key (inode node))
+inode_key node l None = refl
+inode_key node l (Some kind) = refl
+
+entry_key : (node : DentNode) (a z : Bool) (k : Option Kind) → is_some k ≡ true
+    → key_told (cond a (Unknown node.dir true) (Entry node.dir node.name (not z)))
+    ≡ if_set (is_shown (cond a None (cond z (Some (DropEntry node.dir node.name)) (option_map (λ kind. SetEntry (record { dir = node.dir; name = node.name; ino = node.inum; kind = kind })) k)))) (cond a (Xent node.dir (r5_of node.name)) (Dent node.dir (r5_of node.name)))
+entry_key node true z k h = refl
+entry_key node false true k h = refl
+entry_key node false false None h = absurd (false≢true h)
+entry_key node false false (Some kind) h = refl
+
+-- a node's key is told if it sets something
+pub told_key : (node : LeafNode) → IsLeaf node → key_told (content_of node) ≡ if_set (is_shown (shown node)) (node_key node)
+told_key (inode node) leaf = inode_key node (not (node.nlink == 0)) (kind_of_bits (bits_of node.mode))
+told_key (block node) leaf = refl
+told_key (entry node) leaf = entry_key node node.attribute (node.inum == 0) (kind_of_type node.kind) (known node.kind leaf.kind_known)
+told_key (truncation node) leaf = refl
+
+pub set_key : (node : LeafNode) → IsSetting node → key_told (content_of node) ≡ Some (node_key node)
+set_key node is = told_key node is.leaf ∙ ap (λ b. if_set b (node_key node)) is.shown
+
+-- what sets nothing is the same as nothing
+none_same : (c d : NodeContent) → key_told d ≡ None → is_same_told c d ≡ false
+none_same c (Inode ino linked) h = absurd cc
+none_same c (Block ino number) h = absurd cc
+none_same c (Entry dir name true) h = absurd cc
+none_same (Inode a l) (Entry dir name false) h = refl
+none_same (Block a n) (Entry dir name false) h = refl
+none_same (Entry a n true) (Entry dir name false) h = refl
+none_same (Entry a n false) (Entry dir name false) h = refl
+none_same (Truncation a n) (Entry dir name false) h = refl
+none_same (Unknown a l) (Entry dir name false) h = refl
+none_same (Inode a l) (Truncation ino size) h = refl
+none_same (Block a n) (Truncation ino size) h = refl
+none_same (Entry a n true) (Truncation ino size) h = refl
+none_same (Entry a n false) (Truncation ino size) h = refl
+none_same (Truncation a n) (Truncation ino size) h = refl
+none_same (Unknown a l) (Truncation ino size) h = refl
+none_same (Inode a l) (Unknown ino linked) h = refl
+none_same (Block a n) (Unknown ino linked) h = refl
+none_same (Entry a n true) (Unknown ino linked) h = refl
+none_same (Entry a n false) (Unknown ino linked) h = refl
+none_same (Truncation a n) (Unknown ino linked) h = refl
+none_same (Unknown a l) (Unknown ino linked) h = refl
+
+-- what sets nothing isn't the same as what sets something
+unshown_same : (c : Change) (t : Option Change) → is_shown (Some c) ≡ true → is_shown t ≡ false → shows_same (Some c) t ≡ false
+unshown_same (SetInode a x) None s h = refl
+unshown_same (SetInode a x) (Some (SetInode b y)) s h = absurd (false≢true (sym h))
+unshown_same (SetInode a x) (Some t) s h = refl
+unshown_same (SetBlock a n x) None s h = refl
+unshown_same (SetBlock a n x) (Some (SetBlock b m y)) s h = absurd (false≢true (sym h))
+unshown_same (SetBlock a n x) (Some t) s h = refl
+unshown_same (SetEntry e) None s h = refl
+unshown_same (SetEntry e) (Some (SetEntry f)) s h = absurd (false≢true (sym h))
+unshown_same (SetEntry e) (Some t) s h = refl
+unshown_same c t s h = absurd (false≢true s)
+
+-- whether two nodes set the same inode, block or name is told
+pub told_same : (a b : LeafNode) → is_shown (shown a) ≡ true → IsLeaf b → is_same_told (content_of a) (content_of b) ≡ shows_same (shown a) (shown b)
+told_same a b set leaf = first (shown a) refl set
+  where
+    other : (c : Change) → shown a ≡ Some c → is_shown (Some c) ≡ true → is_shown (shown b) ≡ false → is_same_told (content_of a) (content_of b) ≡ shows_same (shown a) (shown b)
+    other c e s h =
+        none_same (content_of a) (content_of b) (told_key b leaf ∙ ap (λ z. if_set z (node_key b)) h)
+        ∙ sym (ap (λ z. shows_same z (shown b)) e ∙ unshown_same c (shown b) s h)
+
+    second : (c : Change) → shown a ≡ Some c → is_shown (Some c) ≡ true → (t : Option Change) → shown b ≡ t → is_same_told (content_of a) (content_of b) ≡ shows_same (shown a) (shown b)
+    second (SetInode i x) e s (Some (SetInode j y)) f = rw (content_inode a i x e, content_inode b j y f, e, f) refl
+    second (SetInode i x) e s (Some (SetBlock j n y)) f = rw (content_inode a i x e, content_block b j n y f, e, f) refl
+    second (SetInode i x) e s (Some (SetEntry q)) f = rw (content_inode a i x e, content_entry b q f, e, f) refl
+    second (SetBlock i m x) e s (Some (SetInode j y)) f = rw (content_block a i m x e, content_inode b j y f, e, f) refl
+    second (SetBlock i m x) e s (Some (SetBlock j n y)) f = rw (content_block a i m x e, content_block b j n y f, e, f) refl
+    second (SetBlock i m x) e s (Some (SetEntry q)) f = rw (content_block a i m x e, content_entry b q f, e, f) refl
+    second (SetEntry p) e s (Some (SetInode j y)) f = rw (content_entry a p e, content_inode b j y f, e, f) refl
+    second (SetEntry p) e s (Some (SetBlock j n y)) f = rw (content_entry a p e, content_block b j n y f, e, f) refl
+    second (SetEntry p) e s (Some (SetEntry q)) f = rw (content_entry a p e, content_entry b q f, e, f) refl
+    second c e s None f = other c e s (ap is_shown f)
+    second c e s (Some (DropEntry dir name)) f = other c e s (ap is_shown f)
+    second c e s (Some (CutBlocks ino old new)) f = other c e s (ap is_shown f)
+    second c e s (Some (DropInode ino)) f = other c e s (ap is_shown f)
+    second (DropEntry dir name) e s t f = absurd (false≢true s)
+    second (CutBlocks ino old new) e s t f = absurd (false≢true s)
+    second (DropInode ino) e s t f = absurd (false≢true s)
+
+    first : (s : Option Change) → shown a ≡ s → is_shown s ≡ true → is_same_told (content_of a) (content_of b) ≡ shows_same (shown a) (shown b)
+    first None e h = absurd (false≢true h)
+    first (Some c) e h = second c e h (shown b) refl
+
+-- a node that sets something has the key of what it shows
+pub has_key : (x : Placed) → IsSetting x.node → HasKeyOf (kept_at x).leaf (shown x.node)
+has_key x is = by (shown x.node) refl is.shown
+  where
+    by : (s : Option Change) → shown x.node ≡ s → is_shown s ≡ true → HasKeyOf (kept_at x).leaf s
+    by None e h = absurd (false≢true h)
+    by (Some c) e h = node_keyed x.node (kept_at x).leaf c refl is.leaf e h

@@ -1,0 +1,27 @@
+use Rattle.std.proofs.Common.{◌≡◌, ℕ, List, length, map, max, ap, ◌∙◌, arith, sym}
+use Rattle.leaf_map.specs.Kept.{Placed, node_key}
+use Rattle.leaf_map.specs.Recovered.{highest_key, in_order}
+use Rattle.log_replay.specs.Replay.{highest_of}
+use Rattle.log_replay.proofs.Recovering.{highest_is, nodes_counted, parts_read, parts_recover}
+use Rattle.log_replay.proofs.recovery.replay.Goals as goal
+
+pub returns-clause-recovered : goal.returns-clause-recovered
+returns-clause-recovered c =
+    let r = c.in_ok-read.ensures in
+    let read = c.in_ok-read.read in
+    let committed = c.args.leaves.items in
+    let listed = c.args.listed.now in
+    let most : c.max.result ≡ max (highest_of committed) read.highest = c.max.ensures ∙ ap (λ (n : ℕ). max n read.highest) (c.highest_of-highest.ensures ∙ ap highest_of c.deref.ensures.value) in
+    let count : c.len-nodes.result ≡ length read.nodes.items = omega (arith, c.len-nodes.ensures) in
+    record {
+      reads = r.reads;
+      of_buds = r.of_buds;
+      texts = r.texts;
+      recovered = λ parts is. c.in_ok-index.ensures.leaves parts (parts_recover parts r.reads c.args.committed committed listed read.nodes.items is r.nodes)
+          (c.in_ok-found.ensures parts (parts_read parts r.reads c.args.buds.now c.args.committed committed listed read.copies.items is r.of_buds r.copies));
+      nodes = λ parts is. count ∙ nodes_counted parts read.nodes.items (parts_recover parts r.reads c.args.committed committed listed read.nodes.items is r.nodes).nodes;
+      highest = λ parts is. ap (λ (n : ℕ). max parts.highest n) most
+          ∙ highest_is parts committed read.highest is.told (r.highest ∙ sym (ap (λ (ns : List Placed). highest_key 0 (map (λ x. node_key x.node) (in_order ns))) is.nodes));
+      sqnum = r.sqnum;
+      tails = r.tails;
+    }
