@@ -6,7 +6,7 @@ use Rattle.ubi_volume.specs.Frame.{Works}
 use Rattle.ubi_volume.specs.FrameLaws.{Works-more, Works-on, Works-then}
 use Rattle.media_sys.specs.declared.master.Master.{Master}
 use Rattle.small_areas.specs.Copies.{copy_of, master_node, IsNodeOf, IsRoom, IsCopied, AreCopied, CopyUnderWay, HasWholeCopy, IsMasterLeb, MasterUnderWay}
-use Rattle.small_areas.proofs.CopyRuns.{copied_then, copied_from, first_moment, second_moment, new_second, open_after, settled}
+use Rattle.small_areas.proofs.CopyRuns.{copied_then, copied_from, copying_from, first_moment, second_moment, new_second, open_after, settled}
 use Rattle.small_areas.proofs.LaidCopy.{standing_at, HasCopy}
 use Rattle.small_areas.specs.MasterLaws.{OneNode, OneText}
 use Rattle.small_areas.proofs.TornCopy.{copied}
@@ -34,7 +34,7 @@ copied_spelled a b lnum room sqnum m node e h = let P : List ℕ → Type 0 = λ
 -- a copy that was written is whole
 whole_copy : (a b : VolumeState) (lnum room : ℕ) (copy left : List ℕ) → IsCopied a b lnum room copy → b.left_now lnum left → HasWholeCopy a lnum room copy left
 whole_copy a b lnum room copy left (inl (place, is_place, done)) now = let kept = done.left left now in inl (place, is_place, kept.0, kept.1, kept.2)
-whole_copy a b lnum room copy left (inr (none, done)) now = inr (done.left left now)
+whole_copy a b lnum room copy left (inr (none, done)) now = inr (none, done.left left now)
 
 -- the first copy alone, whatever it answered
 pub works_one : OneText → OneNode → (a b : VolumeState) (node : List ℕ) (room number : ℕ) (m : Master) → IsRoom room → HasMapped a → IsCall a b 1 room (number + 1) m node → Works a b IsMasterLeb (MasterUnderWay a room number m)
@@ -45,14 +45,16 @@ works_one one one_node a b node room number m is_room sub call =
     let D : List ℕ → Type 0 = CopyUnderWay a 1 room (copy_of room n1) in
     Works-more a b (λ k. k ≡ 1) IsMasterLeb (UnderWay a 1 D) (MasterUnderWay a room number m) (λ k is. inl is) (λ x w. record {
       elsewhere = λ k apart. w.0 k (λ is. apart (inl is));
+      first = w.1;
+      second = inl (inl (w.0 2 (omega arith)));
       in_order = inl (w.0 2 (omega arith));
       old_or_new = λ old start. first_moment one one_node a n1 n2 room number m old is_room h.is_node sub start x w;
     }) (Works-on a b 1 D h.works)
 
 -- both copies, whatever the second answered
-pub works_two : OneText → OneNode → (a b e : VolumeState) (node other : List ℕ) (room number : ℕ) (m : Master) → IsRoom room → HasMapped a → HasMapped b → IsCall a b 1 room (number + 1) m node → IsCopied a b 1 room (copy_of room node)
+pub works_two : OneText → OneNode → (a b e : VolumeState) (node other : List ℕ) (room number : ℕ) (m : Master) → IsRoom room → HasMapped a → HasMapped b → b.leb_size ≡ a.leb_size → IsCall a b 1 room (number + 1) m node → IsCopied a b 1 room (copy_of room node)
     → IsCall b e 2 room (number + 2) m other → Works a e IsMasterLeb (MasterUnderWay a room number m)
-works_two one one_node a b e node other room number m is_room sub_a sub_b first done second =
+works_two one one_node a b e node other room number m is_room sub_a sub_b size first done second =
     let n1 : List ℕ = master_node (number + 1) m in
     let n2 : List ℕ = master_node (number + 2) m in
     let h = spelled a b 1 room (number + 1) m node first in
@@ -61,6 +63,8 @@ works_two one one_node a b e node other room number m is_room sub_a sub_b first 
     let E : List ℕ → Type 0 = CopyUnderWay b 2 room (copy_of room n2) in
     Works-then a b e IsMasterLeb (λ l. l ≡ 2) IsMasterLeb (MasterUnderWay a room number m) (UnderWay b 2 E) (MasterUnderWay a room number m) (λ l is. is) (λ l is. inr is) (λ x w. w) (λ x w. record {
       elsewhere = λ l apart. h.works.others_left l (x l) (λ is. apart (inl is)) (w.0 l (λ is. apart (inr is)));
+      first = h.works.left (x 1) (w.0 1 (omega arith));
+      second = copying_from a b 2 1 room (copy_of room n2) D (omega arith) size h.works (x 2) w.1;
       in_order = inr (whole_copy a b 1 room (copy_of room n1) (x 1) (copied_spelled a b 1 room (number + 1) m node first.spelling done) (w.0 1 (omega arith)));
       old_or_new = λ old start. second_moment one one_node a b n1 n2 room number m old D is_room h.is_node k.is_node sub_a sub_b start h.works (copied_spelled a b 1 room (number + 1) m node first.spelling done) x w;
     }) (works_one one one_node a b node room number m is_room sub_a first) (Works-on b e 2 E k.works)

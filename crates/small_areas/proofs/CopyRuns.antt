@@ -44,12 +44,12 @@ works_after a b c lnum D E more keeps works = record {
   unbroken = λ h. keeps.unbroken (works.unbroken h);
 }
 
-pub put_copying : (a b : VolumeState) (lnum room : ℕ) (copy : List ℕ) (place : Option ℕ) → Keeps a b → b.leb_size ≡ a.leb_size → length copy ≡ room → IsBytes (a.holds lnum) → IfSome place (IsPlace (a.holds lnum) room)
+pub put_copying : (a b : VolumeState) (lnum room : ℕ) (copy : List ℕ) (place : Option ℕ) → Keeps a b → b.leb_size ≡ a.leb_size → length copy ≡ room → IsBytes (a.holds lnum) → IfSome place (IsPlace (a.holds lnum) room) → IfNone place (HasNoPlace (a.holds lnum) room)
     → (x : List ℕ) → PutUnderWay b lnum copy place x → CopyUnderWay a lnum room copy x
-put_copying a b lnum room copy None keeps size long fits is x (inl now) = inl (inl ((keeps.left lnum x).0 now))
-put_copying a b lnum room copy None keeps size long fits is x (inr e) = inl (inr (e ∙ ap (λ (s : ℕ). filled s copy) size))
-put_copying a b lnum room copy (Some offs) keeps size long fits is x (inl now) = inl (inl ((keeps.left lnum x).0 now))
-put_copying a b lnum room copy (Some offs) keeps size long fits is x (inr (d, mapped, torn)) =
+put_copying a b lnum room copy None keeps size long fits is none x (inl now) = inl (inl ((keeps.left lnum x).0 now))
+put_copying a b lnum room copy None keeps size long fits is none x (inr e) = inl (inr (none, e ∙ ap (λ (s : ℕ). filled s copy) size))
+put_copying a b lnum room copy (Some offs) keeps size long fits is none x (inl now) = inl (inl ((keeps.left lnum x).0 now))
+put_copying a b lnum room copy (Some offs) keeps size long fits is none x (inr (d, mapped, torn)) =
     let P : ℕ → Type 0 = λ n. Torn offs n d x in
     inr (record { place = offs; bytes = fits; is_place = is; under_way = inr (d, (keeps.left_mapped lnum d).0 mapped, subst P long torn) })
 
@@ -113,6 +113,40 @@ copied_from a c e lnum other room copy D ne size works (inr (none, w)) =
         left = λ x l. w.left x l ∙ ap (λ (s : ℕ). filled s copy) size;
       },
     )
+
+-- a copy under way after another LEB was worked on
+pub copying_from : (a c : VolumeState) (lnum other room : ℕ) (copy : List ℕ) (D : List ℕ → Type 0) → lnum ≢ other → c.leb_size ≡ a.leb_size → WorksOn a c other D → (x : List ℕ) → CopyUnderWay c lnum room copy x → CopyUnderWay a lnum room copy x
+copying_from a c lnum other room copy D ne size works x (inl (inl now)) = inl (inl (works.others_left lnum x ne now))
+copying_from a c lnum other room copy D ne size works x (inl (inr (none, is))) =
+    let P : List ℕ → Type 0 = λ leb. HasNoPlace leb room in
+    inl (inr (subst P (works.others lnum ne) none, is ∙ ap (λ (s : ℕ). filled s copy) size))
+copying_from a c lnum other room copy D ne size works x (inr w) =
+    let P : List ℕ → Type 0 = λ leb. IsPlace leb room w.place in
+    let B : List ℕ → Type 0 = λ leb. IsBytes leb in
+    let still = works.others lnum ne in
+    inr (record {
+      place = w.place;
+      bytes = subst B still w.bytes;
+      is_place = subst P still w.is_place;
+      under_way = elim w.under_way [ inl now ↦ inl (works.others_left lnum x ne now) | inr (d, mapped, torn) ↦ inr (d, works.others_mapped lnum d ne mapped, torn) ];
+    })
+
+-- and after a call that keeps all
+pub copying_kept : (a c : VolumeState) (lnum room : ℕ) (copy : List ℕ) → Keeps a c → c.leb_size ≡ a.leb_size → (x : List ℕ) → CopyUnderWay c lnum room copy x → CopyUnderWay a lnum room copy x
+copying_kept a c lnum room copy keeps size x (inl (inl now)) = inl (inl ((keeps.left lnum x).0 now))
+copying_kept a c lnum room copy keeps size x (inl (inr (none, is))) =
+    let P : List ℕ → Type 0 = λ leb. HasNoPlace leb room in
+    inl (inr (subst P (keeps.holds lnum) none, is ∙ ap (λ (s : ℕ). filled s copy) size))
+copying_kept a c lnum room copy keeps size x (inr w) =
+    let P : List ℕ → Type 0 = λ leb. IsPlace leb room w.place in
+    let B : List ℕ → Type 0 = λ leb. IsBytes leb in
+    let still = keeps.holds lnum in
+    inr (record {
+      place = w.place;
+      bytes = subst B still w.bytes;
+      is_place = subst P still w.is_place;
+      under_way = elim w.under_way [ inl now ↦ inl ((keeps.left lnum x).0 now) | inr (d, mapped, torn) ↦ inr (d, (keeps.left_mapped lnum d).0 mapped, torn) ];
+    })
 
 -- where a cut left what a LEB held, it does so after the copy
 pub settled : (a c : VolumeState) (lnum room : ℕ) (copy : List ℕ) → Only (a.holds lnum) (a.left_now lnum) → ((x : List ℕ) → a.left_mapped lnum x → a.left_now lnum x) → IsCopied a c lnum room copy → Only (c.holds lnum) (c.left_now lnum)

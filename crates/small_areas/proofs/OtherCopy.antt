@@ -10,7 +10,7 @@ use Rattle.small_areas.specs.Later.{IsReadOf}
 use Rattle.small_areas.specs.Masters.{IsLastMaster, IsLatest}
 use Rattle.small_areas.specs.declared.placed_master.PlacedMaster.{PlacedMaster}
 use Rattle.small_areas.proofs.BothCopies.{HasMapped, IsCall, copied_spelled, spelled}
-use Rattle.small_areas.proofs.CopyRuns.{first_stage, new_first, new_second, old_reads, open_after, open_still, read_as}
+use Rattle.small_areas.proofs.CopyRuns.{copying_kept, first_stage, new_first, new_second, old_reads, open_after, open_still, read_as}
 use Rattle.small_areas.proofs.LaidCopy.{standing_at}
 use Rattle.small_areas.specs.MasterLaws.{OneNode, OneText, last_or_none, one_last}
 use Rattle.small_areas.proofs.TornCopy.{copied, left_of}
@@ -82,6 +82,7 @@ pub works_idle : (a c : VolumeState) (room number : ℕ) (old : PlacedMaster) �
 works_idle a c room number old keeps =
     Works-keeps a c IsMasterLeb (MendUnderWay a room number old) (λ x each. record {
       elsewhere = λ k apart. each k;
+      copy = inl (inl (each (other_leb old.lnum)));
       same = λ start meant.
           let Q : List ℕ → Type 0 = λ two. IsLatest (x 1) two old in
           let R : List ℕ → Type 0 = λ one. IsLatest one (a.holds 2) old in
@@ -89,16 +90,17 @@ works_idle a c room number old keeps =
     }) keeps
 
 -- the other copy is written, after reading
-pub works_mend : OneText → OneNode → (a c e : VolumeState) (node : List ℕ) (room number lnum : ℕ) (old : PlacedMaster) → IsRoom room → HasMapped c → Keeps a c → lnum ≡ other_leb old.lnum → IsMasterLeb lnum
+pub works_mend : OneText → OneNode → (a c e : VolumeState) (node : List ℕ) (room number lnum : ℕ) (old : PlacedMaster) → IsRoom room → HasMapped c → Keeps a c → c.leb_size ≡ a.leb_size → lnum ≡ other_leb old.lnum → IsMasterLeb lnum
     → IsCall c e lnum room (number + 1) old.master node → Works a e IsMasterLeb (MendUnderWay a room number old)
-works_mend one one_node a c e node room number lnum old is_room sub keeps at is_leb call =
+works_mend one one_node a c e node room number lnum old is_room sub keeps size at is_leb call =
     let n1 : List ℕ = master_node (number + 1) old.master in
     let h = spelled c e lnum room (number + 1) old.master node call in
     let D : List ℕ → Type 0 = CopyUnderWay c lnum room (copy_of room n1) in
     let T : ℕ → Type 0 = λ k. k ≡ lnum in
     let M : ℕ → Type 0 = IsMasterLeb in
     Works-then a c e IsMasterLeb T IsMasterLeb (MendUnderWay a room number old) (UnderWay c lnum D) (MendUnderWay a room number old) (λ k is. is) (λ k is. subst M (sym is) is_leb) (λ x w. w) (λ x w. record {
-      elsewhere = λ k apart. let ne : k ≢ lnum = λ is. apart (subst M (sym is) is_leb) in (keeps.left k (x k)).0 (w.0 k ne);
+      elsewhere = λ k apart. (keeps.left k (x k)).0 (w.0 k (λ is. apart (is ∙ at)));
+      copy = let C : ℕ → Type 0 = λ n. CopyUnderWay a n room (copy_of room n1) (x n) in subst C at (copying_kept a c lnum room (copy_of room n1) keeps size (x lnum) w.1);
       same = λ start meant.
           let P : ℕ → Type 0 = λ n. IsMeant (a.holds n) room n1 (x n) in
           let Q : List ℕ → Type 0 = λ leb. IsMeant leb room n1 (x lnum) in

@@ -182,7 +182,7 @@ pub left_of : OneText → OneNode → (old : VolumeState) (node left : List ℕ)
 left_of one one_node old node left lnum room sqnum new o is_room is_node only sub h (inl (inl now)) meant =
     let P : List ℕ → Type 0 = λ leb. IsReadOf lnum leb o in
     inl (subst P (sym (only left now)) h)
-left_of one one_node old node left lnum room sqnum new o is_room is_node only sub h (inl (inr is)) meant =
+left_of one one_node old node left lnum room sqnum new o is_room is_node only sub h (inl (inr (none, is))) meant =
     inr (0, (replaced one_node left node old.leb_size lnum room sqnum new is_room is is_node).read)
 left_of one one_node old node left lnum room sqnum new o is_room is_node only sub h (inr w) meant =
     elim (WriteUnderWay-only old lnum w.place room (old.holds lnum) only sub left w.under_way) [

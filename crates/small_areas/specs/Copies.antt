@@ -3,7 +3,7 @@ use Rattle.std.specs.Prelude.{◌≡◌, ◌⊎◌, ℕ, ◌+◌, ◌-◌, ◌*�
 use Rattle.ubifs_base.specs.Gap.{gap_of}
 use Rattle.ubifs_base.specs.NodeLaws.{IsBytes}
 use Rattle.ubifs_base.specs.declared.node_type.NodeType.TheVariants as types
-use Rattle.ubi_volume.specs.Volume.{VolumeState, Keeps, Only, filled, put, IsWritten, IsChanged, ChangeUnderWay, WriteUnderWay}
+use Rattle.ubi_volume.specs.Volume.{VolumeState, Keeps, Only, filled, put, IsWritten, IsChanged, WriteUnderWay}
 use Rattle.ubi_volume.specs.Frame.{Elsewhere}
 use Rattle.media_sys.specs.SystemNode.{IsMaster, master, written}
 use Rattle.media_sys.specs.declared.master.Master.{Master}
@@ -70,9 +70,10 @@ pub record IsAppending (old : VolumeState) (lnum room : ℕ) (left : List ℕ) :
   pub is_place : IsPlace (old.holds lnum) room place
   pub under_way : WriteUnderWay old lnum place room left
 
--- what a cut leaves while the copy is written
+-- What a cut leaves of a LEB while a copy is written: what it might have left before; the copy in place of all of it, where it
+-- has no place for one; or what it held, with the copy at its place, whole or torn.
 abbrev pub CopyUnderWay : VolumeState → ℕ → ℕ → List ℕ → List ℕ → Type 0
-CopyUnderWay old lnum room copy left = ChangeUnderWay old lnum copy left ⊎ IsAppending old lnum room left
+CopyUnderWay old lnum room copy left = (old.left_now lnum left ⊎ (HasNoPlace (old.holds lnum) room × (left ≡ filled old.leb_size copy))) ⊎ IsAppending old lnum room left
 
 -- Of what a cut may leave of a LEB while a master's node is written at a place, this is what is meant: no torn node has a
 -- matching checksum. So the text from the place on has no master but that node, whole. Each list of bytes has a text.
@@ -116,15 +117,17 @@ pub record IsStart (state : VolumeState) (number : ℕ) (old : PlacedMaster) : T
 abbrev pub IsMasterLeb : ℕ → Type 0
 IsMasterLeb lnum = (lnum ≡ 1) ⊎ (lnum ≡ 2)
 
--- a cut leaves the whole copy: at its place, or in place of all that the LEB held
+-- a cut leaves the whole copy: at its place, or in place of all that the LEB held where there was none
 abbrev pub HasWholeCopy : VolumeState → ℕ → ℕ → List ℕ → List ℕ → Type 0
-HasWholeCopy old lnum room copy left = ((place : ℕ) × IsPlace (old.holds lnum) room place × (before : List ℕ) × old.left_mapped lnum before × (left ≡ put place copy before)) ⊎ (left ≡ filled old.leb_size copy)
+HasWholeCopy old lnum room copy left = ((place : ℕ) × IsPlace (old.holds lnum) room place × (before : List ℕ) × old.left_mapped lnum before × (left ≡ put place copy before)) ⊎ (HasNoPlace (old.holds lnum) room × (left ≡ filled old.leb_size copy))
 
 -- What a cut leaves while a master is written with the numbers behind this one: of all other LEBs what it might have left
--- before; of LEB 2 too, unless LEB 1 has the whole copy; and from such a start the old latest master or the new one, of the outcomes,
--- under the premise on checksums.
+-- before; of LEBs 1 and 2 this too, or their copies under way, but of LEB 2 no copy unless LEB 1 has the whole one; and from such
+-- a start the old latest master or the new one, of the outcomes, under the premise on checksums.
 pub record MasterUnderWay (state : VolumeState) (room number : ℕ) (fresh : Master) (left : ℕ → List ℕ) : Type 0 where
   pub elsewhere : Elsewhere state IsMasterLeb left
+  pub first : CopyUnderWay state 1 room (master_copy room (number + 1) fresh) (left 1)
+  pub second : CopyUnderWay state 2 room (master_copy room (number + 2) fresh) (left 2)
   pub in_order : state.left_now 2 (left 2) ⊎ HasWholeCopy state 1 room (master_copy room (number + 1) fresh) (left 1)
   pub old_or_new : (old : PlacedMaster) → IsStart state number old → IsMeant (state.holds 1) room (master_node (number + 1) fresh) (left 1)
       → IsMeant (state.holds 2) room (master_node (number + 2) fresh) (left 2) → IsOldOrNew old fresh (left 1) (left 2)
@@ -137,10 +140,12 @@ other_leb lnum = 3 - lnum
 abbrev pub HasMaster : List ℕ → Master → Type 0
 HasMaster leb this = (placed : PlacedMaster) × IsLastMaster leb placed × (placed.master ≡ this)
 
--- What a cut leaves while the copy that isn't the latest is mended with the number behind this one: of all other LEBs what it
--- might have left before, and from such a start the same latest master; of the outcomes, under the premise on checksums.
+-- What a cut leaves while the copy that isn't the latest is mended with the number behind this one: of all LEBs but that copy's
+-- what it might have left before; of that one this, or the copy under way; and from such a start the same latest master, of the
+-- outcomes, under the premise on checksums.
 pub record MendUnderWay (state : VolumeState) (room number : ℕ) (latest : PlacedMaster) (left : ℕ → List ℕ) : Type 0 where
-  pub elsewhere : Elsewhere state IsMasterLeb left
+  pub elsewhere : Elsewhere state (λ lnum. lnum ≡ other_leb latest.lnum) left
+  pub copy : CopyUnderWay state (other_leb latest.lnum) room (master_copy room (number + 1) latest.master) (left (other_leb latest.lnum))
   pub same : IsStart state number latest → IsMeant (state.holds (other_leb latest.lnum)) room (master_node (number + 1) latest.master) (left (other_leb latest.lnum)) → IsOldOrNew latest latest.master (left 1) (left 2)
 
 -- a sequence number was taken, or none was, and nothing was written

@@ -13,18 +13,17 @@ ghost use Rattle.small_areas.specs.Puts.{IsPut, PutUnderWay};
 use leb_scan::{Tail, one_text, text_end};
 use media_sys::{Master, one_node};
 use ubi_volume::{VolFault, Volume, read_leb};
-use ubifs_base::{Geometry, fill_gap};
+use ubifs_base::{Geometry, MASTER_NODE_LEN, fill_gap};
 
-pub(crate) const MASTER_LEN: usize = 512;
-
-/// Writes a new master to LEB 1 and then to LEB 2: until LEB 1 has the whole copy, a power cut leaves of LEB 2 what it might
-/// have left before. Each copy goes behind the text of its LEB and takes a sequence number of its own, of the two next. A LEB whose text has a torn tail, or doesn't end at a place with room for a copy, is replaced
+/// Writes a new master to LEB 1 and then to LEB 2. Each copy goes behind the text of its LEB and takes a sequence number of
+/// its own, of the two next. A LEB whose text has a torn tail, or doesn't end at a place with room for a copy, is replaced
 /// as one step. The number rises by two, whatever the answer. The buffer has the size of a LEB, and what is in it
 /// afterwards is of no use.
 ///
-/// At every moment a power cut leaves the old latest master or the new one, where nothing else was left by a cut before,
-/// the sequence number isn't below the old master's, and no torn node has a matching checksum. All other LEBs are as they
-/// were, at every moment.
+/// At every moment a power cut leaves of each of the two LEBs what it might have left before, or that with the copy at its
+/// place, whole or torn; where the LEB has no place for a copy, it leaves the copy alone. Until LEB 1 has the whole copy, LEB 2 is
+/// left as before. The old latest master or the new one is left, if nothing else was left by a cut before, the sequence
+/// number isn't below the old master's, and no torn node has a matching checksum. All other LEBs are as they were.
 pub fn write_master<V: Volume>(
     volume: &mut V,
     geometry: &Geometry,
@@ -87,7 +86,7 @@ fn write_copies<V: Volume>(
 {
     one_text();
     one_node();
-    let mut node = [0u8; MASTER_LEN];
+    let mut node = [0u8; MASTER_NODE_LEN as usize];
     spell(master, number + 1, &mut node);
     write_copy(volume, 1, room, &node, leb)?;
     spell(master, number + 2, &mut node);
@@ -164,7 +163,7 @@ fn lay_copy(copy: &mut [u8], node: &[u8])
     ensures copy { copy.new ≡ copy_of (length copy.old) node.now }
     ensures bytes { IsBytes copy.new }
 {
-    let (front, gap) = copy.split_at_mut(MASTER_LEN);
+    let (front, gap) = copy.split_at_mut(MASTER_NODE_LEN as usize);
     front.copy_from_slice(node);
     fill_gap(gap);
 }

@@ -10,20 +10,21 @@ ghost use Rattle.small_areas.specs.Copies.{room_of, IsOpen, IsRoom, IsMasterLeb,
 ghost use Rattle.small_areas.specs.Masters.{IsLatest};
 ghost use Rattle.small_areas.specs.declared.placed_master.PlacedMaster.{PlacedMaster as APlacedMaster};
 
-use crate::copies::{MASTER_LEN, copy_room, spell, write_copy};
+use crate::copies::{copy_room, spell, write_copy};
 use crate::masters::master_in;
 use crate::placed_master::PlacedMaster;
 use leb_scan::one_text;
 use media_sys::{Master, one_node};
 use std::alloc::Global;
 use ubi_volume::{VolFault, Volume};
-use ubifs_base::Geometry;
+use ubifs_base::{Geometry, MASTER_NODE_LEN};
 
 /// Makes both copies say the latest master: where the other LEB's last master differs from it in a field, or that LEB has
 /// none, the latest is written there with the next sequence number, as `write_master` does it. Where both say the same,
 /// nothing is written and no number is taken. The buffer has the size of a LEB, and what is in it afterwards is of no use.
 ///
-/// At every moment a power cut leaves the same latest master, under what `write_master` asks for the old one.
+/// At every moment a power cut leaves the LEB of the latest master as before, and the other one as `write_master` does. It
+/// leaves the same latest master, under what `write_master` asks for the old one.
 pub fn mend_master<V: Volume>(
     alloc: Global,
     volume: &mut V,
@@ -87,7 +88,7 @@ fn mend_in<V: Volume>(
         return Ok(());
     }
     *sqnum = number + 1;
-    let mut node = [0u8; MASTER_LEN];
+    let mut node = [0u8; MASTER_NODE_LEN as usize];
     spell(&latest.master, number + 1, &mut node);
     write_copy(volume, other, room, &node, leb)
 }

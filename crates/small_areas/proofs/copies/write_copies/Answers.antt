@@ -19,7 +19,7 @@ returns-clause-works g c =
     let e = g.V.Volume.state c.write_copy-2.new.volume in
     let first : IsCall a b 1 c.args.room (c.args.number + 1) c.args.master.now c.spell.new.node = record { spelling = c.spell.ensures.spelling; is_node = c.spell.ensures.is_node; works = c.write_copy.ensures.works } in
     let second : IsCall b e 2 c.args.room (c.args.number + 2) c.args.master.now c.spell-2.new.node = record { spelling = c.spell-2.ensures.spelling; is_node = c.spell-2.ensures.is_node; works = c.write_copy-2.ensures.works } in
-    works_two c.one_text.ensures c.one_node.ensures a b e c.spell.new.node c.spell-2.new.node c.args.room c.args.number c.args.master.now c.requires.room (g.met.V.Volume.mapped_now c.args.volume.now) (g.met.V.Volume.mapped_now c.write_copy.new.volume) first c.in_ok-write_copy.ensures.done second
+    works_two c.one_text.ensures c.one_node.ensures a b e c.spell.new.node c.spell-2.new.node c.args.room c.args.number c.args.master.now c.requires.room (g.met.V.Volume.mapped_now c.args.volume.now) (g.met.V.Volume.mapped_now c.write_copy.new.volume) c.write_copy.ensures.shape.leb_size first c.in_ok-write_copy.ensures.done second
 
 pub returns-clause-done : goal.returns-clause-done
 returns-clause-done g c =

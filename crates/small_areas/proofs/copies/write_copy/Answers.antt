@@ -71,5 +71,5 @@ returns-clause-works g c =
     let fits = subst B c.in_ok-read_leb.ensures.read c.next_place-place.ensures.bytes in
     let long = copy_length room c.args.node.now c.requires.room.low c.requires.node in
     works_after a b e lnum (PutUnderWay b lnum c.lay_copy.new.copy place) (CopyUnderWay a lnum room copy)
-    (λ x h. let P : List ℕ → Type 0 = λ bytes. PutUnderWay b lnum bytes place x in put_copying a b lnum room copy place c.read_leb.ensures.keeps c.read_leb.ensures.shape.leb_size long fits is x (subst P spelled h))
+    (λ x h. let P : List ℕ → Type 0 = λ bytes. PutUnderWay b lnum bytes place x in put_copying a b lnum room copy place c.read_leb.ensures.keeps c.read_leb.ensures.shape.leb_size long fits is none x (subst P spelled h))
     c.read_leb.ensures.keeps c.put_copy.ensures.works

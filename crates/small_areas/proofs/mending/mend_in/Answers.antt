@@ -52,7 +52,7 @@ returns-clause-works g c =
     let lnum = c.other_of-other.result in
     let is_leb = subst IsMasterLeb (sym c.other_of-other.ensures) (other_is (a.holds 1) (a.holds 2) latest c.requires.latest) in
     let call : IsCall b e lnum c.args.room (c.args.sqnum.now + 1) latest.master c.spell.new.node = record { spelling = c.spell.ensures.spelling; is_node = c.spell.ensures.is_node; works = c.write_copy.ensures.works } in
-    works_mend c.one_text.ensures c.one_node.ensures a b e c.spell.new.node c.args.room c.args.sqnum.now lnum latest c.requires.room (g.met.V.Volume.mapped_now c.master_in.new.volume) c.master_in.ensures.keeps c.other_of-other.ensures is_leb call
+    works_mend c.one_text.ensures c.one_node.ensures a b e c.spell.new.node c.args.room c.args.sqnum.now lnum latest c.requires.room (g.met.V.Volume.mapped_now c.master_in.new.volume) c.master_in.ensures.keeps c.master_in.ensures.shape.leb_size c.other_of-other.ensures is_leb call
 
 pub returns-clause-done : goal.returns-clause-done
 returns-clause-done g c =
