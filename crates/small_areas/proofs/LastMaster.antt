@@ -5,7 +5,7 @@ use Rattle.std.specs.Prelude.{◌≢◌}
 use Rattle.ubifs_base.specs.declared.node_type.NodeType.TheVariants as types
 use Rattle.leb_scan.specs.declared.found.Found.{Found}
 use Rattle.ubifs_base.specs.NodeLaws.{IsBytes}
-use Rattle.media_sys.specs.SystemNode.{SystemNode, IsSystemNode, IsMaster, master}
+use Rattle.media_sys.specs.SystemNode.{IsMaster, master}
 use Rattle.media_sys.specs.declared.master.Master.{Master}
 use Rattle.leb_scan.specs.Text.{IsLast, tail_at}
 use Rattle.leb_scan.specs.Gathered.{IsGathered, gathered_end}
