@@ -121,12 +121,18 @@ ended_moment a b at number buds h f s l way time =
     Leaves-more a b (EndUnderWay a at) (λ left. IsLeftReady left at.geo at.section (lebs_to at.geo at.section at.lnum) number buds)
     (λ x each. quiet_ready a at.geo at.section at.lnum at.offs number buds h x s (ended_quiet a at number buds h x f s l way each)) time
 
+-- what a cut leaves of each LEB afterwards
+pub ended_each : (a b : VolumeState) (at : LogAt) → ((k : ℕ) → b.left_now k (b.holds k)) → Works a b (IsEnded at) (EndUnderWay a at) → (k : ℕ) (x : List ℕ) → b.left_now k x → UnmapUnderWay a at.geo at.first at.section k x
+ended_each a b at held w k x left =
+    let one = Works-one a b (IsEnded at) (EndUnderWay a at) held w k x left in
+    let P : List ℕ → Type 0 = λ y. UnmapUnderWay a at.geo at.first at.section k y in
+    subst P one.1 (one.2 k)
+
 -- and the volume stays ready
 pub ended_ready : (a b : VolumeState) (at : LogAt) (number : ℕ) (buds : List HeadAt) → IsReady a at.geo at.section at.lnum at.offs number buds → IsLogLeb at.geo at.first → IsLogLeb at.geo at.section → IsLogLeb at.geo at.lnum
     → steps_to at.geo at.first at.section ≤ steps_to at.geo at.first at.lnum → ((k : ℕ) → b.left_now k (b.holds k)) → Works a b (IsEnded at) (EndUnderWay a at) → IsReady b at.geo at.section at.lnum at.offs number buds
 ended_ready a b at number buds h f s l way held w =
-    let D = UnmapUnderWay a at.geo at.first at.section in
-    let each : (k : ℕ) (x : List ℕ) → b.left_now k x → D k x = λ k x left. (let one = Works-one a b (IsEnded at) (EndUnderWay a at) held w k x left in let P : List ℕ → Type 0 = λ y. D k y in subst P one.1 (one.2 k)) in
+    let each = ended_each a b at held w in
     let all = h.first ∷ h.more in
     let aside : (k : ℕ) → IsAmong k all → IsEnded at k → ⊥ = λ k there is. ended_aside a at number k buds h f s l way is there in
     record {

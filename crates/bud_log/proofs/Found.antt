@@ -6,13 +6,13 @@ use Rattle.ubifs_base.specs.NodeLaws.{IsBytes}
 use Rattle.ubifs_base.specs.declared.raw_geometry.RawGeometry.{RawGeometry}
 use Rattle.ubi_volume.specs.Volume.{VolumeState, SameShape, Keeps}
 use Rattle.ubi_volume.specs.declared.fault.AreaFault.{AreaFault}
-use Rattle.bud_log.specs.AfterCut.{offs_behind, opened_at, OpensReady}
+use Rattle.bud_log.specs.AfterCut.{opened_at, OpensReady}
 use Rattle.bud_log.specs.AfterCutLaws.{IsHeldLog-opens, IsHeldLog-next}
 use Rattle.bud_log.specs.Log.{IsLogLeb, Log, IsLog, log_of}
 use Rattle.bud_log.specs.LogAt.{LogAt, IsAt}
 use Rattle.bud_log.specs.LogLaws.{IsReady-same}
 use Rattle.bud_log.specs.OpenedLaws.{IsHeldLog-at}
-use Rattle.bud_log.specs.Writing.{IsReady}
+use Rattle.bud_log.specs.Writing.{offs_behind, IsReady}
 use Rattle.bud_log.specs.declared.log_read.LogRead.{LogRead}
 
 -- contents are at most one log

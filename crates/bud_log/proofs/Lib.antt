@@ -10,6 +10,8 @@ pub mod OneLog
 pub mod Opened
 pub mod Parts
 pub mod ReadyAgain
+pub mod Reopened
+pub mod Sections
 pub mod Spelled
 pub mod Steps
 pub mod Works

@@ -44,7 +44,7 @@ run_end c geo from number l past text [] old h last =
     (text, subst P (sym h.1.here ∙ ap (λ (z : LogEnd). z.lnum) last) h.1, last)
 run_end c geo from number l past text (other ∷ texts) old h last = run_end c geo from number (next_leb geo l) past other texts old h.3 last
 
-chain_end : (c : ℕ → List ℕ) (geo : RawGeometry) (from start past : ℕ) (first : LogText) (more : List LogText) (old : LogEnd) → IsChain c geo from start first more past → last_end first.ends more ≡ old → (t : LogText) × IsTextOf (c old.lnum) old.lnum t × (t.ends ≡ old)
+pub chain_end : (c : ℕ → List ℕ) (geo : RawGeometry) (from start past : ℕ) (first : LogText) (more : List LogText) (old : LogEnd) → IsChain c geo from start first more past → last_end first.ends more ≡ old → (t : LogText) × IsTextOf (c old.lnum) old.lnum t × (t.ends ≡ old)
 chain_end c geo from start past first [] old h last =
     let P : ℕ → Type 0 = λ n. IsTextOf (c n) n first in
     (first, subst P (sym h.is_first.here ∙ ap (λ (z : LogEnd). z.lnum) last) h.is_first, last)
@@ -112,9 +112,9 @@ pub bud_ready : (a b : VolumeState) (geo : RawGeometry) (from lnum offs number b
 bud_ready a b geo from lnum offs number bud buds D h f out w = ready_works a b geo from lnum offs number buds h bud D (aside_of a geo from lnum offs number bud buds h f out) (λ c is d. absurd (out is)) w
 
 -- where a reference has room the last text has a clean end
-clean_end : (at : LogAt) (last : LogEnd) → has_room at ≡ true → GoesOn at.geo last at.lnum at.offs → last ≡ record { lnum = at.lnum; offs = at.offs; tail = Clean }
+pub clean_end : (at : LogAt) (last : LogEnd) → has_room at ≡ true → GoesOn at.geo last at.lnum at.offs → last ≡ record { lnum = at.lnum; offs = at.offs; tail = Clean }
 clean_end at last roomy (inl clean) = clean
-clean_end at last roomy (inr full) = let both : true ≡ false = sym roomy ∙ full.1 in absurd cc
+clean_end at last roomy (inr full) = let both : true ≡ false = sym roomy ∙ full.2 in absurd cc
 
 -- nodes were added to the log
 pub added_ready : (here : Bool) (a b : VolumeState) (at : LogAt) (from number next : ℕ) (buds : List HeadAt) (node : SystemNode) (nodes : List SystemNode) (bytes : List ℕ) → IsReady a at.geo from at.lnum at.offs number buds → IsLogLeb at.geo from

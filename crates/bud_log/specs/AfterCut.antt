@@ -1,17 +1,15 @@
 -- What a power cut leaves of a log, and where whoever mounts it goes on.
-use Rattle.std.specs.Prelude.{◌≡◌, ◌⊎◌, ℕ, ◌+◌, ◌%◌, ◌<◌, ◌≤◌, ◌==◌, if◌then◌else◌, IsTrue, Some, List, ◌∷◌, take, length, fold}
+use Rattle.std.specs.Prelude.{◌≡◌, ◌≢◌, ◌⊎◌, ℕ, ◌+◌, ◌<◌, ◌≤◌, IsTrue, Some, List, ◌∷◌, take, length, fold}
 use Rattle.ubifs_base.specs.declared.raw_geometry.RawGeometry.{RawGeometry}
 use Rattle.media_sys.specs.declared.ref_node.RefNode.{RefNode}
 use Rattle.ubi_volume.specs.Volume.{VolumeState, Only}
 use Rattle.ubi_volume.specs.Loading.{IsWrittenPart}
 use Rattle.leb_scan.specs.Text.{is_blank}
-use Rattle.leb_scan.specs.declared.tail.Tail.{Tail}
-use Rattle.leb_scan.specs.declared.tail.Tail.TheVariants.{Clean, Torn}
 use Rattle.bud_log.specs.Buds.{named}
 use Rattle.bud_log.specs.Log.{Log, IsLog, IsLogLeb, next_leb, log_of}
 use Rattle.bud_log.specs.LogAt.{LogAt, IsAt, steps_to, used_lebs, next_lnum}
-use Rattle.bud_log.specs.LogText.{begins_with, start_of}
-use Rattle.bud_log.specs.Writing.{IsAmong, IsOlder, AreBelow, IsReady}
+use Rattle.bud_log.specs.LogText.{begins_with, start_of, IsLoneStart}
+use Rattle.bud_log.specs.Writing.{IsAmong, IsOlder, AreBelow, offs_behind, GoesOn, IsReady}
 use Rattle.bud_log.specs.declared.head_at.HeadAt.{HeadAt}
 use Rattle.bud_log.specs.declared.log_end.LogEnd.{LogEnd}
 use Rattle.bud_log.specs.declared.log_read.LogRead.{LogRead}
@@ -25,14 +23,6 @@ pub record IsReadyIn (contents : ℕ → List ℕ) (geo : RawGeometry) (from num
   pub low : start ≤ number
   pub below : AreBelow number (is_log.first ∷ is_log.more)
   pub spare : (k : ℕ) → IsLogLeb geo k → (IsAmong k (is_log.first ∷ is_log.more) → ⊥) → IsOlder start k (contents k)
-
-abbrev offs_if : RawGeometry → ℕ → Tail → ℕ
-offs_if geo offs Clean = if offs % geo.min_io == 0 then offs else geo.leb_size
-offs_if geo offs Torn = geo.leb_size
-
--- where a log that ends here is written on: there, if the end is clean and a unit begins there, and else nowhere in that LEB
-abbrev pub offs_behind : RawGeometry → LogEnd → ℕ
-offs_behind geo ends = offs_if geo ends.offs ends.tail
 
 -- the log that is opened over what was read from this LEB on, and ends here
 abbrev pub opened_at : RawGeometry → ℕ → LogEnd → LogAt
@@ -74,9 +64,15 @@ pub record IsHeldLog (state : VolumeState) (geo : RawGeometry) (from number : �
   pub settled : (k : ℕ) → IsAmong k (ready.is_log.first ∷ ready.is_log.more) → Only (state.holds k) (state.left_now k)
   pub spare : (k : ℕ) (leb : List ℕ) → IsLogLeb geo k → (IsAmong k (ready.is_log.first ∷ ready.is_log.more) → ⊥) → state.left_now k leb → IsOlder ready.start k leb
 
--- of this LEB a cut leaves what it holds and nothing else, or nothing that begins with a number above this one
-abbrev pub HasNothingNewer : VolumeState → ℕ → ℕ → Type 0
-HasNothingNewer state number lnum = Only (state.holds lnum) (state.left_now lnum) ⊎ ((leb : List ℕ) → state.left_now lnum leb → IsOlder number lnum leb)
+-- This LEB is settled, whatever it holds: of it a cut leaves that and nothing else. So it may be the commit start alone of a section that was
+-- left unfinished. Or it is older: nothing that a cut leaves of it begins with a number above this one.
+abbrev pub IsSettledOrOlder : VolumeState → ℕ → ℕ → Type 0
+IsSettledOrOlder state number lnum = Only (state.holds lnum) (state.left_now lnum) ⊎ ((leb : List ℕ) → state.left_now lnum leb → IsOlder number lnum leb)
+
+-- A log that goes on here is told to end there. It is told to end before that LEB only if the LEB is a commit start alone, and not the first
+-- that is read.
+abbrev pub IsToldEnd : VolumeState → RawGeometry → ℕ → ℕ → ℕ → LogEnd → Type 0
+IsToldEnd state geo from lnum offs ends = GoesOn geo ends lnum offs ⊎ ((lnum ≢ from) × IsLoneStart (state.holds lnum) lnum)
 
 -- nothing counts as written where a log goes on that ends here
 abbrev pub IsOpenBehind : VolumeState → RawGeometry → LogEnd → Type 0

@@ -17,17 +17,17 @@ use Rattle.media_sys.specs.declared.ref_node.RefNode.{RefNode}
 use Rattle.leb_scan.specs.declared.found.Found.{Found}
 use Rattle.leb_scan.specs.declared.tail.Tail.{Tail}
 use Rattle.leb_scan.specs.declared.tail.Tail.TheVariants.{Clean, Torn}
-use Rattle.bud_log.specs.AfterCut.{IsReadyIn, IsLeftReady, IsFoundLog, IsHeldLog, IsOpenBehind, HasNothingNewer, lebs_to, offs_behind}
+use Rattle.bud_log.specs.AfterCut.{IsReadyIn, IsLeftReady, IsFoundLog, IsHeldLog, IsOpenBehind, IsToldEnd, IsSettledOrOlder, lebs_to}
 use Rattle.bud_log.specs.Below.{below_last}
 use Rattle.bud_log.specs.Buds.{buds_of}
 use Rattle.bud_log.specs.Chains.{past_free, chain_past, chain_more, among_added, references_added}
 use Rattle.bud_log.specs.Log.{Log, IsLog, IsLogLeb, next_leb, Run, Stops, AreFurther, references_of, greatest_of, end_of}
 use Rattle.bud_log.specs.LogAt.{LogAt, IsAt, room_of, steps_to}
 use Rattle.bud_log.specs.LogLaws.{further_same, among_log, among_or, chain_alike, below_more}
-use Rattle.bud_log.specs.LogText.{LogText, IsTextOf, begins_with, start_of, BeginsCommit, is_later, greatest_found, is_start_alone}
+use Rattle.bud_log.specs.LogText.{LogText, IsTextOf, begins_with, start_of, BeginsCommit, is_later, greatest_found, is_start_alone, IsLoneStart}
 use Rattle.bud_log.specs.References.{text_begins, some_commit, lone_references}
 use Rattle.bud_log.specs.RingSteps.{end_near, end_alone}
-use Rattle.bud_log.specs.Writing.{IsAmong, IsOlder, IsPassedOver, AreBelow, last_end, IsChain, GoesOn, IsReady}
+use Rattle.bud_log.specs.Writing.{IsAmong, IsOlder, IsPassedOver, AreBelow, last_end, IsChain, offs_behind, GoesOn, IsReady}
 use Rattle.bud_log.specs.declared.head_at.HeadAt.{HeadAt}
 use Rattle.bud_log.specs.declared.log_end.LogEnd.{LogEnd}
 
@@ -184,11 +184,14 @@ no_room unit size some =
     lt-leb (size + room_of unit 64) size (omega (arith, whole, rest, some))
 
 goes_if : (geo : RawGeometry) (lnum offs : ℕ) (tail : Tail) → 8 ≤ geo.min_io → let ends : LogEnd = record { lnum = lnum; offs = offs; tail = tail } in GoesOn geo ends lnum (offs_behind geo ends)
-goes_if geo lnum offs Torn some = inr (refl, no_room geo.min_io geo.leb_size some)
+goes_if geo lnum offs Torn some = inr (refl, refl, no_room geo.min_io geo.leb_size some)
 goes_if geo lnum offs Clean some =
     let ends : LogEnd = record { lnum = lnum; offs = offs; tail = Clean } in
-    let P : Bool → Type 0 = λ b. GoesOn geo ends lnum (if b then offs else geo.leb_size) in
-    elim (cases_Bool (offs % geo.min_io == 0)) [ inl whole ↦ subst P (sym whole) (inl refl) | inr part ↦ subst P (sym part) (inr (refl, no_room geo.min_io geo.leb_size some)) ]
+    let G : ℕ → Type 0 = λ n. GoesOn geo ends lnum n in
+    elim (cases_Bool (offs % geo.min_io == 0)) [
+      | inl whole ↦ let e : offs_behind geo ends ≡ offs = rw whole refl in subst G (sym e) (inl refl)
+      | inr part ↦ let e : offs_behind geo ends ≡ geo.leb_size = rw part refl in subst G (sym e) (inr (refl, e, no_room geo.min_io geo.leb_size some))
+    ]
 
 -- where it goes on
 pub goes_behind : (geo : RawGeometry) (ends : LogEnd) → 8 ≤ geo.min_io → GoesOn geo ends ends.lnum (offs_behind geo ends)
@@ -274,7 +277,7 @@ IsFoundLog-held contents state geo from number log f found h =
 -- texts that are read are held, where of all other LEBs a cut leaves nothing but older sections
 held_chain : (a : VolumeState) (geo : RawGeometry) (from start number past : ℕ) (first : LogText) (more : List LogText) → IsLogLeb geo from → IsChain a.holds geo from start first more past → start ≤ number → AreBelow number (first ∷ more)
     → ((k : ℕ) → IsAmong k (first ∷ more) → Only (a.holds k) (a.left_now k)) → ((k : ℕ) (leb : List ℕ) → IsLogLeb geo k → (IsAmong k (first ∷ more) → ⊥) → a.left_now k leb → IsOlder start k leb) → ((k : ℕ) → IsLogLeb geo k → a.left_now k (a.holds k))
-    → (log : Log) × IsHeldLog a geo from number log × (log.buds ≡ buds_of (references_of (first ∷ more)))
+    → (log : Log) × IsHeldLog a geo from number log × (log.buds ≡ buds_of (references_of (first ∷ more))) × (log.ends ≡ end_of first.ends more)
 held_chain a geo from start number past first more f h low below settled spare held =
     let older : (k : ℕ) → IsLogLeb geo k → (IsAmong k (first ∷ more) → ⊥) → IsOlder start k (a.holds k) = λ k is none. spare k (a.holds k) is none (held k is) in
     let commit = some_commit (a.holds from) (begins_with first.nodes) (text_begins (a.holds from) from first h.is_first) in
@@ -282,24 +285,48 @@ held_chain a geo from start number past first more f h low below settled spare h
     let stops : Stops a.holds from start past = elim (cases_eq past from) [ inl same ↦ inl same | inr ne ↦ inr (older past (chain_past a.holds geo from start past first more f h) (past_free a.holds geo from start past first more f h ne)) ] in
     let log : Log = record { commit = commit.0; buds = buds_of (references_of (first ∷ more)); sqnum = greatest_of 0 (first ∷ more); ends = end_of first.ends more } in
     let is_log : IsLog a.holds geo from log = record { first = first; more = more; is_first = h.is_first; commit = commit.1; are_further = subst P (sym h.starts) (past, h.run, stops); buds = refl; sqnum = refl; ends = refl } in
-    (log, record { ready = record { is_log = is_log; start = start; starts = h.starts; low = low; below = below; spare = older }; settled = settled; spare = spare }, refl)
+    (log, record { ready = record { is_log = is_log; start = start; starts = h.starts; low = low; below = below; spare = older }; settled = settled; spare = spare }, refl, refl)
 
--- So is a log that is ready for its next node, as an unmount leaves it, if the LEB behind the last that is read has nothing newer.
-pub IsReady-held : (a : VolumeState) (geo : RawGeometry) (from lnum offs number : ℕ) (buds : List HeadAt) (h : IsReady a geo from lnum offs number buds) → IsLogLeb geo from → ((k : ℕ) → IsLogLeb geo k → a.left_now k (a.holds k)) → HasNothingNewer a h.start h.past
-    → (log : Log) × IsHeldLog a geo from number log × (log.buds ≡ buds)
+-- texts are told to end where the last one does, if it isn't a commit start alone
+end_told : (c : ℕ → List ℕ) (geo : RawGeometry) (from start lnum past : ℕ) (before : LogEnd) (texts : List LogText) → Run c geo from start lnum texts past
+    → let last : ℕ = (last_end before texts).lnum in
+    (end_of before texts ≡ last_end before texts) ⊎ ((last ≢ from) × IsLoneStart (c last) last)
+end_told c geo from start lnum past before [] run = inl refl
+end_told c geo from start lnum past before (text ∷ []) run =
+    let P : ℕ → Type 0 = λ n. (n ≢ from) × IsLoneStart (c n) n in
+    let E : Bool → Type 0 = λ b. (if b then before else text.ends) ≡ text.ends in
+    elim (cases_Bool (is_start_alone text.nodes)) [ inl alone ↦ inr (subst P (sym run.1.here) (run.0, (text, run.1, alone))) | inr other ↦ inl (subst E (sym other) refl) ]
+end_told c geo from start lnum past before (text ∷ (other ∷ more)) run = end_told c geo from start (next_leb geo lnum) past text.ends (other ∷ more) run.3
+
+-- so a log that is ready for its next node is told to end where it goes on
+ready_told : (a : VolumeState) (geo : RawGeometry) (from lnum offs number : ℕ) (buds : List HeadAt) (h : IsReady a geo from lnum offs number buds) → IsToldEnd a geo from lnum offs (end_of h.first.ends h.more)
+ready_told a geo from lnum offs number buds h =
+    let G : LogEnd → Type 0 = λ e. GoesOn geo e lnum offs in
+    let L : ℕ → Type 0 = λ n. (n ≢ from) × IsLoneStart (a.holds n) n in
+    elim (end_told a.holds geo from h.start (next_leb geo from) h.past h.first.ends h.more h.chain.run) [
+      | inl same ↦ inl (subst G (sym same) h.last)
+      | inr lone ↦ inr (subst L (goes_lnum geo (last_end h.first.ends h.more) lnum offs h.last) lone)
+    ]
+
+-- So is a log that is ready for its next node, as an unmount leaves it, if the LEB behind the last that is read is settled or older.
+pub IsReady-held : (a : VolumeState) (geo : RawGeometry) (from lnum offs number : ℕ) (buds : List HeadAt) (h : IsReady a geo from lnum offs number buds) → IsLogLeb geo from → ((k : ℕ) → IsLogLeb geo k → a.left_now k (a.holds k)) → IsSettledOrOlder a h.start h.past
+    → (log : Log) × IsHeldLog a geo from number log × (log.buds ≡ buds) × IsToldEnd a geo from lnum offs log.ends
 IsReady-held a geo from lnum offs number buds h f held quiet =
     let first = h.first in
     let more = h.more in
     let past = h.past in
-    let B : List HeadAt → Type 0 = λ bs. (log : Log) × IsHeldLog a geo from number log × (log.buds ≡ bs) in
+    let T : LogEnd → Type 0 = λ e. IsToldEnd a geo from lnum offs e in
+    let B : List HeadAt → Type 0 = λ bs. (log : Log) × IsHeldLog a geo from number log × (log.buds ≡ bs) × T log.ends in
+    let Held : List LogText → Type 0 = λ ts. (log : Log) × IsHeldLog a geo from number log × (log.buds ≡ buds_of (references_of (first ∷ ts))) × (log.ends ≡ end_of first.ends ts) in
+    let whole : Held more → B buds = λ r. (r.0, r.1, r.2 ∙ sym h.buds_are, subst T (sym r.3) (ready_told a geo from lnum offs number buds h)) in
     -- where the LEB behind holds nothing newer
     let without : ((leb : List ℕ) → a.left_now past leb → IsOlder h.start past leb) → B buds = λ old.
     let P : ℕ → Type 0 = λ n. (leb : List ℕ) → a.left_now n leb → IsOlder h.start n leb in
-    subst B (sym h.buds_are) (held_chain a geo from h.start number past first more f h.chain h.low h.below h.settled (λ k leb is none left. elim (h.spare k leb is none left) [ inl older ↦ older | inr lone ↦ subst P (sym lone.0) old leb left ]) held) in
+    whole (held_chain a geo from h.start number past first more f h.chain h.low h.below h.settled (λ k leb is none left. elim (h.spare k leb is none left) [ inl older ↦ older | inr lone ↦ subst P (sym lone.0) old leb left ]) held) in
     elim quiet [
       | inr old ↦ without old
       | inl only ↦ elim (cases_eq past from) [
-        | inl same ↦ subst B (sym h.buds_are) (held_chain a geo from h.start number past first more f h.chain h.low h.below h.settled
+        | inl same ↦ whole (held_chain a geo from h.start number past first more f h.chain h.low h.below h.settled
             (λ k leb is none left. elim (h.spare k leb is none left) [ inl older ↦ older | inr lone ↦ absurd (none (inl (lone.0 ∙ same ∙ sym h.chain.is_first.here))) ]) held)
         | inr ne ↦
             let in_log = chain_past a.holds geo from h.start past first more f h.chain in
@@ -315,7 +342,9 @@ IsReady-held a geo from lnum offs number buds h f held quiet =
                     let e : buds_of (references_of (first ∷ (more ++ text ∷ []))) ≡ buds_of (references_of (first ∷ more)) =
                     ap buds_of (references_added first more text ∙ ap (λ (r : List RefNode). references_of (first ∷ more) ++ r) none ∙ append-nil (references_of (first ∷ more))) in
                     let S : ℕ → Type 0 = λ n. Only (a.holds n) (a.left_now n) in
-                    subst B (e ∙ sym h.buds_are) (held_chain a geo from h.start number (next_leb geo past) first (more ++ text ∷ []) f longer h.low (below_last number (first ∷ more) text h.below not_above)
+                    let G : LogEnd → Type 0 = λ z. GoesOn geo z lnum offs in
+                    let longer_told : Held (more ++ text ∷ []) → B buds = λ r. (r.0, r.1, r.2 ∙ e ∙ sym h.buds_are, inl (subst G (sym (r.3 ∙ end_alone first.ends more text alone)) h.last)) in
+                    longer_told (held_chain a geo from h.start number (next_leb geo past) first (more ++ text ∷ []) f longer h.low (below_last number (first ∷ more) text h.below not_above)
                     (λ k there. elim there [
                       | inl same ↦ h.settled k (inl same)
                       | inr further ↦ elim ((among_added k more text).0 further) [ inl before ↦ h.settled k (inr before) | inr last ↦ subst S (sym (last ∙ is.here)) only ]
@@ -362,14 +391,19 @@ IsHeldLog-left a geo from number log x f held left =
       spare = older;
     }
 
--- nothing counts as written behind a clean end at which a log is written on
-pub IsAt-behind : (state : VolumeState) (at : LogAt) (ends : LogEnd) → IsAt state at → ends ≡ record { lnum = at.lnum; offs = at.offs; tail = Clean } → IsOpenBehind state at.geo ends
-IsAt-behind state at ends h e =
-    let clean : LogEnd = record { lnum = at.lnum; offs = at.offs; tail = Clean } in
+-- nothing counts as written behind an end at which a log is written on
+pub IsAt-behind : (state : VolumeState) (at : LogAt) (ends : LogEnd) → IsAt state at → GoesOn at.geo ends at.lnum at.offs → IsOpenBehind state at.geo ends
+IsAt-behind state at ends h (inl clean) =
     let P : LogEnd → Type 0 = λ z. IsOpenBehind state at.geo z in
     let Q : Bool → Type 0 = λ b. state.written at.lnum ≤ (if b then at.offs else at.geo.leb_size) in
     let unit : (at.offs % at.geo.min_io == 0) ≡ true = rw h.unit refl in
-    subst P (sym e) (subst Q (sym unit) h.is_open)
+    subst P (sym clean) (subst Q (sym unit) h.is_open)
+IsAt-behind state at ends h (inr (same, past, full)) =
+    let P : ℕ → Type 0 = λ n. state.written n ≤ at.geo.leb_size in
+    let Q : ℕ → Type 0 = λ n. state.written ends.lnum ≤ n in
+    let before = h.is_open in
+    let within = h.within in
+    subst Q (sym past) (subst P (sym same) (omega (arith, before, within)))
 
 -- What was left stays such a log.
 

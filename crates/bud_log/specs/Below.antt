@@ -18,7 +18,7 @@ begins_later : (number : ℕ) (nodes more : List Found) → is_later number (beg
 begins_later number [] more h = absurd cc
 begins_later number (found ∷ nodes) more h = refl
 
-begins_start : (start : ℕ) (nodes more : List Found) → start_of (begins_with nodes) ≡ Some start → begins_with nodes ≡ begins_with (nodes ++ more)
+pub begins_start : (start : ℕ) (nodes more : List Found) → start_of (begins_with nodes) ≡ Some start → begins_with nodes ≡ begins_with (nodes ++ more)
 begins_start start [] more h = absurd cc
 begins_start start (found ∷ nodes) more h = refl
 

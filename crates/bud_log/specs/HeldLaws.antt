@@ -1,19 +1,22 @@
 -- A log that its calls left is held, as a mount behind an unmount finds it.
-use Rattle.std.proofs.Common.{◌≡◌, ◌⊎◌, inl, inr, ℕ, ◌+◌, List, [], ◌∷◌, Some, ap, sym, ◌∙◌, subst, arith}
+use Rattle.std.proofs.Common.{◌≡◌, inl, inr, ℕ, ◌+◌, true, false, List, [], ◌∷◌, Some, ap, sym, ◌∙◌, subst, arith}
 use Rattle.std.proofs.lemmas.Bool.{cases_eq}
 use Rattle.ubifs_base.specs.NodeLaws.{IsBytes}
 use Rattle.ubifs_base.specs.declared.raw_geometry.RawGeometry.{RawGeometry}
 use Rattle.ubi_volume.specs.Volume.{VolumeState, Only}
+use Rattle.ubi_volume.specs.Frame.{IsSameLeb}
 use Rattle.leb_scan.specs.Text.{nodes_of}
 use Rattle.leb_scan.specs.declared.found.Found.{Found}
-use Rattle.bud_log.specs.AfterCut.{IsHeldLog, HasNothingNewer}
-use Rattle.bud_log.specs.AfterCutLaws.{goes_lnum, IsReady-held}
+use Rattle.bud_log.specs.AfterCut.{IsHeldLog, IsOpenBehind, IsSettledOrOlder}
+use Rattle.bud_log.specs.AfterCutLaws.{goes_lnum, IsReady-held, IsAt-behind}
 use Rattle.bud_log.specs.Log.{Log, IsLogLeb, next_leb, Run}
-use Rattle.bud_log.specs.LogAnswers.{StartsWith}
-use Rattle.bud_log.specs.LogLaws.{older_more}
-use Rattle.bud_log.specs.LogText.{LogText, begins_with, start_of}
+use Rattle.bud_log.specs.LogAnswers.{StartsWith, IsSection}
+use Rattle.bud_log.specs.LogAt.{LogAt, IsAt}
+use Rattle.bud_log.specs.LogLaws.{older_more, next_in}
+use Rattle.bud_log.specs.LogText.{LogText, begins_with, start_of, is_start_alone, IsNoLoneStart}
 use Rattle.bud_log.specs.RingRuns.{OneText}
-use Rattle.bud_log.specs.Writing.{IsOlder, last_end, IsReady}
+use Rattle.bud_log.specs.RingSteps.{steps_more}
+use Rattle.bud_log.specs.Writing.{IsOlder, last_end, GoesOn, IsReady}
 use Rattle.bud_log.specs.declared.head_at.HeadAt.{HeadAt}
 use Rattle.bud_log.specs.declared.log_end.LogEnd.{LogEnd}
 
@@ -37,19 +40,46 @@ IsReady-start one a geo from lnum offs number start buds h fits (text, is, start
     let both : Some h.start ≡ Some start = sym h.chain.starts ∙ ap (λ (n : List Found). start_of (begins_with n)) nodes ∙ starts in
     cc
 
--- A log whose section was started with the number behind this one is held, if of the LEB behind the one in which it goes on a cut leaves
--- nothing that begins with a number above this one, as while a section was started.
-pub IsReady-unmounted : OneText → (a : VolumeState) (geo : RawGeometry) (from lnum offs number low : ℕ) (buds : List HeadAt) → IsReady a geo from lnum offs number buds → IsLogLeb geo from → IsBytes (a.holds from) → ((k : ℕ) → IsLogLeb geo k → a.left_now k (a.holds k))
-    → StartsWith (a.holds from) from (low + 1) → ((leb : List ℕ) → a.left_now (next_leb geo lnum) leb → (next_leb geo lnum ≡ from) ⊎ IsOlder low (next_leb geo lnum) leb) → (log : Log) × IsHeldLog a geo from number log × (log.buds ≡ buds)
-IsReady-unmounted one a geo from lnum offs number low buds h f fits held starts older =
-    let e = IsReady-past a geo from lnum offs number buds h in
-    let start = IsReady-start one a geo from lnum offs number (low + 1) buds h fits starts in
+-- A log whose present section stands as it was started is held. Opened over what is told of it, it goes on where nothing counts as written.
+pub IsReady-unmounted : OneText → (a : VolumeState) (at : LogAt) (number low : ℕ) (buds : List HeadAt) → IsReady a at.geo at.section at.lnum at.offs number buds → IsAt a at → IsSection a at low → ((k : ℕ) → IsLogLeb at.geo k → IsBytes (a.holds k)) → ((k : ℕ) → IsLogLeb at.geo k → a.left_now k (a.holds k))
+    → (log : Log) × IsHeldLog a at.geo at.section number log × (log.buds ≡ buds) × IsOpenBehind a at.geo log.ends
+IsReady-unmounted one a at number low buds h is_at section fits held =
+    let geo = at.geo in
+    let from = at.section in
+    let lnum = at.lnum in
+    let e = IsReady-past a geo from lnum at.offs number buds h in
+    let start = IsReady-start one a geo from lnum at.offs number (low + 1) buds h (fits from is_at.section) section.starts in
     let O : ℕ → Type 0 = λ n. Only (a.holds n) (a.left_now n) in
-    let quiet : HasNothingNewer a h.start h.past = elim (cases_eq h.past from) [
+    let quiet : IsSettledOrOlder a h.start h.past = elim (cases_eq h.past from) [
       | inl same ↦ inl (subst O (sym same) (h.settled from (inl (sym h.chain.is_first.here))))
       | inr ne ↦ inr (λ leb left.
           let L : ℕ → Type 0 = λ n. a.left_now n leb in
           let P : ℕ → Type 0 = λ n. IsOlder low n leb in
-          elim (older leb (subst L e left)) [ inl again ↦ absurd (ne (e ∙ again)) | inr old ↦ older_more low h.start h.past leb (omega (arith, start)) (subst P (sym e) old) ])
+          let behind = steps_more geo from lnum is_at.section is_at.here (λ again. ne (e ∙ again)) in
+          let old = section.older (next_leb geo lnum) leb (next_in geo lnum is_at.here) (omega (arith, behind)) (subst L e left) in
+          older_more low h.start h.past leb (omega (arith, start)) (subst P (sym e) old))
     ] in
-    IsReady-held a geo from lnum offs number buds h f held quiet
+    let r = IsReady-held a geo from lnum at.offs number buds h is_at.section held quiet in
+    let goes : GoesOn geo r.0.ends lnum at.offs = elim r.3 [
+      | inl goes ↦ goes
+      | inr (other, lone) ↦
+          let text = lone.0 in
+          let is = lone.1 in
+          let more = section.more other in
+          let same = one (a.holds lnum) 0 text.ends.offs more.0.ends.offs is.items more.1.items text.ends.tail more.0.ends.tail (fits lnum is_at.here) is.is_text more.1.is_text in
+          let nodes : text.nodes ≡ more.0.nodes = is.nodes ∙ ap nodes_of same.0 ∙ sym more.1.nodes in
+          let both : true ≡ false = sym lone.2 ∙ ap is_start_alone nodes ∙ more.2 in
+          absurd cc
+    ] in
+    (r.0, r.1, r.2, IsAt-behind a at r.0.ends is_at goes)
+
+-- The present section stands as it was started where the LEBs of its log are as they were.
+pub IsSection-same : (a b : VolumeState) (at : LogAt) (number : ℕ) → IsLogLeb at.geo at.section → IsLogLeb at.geo at.lnum → ((k : ℕ) → IsLogLeb at.geo k → IsSameLeb a b k) → IsSection a at number → IsSection b at number
+IsSection-same a b at number s l same section =
+    let P : List ℕ → Type 0 = λ leb. StartsWith leb at.section (number + 1) in
+    let Q : List ℕ → Type 0 = λ leb. IsNoLoneStart leb at.lnum in
+    record {
+      starts = subst P (sym (same at.section s).holds) section.starts;
+      more = λ other. subst Q (sym (same at.lnum l).holds) (section.more other);
+      older = λ k leb is behind left. section.older k leb is behind ((same k is).left leb left);
+    }

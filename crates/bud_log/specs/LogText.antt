@@ -1,5 +1,5 @@
 -- What the text of a log LEB says.
-use Rattle.std.specs.Prelude.{◌≡◌, ◌≢◌, ◌⊎◌, ℕ, ◌==◌, nat_lt, max, not, Bool, false, if◌then◌else◌, Option, Some, None, List, [], ◌∷◌, filter, fold, take, drop}
+use Rattle.std.specs.Prelude.{◌≡◌, ◌≢◌, ◌⊎◌, ℕ, ◌==◌, nat_lt, max, not, Bool, true, false, if◌then◌else◌, Option, Some, None, List, [], ◌∷◌, filter, fold, take, drop}
 use Rattle.ubifs_base.specs.NodeType.{type_number}
 use Rattle.ubifs_base.specs.declared.node_type.NodeType.TheVariants as types
 use Rattle.media_sys.specs.SystemNode.{IsRef, IsCommitStart}
@@ -91,3 +91,11 @@ is_one_start (found ∷ (other ∷ more)) = false
 -- whether a text, padding aside, is a commit start alone
 abbrev pub is_start_alone : List Found → Bool
 is_start_alone nodes = is_one_start (others nodes)
+
+-- the LEB's text is a commit start alone
+abbrev pub IsLoneStart : List ℕ → ℕ → Type 0
+IsLoneStart leb lnum = (text : LogText) × IsTextOf leb lnum text × (is_start_alone text.nodes ≡ true)
+
+-- the LEB's text is something else
+abbrev pub IsNoLoneStart : List ℕ → ℕ → Type 0
+IsNoLoneStart leb lnum = (text : LogText) × IsTextOf leb lnum text × (is_start_alone text.nodes ≡ false)

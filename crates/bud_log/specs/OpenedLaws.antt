@@ -14,12 +14,13 @@ use Rattle.leb_scan.specs.declared.item.Item.{Item}
 use Rattle.leb_scan.specs.declared.item.Item.TheVariants.{Node, Padding, Word}
 use Rattle.leb_scan.specs.declared.tail.Tail.{Tail}
 use Rattle.leb_scan.specs.declared.tail.Tail.TheVariants.{Clean, Torn}
-use Rattle.bud_log.specs.AfterCut.{IsHeldLog, IsOpenBehind, offs_behind, opened_at}
+use Rattle.bud_log.specs.AfterCut.{IsHeldLog, IsOpenBehind, opened_at}
 use Rattle.bud_log.specs.AfterCutLaws.{further_run}
 use Rattle.bud_log.specs.Log.{Log, IsLogLeb, next_leb, Run, end_of}
 use Rattle.bud_log.specs.LogAt.{IsAt, steps_to}
 use Rattle.bud_log.specs.LogLaws.{next_in}
 use Rattle.bud_log.specs.LogText.{LogText, IsTextOf, begins_with, start_of, is_start_alone}
+use Rattle.bud_log.specs.Writing.{offs_behind}
 use Rattle.bud_log.specs.declared.log_end.LogEnd.{LogEnd}
 
 -- the text at whose end a log ends, in a LEB of the log

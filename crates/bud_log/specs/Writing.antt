@@ -1,5 +1,5 @@
 -- A log that is written on: what it takes to be ready for its next nodes, and what a cut leaves while they are written.
-use Rattle.std.specs.Prelude.{◌≡◌, ◌≢◌, ◌⊎◌, ⊤, ℕ, ◌+◌, ◌%◌, ◌^◌, ◌<◌, ◌≤◌, nat_le, IsTrue, IsFalse, Some, List, [], ◌∷◌, ◌++◌, take, drop, length}
+use Rattle.std.specs.Prelude.{◌≡◌, ◌≢◌, ◌⊎◌, ⊤, ℕ, ◌+◌, ◌%◌, ◌^◌, ◌<◌, ◌≤◌, ◌==◌, nat_le, if◌then◌else◌, IsTrue, IsFalse, Some, List, [], ◌∷◌, ◌++◌, take, drop, length}
 use Rattle.ubifs_base.specs.Gap.{gap_of}
 use Rattle.ubifs_base.specs.NodeLaws.{IsBytes}
 use Rattle.ubifs_base.specs.declared.node_type.NodeType.TheVariants as types
@@ -11,7 +11,7 @@ use Rattle.leb_scan.specs.Text.{IsText, nodes_of}
 use Rattle.leb_scan.specs.declared.found.Found.{Found}
 use Rattle.leb_scan.specs.declared.item.Item.{Item}
 use Rattle.leb_scan.specs.declared.tail.Tail.{Tail}
-use Rattle.leb_scan.specs.declared.tail.Tail.TheVariants.{Clean}
+use Rattle.leb_scan.specs.declared.tail.Tail.TheVariants.{Clean, Torn}
 use Rattle.bud_log.specs.Buds.{buds_of}
 use Rattle.bud_log.specs.Log.{IsLogLeb, next_leb, Run, references_of}
 use Rattle.bud_log.specs.LogAt.{room_of}
@@ -94,10 +94,20 @@ pub record IsChain (contents : ℕ → List ℕ) (geo : RawGeometry) (from start
   pub starts : start_of (begins_with first.nodes) ≡ Some start
   pub run : Run contents geo from start (next_leb geo from) more past
 
+abbrev offs_if : RawGeometry → ℕ → Tail → ℕ
+offs_if geo offs Clean = if offs % geo.min_io == 0 then offs else geo.leb_size
+offs_if geo offs Torn = geo.leb_size
+
+-- where a log that ends here is written on: there, if the end is clean and a unit begins there, and else nowhere in that LEB
+abbrev pub offs_behind : RawGeometry → LogEnd → ℕ
+offs_behind geo ends = offs_if geo ends.offs ends.tail
+
 -- A log whose last text ends here is written on from this place: behind a clean end; or nowhere in that LEB, as behind a torn end,
 -- since no reference has room at the place.
 abbrev pub GoesOn : RawGeometry → LogEnd → ℕ → ℕ → Type 0
-GoesOn geo last lnum offs = (last ≡ record { lnum = lnum; offs = offs; tail = Clean }) ⊎ ((last.lnum ≡ lnum) × IsFalse (nat_le (offs + room_of geo.min_io 64) geo.leb_size))
+GoesOn geo last lnum offs =
+    (last ≡ record { lnum = lnum; offs = offs; tail = Clean })
+    ⊎ ((last.lnum ≡ lnum) × (offs_behind geo last ≡ geo.leb_size) × IsFalse (nat_le (offs + room_of geo.min_io 64) geo.leb_size))
 
 -- The volume holds a log of these buds, which goes on here, and is ready for its next node: what is read of it a cut leaves as it
 -- is, and whatever a cut leaves of the ring's other LEBs is passed over. No LEB begins with a number above this one.

@@ -15,6 +15,7 @@
 #![tactic(auto)]
 
 mod buds;
+pub mod caller;
 mod commits;
 mod head_at;
 mod laws;

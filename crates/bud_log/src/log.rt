@@ -12,7 +12,7 @@ ghost use Rattle.bud_log.specs.Buds.{named, buds_of};
 ghost use Rattle.bud_log.specs.Log.{IsLogLeb, next_leb as leb_behind};
 ghost use Rattle.bud_log.specs.LogAnswers.{StartsWith, IsAnswered, IsLogAnswered, IsOpened, IsStarted, HasEnded};
 ghost use Rattle.bud_log.specs.LogAt.{LogAt, IsAt, IsStart, IsBetween, IsEnded, IsFull, IsFullExactly, IsRaised, room_of, used_lebs, most_lebs, has_room as has_room_at, next_lnum, next_offs, lnum_at, offs_at, ending, references_to, section_nodes};
-ghost use Rattle.bud_log.specs.LogText.{StartsCommit};
+ghost use Rattle.bud_log.specs.LogText.{StartsCommit, IsNoLoneStart};
 ghost use Rattle.bud_log.specs.LogCalls.{IsEmptied, IsBegun, BeginUnderWay, IsAdded, AddDuring, OpenUnderWay, StartUnderWay, UnmapUnderWay, EndUnderWay};
 ghost use Rattle.bud_log.specs.Writing.{AreSpelled, AreOthersOlder, IsReady, IsOldOrMeant};
 ghost use Rattle.bud_log.specs.declared.head_at.HeadAt.{HeadAt as AHead};
@@ -21,6 +21,7 @@ use crate::head_at::HeadAt;
 use crate::laying::{lay_reference, lay_section, room_for};
 use crate::log_fault::LogFault;
 use crate::ring::next_leb;
+use leb_scan::one_text;
 use media_sys::{RefNode, one_node};
 use std::marker::Model;
 use ubi_volume::{VolFault, Volume};
@@ -151,7 +152,7 @@ impl Log {
             → IsLeftStarted left self.old from sqnum.old buds (references_to heads.now)) }
         ensures works { Works (V.state volume.old) (V.state volume.new) (λ k. k ≡ leb_behind self.old.geo self.old.lnum)
             (StartUnderWay (V.state volume.old) self.old (room_of self.old.geo.min_io (32 + 64 * length heads.now))) }
-        ensures started { OnOk result (IsStarted (V.state volume.new) self.old self.new cmt_no (length heads.now) sqnum.old) }
+        ensures started { OnOk result (IsStarted (V.state volume.old) (V.state volume.new) self.old self.new cmt_no (length heads.now) sqnum.old) }
         ensures answered { IsAnswered (V.state volume.old) (V.state volume.new) self.old self.new result × (sqnum.new ≡ sqnum.old + (1 + length heads.now)) }
     {
         one_node();
@@ -198,6 +199,9 @@ impl Log {
         ensures done { OnOk result ((from : ℕ) (buds : List AHead) → IsLogLeb self.old.geo from → ((here ≡ false) → leb_behind self.old.geo self.old.lnum ≢ from)
             → IsReady (V.state volume.old) self.old.geo from self.old.lnum self.old.offs number buds
             → IsReady (V.state volume.new) self.old.geo from (lnum_at here self.old) (offs_at here self.old + room_of self.old.geo.min_io 64) (number + 1) (named buds node.now)) }
+        ensures section { OnOk result ((from known low : ℕ) (buds : List AHead) → IsLogLeb self.old.geo from → ((here ≡ false) → leb_behind self.old.geo self.old.lnum ≢ from)
+            → IsReady (V.state volume.old) self.old.geo from self.old.lnum self.old.offs known buds → StartsWith ((V.state volume.old).holds from) from low
+            → StartsWith ((V.state volume.new).holds from) from low × IsNoLoneStart ((V.state volume.new).holds (lnum_at here self.old)) (lnum_at here self.old)) }
         ensures works { WorksOn (V.state volume.old) (V.state volume.new) (lnum_at here self.old) (AddDuring here (V.state volume.old) self.old (room_of self.old.geo.min_io 64)) }
         ensures moved { OnOk result (self.new ≡ ending self.old (lnum_at here self.old) (offs_at here self.old + room_of self.old.geo.min_io 64)) }
         ensures stays { OnErr result (self.new ≡ self.old) }
@@ -206,6 +210,7 @@ impl Log {
         ensures cause { HasCause (V.state volume.old).faults (V.state volume.new).faults result }
         ensures sure { StaysSure (V.state volume.old) (V.state volume.new) result }
     {
+        one_text();
         let room = room_for(self.geometry.min_io, REFERENCE_NODE_LEN);
         let buffer: &mut [u8] = &mut [0u8; MOST];
         let bytes = buffer.split_at_mut(room as usize).0;

@@ -29,7 +29,7 @@ use ubifs_base::Geometry;
 ///
 /// Where the volume holds a log that may be written on, after a cut or behind an unmount, a log that is opened over what was
 /// read is ready for its next node: behind the end, if it is clean and a unit begins there, and else in the next LEB. That node
-/// may take any number above the greatest that was read.
+/// may take any number above the greatest that was read. A call may write it there if nothing counts as written behind that place.
 pub fn read_log<V: Volume>(
     alloc: Global,
     volume: &mut V,

@@ -1,8 +1,10 @@
 use Rattle.std.proofs.Common.{rules, refl, ap, sym, ◌∙◌, subst}
 use Rattle.ubi_volume.specs.Frame.{Works}
+use Rattle.bud_log.specs.LogAnswers.{IsSection}
 use Rattle.bud_log.specs.LogAt.{LogAt, IsEnded, IsWithin, without_old}
 use Rattle.bud_log.specs.LogCalls.{EndUnderWay}
 use Rattle.bud_log.proofs.Ended.{ended_moment, ended_ready}
+use Rattle.bud_log.proofs.Sections.{ended_section}
 use Rattle.bud_log.proofs.Steps.{within_ended}
 use Rattle.bud_log.proofs.log.Log.end_section.Goals as goal
 
@@ -54,4 +56,12 @@ returns-clause-ended g c =
       moved = search rules;
       at = search rules;
       within = λ h. subst W (ap without_old (sym c.self.view_is) ∙ refl) (within_ended c.args.self.now c.requires.at.first c.requires.at.section c.requires.at.here c.requires.at.on_the_way h);
+      section = λ low section.
+          let a = g.V.Volume.state c.args.volume.now in
+          let b = g.V.Volume.state c.unmap_between.new.volume in
+          let at = c.args.self.now in
+          let T : LogAt → Type 0 = λ z. Works a b (IsEnded z) (EndUnderWay a z) in
+          let S : LogAt → Type 0 = λ z. IsSection b z low in
+          subst S (ap without_old (sym c.self.view_is) ∙ refl)
+          (ended_section a b at low c.requires.at.on_the_way (λ k. g.met.V.Volume.mapped_now c.unmap_between.new.volume k (b.holds k) (g.met.V.Volume.holds_now c.unmap_between.new.volume k)) (subst T c.self.view_is c.unmap_between.ensures.works) section);
     }

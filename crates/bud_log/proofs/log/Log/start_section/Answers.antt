@@ -4,11 +4,12 @@ use Rattle.bud_log.specs.Buds.{named, buds_of}
 use Rattle.bud_log.specs.Log.{next_leb}
 use Rattle.ubi_volume.specs.FrameLaws.{Works-on}
 use Rattle.bud_log.specs.LogAt.{LogAt, IsWithin, starting, room_of, references_to}
-use Rattle.bud_log.specs.LogAnswers.{StartsWith}
+use Rattle.bud_log.specs.LogAnswers.{StartsWith, IsSection}
 use Rattle.bud_log.specs.LogText.{StartsCommit}
 use Rattle.bud_log.specs.LogCalls.{AddDuring}
-use Rattle.bud_log.specs.Writing.{IsReady}
+use Rattle.bud_log.specs.Writing.{AreOthersOlder, IsReady}
 use Rattle.bud_log.proofs.OneBud.{start_in, free_of, section_moment}
+use Rattle.bud_log.proofs.Sections.{started_section}
 use Rattle.bud_log.proofs.Steps.{within_started}
 use Rattle.bud_log.proofs.log.Log.start_section.Goals as goal
 
@@ -50,6 +51,12 @@ returns-clause-started g c =
       at = search rules;
       within = λ room. subst W (sym moved)
           (within_started at (room_of at.geo.min_io (32 + 64 * length c.args.heads.now)) c.requires.at.first c.requires.at.here (free_of (g.V.Volume.state c.args.volume.now) at at.first c.requires.at (inl refl) c.requires.kept) room);
+      section = λ older.
+          let a = g.V.Volume.state c.args.volume.now in
+          let room = room_of at.geo.min_io (32 + 64 * length c.args.heads.now) in
+          let there = next_leb at.geo at.lnum in
+          let P : LogAt → Type 0 = λ z. AreOthersOlder a at.geo z.lnum c.args.sqnum.now → IsSection b (starting z z.lnum z.offs) c.args.sqnum.now in
+          subst P (sym moved) (started_section a b at c.args.sqnum.now room there (AddDuring false a at room) c.in_ok-write_section.ensures.starts c.write_section.ensures.works) older;
     }
 
 pub returns-clause-any_moment : goal.returns-clause-any_moment
