@@ -215,7 +215,7 @@ put_leads m p are proper a n j = by p.payment (parts_leads p.parts m are proper 
 
 -- ---- an inode without a name goes
 -- an inode that is listed as nameless has no name
-listed_nameless : (inodes : Inodes) (ino : ℕ) → ascends nat_cmp (keys_of inodes) ≡ true → list_any (λ k. k == ino) (keys_of (filter (λ e. e.1.nlink == 0) inodes)) ≡ true
+pub listed_nameless : (inodes : Inodes) (ino : ℕ) → ascends nat_cmp (keys_of inodes) ≡ true → list_any (λ k. k == ino) (keys_of (filter (λ e. e.1.nlink == 0) inodes)) ≡ true
     → option_map_or (λ inode. inode.nlink == 0) (lookup (is_at (nat_cmp ino)) inodes) false ≡ true
 listed_nameless [] ino up h = absurd (false≢true h)
 listed_nameless (e ∷ inodes) ino up h = by (λ more. listed_nameless inodes ino (tail_ascends nat_cmp inodes e up) more) (is_at (nat_cmp ino) e.0) refl (e.1.nlink == 0) refl h

@@ -18,7 +18,7 @@ use Rattle.store_model.proofs.LebRows.{AreRows, Row, Uses, all_in, all_weaker, f
 use Rattle.store_model.proofs.RecoveryCopies.{either_of}
 use Rattle.store_model.proofs.RecoveryOrder.{or_left, or_right}
 
-abbrev after_row : View → Row → Row
+abbrev pub after_row : View → Row → Row
 after_row view (n, kind.Free) = (n, kind.Free)
 after_row view (n, kind.Leaf) = (n, kind.Leaf)
 after_row view (n, kind.Index) = cond (has_node view.places n) (n, kind.Index) (n, kind.Free)
@@ -44,12 +44,12 @@ row_is view leb kind.Bud e = by (list_any (λ bud. bud.lnum == leb.lnum) view.bu
     by true = ap (λ (r : LebKind). (leb.lnum, r)) e
     by false = refl
 
-after_rows : (view : View) (lebs : List Leb) → rows (map (role_after view) lebs) ≡ map (after_row view) (rows lebs)
+pub after_rows : (view : View) (lebs : List Leb) → rows (map (role_after view) lebs) ≡ map (after_row view) (rows lebs)
 after_rows view [] = refl
 after_rows view (leb ∷ lebs) =
     ap (λ (r : Row). r ∷ rows (map (role_after view) lebs)) (row_is view leb leb.role refl) ∙ ap (λ (z : List Row). after_row view (leb.lnum, leb.role) ∷ z) (after_rows view lebs)
 
-after_number : (view : View) (r : Row) → (after_row view r).0 ≡ r.0
+pub after_number : (view : View) (r : Row) → (after_row view r).0 ≡ r.0
 after_number view (n, kind.Free) = refl
 after_number view (n, kind.Leaf) = refl
 after_number view (n, kind.Taken) = refl
@@ -127,7 +127,7 @@ all_buds (bud ∷ buds) =
     (or_left (bud.lnum == bud.lnum) (list_any (λ b. b.lnum == bud.lnum) buds) (eq-eqb bud.lnum bud.lnum refl))
     (all_weaker (λ (c : Bud). list_any (λ b. b.lnum == c.lnum) buds) (λ c. list_any (λ b. b.lnum == c.lnum) (bud ∷ buds)) (λ c h. or_right (bud.lnum == c.lnum) (list_any (λ b. b.lnum == c.lnum) buds) h) buds (all_buds buds))
 
-all_places : (places : List Place) → list_all (λ place. has_node places place.lnum) places ≡ true
+pub all_places : (places : List Place) → list_all (λ place. has_node places place.lnum) places ≡ true
 all_places [] = refl
 all_places (place ∷ places) =
     and_from (has_node (place ∷ places) place.lnum) (list_all (λ c. has_node (place ∷ places) c.lnum) places)
@@ -177,14 +177,22 @@ end_uses m next (r ∷ rs) h =
     and_from (is_used (ended_store m next) (after_row next.view r).0 (after_row next.view r).1 || is_role kind.Leaf (after_row next.view r).1)
     (list_all (λ r. is_used (ended_store m next) r.0 r.1 || is_role kind.Leaf r.1) (map (after_row next.view) rs)) (end_use m next r p.0) (end_uses m next rs p.1)
 
+-- where the index of the commit is to stand are LEBs of the index then
+pub ended_index : (m : Store) (next : Next) → IsTaking m (Some next) → list_all (λ place. has_row kind.Index (map (after_row next.view) (rows m.lebs)) place.lnum) next.view.places ≡ true
+ended_index m next t = both_all (λ (place : Place). has_role kind.Index m.lebs place.lnum || is_among next.taken place.lnum) (λ place. has_node next.view.places place.lnum) (λ place. has_row kind.Index (map (after_row next.view) (rows m.lebs)) place.lnum)
+    (λ place h g. index_of place.lnum g (either_of (has_role kind.Index m.lebs place.lnum) (is_among next.taken place.lnum) h)) next.view.places t.1 (all_places next.view.places)
+  where
+    index_of : (n : ℕ) → has_node next.view.places n ≡ true → (has_role kind.Index m.lebs n ≡ true) ⊎ (is_among next.taken n ≡ true) → has_row kind.Index (map (after_row next.view) (rows m.lebs)) n ≡ true
+    index_of n g (inl e) = one_after next.view kind.Index kind.Index n (index_one next.view n g) (rows m.lebs) (sym (role_row kind.Index m.lebs n) ∙ e)
+    index_of n g (inr e) = one_after next.view kind.Taken kind.Index n (taken_one next.view n) (rows m.lebs) (sym (role_row kind.Taken m.lebs n) ∙ among_all (has_role kind.Taken m.lebs) next.taken n t.0 e)
+
 ended_apart : (m : Store) (next : Next) → IsTaking m (Some next) → IsSince m next.view → AreApart m → AreApart (end_commit m (Some next))
 ended_apart m next t s a = tidied_from k (subst (AreNearly k) (sym (after_rows view m.lebs)) (record {
   numbers = ap are_distinct (numbers_kept (after_row view) (after_number view) rs) ∙ r.numbers;
   used = end_uses m next rs r.used;
   buds = both_all (λ (bud : Bud). has_role kind.Bud m.lebs bud.lnum) (λ bud. list_any (λ b. b.lnum == bud.lnum) view.buds) (λ bud. has_row kind.Bud new bud.lnum)
       (λ bud h g. one_after view kind.Bud kind.Bud bud.lnum (bud_one view bud.lnum g) rs (sym (role_row kind.Bud m.lebs bud.lnum) ∙ h)) view.buds t.3 (all_buds view.buds);
-  index = both_all (λ (place : Place). has_role kind.Index m.lebs place.lnum || is_among next.taken place.lnum) (λ place. has_node view.places place.lnum) (λ place. has_row kind.Index new place.lnum)
-      (λ place h g. index_of place.lnum g (either_of (has_role kind.Index m.lebs place.lnum) (is_among next.taken place.lnum) h)) view.places t.1 (all_places view.places);
+  index = ended_index m next t;
   leaves = all_weaker (λ (x : Kept). has_row kind.Leaf rs x.leaf.lnum || has_row kind.Bud rs x.leaf.lnum) (λ x. has_row kind.Leaf new x.leaf.lnum || has_row kind.Bud new x.leaf.lnum)
       (λ x h. leaf_of x.leaf.lnum (either_of (has_row kind.Leaf rs x.leaf.lnum) (has_row kind.Bud rs x.leaf.lnum) h)) m.live r.leaves;
   victim = victim_of m.moving r.victim;
@@ -204,10 +212,6 @@ ended_apart m next t s a = tidied_from k (subst (AreNearly k) (sym (after_rows v
 
     r : AreRows m (rows m.lebs)
     r = to_rows m a
-
-    index_of : (n : ℕ) → has_node next.view.places n ≡ true → (has_role kind.Index m.lebs n ≡ true) ⊎ (is_among next.taken n ≡ true) → has_row kind.Index (map (after_row next.view) (rows m.lebs)) n ≡ true
-    index_of n g (inl e) = one_after next.view kind.Index kind.Index n (index_one next.view n g) (rows m.lebs) (sym (role_row kind.Index m.lebs n) ∙ e)
-    index_of n g (inr e) = one_after next.view kind.Taken kind.Index n (taken_one next.view n) (rows m.lebs) (sym (role_row kind.Taken m.lebs n) ∙ among_all (has_role kind.Taken m.lebs) next.taken n t.0 e)
 
     leaf_of : (n : ℕ) → (has_row kind.Leaf (rows m.lebs) n ≡ true) ⊎ (has_row kind.Bud (rows m.lebs) n ≡ true)
         → (has_row kind.Leaf (map (after_row next.view) (rows m.lebs)) n || has_row kind.Bud (map (after_row next.view) (rows m.lebs)) n) ≡ true

@@ -44,6 +44,7 @@ taking_buds change n m k (Some next) taken index buds t = (
       (λ place h. some_more (has_role kind.Index m.lebs place.lnum) (has_role kind.Index k.lebs place.lnum) (is_among next.taken place.lnum) (index place.lnum) h) next.view.places t.1,
   t.2,
   buds next.view.buds t.3,
+  t.4,
 )
 
 pub taking_same : (m k : Store) (next : Option Next) → Keeps kind.Taken m k → Keeps kind.Index m k → Keeps kind.Bud m k → IsTaking m next → IsTaking k next
@@ -54,6 +55,7 @@ taking_same m k (Some next) taken index buds t = (
       (λ place h. some_more (has_role kind.Index m.lebs place.lnum) (has_role kind.Index k.lebs place.lnum) (is_among next.taken place.lnum) (index place.lnum) h) next.view.places t.1,
   t.2,
   all_weaker (λ (bud : Bud). has_role kind.Bud m.lebs bud.lnum) (λ bud. has_role kind.Bud k.lebs bud.lnum) (λ bud h. buds bud.lnum h) next.view.buds t.3,
+  t.4,
 )
 
 -- what the rows of LEBs say

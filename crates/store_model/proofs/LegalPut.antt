@@ -42,6 +42,7 @@ part = record {
   );
   fits = ((refl, refl, refl, (refl, refl, refl, tt)), omega arith);
   keeps = record { are_nodes = refl; revives_none = refl; proper = am_is_proper };
+  drops = refl;
 }
 
 index : IsIndexAfter before 2 (put putting_am before).live (changed_index am_leaves)

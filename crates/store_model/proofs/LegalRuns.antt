@@ -60,6 +60,7 @@ part = record {
   );
   fits = ((refl, refl, refl, (refl, refl, refl, tt)), omega arith);
   keeps = record { are_nodes = refl; revives_none = refl; proper = bb_is_proper };
+  drops = refl;
 }
 
 index : IsIndexAfter started 2 (put putting_bb started).live (changed_index bb_leaves)

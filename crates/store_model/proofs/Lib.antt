@@ -7,12 +7,14 @@ mod BackingStarts
 mod BegunCommits
 mod BegunEvents
 mod Bytes
+mod CopiedLeaves
 mod DataHeads
 mod Drops
 mod EventFiles
 mod EventNumbers
 mod Further
 mod GrantCounts
+mod IndexCommits
 mod JournalEvents
 mod LebCollections
 mod LebCounts
@@ -32,9 +34,11 @@ mod LiveLeaves
 mod LogSteps
 mod MainArea
 mod Moves
+mod Nameless
 mod Numbers
 mod OfViews
 mod Opens
+mod Orphans
 mod Owned
 mod PassSums
 mod Places
@@ -66,5 +70,6 @@ mod TextSyncs
 mod Units
 mod ViewCommits
 mod Views
+mod Weights
 mod WorkedStates
 mod WorkedStore

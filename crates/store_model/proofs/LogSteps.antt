@@ -7,6 +7,7 @@ use Rattle.std.proofs.lemmas.Nat.{div-add-mod', mul-le}
 use Rattle.ubifs_base.specs.declared.raw_geometry.RawGeometry.{RawGeometry}
 use Rattle.ubifs_base.specs.Geometry.{IsGeometry}
 use Rattle.store_model.specs.Events.{after_part, begin, changed_end, Copying, credit, drop_inode, end_commit, filled_up, free_victim, granted, in_next, move, next_log_leb, offer, offered, open_bud, open_buds, open_leb, paid, Part, Payment, put, Putting, reference_len, start, sync, whole_units, with_reference, write_index}
+use Rattle.store_model.specs.Heads.{begun_of, less}
 use Rattle.store_model.specs.Legal.{CanOpen, CanStart, kept_lebs, log_count, log_steps, next_section}
 use Rattle.store_model.specs.LogRing.{HasLogLebs, IsOnTheWay}
 use Rattle.store_model.specs.Store.{At, Bud, Index, LogAt, Moving, Next, Store}
@@ -81,6 +82,12 @@ changed_length head change [] = refl
 changed_length zero change (at ∷ ends) = refl
 changed_length (suc head) change (at ∷ ends) = ap (λ n. suc n) (changed_length head change ends)
 
+-- one list less another is as long as it was
+less_length : (numbers gone : List ℕ) → length (less numbers gone) ≡ length numbers
+less_length [] gone = refl
+less_length (n ∷ numbers) [] = refl
+less_length (n ∷ numbers) (k ∷ gone) = ap (λ i. suc i) (less_length numbers gone)
+
 map_length : {A B : Type 0} (f : A → B) (xs : List A) → length (map f xs) ≡ length xs
 map_length f [] = refl
 map_length f (x ∷ xs) = ap (λ n. suc n) (map_length f xs)
@@ -97,6 +104,7 @@ open_length head (at ∷ ends) = by at (open_length (suc head) ends)
 record IsSameLog (m k : Store) : Type 0 where
   geo : k.geo ≡ m.geo
   heads : length k.ends ≡ length m.ends
+  synced : length m.synced ≡ 3 → length k.synced ≡ 3
   first : k.now.section ≡ m.now.section
   log : k.log ≡ m.log
   next : next_section k ≡ next_section m
@@ -109,7 +117,8 @@ OnTheWay geo first log next = IsOnTheWay geo first log.leb next
 
 same_log : (m k : Store) → IsSameLog m k → HasLogLebs m → HasLogLebs k
 same_log m k s h = record {
-  heads = subst (λ n. n ≤ 3) (sym s.heads) h.heads;
+  heads = s.heads ∙ h.heads;
+  synced = s.synced h.synced;
   first = subst (λ (g : RawGeometry). k.now.section < g.log_lebs) (sym s.geo) (subst (λ n. n < m.geo.log_lebs) (sym s.first) h.first);
   last = subst (λ (g : RawGeometry). k.log.leb < g.log_lebs) (sym s.geo) (subst (λ (l : LogAt). l.leb < m.geo.log_lebs) (sym s.log) h.last);
   within = subst (λ (g : RawGeometry). k.log.offs ≤ g.leb_size) (sym s.geo) (subst (λ (l : LogAt). l.offs ≤ m.geo.leb_size) (sym s.log) h.within);
@@ -127,7 +136,7 @@ same_log m k s h = record {
 }
 
 log_then : (m k l : Store) → IsSameLog m k → IsSameLog k l → IsSameLog m l
-log_then m k l a b = record { geo = b.geo ∙ a.geo; heads = b.heads ∙ a.heads; first = b.first ∙ a.first; log = b.log ∙ a.log; next = b.next ∙ a.next }
+log_then m k l a b = record { geo = b.geo ∙ a.geo; heads = b.heads ∙ a.heads; synced = λ e. b.synced (a.synced e); first = b.first ∙ a.first; log = b.log ∙ a.log; next = b.next ∙ a.next }
 
 -- the section of a commit stays, whatever is done to its buds
 same_section : (change : List Bud → List Bud) (n : ℕ) (next : Option Next) → option_map (λ next. next.view.section) (option_map (in_next change n) next) ≡ option_map (λ next. next.view.section) next
@@ -135,10 +144,10 @@ same_section change n None = refl
 same_section change n (Some next) = refl
 
 part_log : (m : Store) (part : Part) → IsSameLog m (after_part m part)
-part_log m part = record { geo = refl; heads = changed_length part.head _ m.ends; first = refl; log = refl; next = same_section _ (length part.group) m.next }
+part_log m part = record { geo = refl; heads = changed_length part.head _ m.ends; synced = λ e. e; first = refl; log = refl; next = same_section _ (length part.group) m.next }
 
 parts_log : (parts : List Part) (m : Store) → IsSameLog m (fold after_part m parts)
-parts_log [] m = record { geo = refl; heads = refl; first = refl; log = refl; next = refl }
+parts_log [] m = record { geo = refl; heads = refl; synced = λ e. e; first = refl; log = refl; next = refl }
 parts_log (part ∷ parts) m = log_then m (after_part m part) (fold after_part m (part ∷ parts)) (part_log m part) (parts_log parts (after_part m part))
 
 pub put_log : (m : Store) (p : Putting) → HasLogLebs m → HasLogLebs (put p m)
@@ -148,35 +157,35 @@ put_log m p h = by p.payment (same_log m (fold after_part m p.parts) (parts_log 
     end = fold after_part m p.parts
 
     by : (payment : Payment) → HasLogLebs end → HasLogLebs (record (paid payment end) { index = p.index })
-    by credit h = same_log end (record (paid credit end) { index = p.index }) (record { geo = refl; heads = refl; first = refl; log = refl; next = refl }) h
-    by granted h = same_log end (record (paid granted end) { index = p.index }) (record { geo = refl; heads = refl; first = refl; log = refl; next = refl }) h
+    by credit h = same_log end (record (paid credit end) { index = p.index }) (record { geo = refl; heads = refl; synced = λ e. e; first = refl; log = refl; next = refl }) h
+    by granted h = same_log end (record (paid granted end) { index = p.index }) (record { geo = refl; heads = refl; synced = λ e. e; first = refl; log = refl; next = refl }) h
 
 pub sync_log : (m : Store) → HasLogLebs m → HasLogLebs (sync m)
-sync_log m h = same_log m (sync m) (record { geo = refl; heads = map_length (option_map (filled_up m.geo)) m.ends; first = refl; log = refl; next = refl }) h
+sync_log m h = same_log m (sync m) (record { geo = refl; heads = map_length (option_map (filled_up m.geo)) m.ends; synced = λ e. refl; first = refl; log = refl; next = refl }) h
 
 pub begin_log : (m : Store) (victim : ℕ) → HasLogLebs m → HasLogLebs (begin victim m)
-begin_log m victim h = same_log m (begin victim m) (record { geo = refl; heads = refl; first = refl; log = refl; next = refl }) h
+begin_log m victim h = same_log m (begin victim m) (record { geo = refl; heads = refl; synced = λ e. e; first = refl; log = refl; next = refl }) h
 
 pub move_log : (m : Store) (c : Copying) → HasLogLebs m → HasLogLebs (move c m)
-move_log m c h = same_log m (move c m) (record { geo = refl; heads = changed_length 0 _ m.ends; first = refl; log = refl; next = same_section _ 0 m.next }) h
+move_log m c h = same_log m (move c m) (record { geo = refl; heads = changed_length 0 _ m.ends; synced = λ e. e; first = refl; log = refl; next = same_section _ 0 m.next }) h
 
 pub free_log : (m : Store) (moving : Option Moving) → HasLogLebs m → HasLogLebs (free_victim m moving)
 free_log m None h = h
-free_log m (Some moving) h = same_log m (free_victim m (Some moving)) (record { geo = refl; heads = refl; first = refl; log = refl; next = refl }) h
+free_log m (Some moving) h = same_log m (free_victim m (Some moving)) (record { geo = refl; heads = refl; synced = λ e. e; first = refl; log = refl; next = refl }) h
 
 pub write_log : (m : Store) (next : Option Next) → m.next ≡ next → HasLogLebs m → HasLogLebs (write_index m next)
 write_log m None e h = h
-write_log m (Some next) e h = same_log m (write_index m (Some next)) (record { geo = refl; heads = refl; first = refl; log = refl; next = ap (option_map (λ next. next.view.section)) (sym e) }) h
+write_log m (Some next) e h = same_log m (write_index m (Some next)) (record { geo = refl; heads = refl; synced = λ e. e; first = refl; log = refl; next = ap (option_map (λ next. next.view.section)) (sym e) }) h
 
 pub offer_log : (m : Store) → HasLogLebs m → HasLogLebs (offer m)
-offer_log m h = same_log m (offer m) (record { geo = refl; heads = refl; first = refl; log = refl; next = by m.next }) h
+offer_log m h = same_log m (offer m) (record { geo = refl; heads = refl; synced = λ e. e; first = refl; log = refl; next = by m.next }) h
   where
     by : (next : Option Next) → option_map (λ next. next.view.section) (option_map offered next) ≡ option_map (λ next. next.view.section) next
     by None = refl
     by (Some next) = refl
 
 pub drop_log : (m : Store) (ino : ℕ) (index : Index) → HasLogLebs m → HasLogLebs (drop_inode ino index m)
-drop_log m ino index h = same_log m (drop_inode ino index m) (record { geo = refl; heads = refl; first = refl; log = refl; next = refl }) h
+drop_log m ino index h = same_log m (drop_inode ino index m) (record { geo = refl; heads = refl; synced = λ e. e; first = refl; log = refl; next = refl }) h
 
 -- ---- a log that grows
 -- a LEB's first bytes, whole units of at most 224
@@ -209,8 +218,8 @@ open_log m head lnum can g h = by (nat_le (m.log.offs + reference_len m.geo) m.g
     grown log is w =
         let k : Store = open_leb head lnum m in
         let now : Store = record m { log = log } in
-        let has : HasLogLebs now = record { heads = h.heads; first = h.first; last = w.0; within = w.1; unit = w.2; kept = w.3; on_the_way = w.4 } in
-        same_log now k (record { geo = refl; heads = changed_length head _ m.ends; first = refl; log = is; next = same_section _ 0 m.next }) has
+        let has : HasLogLebs now = record { heads = h.heads; synced = h.synced; first = h.first; last = w.0; within = w.1; unit = w.2; kept = w.3; on_the_way = w.4 } in
+        same_log now k (record { geo = refl; heads = changed_length head _ m.ends; synced = λ e. e; first = refl; log = is; next = same_section _ 0 m.next }) has
 
     by : (b : Bool) → nat_le (m.log.offs + reference_len m.geo) m.geo.leb_size ≡ b → cond b true (nat_lt (log_count m + kept_lebs (next_section m)) m.geo.log_lebs) ≡ true → HasLogLebs (open_leb head lnum m)
     by true e room =
@@ -236,6 +245,7 @@ start_log m taken can g h =
     let inside = next_in m.geo.log_lebs m.log.leb h.last in
     record {
       heads = h.heads;
+      synced = h.synced;
       first = h.first;
       last = inside;
       within = first_units m.geo (32 + 64 * length (open_buds 0 m.ends)) g (let three = h.heads in omega (arith, few, three));
@@ -254,6 +264,7 @@ end_log m (Some next) e h =
     let two : log_steps m.geo next.view.section m.log.leb + 1 + 2 ≤ m.geo.log_lebs = omega (arith, left, kept, some) in
     record {
       heads = h.heads;
+      synced = less_length m.synced (begun_of m next) ∙ h.synced;
       first = way.0;
       last = h.last;
       within = h.within;

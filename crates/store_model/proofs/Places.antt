@@ -49,7 +49,7 @@ keep_through old mid (row ∷ rows) (Some place ∷ places) first then =
 at_stays : (old new : List Leb) (place : Place) (node : ListedNode) (below : List Place) → text_in new place.lnum ≡ text_in old place.lnum → IsBranchingAt old place node below → IsBranchingAt new place node below
 at_stays old new place node below text is = rw text is
 
-nodes_stay : (old new : List Leb) (unwritten : List ℕ) (test : ℕ → Bool) (nodes : List ListedNode) (places : List Place) (below : List (List Place)) → ((k : ℕ) → test k ≡ true → text_in new k ≡ text_in old k)
+pub nodes_stay : (old new : List Leb) (unwritten : List ℕ) (test : ℕ → Bool) (nodes : List ListedNode) (places : List Place) (below : List (List Place)) → ((k : ℕ) → test k ≡ true → text_in new k ≡ text_in old k)
     → list_all (λ place. test place.lnum) places ≡ true → AreBranchingsAt old unwritten nodes places below → AreBranchingsAt new unwritten nodes places below
 nodes_stay old new unwritten test [] [] below keeps h are = tt
 nodes_stay old new unwritten test (node ∷ nodes) (place ∷ places) (children ∷ below) keeps h are =
@@ -157,17 +157,17 @@ open_keeps_index m head lnum empty a role n is h =
 
 -- ---- the events
 -- what of both indexes was kept, and the present one's places
-record KeepsIndexes (m k : Store) : Type 0 where
-  shape : k.now.shape ≡ m.now.shape
-  places : k.now.places ≡ m.now.places
-  next : IsNextIndexIn k.lebs m.next → IsNextIndexIn k.lebs k.next
-  last : last_index k ≡ last_index m
+pub record KeepsIndexes (m k : Store) : Type 0 where
+  pub shape : k.now.shape ≡ m.now.shape
+  pub places : k.now.places ≡ m.now.places
+  pub next : IsNextIndexIn k.lebs m.next → IsNextIndexIn k.lebs k.next
+  pub last : last_index k ≡ last_index m
 
 next_index : (m : Store) (new : List Leb) (next : Option Next) → KeepIndex m.lebs new → IsTaking m next → IsNextIndexIn m.lebs next → IsNextIndexIn new next
 next_index m new None keeps taking is = tt
 next_index m new (Some next) keeps taking is = next_stays m new next keeps taking is
 
-indexed : (m k : Store) → KeepsIndexes m k → KeepIndex m.lebs k.lebs → AreApart m → IsTaking m m.next → KeepPlaces (last_index m) (rows_of k.index.shape) k.index.places → has_placed_children k.index ≡ true → IsIndexed m
+pub indexed : (m k : Store) → KeepsIndexes m k → KeepIndex m.lebs k.lebs → AreApart m → IsTaking m m.next → KeepPlaces (last_index m) (rows_of k.index.shape) k.index.places → has_placed_children k.index ≡ true → IsIndexed m
     → IsIndexed k
 indexed m k same keeps a taking kept children is = record {
   now = let now = now_stays m k.lebs a keeps is.now in record { nodes = rw (same.shape, same.places) now.nodes; apart = rw same.places now.apart };
@@ -185,11 +185,11 @@ drop_indexed m ino index kept children a taking is =
     (keep_through (last_index m) m.index (rows_of index.shape) index.places is.last kept) children is
 
 -- what is put to buds is no matter of a view's index
-later_index : (lebs : List Leb) (change : List Bud → List Bud) (n : ℕ) (next : Option Next) → IsNextIndexIn lebs next → IsNextIndexIn lebs (option_map (in_next change n) next)
+pub later_index : (lebs : List Leb) (change : List Bud → List Bud) (n : ℕ) (next : Option Next) → IsNextIndexIn lebs next → IsNextIndexIn lebs (option_map (in_next change n) next)
 later_index lebs change n None is = tt
 later_index lebs change n (Some next) is = record { nodes = is.nodes; apart = is.apart }
 
-last_same : (change : List Bud → List Bud) (n : ℕ) (now : View) (next : Option Next)
+pub last_same : (change : List Bud → List Bud) (n : ℕ) (now : View) (next : Option Next)
     → committed_index (option_map_or (λ next. next.view) (option_map (in_next change n) next) (with_buds change n now)) ≡ committed_index (option_map_or (λ next. next.view) next now)
 last_same change n now None = refl
 last_same change n now (Some next) = refl

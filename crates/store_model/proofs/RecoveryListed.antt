@@ -84,7 +84,7 @@ made_gives q (c ∷ changes) tree o g h =
     one_gives q tree c o p.0 (made_gives q changes (applied tree c) (there (makes_inode q tree c) o) p.1 (subst (λ (z : Option Inode). has_none z ≡ true) two h))
 
 -- a committed inode without links is one of the leaves', and listed
-at_number : (q ino : ℕ) → is_at (nat_cmp q) ino ≡ true → q ≡ ino
+pub at_number : (q ino : ℕ) → is_at (nat_cmp q) ino ≡ true → q ≡ ino
 at_number q ino h = by (nat_cmp q ino) refl h
   where
     by : (o : Ordering) → nat_cmp q ino ≡ o → is_eq o ≡ true → q ≡ ino
@@ -92,7 +92,7 @@ at_number q ino h = by (nat_cmp q ino) refl h
     by Equal e t = exact_unsigned q ino e
     by Greater e t = absurd (false≢true t)
 
-shown_listed : (list : List ℕ) (q : ℕ) (s : Option Change) (rest : Inodes) → has_none (lookup (is_at (nat_cmp q)) (with_inode s rest)) ≡ true → is_listed list s ≡ true
+shown_listed : (list : List ℕ) (q : ℕ) (s : Option Change) (rest : Inodes) → has_none (lookup (is_at (nat_cmp q)) (with_inode s rest)) ≡ true → is_listed (is_among list) s ≡ true
     → (has_none (lookup (is_at (nat_cmp q)) rest) ≡ true → is_among list q ≡ true) → is_among list q ≡ true
 shown_listed list q (Some (SetInode ino inode)) rest h on more = by (is_at (nat_cmp q) ino) refl h
   where
@@ -110,16 +110,16 @@ shown_listed list q (Some (CutBlocks ino old new)) rest h on more = more h
 shown_listed list q (Some (DropInode ino)) rest h on more = more h
 shown_listed list q None rest h on more = more h
 
-leaf_listed : (list : List ℕ) (q : ℕ) (kept : List Kept) → has_none (lookup (is_at (nat_cmp q)) (inodes_of kept)) ≡ true → list_all (λ x. is_listed list (shown_by x)) kept ≡ true → is_among list q ≡ true
+leaf_listed : (list : List ℕ) (q : ℕ) (kept : List Kept) → has_none (lookup (is_at (nat_cmp q)) (inodes_of kept)) ≡ true → list_all (λ x. is_listed (is_among list) (shown_by x)) kept ≡ true → is_among list q ≡ true
 leaf_listed list q [] h on = absurd (false≢true h)
 leaf_listed list q (x ∷ kept) h on =
-    let p = and_parts (is_listed list (shown_by x)) (list_all (λ x. is_listed list (shown_by x)) kept) on in
+    let p = and_parts (is_listed (is_among list) (shown_by x)) (list_all (λ x. is_listed (is_among list) (shown_by x)) kept) on in
     shown_listed list q (shown_by x) (inodes_of kept) h p.0 (λ g. leaf_listed list q kept g p.1)
 
 -- the list that was read has them
-has_orphans : (f : Faced) (lists : List (List ℕ)) (list : List ℕ) → HaveOrphans f lists → IsOneOf lists list → list_all (λ x. is_listed list (shown_by x)) f.view.kept ≡ true
+has_orphans : (f : Faced) (lists : List (List ℕ)) (list : List ℕ) → HaveOrphans f lists → IsOneOf lists list → list_all (λ x. is_listed (is_among list) (shown_by x)) f.view.kept ≡ true
 has_orphans f [] list h one = absurd one
-has_orphans f (first ∷ lists) list h (inl same) = subst (λ (l : List ℕ). list_all (λ x. is_listed l (shown_by x)) f.view.kept ≡ true) (sym same) h.0
+has_orphans f (first ∷ lists) list h (inl same) = subst (λ (l : List ℕ). list_all (λ x. is_listed (is_among l) (shown_by x)) f.view.kept ≡ true) (sym same) h.0
 has_orphans f (first ∷ lists) list h (inr one) = has_orphans f lists list h.1 one
 
 abbrev pub InodeLaw : Type 0

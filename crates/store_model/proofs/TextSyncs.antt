@@ -47,7 +47,7 @@ freed_ends k geo lebs buds n (Some at ∷ ends) d h are all = (
 )
 
 -- the buds of a running commit's view are buds
-next_role : (m : Store) (next : Next) → IsTaking m (Some next) → list_all (λ bud. has_row kind.Bud (rows m.lebs) bud.lnum) next.view.buds ≡ true
+pub next_role : (m : Store) (next : Next) → IsTaking m (Some next) → list_all (λ bud. has_row kind.Bud (rows m.lebs) bud.lnum) next.view.buds ≡ true
 next_role m next taking = all_weaker (λ (bud : Bud). has_role kind.Bud m.lebs bud.lnum) (λ bud. has_row kind.Bud (rows m.lebs) bud.lnum) (λ bud h. sym (role_row kind.Bud m.lebs bud.lnum) ∙ h) next.view.buds taking.3
 
 -- ---- an inode that is dropped

@@ -1,9 +1,10 @@
 -- What was committed stays whole through a commit's own events and those of a collection.
-use Rattle.std.proofs.Common.{◌≡◌, ℕ, suc, Bool, true, false, cond, List, [], ◌∷◌, ◌++◌, refl, sym, ap, subst, inl, inr, Option, Some, None}
+use Rattle.std.proofs.Common.{◌≡◌, ℕ, suc, Bool, true, false, cond, List, [], ◌∷◌, ◌++◌, map, refl, sym, ap, subst, inl, inr, Option, Some, None}
 use Rattle.std.specs.Prelude.{◌==◌, ◌&&◌, not}
 use Rattle.std.specs.List.{AllByRecursion, flat_map}
 use Rattle.std.specs.Option.{option_map}
 use Rattle.media_leaf.specs.LeafNode.{IsLeaf}
+use Rattle.index_tree.specs.Distinct.{AreDistinct}
 use Rattle.leaf_map.specs.Allowed.{IsNodeOf}
 use Rattle.leaf_map.specs.Kept.{Kept, Placed}
 use Rattle.store_model.specs.Events.{begin, Copying, end_commit, free_victim, in_next, move, offer, offered, open_buds, start, with_buds, write_index}
@@ -51,11 +52,11 @@ none_carried k (None ∷ ends) = none_carried (suc k) ends
 none_carried k (Some at ∷ ends) = none_carried (suc k) ends
 
 -- a commit's view has the files as they are, and nothing was put yet
-pub start_views : (m : Store) (taken : List ℕ) → HasFiles m → AreOwned m → HasViews m → HasViews (start taken m)
-start_views m taken files owned v = record {
+pub start_views : (m : Store) (taken : List ℕ) → HasFiles m → AreOwned m → AreDistinct (map (λ x. x.leaf) m.live) → HasViews m → HasViews (start taken m)
+start_views m taken files owned distinct v = record {
   committed = (
     v.committed.0,
-    record { leaves = files.leaves; tree = files.tree; inodes = owned.inodes; highest = highest_is m.tree.highest m.live owned.highest; copies = rw (no_copies 0 m.ends) tt },
+    record { leaves = files.leaves; distinct = distinct; tree = files.tree; inodes = owned.inodes; highest = highest_is m.tree.highest m.live owned.highest; copies = rw (no_copies 0 m.ends) tt },
   );
   carried = (v.carried.0, none_carried 0 m.ends);
 }
@@ -92,6 +93,7 @@ leaf_node (y ∷ live) x h (inr i) = leaf_node live x h.1 i
 copied_view : (c : Copying) (view : View) → IsLeaf c.copy.node → IsNodeOf view.kept c.copy.node → HasCommitted view → HasCommitted (with_buds (with_copy c.copy) 0 view)
 copied_view c view leaf among has = record {
   leaves = has.leaves;
+  distinct = has.distinct;
   tree = has.tree;
   inodes = has.inodes;
   highest = has.highest;

@@ -21,6 +21,7 @@ KeepsCopies change = (buds : List Bud) → copies_of (change buds) ≡ copies_of
 committed_with : (change : List Bud → List Bud) (n : ℕ) (view : View) → KeepsCopies change → HasCommitted view → HasCommitted (with_buds change n view)
 committed_with change n view keeps has = record {
   leaves = has.leaves;
+  distinct = has.distinct;
   tree = has.tree;
   inodes = has.inodes;
   highest = has.highest;

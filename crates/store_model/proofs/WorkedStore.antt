@@ -89,19 +89,19 @@ files : HasFiles rooted
 unfolding key_rank r5_of same_leaf
 files = record { leaves = record { keyed = (refl, tt); ordered = refl; apart = refl }; tree = refl; index = refl }
 
+distinct : AreDistinct (map (λ x. x.leaf) rooted.live)
+unfolding IsDistinct
+distinct = (tt, tt)
+
 committed : HasCommitted rooted.now
 unfolding key_rank r5_of
-committed = record { leaves = record { keyed = (refl, tt); ordered = refl; apart = refl }; tree = refl; inodes = (tt, tt); highest = refl; copies = tt }
+committed = record { leaves = record { keyed = (refl, tt); ordered = refl; apart = refl }; distinct = distinct; tree = refl; inodes = (tt, tt); highest = refl; copies = tt }
 
 proper : AreProper (faced_now rooted)
 proper tree r = subst IsProper (sym (same_tree root_tree r.counts refl r.synced) ∙ sym r.tree_is) root_is_proper
 
 whole : AreWholeOrLeft rooted (faced_now rooted)
 whole lnum = inl ((λ _. (inl (refl, inl refl), refl)), tt)
-
-distinct : AreDistinct (map (λ x. x.leaf) rooted.live)
-unfolding IsDistinct
-distinct = (tt, tt)
 
 -- a LEB without a text
 laid : {lnum : ℕ} → IsLaidOut geo (record { lnum = lnum; role = kind.Free; text = [] })
@@ -125,7 +125,7 @@ of_views : AreOfViews rooted
 of_views = record { live = ((inr (inl refl), tt), tt); held = tt }
 
 log_lebs : HasLogLebs rooted
-log_lebs = record { heads = omega arith; first = omega arith; last = omega arith; within = omega arith; unit = refl; kept = omega arith; on_the_way = tt }
+log_lebs = record { heads = refl; synced = refl; first = omega arith; last = omega arith; within = omega arith; unit = refl; kept = omega arith; on_the_way = tt }
 
 pub root_is_store : IsStore rooted
 unfolding key_rank r5_of same_leaf
@@ -145,7 +145,7 @@ root_is_store = record {
   leads = record { named = refl; leads = refl };
   numbers = record { both = (record { base = refl; data_nodes = refl; apart = refl; kept = refl }, tt); live = refl; synced = refl };
   whole_or_left = (whole, tt);
-  orphans = ((refl, tt), tt);
+  orphans = record { now = refl; later = refl };
   nameless_are = refl;
   apart = record { numbers = refl; used = refl; buds = refl; ends = tt; index = refl; leaves = refl; victim = refl };
   taking = tt;
@@ -163,19 +163,19 @@ file_files : HasFiles one_file
 unfolding key_rank r5_of same_leaf
 file_files = record { leaves = record { keyed = (refl, (refl, (refl, tt))); ordered = refl; apart = refl }; tree = refl; index = refl }
 
+file_distinct : AreDistinct (map (λ x. x.leaf) one_file.live)
+unfolding IsDistinct key_rank r5_of same_leaf
+file_distinct = ((refl, (refl, tt)), ((refl, tt), (tt, tt)))
+
 file_committed : HasCommitted one_file.now
 unfolding key_rank r5_of
-file_committed = record { leaves = record { keyed = (refl, (refl, (refl, tt))); ordered = refl; apart = refl }; tree = refl; inodes = (tt, (tt, (tt, tt))); highest = refl; copies = tt }
+file_committed = record { leaves = record { keyed = (refl, (refl, (refl, tt))); ordered = refl; apart = refl }; distinct = file_distinct; tree = refl; inodes = (tt, (tt, (tt, tt))); highest = refl; copies = tt }
 
 file_proper : AreProper (faced_now one_file)
 file_proper tree r = subst IsProper (sym (same_tree am_tree r.counts refl r.synced) ∙ sym r.tree_is) file_is_proper
 
 file_whole : AreWholeOrLeft one_file (faced_now one_file)
 file_whole lnum = inl ((λ _. (inl (refl, inl refl), refl)), ((λ _. (inl (refl, inr (inl refl)), refl)), ((λ _. (inl (refl, inr (inr (inl refl))), refl)), tt)))
-
-file_distinct : AreDistinct (map (λ x. x.leaf) one_file.live)
-unfolding IsDistinct key_rank r5_of same_leaf
-file_distinct = ((refl, (refl, tt)), ((refl, tt), (tt, tt)))
 
 file_texts : AreTexts one_file
 unfolding key_rank r5_of
@@ -195,7 +195,7 @@ file_of_views : AreOfViews one_file
 file_of_views = record { live = ((inr (inl refl), tt), ((inr (inr (inl refl)), tt), ((inr (inr (inr (inl refl))), tt), tt))); held = tt }
 
 file_log_lebs : HasLogLebs one_file
-file_log_lebs = record { heads = omega arith; first = omega arith; last = omega arith; within = omega arith; unit = refl; kept = omega arith; on_the_way = tt }
+file_log_lebs = record { heads = refl; synced = refl; first = omega arith; last = omega arith; within = omega arith; unit = refl; kept = omega arith; on_the_way = tt }
 
 pub file_is_store : IsStore one_file
 unfolding key_rank r5_of same_leaf
@@ -222,7 +222,7 @@ file_is_store = record {
   leads = record { named = refl; leads = refl };
   numbers = record { both = (record { base = refl; data_nodes = refl; apart = refl; kept = refl }, tt); live = refl; synced = refl };
   whole_or_left = (file_whole, tt);
-  orphans = ((refl, tt), tt);
+  orphans = record { now = refl; later = refl };
   nameless_are = refl;
   apart = record { numbers = refl; used = refl; buds = refl; ends = tt; index = refl; leaves = refl; victim = refl };
   taking = tt;

@@ -15,7 +15,7 @@ use Rattle.index_tree.specs.Shape.{contents, node_count, shape_weight}
 use Rattle.fs_model.specs.declared.change.Change.{Change}
 use Rattle.fs_model.specs.declared.change.Change.TheVariants.{SetInode}
 use Rattle.fs_model.specs.Files.{Tree}
-use Rattle.fs_model.specs.Orphan.{nameless, without_nameless}
+use Rattle.fs_model.specs.Orphan.{is_nameless, nameless, without_nameless}
 use Rattle.fs_model.specs.Proper.{IsProper, ascends}
 use Rattle.fs_model.specs.Recovery.{IsRecovered, Numbered, recovered, taken}
 use Rattle.leaf_map.specs.Allowed.{HasInode, IsNodeOf}
@@ -113,9 +113,10 @@ are_within (n ∷ numbers) [] = false
 are_within (n ∷ numbers) (count ∷ counts) = nat_le n count && are_within numbers counts
 
 -- ---- what was committed
--- A view's leaves are those of an index and show its tree, whose highest number is that of the master or of a key; each block has its inode, and what the collector copied are nodes of these leaves.
+-- A view's leaves are those of an index, no two at one place, and show its tree, whose highest number is that of the master or of a key; each block has its inode, and what the collector copied are nodes of these leaves.
 pub record HasCommitted (view : View) : Type 0 where
   pub leaves : IsLeafMap view.kept
+  pub distinct : AreDistinct (map (λ x. x.leaf) view.kept)
   pub tree : tree_of view.kept view.tree.highest ≡ view.tree
   pub inodes : AllByRecursion (λ x. HasInode view.tree (shown_by x)) view.kept
   pub highest : highest_key view.highest (map (λ x. x.leaf.key) view.kept) ≡ view.tree.highest
@@ -138,15 +139,33 @@ abbrev pub HasDataHead : Store → Type 0
 HasDataHead m = OfBoth m (λ f. HasBlocks f.view)
 
 -- ---- orphans
--- an inode leaf without links is listed
-abbrev pub is_listed : List ℕ → Option Change → Bool
-is_listed list (Some (SetInode ino inode)) = not (inode.nlink == 0) || is_among list ino
-is_listed list shown = true
+-- an inode leaf without links passes a test
+abbrev pub is_listed : (ℕ → Bool) → Option Change → Bool
+is_listed test (Some (SetInode ino inode)) = not (inode.nlink == 0) || test ino
+is_listed test shown = true
+
+-- so do all inodes without links among a view's leaves
+abbrev pub AreOrphans : (ℕ → Bool) → View → Type 0
+AreOrphans test view = IsTrue (list_all (λ x. is_listed test (shown_by x)) view.kept)
 
 -- each list that may be there has the orphans among a view's leaves
 abbrev pub HaveOrphans : Faced → List (List ℕ) → Type 0
 HaveOrphans f [] = Unit {0}
-HaveOrphans f (list ∷ lists) = IsTrue (list_all (λ x. is_listed list (shown_by x)) f.view.kept) × HaveOrphans f lists
+HaveOrphans f (list ∷ lists) = AreOrphans (is_among list) f.view × HaveOrphans f lists
+
+-- an inode that has no name still, or was closed since the last commit's start, whose list names it
+abbrev pub is_still_listed : Store → ℕ → Bool
+is_still_listed m ino = is_nameless m.tree ino || is_among m.closed ino
+
+-- The next commit's list will have the orphans of the last commit, ended or not. A running one's list has its own and those of the finished one, offered or not.
+abbrev pub KeepOrphans : Store → Option Next → Type 0
+KeepOrphans m None = AreOrphans (is_still_listed m) m.now
+KeepOrphans m (Some next) = AreOrphans (is_among next.listed) m.now × AreOrphans (is_among next.listed) next.view × AreOrphans (is_still_listed m) next.view
+
+-- Inodes without links among the leaves that a master leads to are on the list that the medium has, and on those that later commits write while that master may be there.
+pub record HasOrphans (m : Store) : Type 0 where
+  pub now : AreOrphans (is_among m.listed) m.now
+  pub later : KeepOrphans m m.next
 
 -- ---- what LEBs are for
 -- a leaf LEB has a leaf or is a victim; an empty one, one of the index and one that a commit took have none
@@ -183,7 +202,7 @@ pub record AreApart (m : Store) : Type 0 where
   pub leaves : IsTrue (list_all (λ x. has_role kind.Leaf m.lebs x.leaf.lnum || has_role kind.Bud m.lebs x.leaf.lnum) m.live)
   pub victim : IsTrue (has_victim m.lebs m.moving)
 
--- the LEBs that a running commit took, where its index is to stand, and its view's buds
+-- The LEBs that a running commit took, where its index is to stand, and its view's buds. All these LEBs are written once its master is offered.
 abbrev pub IsTaking : Store → Option Next → Type 0
 IsTaking m None = Unit {0}
 IsTaking m (Some next) =
@@ -191,6 +210,7 @@ IsTaking m (Some next) =
     × IsTrue (list_all (λ place. has_role kind.Index m.lebs place.lnum || is_among next.taken place.lnum) next.view.places)
     × (next.written ≤ length next.taken)
     × IsTrue (list_all (λ bud. has_role kind.Bud m.lebs bud.lnum) next.view.buds)
+    × (next.offered ≡ true → next.written ≡ length next.taken)
 
 -- ---- what came since a commit began
 -- of all that a head got these came last, and all before them is synced
@@ -285,8 +305,8 @@ pub record IsStore (m : Store) : Type 0 where
   pub numbers : HasNumbers m
   -- of each LEB all committed leaves stand, or none needs to
   pub whole_or_left : OfBoth m (AreWholeOrLeft m)
-  -- committed inodes without links are listed
-  pub orphans : OfBoth m (λ f. HaveOrphans f f.lists)
+  -- committed inodes without links are listed, by each list that may be there
+  pub orphans : HasOrphans m
   pub nameless_are : map (λ orphan. orphan.ino) m.orphans ≡ nameless m.tree
   -- what each LEB is for
   pub apart : AreApart m

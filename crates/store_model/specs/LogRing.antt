@@ -10,9 +10,10 @@ IsOnTheWay geo from leb None = Unit {0}
 IsOnTheWay geo from leb (Some section) =
     (section < geo.log_lebs) × (0 < log_steps geo from section) × (log_steps geo from section ≤ log_steps geo from leb)
 
--- The log lies in the ring, and ends at a unit of a LEB. Of the ring's LEBs two aren't used while no commit runs, for a section and a mount's, and one while one runs. So a commit finds a LEB for its section. No more than three heads are named in one.
+-- The log lies in the ring, and ends at a unit of a LEB. Of the ring's LEBs two aren't used while no commit runs, for a section and a mount's, and one while one runs. So a commit finds a LEB for its section. It names the heads, three of them.
 pub record HasLogLebs (m : Store) : Type 0 where
-  pub heads : length m.ends ≤ 3
+  pub heads : length m.ends ≡ 3
+  pub synced : length m.synced ≡ 3
   pub first : m.now.section < m.geo.log_lebs
   pub last : m.log.leb < m.geo.log_lebs
   pub within : m.log.offs ≤ m.geo.leb_size

@@ -100,7 +100,7 @@ pub fn a_copy_keeps_what_was_committed()
 /// A commit keeps what was committed: it starts on the files as they are, and its view is the one at its end. So does a collection's
 /// begin and end.
 pub fn a_commit_keeps_what_was_committed()
-    ensures started { (m : AnyStore) (taken : List ℕ) → HasFiles m → AreOwned m → HasViews m → HasViews (after (Start taken) m) }
+    ensures started { (m : AnyStore) (taken : List ℕ) → HasFiles m → AreOwned m → AreDistinct (map (λ x. x.leaf) m.live) → HasViews m → HasViews (after (Start taken) m) }
     ensures written { (m : AnyStore) → HasViews m → HasViews (after Write m) }
     ensures offered { (m : AnyStore) → HasViews m → HasViews (after Offer m) }
     ensures ended { (m : AnyStore) → HasViews m → HasViews (after End m) }

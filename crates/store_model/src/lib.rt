@@ -8,6 +8,7 @@
 
 mod backing;
 mod grants;
+mod invariant;
 mod law;
 mod lebs;
 mod passes;
@@ -21,6 +22,10 @@ pub use crate::backing::{
     each_event_keeps_what_a_commit_began_on, each_event_keeps_what_the_journal_leads_to,
 };
 pub use crate::grants::{a_store_stays_settled, what_was_granted_stays_covered};
+pub use crate::invariant::{
+    each_event_keeps_the_orphans, each_event_keeps_the_weight, each_event_keeps_what_was_committed,
+    each_event_keeps_who_has_no_name,
+};
 pub use crate::law::{
     a_commit_keeps_what_was_committed, a_copy_keeps_what_was_committed, a_drop_keeps_the_files,
     a_lent_leb_comes_back, a_put_keeps_the_files, a_put_leaves_a_proper_tree,
@@ -38,7 +43,8 @@ pub use crate::lebs::{
 pub use crate::passes::a_collection_gains;
 pub use crate::recovery::{a_store_is_recovered, what_fits_is_recovered, what_fits_loses_no_leaf};
 pub use crate::texts::{
-    leaves_are_of_the_views, live_leaves_stand, nodes_of_the_index_stay, texts_have_what_was_put,
+    leaves_are_of_the_views, live_leaves_stand, nodes_of_the_index_are_written_first,
+    nodes_of_the_index_stay, texts_have_what_was_put,
 };
 pub use crate::worked::{
     a_collection_is_told, a_commit_is_told, a_long_run_is_told, a_put_is_told, a_sync_is_told,

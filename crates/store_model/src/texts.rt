@@ -2,7 +2,7 @@
 
 ghost use Rattle.std.specs.List.{AllByRecursion};
 ghost use Rattle.std.specs.Prelude.{ℕ};
-ghost use Rattle.store_model.specs.Events.{after, Drop, Event, Open, Put, Putting, Sync};
+ghost use Rattle.store_model.specs.Events.{after, Begin, Copying, Drop, End, Event, Free, Move, Offer, Open, Put, Putting, Sync};
 ghost use Rattle.store_model.specs.Indexed.{IsIndexed};
 ghost use Rattle.store_model.specs.Invariant.{AreOfViews, IsStore, Stands};
 ghost use Rattle.store_model.specs.Legal.{IsLegalEvent};
@@ -25,6 +25,15 @@ pub fn nodes_of_the_index_stay()
     ensures open { (m : AnyStore) (head lnum : ℕ) → IsLegalEvent m (Open head lnum) → IsStore m → IsIndexed (after (Open head lnum) m) }
     ensures sync { (m : AnyStore) → IsStore m → IsIndexed (after Sync m) }
     ensures dropped { (m : AnyStore) (ino : ℕ) (index : AnyIndex) → IsLegalEvent m (Drop ino index) → IsStore m → IsIndexed (after (Drop ino index) m) }
+{}
+
+/// So do a collection's events, the offer of a commit's master, and its end. All nodes of the commit's index are written by then.
+pub fn nodes_of_the_index_are_written_first()
+    ensures begun { (m : AnyStore) (victim : ℕ) → IsStore m → IsIndexed (after (Begin victim) m) }
+    ensures moved { (m : AnyStore) (c : Copying) → IsLegalEvent m (Move c) → IsStore m → IsIndexed (after (Move c) m) }
+    ensures freed { (m : AnyStore) → IsStore m → IsIndexed (after Free m) }
+    ensures offered { (m : AnyStore) → IsStore m → IsIndexed (after Offer m) }
+    ensures ended { (m : AnyStore) → IsLegalEvent m End → IsStore m → IsIndexed (after End m) }
 {}
 
 /// After each event a leaf, live or held, that stands in no bud of a view is one of the leaves which that view's master leads to.

@@ -28,6 +28,6 @@ returns c = by
     by m (Start taken) can g a count last t =
         start_taking m taken (index_nodes-positive m.geo g) can a count (kept_pass (has_role kind.Index m.lebs) m.now.shape m.now.places (rows_of m.index.shape) m.index.places (subst (λ (o : Option Next). KeepPlaces (committed_index (option_map_or (λ next. next.view) o m.now)) (rows_of m.index.shape) m.index.places) can.idle last) a.index)
     by m Write can g a count last t = write_taking m m.next refl can t
-    by m Offer can g a count last t = offer_taking m t
+    by m Offer can g a count last t = offer_taking m can t
     by m End can g a count last t = end_taking m m.next t
     by m (Drop ino index) can g a count last t = c.a_running_commit_keeps_its_lebs.ensures.dropped m ino index t

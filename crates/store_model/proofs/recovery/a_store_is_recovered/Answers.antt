@@ -2,21 +2,23 @@ use Rattle.std.proofs.Common.{◌≡◌, Bool, true, false, cond, Option, Some, 
 use Rattle.leaf_map.specs.Parts.{Parts}
 use Rattle.leaf_map.specs.Recovered.{tree_found}
 use Rattle.store_model.specs.Fits.{FitsAny, FitsFaced, Fits, faced_next, faced_now, faces}
-use Rattle.store_model.specs.Invariant.{AreCarried, AreNumbered, HasCommitted, HaveOrphans, IsStore, OfNext, faced_later}
+use Rattle.store_model.specs.Invariant.{AreCarried, AreNumbered, HasCommitted, HaveOrphans, KeepOrphans, IsStore, OfNext, faced_later}
 use Rattle.store_model.specs.Recovery.{IsFoundBy}
 use Rattle.store_model.specs.Store.{Next, Store}
+use Rattle.store_model.proofs.Orphans.{have_orphans_now}
 use Rattle.store_model.proofs.recovery.a_store_is_recovered.Goals as goal
 
 pub returns-clause-now : goal.returns-clause-now
 returns-clause-now c = λ m parts is fits.
-    c.what_fits_is_recovered.ensures.tree (faced_now m) parts is.views.committed.0 is.views.carried.0 is.numbers.both.0.apart is.orphans.0 fits
+    c.what_fits_is_recovered.ensures.tree (faced_now m) parts is.views.committed.0 is.views.carried.0 is.numbers.both.0.apart (have_orphans_now m is.orphans) fits
 
 pub returns-clause-next : goal.returns-clause-next
 returns-clause-next c = λ m next parts is e fits.
     let committed = subst (λ (o : Option Next). OfNext m o (λ f. HasCommitted f.view)) e is.views.committed.1 in
     let carried = subst (λ (o : Option Next). OfNext m o (λ f. AreCarried f.view)) e is.views.carried.1 in
     let numbers = subst (λ (o : Option Next). OfNext m o (AreNumbered m)) e is.numbers.both.1 in
-    let orphans = subst (λ (o : Option Next). OfNext m o (λ f. HaveOrphans f f.lists)) e is.orphans.1 in
+    let later = subst (λ (o : Option Next). KeepOrphans m o) e is.orphans.later in
+    let orphans : HaveOrphans (faced_later m next) (next.listed ∷ []) = (later.1, tt) in
     c.what_fits_is_recovered.ensures.tree (faced_later m next) parts committed carried numbers.apart orphans fits
 
 pub returns-clause-any : goal.returns-clause-any
