@@ -37,6 +37,7 @@ mod Moves
 mod Nameless
 mod Numbers
 mod OfViews
+mod Offers
 mod Opens
 mod Orphans
 mod Owned
@@ -71,5 +72,6 @@ mod Units
 mod ViewCommits
 mod Views
 mod Weights
+mod WorkedHalf
 mod WorkedStates
 mod WorkedStore

@@ -110,7 +110,7 @@ shown_listed list q (Some (CutBlocks ino old new)) rest h on more = more h
 shown_listed list q (Some (DropInode ino)) rest h on more = more h
 shown_listed list q None rest h on more = more h
 
-leaf_listed : (list : List ℕ) (q : ℕ) (kept : List Kept) → has_none (lookup (is_at (nat_cmp q)) (inodes_of kept)) ≡ true → list_all (λ x. is_listed (is_among list) (shown_by x)) kept ≡ true → is_among list q ≡ true
+pub leaf_listed : (list : List ℕ) (q : ℕ) (kept : List Kept) → has_none (lookup (is_at (nat_cmp q)) (inodes_of kept)) ≡ true → list_all (λ x. is_listed (is_among list) (shown_by x)) kept ≡ true → is_among list q ≡ true
 leaf_listed list q [] h on = absurd (false≢true h)
 leaf_listed list q (x ∷ kept) h on =
     let p = and_parts (is_listed (is_among list) (shown_by x)) (list_all (λ x. is_listed (is_among list) (shown_by x)) kept) on in

@@ -36,7 +36,7 @@ root_is_proper = record {
   numbers = refl;
 }
 
-file_is_proper : IsProper am_tree
+pub file_is_proper : IsProper am_tree
 file_is_proper = record {
   inodes_ascend = refl;
   blocks_ascend = refl;
@@ -55,7 +55,7 @@ none : {A : Type 0} → (n : ℕ) → suc n ≤ 0 → A
 none n high = absurd (omega (arith, high))
 
 -- nothing was put, so a cut leaves the committed tree
-same_tree : (tree : Tree) (counts : List ℕ) → recovered tree (taken (heads_of [] (0 ∷ 0 ∷ 0 ∷ [])) (0 ∷ 0 ∷ 0 ∷ [])) ≡ tree → KeepsSynced (heads_of [] (0 ∷ 0 ∷ 0 ∷ [])) counts
+pub same_tree : (tree : Tree) (counts : List ℕ) → recovered tree (taken (heads_of [] (0 ∷ 0 ∷ 0 ∷ [])) (0 ∷ 0 ∷ 0 ∷ [])) ≡ tree → KeepsSynced (heads_of [] (0 ∷ 0 ∷ 0 ∷ [])) counts
     → recovered tree (taken (heads_of [] (0 ∷ 0 ∷ 0 ∷ [])) counts) ≡ tree
 same_tree tree [] still keeps = absurd keeps
 same_tree tree (suc n ∷ counts) still (low, high, rest) = none n high
@@ -70,7 +70,7 @@ worked_tree_len : tree_len geo ≡ 102
 unfolding fls count_leading_zeros tree_height height_from
 worked_tree_len = refl
 
-geometry : IsGeometry geo
+pub geometry : IsGeometry geo
 unfolding ones
 geometry = record {
   min_io = (refl, omega arith, omega arith);

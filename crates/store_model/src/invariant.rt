@@ -2,8 +2,8 @@
 
 ghost use Rattle.std.specs.Prelude.{◌≡◌, map};
 ghost use Rattle.fs_model.specs.Orphan.{nameless};
-ghost use Rattle.store_model.specs.Events.{after, Event};
-ghost use Rattle.store_model.specs.Invariant.{HasOrphans, HasViews, IsLight, IsStore, OfBoth};
+ghost use Rattle.store_model.specs.Events.{after, Event, Offer};
+ghost use Rattle.store_model.specs.Invariant.{AreWholeOrLeft, HasOrphans, HasViews, IsLight, IsStore, OfBoth};
 ghost use Rattle.store_model.specs.Legal.{IsLegalEvent};
 ghost use Rattle.store_model.specs.Store.{Store as AnyStore};
 
@@ -38,4 +38,10 @@ pub fn each_event_keeps_what_was_committed()
 /// The open inodes that a store tells without a name are those of its tree, after each event.
 pub fn each_event_keeps_who_has_no_name()
     ensures { (m : AnyStore) (event : Event) → IsLegalEvent m event → IsStore m → map (λ orphan. orphan.ino) (after event m).orphans ≡ nameless (after event m).tree }
+{}
+
+/// Once a commit's list may be on the medium, each LEB has all its committed leaves still, or none needs to stand. A leaf that needn't
+/// because its inode is listed is on that list too.
+pub fn an_offered_list_has_what_may_be_empty()
+    ensures { (m : AnyStore) → IsStore m → OfBoth (after Offer m) (AreWholeOrLeft (after Offer m)) }
 {}

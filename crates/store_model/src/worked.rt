@@ -87,10 +87,12 @@ pub fn worked_runs_are_legal()
     ensures collection { AreLegal one_file collected }
 {}
 
-/// A store to which nothing was put yet is a store, with the root alone or with a file: each line of the invariant holds of it.
+/// A store to which nothing was put yet is a store, with the root alone or with a file: each line of the invariant holds of it. So it
+/// is with half a collection, where a copy is synced.
 pub fn a_worked_store_is_one()
     ensures root { IsStore rooted }
     ensures file { IsStore one_file }
+    ensures half { IsStore (run half_collected one_file) }
 {}
 
 /// Along the runs nodes stand in the texts of their LEBs, heads end there, the nodes of both indexes stand at their places, and each

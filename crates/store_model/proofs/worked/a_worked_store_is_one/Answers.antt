@@ -1,3 +1,4 @@
+use Rattle.store_model.proofs.WorkedHalf.{half_is_store}
 use Rattle.store_model.proofs.WorkedStore.{file_is_store, root_is_store}
 use Rattle.store_model.proofs.worked.a_worked_store_is_one.Goals as goal
 
@@ -6,3 +7,6 @@ returns-clause-root c = root_is_store
 
 pub returns-clause-file : goal.returns-clause-file
 returns-clause-file c = file_is_store
+
+pub returns-clause-half : goal.returns-clause-half
+returns-clause-half c = half_is_store
