@@ -33,7 +33,7 @@ starts = record {
 abbrev started : Store
 started = after (Start (23 ∷ [])) am_synced
 
-bb_is_proper : IsProper bb_tree
+pub bb_is_proper : IsProper bb_tree
 bb_is_proper = record {
   inodes_ascend = refl;
   blocks_ascend = refl;

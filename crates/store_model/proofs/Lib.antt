@@ -73,5 +73,6 @@ mod ViewCommits
 mod Views
 mod Weights
 mod WorkedHalf
+mod WorkedOffered
 mod WorkedStates
 mod WorkedStore

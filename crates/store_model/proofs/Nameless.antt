@@ -7,12 +7,12 @@ use Rattle.std.specs.Map.{keys_of, lookup, remove_entry}
 use Rattle.std.specs.Option.{option_map_or}
 use Rattle.std.specs.Ordering.{nat_cmp}
 use Rattle.std.proofs.lemmas.Bool.{eq-eqb, eqb-true}
-use Rattle.fs_model.specs.Files.{Inodes, Tree}
+use Rattle.fs_model.specs.Files.{Inodes}
 use Rattle.fs_model.specs.Orphan.{nameless}
 use Rattle.fs_model.specs.Proper.{ascends, IsProper}
 use Rattle.fs_laws.specs.Maps.{apart, key_cases, missing_first, tail_ascends}
 use Rattle.fs_laws.specs.Orders.{numbers}
-use Rattle.store_model.specs.Events.{after, after_part, Begin, credit, Drop, drop_inode, End, end_commit, Event, Free, free_victim, granted, Move, Offer, Open, orphan_in, orphans_after, paid, Part, Payment, Put, put, Putting, Start, Sync, synced_orphan, Write, write_index}
+use Rattle.store_model.specs.Events.{after, after_part, Begin, credit, Drop, drop_inode, End, end_commit, Event, Free, free_victim, granted, Move, Offer, Open, orphan_in, paid, Part, Payment, Put, put, Putting, Start, Sync, synced_orphan, Write, write_index}
 use Rattle.store_model.specs.Invariant.{IsStore}
 use Rattle.store_model.specs.Legal.{IsLegalEvent}
 use Rattle.store_model.specs.Store.{Index, Moving, Next, Orphan, Store}

@@ -1,8 +1,8 @@
 -- Committed inodes without links stay on the lists of orphans.
 use Rattle.std.proofs.Common.{◌≡◌, ◌⊎◌, ℕ, Bool, true, false, cond, not, List, [], ◌∷◌, ◌++◌, length, refl, sym, ap, subst, ◌∙◌, inl, inr, Option, Some, None}
 use Rattle.std.specs.Prelude.{◌==◌, ◌&&◌, ◌||◌, filter, fold, is_some, nat_lt}
-use Rattle.std.specs.BTreeMap.{insert_entry, is_at}
-use Rattle.std.specs.List.{list_all, list_any}
+use Rattle.std.specs.BTreeMap.{is_at}
+use Rattle.std.specs.List.{list_all}
 use Rattle.std.specs.Map.{keys_of, lookup, remove_entry}
 use Rattle.std.specs.Option.{option_map, option_map_or}
 use Rattle.std.specs.Ordering.{nat_cmp}
@@ -21,10 +21,10 @@ use Rattle.leaf_map.specs.Shown.{inodes_of, with_inode}
 use Rattle.store_model.specs.Events.{after, after_part, Begin, credit, Drop, drop_inode, End, end_commit, Event, Free, free_victim, granted, in_next, last_list, Move, next_list, Offer, offered, Open, paid, Part, Payment, Put, put, Putting, Start, start, Sync, Write, write_index}
 use Rattle.store_model.specs.Fits.{faced_now, next_lists}
 use Rattle.store_model.specs.Heads.{changes_of, with_copy, with_group}
-use Rattle.store_model.specs.Invariant.{AreOrphans, HasFiles, HasOrphans, HaveOrphans, is_listed, is_still_listed, IsStore, KeepOrphans}
+use Rattle.store_model.specs.Invariant.{AreOrphans, HasOrphans, HaveOrphans, is_listed, is_still_listed, IsStore, KeepOrphans}
 use Rattle.store_model.specs.Lebs.{is_among}
 use Rattle.store_model.specs.Legal.{all_drop_named, AreParts, drops_named, IsLegalEvent, IsPart}
-use Rattle.store_model.specs.Store.{Bud, Index, Moving, Next, Store, View}
+use Rattle.store_model.specs.Store.{Bud, Index, Moving, Next, Store}
 use Rattle.store_model.proofs.JournalEvents.{listed_nameless}
 use Rattle.store_model.proofs.RecoveryCopies.{either_of}
 use Rattle.store_model.proofs.RecoveryListed.{at_number, has_none}

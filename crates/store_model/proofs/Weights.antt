@@ -5,7 +5,7 @@ use Rattle.std.specs.Option.{option_map}
 use Rattle.ubifs_base.specs.declared.raw_geometry.RawGeometry.{RawGeometry}
 use Rattle.index_tree.specs.Shape.{shape_weight}
 use Rattle.leaf_map.specs.Kept.{Placed}
-use Rattle.store_model.specs.Events.{after, after_part, Begin, credit, Drop, End, end_commit, Event, Free, free_victim, granted, in_next, Move, Offer, offered, Open, paid, Part, Payment, Put, put, Putting, Start, Sync, with_buds, Write, write_index}
+use Rattle.store_model.specs.Events.{after, after_part, Begin, credit, Drop, End, end_commit, Event, Free, free_victim, granted, in_next, Move, Offer, offered, Open, paid, Part, Payment, Put, put, Putting, Start, Sync, Write, write_index}
 use Rattle.store_model.specs.Heads.{with_group}
 use Rattle.store_model.specs.Invariant.{IsLight, IsStore, OfBoth, OfNext}
 use Rattle.store_model.specs.Lebs.{weight_of}

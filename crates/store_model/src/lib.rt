@@ -23,7 +23,8 @@ pub use crate::backing::{
 };
 pub use crate::grants::{a_store_stays_settled, what_was_granted_stays_covered};
 pub use crate::invariant::{
-    an_offered_list_has_what_may_be_empty, each_event_keeps_the_orphans, each_event_keeps_the_weight, each_event_keeps_what_was_committed,
+    an_offered_list_has_what_may_be_empty, each_event_keeps_the_orphans,
+    each_event_keeps_the_weight, each_event_keeps_what_was_committed,
     each_event_keeps_who_has_no_name,
 };
 pub use crate::law::{

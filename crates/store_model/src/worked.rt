@@ -88,11 +88,12 @@ pub fn worked_runs_are_legal()
 {}
 
 /// A store to which nothing was put yet is a store, with the root alone or with a file: each line of the invariant holds of it. So it
-/// is with half a collection, where a copy is synced.
+/// is with half a collection, where a copy is synced, and with a commit that is offered, after a group that was put while it ran.
 pub fn a_worked_store_is_one()
     ensures root { IsStore rooted }
     ensures file { IsStore one_file }
     ensures half { IsStore (run half_collected one_file) }
+    ensures offered { IsStore (run until_offer rooted) }
 {}
 
 /// Along the runs nodes stand in the texts of their LEBs, heads end there, the nodes of both indexes stand at their places, and each
