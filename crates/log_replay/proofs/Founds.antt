@@ -3,19 +3,22 @@ use Rattle.std.proofs.Common.{◌≡◌, ℕ, ◌^◌, Bool, true, false, List, 
 use Rattle.std.specs.List.{AllByRecursion}
 use Rattle.std.specs.Option.{option_map}
 use Rattle.std.proofs.lemmas.Bool.{lt-ltb}
+use Rattle.std.proofs.lemmas.List.Elements.{recursion_from_All}
 use Rattle.ubifs_base.specs.R5.{r5_of}
-use Rattle.ubifs_base.specs.declared.key.Key.TheVariants.{Ino, Block, Dent}
+use Rattle.ubifs_base.specs.declared.key.Key.{Key}
+use Rattle.ubifs_base.specs.declared.key.Key.TheVariants.{Ino, Block, Dent, Xent}
+use Rattle.ubifs_base.specs.Key.{IsKey}
 use Rattle.media_leaf.specs.LeafNode.{LeafNode}
 use Rattle.index_tree.specs.declared.leaf.Leaf.{Leaf}
-use Rattle.index_tree.specs.Order.{leaf_rank}
+use Rattle.index_tree.specs.Keyed.{HasKey, HaveKeys}
+use Rattle.index_tree.specs.Order.{key_rank, leaf_rank}
 use Rattle.fs_model.specs.declared.change.Change.{Change}
 use Rattle.fs_model.specs.declared.change.Change.TheVariants.{SetInode, SetEntry, SetBlock}
-use Rattle.leaf_map.specs.Allowed.{AreReadLeaves}
 use Rattle.leaf_map.specs.Kept.{Kept, Placed, kept_at, shown_by}
 use Rattle.leaf_map.specs.LeafMap.{HasKeyOf, IsKeyed}
 use Rattle.leaf_map.specs.Parts.{Committed, Parts, own_node}
 use Rattle.leaf_map.specs.Recovered.{copies_left, copy_of_key, found_leaves, leaf_at, stand_in}
-use Rattle.log_replay.specs.Placing.{Found, IsFoundWell, IsSound, is_key, pair_found, pair_told, present}
+use Rattle.log_replay.specs.Placing.{LeafFound, IsFoundWell, IsSound, is_key, pair_found, pair_told, present}
 use Rattle.log_replay.specs.Settling.{kept_of, read_as, settled_at, settled_of, settled_one}
 use Rattle.log_replay.specs.Told.{told_leaf}
 use Rattle.log_replay.proofs.Hashes.{r5_small}
@@ -31,7 +34,7 @@ abbrev pub found_as : List Placed → Committed → Option Placed → Option Kep
 found_as left c (Some own) = kept_of c (Some own)
 found_as left c None = at_copy c (copy_of_key c.leaf left)
 
-abbrev pub founds : Parts → List Placed → List Committed → List Found
+abbrev pub founds : Parts → List Placed → List Committed → List LeafFound
 founds parts left [] = []
 founds parts left (c ∷ cs) = record { leaf = c.leaf; kept = found_as left c (own_node parts.named c) } ∷ founds parts (copies_left left c (own_node parts.named c)) cs
 
@@ -52,7 +55,7 @@ leaf_found left c None rest = by (copy_of_key c.leaf left) refl
     by (Some d) f = rw f refl
     by None f = ap (λ (z : Option Placed). with_one (at_copy c z) rest) f ∙ stand (stand_in c.leaf.key) refl f
 
-present_one : (f : Found) (fs : List Found) → present (f ∷ fs) ≡ with_one f.kept (present fs)
+pub present_one : (f : LeafFound) (fs : List LeafFound) → present (f ∷ fs) ≡ with_one f.kept (present fs)
 present_one f fs = by f.kept
   where
     by : (k : Option Kept) → present (record { leaf = f.leaf; kept = k } ∷ fs) ≡ with_one k (present fs)
@@ -87,34 +90,41 @@ found_pairs parts left [] = refl
 found_pairs parts left (c ∷ cs) = rw (pair_is parts left c (own_node parts.named c) refl, found_pairs parts (copies_left left c (own_node parts.named c)) cs) refl
 
 -- ---- keys
--- keys of one place in the order are one
-pub key_of_rank : (l m : Leaf) (s t : Option Change) → HasKeyOf l s → HasKeyOf m t → leaf_rank l ≡ leaf_rank m → l.key ≡ m.key
-key_of_rank l m s t h g e = by s t h g (sym (rank_is l s h) ∙ e ∙ rank_is m t g)
+-- a key that is one has one place in the order
+pub key_of_place : (l : Leaf) (s : Option Change) (k : Key) → HasKeyOf l s → IsKey k → leaf_rank l ≡ key_rank k → l.key ≡ k
+unfolding key_rank
+key_of_place l s k h g e = by s k h g (sym (rank_is l s h) ∙ e)
   where
-    by : (s t : Option Change) → HasKeyOf l s → HasKeyOf m t → rank_shown s ≡ rank_shown t → l.key ≡ m.key
-    by (Some (SetInode a x)) (Some (SetInode b y)) h g r = h ∙ ap (λ (n : ℕ). Ino n) (omega (arith, r)) ∙ sym g
-    by (Some (SetInode a x)) (Some (SetBlock b n y)) h g r = let small = g.1 in absurd (omega (arith, r, small))
-    by (Some (SetInode a x)) (Some (SetEntry e)) h g r = let small = r5_small e.name in absurd (omega (arith, r, small))
-    by (Some (SetBlock a n x)) (Some (SetInode b y)) h g r = let small = h.1 in absurd (omega (arith, r, small))
-    by (Some (SetBlock a n x)) (Some (SetBlock b k y)) h g r =
+    by : (s : Option Change) (k : Key) → HasKeyOf l s → IsKey k → rank_shown s ≡ key_rank k → l.key ≡ k
+    by (Some (SetInode a x)) (Ino b) h g r = h ∙ ap (λ (n : ℕ). Ino n) (omega (arith, r))
+    by (Some (SetInode a x)) (Block b n) h g r = let small = g.1 in absurd (omega (arith, r, small))
+    by (Some (SetInode a x)) (Dent b n) h g r = let small = g.1 in absurd (omega (arith, r, small))
+    by (Some (SetInode a x)) (Xent b n) h g r = let small = g.1 in absurd (omega (arith, r, small))
+    by (Some (SetBlock a n x)) (Ino b) h g r = let small = h.1 in absurd (omega (arith, r, small))
+    by (Some (SetBlock a n x)) (Block b k) h g r =
         let p = h.1 in
         let q = g.1 in
         let i : a ≡ b = omega (arith, r, p, q) in
         let j : n ≡ k = omega (arith, r, p, q) in
-        h.0 ∙ ap (λ (z : ℕ). Block z n) i ∙ ap (λ (z : ℕ). Block b z) j ∙ sym g.0
-    by (Some (SetBlock a n x)) (Some (SetEntry e)) h g r = let p = h.1 in let small = r5_small e.name in absurd (omega (arith, r, p, small))
-    by (Some (SetEntry e)) (Some (SetInode b y)) h g r = let small = r5_small e.name in absurd (omega (arith, r, small))
-    by (Some (SetEntry e)) (Some (SetBlock b n y)) h g r = let q = g.1 in let small = r5_small e.name in absurd (omega (arith, r, q, small))
-    by (Some (SetEntry e)) (Some (SetEntry f)) h g r =
+        h.0 ∙ ap (λ (z : ℕ). Block z n) i ∙ ap (λ (z : ℕ). Block b z) j
+    by (Some (SetBlock a n x)) (Dent b k) h g r = let p = h.1 in let q = g.1 in absurd (omega (arith, r, p, q))
+    by (Some (SetBlock a n x)) (Xent b k) h g r = let p = h.1 in let q = g.1 in absurd (omega (arith, r, p, q))
+    by (Some (SetEntry e)) (Ino b) h g r = let p = r5_small e.name in absurd (omega (arith, r, p))
+    by (Some (SetEntry e)) (Block b k) h g r = let p = r5_small e.name in let q = g.1 in absurd (omega (arith, r, p, q))
+    by (Some (SetEntry e)) (Dent b k) h g r =
         let p = r5_small e.name in
-        let q = r5_small f.name in
-        let i : e.dir ≡ f.dir = omega (arith, r, p, q) in
-        let j : r5_of e.name ≡ r5_of f.name = omega (arith, r, p, q) in
-        h ∙ ap (λ (z : ℕ). Dent z (r5_of e.name)) i ∙ ap (λ (z : ℕ). Dent f.dir z) j ∙ sym g
-    by (Some (SetInode a x)) t h g r = absurd g
-    by (Some (SetBlock a n x)) t h g r = absurd g
-    by (Some (SetEntry e)) t h g r = absurd g
-    by s t h g r = absurd h
+        let q = g.1 in
+        let i : e.dir ≡ b = omega (arith, r, p, q) in
+        let j : r5_of e.name ≡ k = omega (arith, r, p, q) in
+        h ∙ ap (λ (z : ℕ). Dent z (r5_of e.name)) i ∙ ap (λ (z : ℕ). Dent b z) j
+    by (Some (SetEntry e)) (Xent b k) h g r = let p = r5_small e.name in let q = g.1 in absurd (omega (arith, r, p, q))
+    by s k h g r = absurd h
+
+key_fits : (k : Key) → IsKey k → is_key k ≡ true
+key_fits (Ino ino) h = refl
+key_fits (Block ino n) h = let small = h.1 in lt-ltb n (2 ^ 29) small
+key_fits (Dent dir n) h = let small = h.1 in lt-ltb n (2 ^ 29) small
+key_fits (Xent ino n) h = let small = h.1 in lt-ltb n (2 ^ 29) small
 
 pub fits : (leaf : Leaf) (s : Option Change) → HasKeyOf leaf s → is_key leaf.key ≡ true
 fits leaf (Some (SetInode ino x)) h = ap is_key h
@@ -122,23 +132,19 @@ fits leaf (Some (SetBlock ino n x)) h = let small = h.1 in ap is_key h.0 ∙ lt-
 fits leaf (Some (SetEntry e)) h = ap is_key h ∙ lt-ltb (r5_of e.name) (2 ^ 29) (r5_small e.name)
 fits leaf s h = absurd h
 
--- a committed leaf has the key of what it shows
-pub record IsTrueLeaf (c : Committed) : Type 0 where
-  pub x : Kept
-  pub leaf : c.leaf ≡ x.leaf
-  pub keyed : IsKeyed x
+-- the key of each committed leaf is one
+abbrev pub HaveTrueKeys : List Committed → Type 0
+HaveTrueKeys cs = AllByRecursion (λ c. IsKey c.leaf.key) cs
 
-pub true_leaves : (parts : Parts) (kept : List Kept) (cs : List Committed) → AllByRecursion IsKeyed kept → AreReadLeaves parts kept cs → AllByRecursion IsTrueLeaf cs
-true_leaves parts [] [] k r = tt
-true_leaves parts [] (c ∷ cs) k r = absurd r
-true_leaves parts (x ∷ kept) [] k r = absurd r
-true_leaves parts (x ∷ kept) (c ∷ cs) k r = (record { x = x; leaf = r.0.leaf; keyed = k.0 }, true_leaves parts kept cs k.1 r.1)
+pub true_keys : (cs : List Committed) (xs : List Leaf) → xs ≡ map (λ c. c.leaf) cs → HaveKeys xs → HaveTrueKeys cs
+true_keys cs xs e h = by cs (recursion_from_All HasKey (map (λ c. c.leaf) cs) (subst HaveKeys e h))
+  where
+    by : (cs : List Committed) → AllByRecursion HasKey (map (λ c. c.leaf) cs) → HaveTrueKeys cs
+    by [] a = tt
+    by (c ∷ cs) a = (a.0, by cs a.1)
 
-true_key : (c : Committed) (t : IsTrueLeaf c) → HasKeyOf c.leaf (shown_by t.x)
-true_key c t = subst (λ (l : Leaf). HasKeyOf l (shown_by t.x)) (sym t.leaf) t.keyed
-
-one_well : (left : List Placed) (c : Committed) (own : Option Placed) → IsTrueLeaf c → (x : Kept) → IsKeyed x → found_as left c own ≡ Some x → IsSound c.leaf x
-one_well left c own t x k e = record { keyed = k; key = by own e; is_key = fits c.leaf (shown_by t.x) (true_key c t) }
+one_well : (left : List Placed) (c : Committed) (own : Option Placed) → IsKey c.leaf.key → (x : Kept) → IsKeyed x → found_as left c own ≡ Some x → IsSound c.leaf x
+one_well left c own t x k e = record { keyed = k; key = by own e; is_key = key_fits c.leaf.key t }
   where
     stand : (s : Option LeafNode) → option_map (λ (node : LeafNode). record { leaf = c.leaf; sqnum = 0; node = node }) s ≡ Some x → x.leaf.key ≡ c.leaf.key
     stand None f = absurd cc
@@ -149,20 +155,20 @@ one_well left c own t x k e = record { keyed = k; key = by own e; is_key = fits 
     copy (Some d) f g =
         let same : kept_at d ≡ x = cc in
         let rank : leaf_rank x.leaf ≡ leaf_rank c.leaf = ap (λ (y : Kept). leaf_rank y.leaf) (sym same) ∙ found_rank (leaf_rank c.leaf) left d f in
-        key_of_rank x.leaf c.leaf (shown_by x) (shown_by t.x) k (true_key c t) rank
+        key_of_place x.leaf (shown_by x) c.leaf.key k t rank
 
     by : (own : Option Placed) → found_as left c own ≡ Some x → x.leaf.key ≡ c.leaf.key
     by (Some own) f = let same : record { leaf = c.leaf; sqnum = own.sqnum; node = own.node } ≡ x = cc in ap (λ (y : Kept). y.leaf.key) (sym same)
     by None f = copy (copy_of_key c.leaf left) refl f
 
-pub found_well : (parts : Parts) (left : List Placed) (cs : List Committed) → AllByRecursion IsTrueLeaf cs → AllByRecursion IsKeyed (present (founds parts left cs)) → AllByRecursion IsFoundWell (founds parts left cs)
+pub found_well : (parts : Parts) (left : List Placed) (cs : List Committed) → HaveTrueKeys cs → AllByRecursion IsKeyed (present (founds parts left cs)) → AllByRecursion IsFoundWell (founds parts left cs)
 found_well parts left [] t k = tt
 found_well parts left (c ∷ cs) t k = by (λ a. found_well parts (copies_left left c (own_node parts.named c)) cs t.1 a) (found_as left c own) refl (subst (AllByRecursion IsKeyed) (present_one (record { leaf = c.leaf; kept = found_as left c own }) rest) k)
   where
     own : Option Placed
     own = own_node parts.named c
 
-    rest : List Found
+    rest : List LeafFound
     rest = founds parts (copies_left left c own) cs
 
     by : (AllByRecursion IsKeyed (present rest) → AllByRecursion IsFoundWell rest) → (k : Option Kept) → found_as left c own ≡ k → AllByRecursion IsKeyed (with_one k (present rest)) → AllByRecursion IsFoundWell (record { leaf = c.leaf; kept = found_as left c own } ∷ rest)

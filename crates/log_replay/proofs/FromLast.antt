@@ -20,13 +20,13 @@ use Rattle.log_replay.specs.declared.read_leaf.ReadLeaf.{ReadLeaf}
 use Rattle.log_replay.specs.declared.standing.Standing.{Standing}
 use Rattle.log_replay.specs.Changes.{IsHeavier, place_of_node}
 use Rattle.log_replay.specs.Noting.{Notes, Says}
-use Rattle.log_replay.specs.Placing.{ArePlaced, AreSettled, Found, IsFoundWell, IsSound, Places, moved_to, pair_found, pair_told, present}
+use Rattle.log_replay.specs.Placing.{ArePlaced, AreSettled, LeafFound, IsFoundWell, IsSound, Places, moved_to, pair_found, pair_told, present}
 use Rattle.log_replay.specs.Standing.{leaf_at, leaves, leaves_in}
 use Rattle.log_replay.specs.Told.{told_leaf}
 use Rattle.log_replay.proofs.Noted.{says_more}
 use Rattle.log_replay.proofs.OneNode.{same_links, same_places}
 
-abbrev pub places_of : List Found → List Leaf
+abbrev pub places_of : List LeafFound → List Leaf
 places_of fs = map (λ f. f.leaf) fs
 
 -- ---- lists of leaves
@@ -66,14 +66,14 @@ swapped_last [] ys l new b = rw (itself l) refl
 swapped_last (x ∷ xs) ys l new b = rw b.0 (ap (λ z. x ∷ z) (swapped_last xs ys l new b.1))
 
 -- ---- from the last leaf to the first
-record Unsnoc (front : List Found) (items : List ReadLeaf) (read : ReadLeaf) : Type 0 where
-  first : List Found
-  last : Found
+record Unsnoc (front : List LeafFound) (items : List ReadLeaf) (read : ReadLeaf) : Type 0 where
+  first : List LeafFound
+  last : LeafFound
   split : front ≡ first ++ (last ∷ [])
   told : map pair_told items ≡ map pair_found first
   one : pair_told read ≡ pair_found last
 
-unsnoc : (front : List Found) (items : List ReadLeaf) (read : ReadLeaf) → map pair_told (items ++ (read ∷ [])) ≡ map pair_found front → Unsnoc front items read
+unsnoc : (front : List LeafFound) (items : List ReadLeaf) (read : ReadLeaf) → map pair_told (items ++ (read ∷ [])) ≡ map pair_found front → Unsnoc front items read
 unsnoc [] [] read h = absurd cc
 unsnoc [] (i ∷ items) read h = absurd cc
 unsnoc (x ∷ []) [] read h = let e : pair_told read ≡ pair_found x = cc in record { first = []; last = x; split = refl; told = refl; one = e }
@@ -82,15 +82,15 @@ unsnoc (x ∷ front) (i ∷ items) read h =
     let e : pair_told i ≡ pair_found x = cc in
     let f : map pair_told (items ++ (read ∷ [])) ≡ map pair_found front = cc in
     let u = unsnoc front items read f in
-    record { first = x ∷ u.first; last = u.last; split = ap (λ (xs : List Found). x ∷ xs) u.split; told = by u.first e u.told; one = u.one }
+    record { first = x ∷ u.first; last = u.last; split = ap (λ (xs : List LeafFound). x ∷ xs) u.split; told = by u.first e u.told; one = u.one }
   where
-    by : (first : List Found) → pair_told i ≡ pair_found x → map pair_told items ≡ map pair_found first → pair_told i ∷ map pair_told items ≡ pair_found x ∷ map pair_found first
+    by : (first : List LeafFound) → pair_told i ≡ pair_found x → map pair_told items ≡ map pair_found first → pair_told i ∷ map pair_told items ≡ pair_found x ∷ map pair_found first
     by first e t = cc
 
 -- the last leaves stand where they were found, and the others are left
-pub record Placing (found : List Found) (items : List ReadLeaf) (s : Standing) : Type 0 where
-  pub front : List Found
-  pub back : List Found
+pub record Placing (found : List LeafFound) (items : List ReadLeaf) (s : Standing) : Type 0 where
+  pub front : List LeafFound
+  pub back : List LeafFound
   pub split : found ≡ front ++ back
   pub told : map pair_told items ≡ map pair_found front
   pub in_index : leaves_in s ≡ places_of front ++ leaves (present back)
@@ -98,22 +98,22 @@ pub record Placing (found : List Found) (items : List ReadLeaf) (s : Standing) :
   pub well : AllByRecursion IsFoundWell front
   pub says : Says (present back) s
 
-last_well : (first : List Found) (last : Found) → AllByRecursion IsFoundWell (first ++ last ∷ []) → IsFoundWell last
+last_well : (first : List LeafFound) (last : LeafFound) → AllByRecursion IsFoundWell (first ++ last ∷ []) → IsFoundWell last
 last_well [] last a = a.0
 last_well (x ∷ first) last a = last_well first last a.1
 
-front_well : (first : List Found) (last : Found) → AllByRecursion IsFoundWell (first ++ last ∷ []) → AllByRecursion IsFoundWell first
+front_well : (first : List LeafFound) (last : LeafFound) → AllByRecursion IsFoundWell (first ++ last ∷ []) → AllByRecursion IsFoundWell first
 front_well [] last a = tt
 front_well (x ∷ first) last a = (a.0, front_well first last a.1)
 
 says_same : (kept : List Kept) (s t : Standing) → t.inodes ≡ s.inodes → t.names ≡ s.names → Says kept s → Says kept t
 says_same kept s t e f says = record { inodes = λ q. same_links s t e q ∙ says.inodes q; names = λ q. same_places s t f q ∙ says.names q }
 
-record OnePlaced (back : List Found) (xs : List Leaf) (last : Found) (t : Standing) : Type 0 where
+record OnePlaced (back : List LeafFound) (xs : List Leaf) (last : LeafFound) (t : Standing) : Type 0 where
   in_index : leaves_in t ≡ xs ++ leaves (present (last ∷ back))
   says : Says (present (last ∷ back)) t
 
-one_placed : (back : List Found) (xs : List Leaf) (last : Found) (read : ReadLeaf) (s t : Standing) → Beside last.leaf xs → IsFoundWell last → pair_told read ≡ pair_found last → leaves_in s ≡ xs ++ last.leaf ∷ leaves (present back)
+one_placed : (back : List LeafFound) (xs : List Leaf) (last : LeafFound) (read : ReadLeaf) (s t : Standing) → Beside last.leaf xs → IsFoundWell last → pair_told read ≡ pair_found last → leaves_in s ≡ xs ++ last.leaf ∷ leaves (present back)
     → Says (present back) s → Places read s t → OnePlaced back xs last t
 one_placed back xs last read s t beside well e i says p = by last.kept well (ap (λ (z : Leaf × Option JournalNode). z.1) e)
   where
@@ -137,7 +137,7 @@ one_placed back xs last read s t beside well e i says p = by last.kept well (ap 
           says = says_more x (present back) q.0 t w.keyed (says_same (present back) s q.0 q.2 q.3 says) q.5;
         }
 
-pub place_on : (found : List Found) (before items : List ReadLeaf) (read : ReadLeaf) (s t : Standing) → before ≡ items ++ (read ∷ []) → Placing found before s → Places read s t → Placing found items t
+pub place_on : (found : List LeafFound) (before items : List ReadLeaf) (read : ReadLeaf) (s t : Standing) → before ≡ items ++ (read ∷ []) → Placing found before s → Places read s t → Placing found items t
 place_on found before items read s t pop p places =
     let u = unsnoc p.front items read (sym (ap (map pair_told) pop) ∙ p.told) in
     let xs : List Leaf = places_of u.first in
@@ -149,7 +149,7 @@ place_on found before items read s t pop p places =
     record {
       front = u.first;
       back = u.last ∷ p.back;
-      split = p.split ∙ ap (λ (fs : List Found). fs ++ p.back) u.split ∙ append_assoc u.first (u.last ∷ []) p.back;
+      split = p.split ∙ ap (λ (fs : List LeafFound). fs ++ p.back) u.split ∙ append_assoc u.first (u.last ∷ []) p.back;
       told = u.told;
       in_index = o.in_index;
       distinct = front_distinct xs u.last.leaf distinct;
@@ -157,18 +157,18 @@ place_on found before items read s t pop p places =
       says = o.says;
     }
   where
-    map_append : (fs gs : List Found) → places_of (fs ++ gs) ≡ places_of fs ++ places_of gs
+    map_append : (fs gs : List LeafFound) → places_of (fs ++ gs) ≡ places_of fs ++ places_of gs
     map_append [] gs = refl
     map_append (f ∷ fs) gs = ap (λ z. f.leaf ∷ z) (map_append fs gs)
 
-pub place_start : (found : List Found) (items : List ReadLeaf) (s : Standing) → AreSettled found s items → Placing found items s
+pub place_start : (found : List LeafFound) (items : List ReadLeaf) (s : Standing) → AreSettled found s items → Placing found items s
 place_start found items s a = record { front = found; back = []; split = sym (append-nil found); told = a.told; in_index = a.in_index ∙ sym (append-nil (places_of found)); distinct = a.distinct; well = a.well; says = a.says }
 
-pub place_end : (found : List Found) (items : List ReadLeaf) (s : Standing) → items ≡ [] → Placing found items s → ArePlaced found s
+pub place_end : (found : List LeafFound) (items : List ReadLeaf) (s : Standing) → items ≡ [] → Placing found items s → ArePlaced found s
 place_end found items s e p = by p.front p.split (sym (ap (map pair_told) e) ∙ p.told) p.in_index
   where
-    by : (front : List Found) → found ≡ front ++ p.back → [] ≡ map pair_found front → leaves_in s ≡ places_of front ++ leaves (present p.back) → ArePlaced found s
-    by [] split t i = subst (λ (fs : List Found). ArePlaced fs s) (sym split) (record { in_index = i; says = p.says })
+    by : (front : List LeafFound) → found ≡ front ++ p.back → [] ≡ map pair_found front → leaves_in s ≡ places_of front ++ leaves (present p.back) → ArePlaced found s
+    by [] split t i = subst (λ (fs : List LeafFound). ArePlaced fs s) (sym split) (record { in_index = i; says = p.says })
     by (f ∷ front) split t i = absurd cc
 
 pub none_left : (items : List ReadLeaf) → length items ≡ 0 → items ≡ []

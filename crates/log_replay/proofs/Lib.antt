@@ -6,6 +6,7 @@ mod First
 mod Founds
 mod FromLast
 mod Hashes
+mod InOrder
 mod Keyed
 mod Maps
 mod Moved

@@ -20,7 +20,8 @@ use Rattle.log_replay.specs.declared.application.Place.{Place}
 use Rattle.log_replay.specs.declared.candidate.Candidate.{Candidate}
 use Rattle.log_replay.specs.Moving.{candidate_at, moved_all, moved_one, outside, stays_in}
 use Rattle.log_replay.specs.Placing.{is_key}
-use Rattle.log_replay.specs.Settling.{IsSetting, copy_at}
+use Rattle.log_replay.specs.Settling.{copy_at}
+use Rattle.log_replay.specs.Told.{IsSetting}
 use Rattle.log_replay.specs.Standing.{leaf_at, leaves}
 use Rattle.log_replay.proofs.Carried.{IsAmong, IsCarried, bud_named}
 use Rattle.log_replay.proofs.Distinct.{same_turned}

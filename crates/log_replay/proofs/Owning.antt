@@ -21,9 +21,9 @@ use Rattle.log_replay.specs.Copies.{Ranked}
 use Rattle.log_replay.specs.Named.{in_named}
 use Rattle.log_replay.specs.Reading.{own_told, read_told, stand_in_told, unread_told, with_told}
 use Rattle.log_replay.specs.Replay.{told_committed}
-use Rattle.log_replay.specs.Settling.{HasCopies, HasGrammar, IsSetting, read_as, read_of}
+use Rattle.log_replay.specs.Settling.{HasCopies, HasGrammar, read_as, read_of}
 use Rattle.log_replay.specs.Things.{is_at_leaf, key_told}
-use Rattle.log_replay.specs.Told.{told_leaf}
+use Rattle.log_replay.specs.Told.{IsSetting, told_leaf}
 use Rattle.log_replay.proofs.Ranked.{KeyIs, RankIs, copy_told, rank_itself, rank_of_key}
 use Rattle.log_replay.proofs.Telling.{if_set, told_key}
 

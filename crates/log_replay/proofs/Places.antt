@@ -18,13 +18,13 @@ use Rattle.change_nodes.specs.Nodes.{change_of, gone_inode, inode_node}
 use Rattle.leaf_map.specs.After.{is_gone, is_idle, is_set, kept_after, kept_with, put_leaf, read}
 use Rattle.leaf_map.specs.Kept.{Kept, Placed, kept_at, shown, shown_by}
 use Rattle.leaf_map.specs.Allowed.{IsNodeOf}
-use Rattle.leaf_map.specs.LeafMap.{HasKeyOf, IsKeyed, IsLeafMap, shows_same}
+use Rattle.leaf_map.specs.LeafMap.{HasKeyOf, IsKeyed, shows_same}
 use Rattle.leaf_map.specs.Parts.{Committed, Named, Parts, in_bud, is_own, is_shown, own_node}
 use Rattle.leaf_map.specs.Recovered.{copies_left, copy_of_key, found_leaves, in_order, is_original, leaf_at, leaves_found, placed_node, spare_copies, stand_in}
 use Rattle.journal_scan.specs.Places.{HasNamedPlace, IsElsewhere, StandApart, at_one_place}
 use Rattle.journal_scan.specs.declared.journal_node.JournalNode.{JournalNode}
 use Rattle.log_replay.specs.Standing.{AreFresh, is_entry, leaves, names_in}
-use Rattle.log_replay.specs.Told.{AreLeavesOf, AreNodesOf, IsOfJournal, IsToldBy}
+use Rattle.log_replay.specs.Told.{AreLeavesOf, AreNodesOf, IsOfJournal, IsSetting, IsToldBy}
 use Rattle.log_replay.proofs.Tests.{key, name_here}
 
 -- ---- places
@@ -369,7 +369,7 @@ itself_shown d h = by (shown d.node) h
     by (Some (SetEntry e)) t = name_here (key e) e refl
     by s t = absurd (false≢true t)
 
-pub node_shown : (kept : List Kept) (n : LeafNode) → AllByRecursion IsKeyed kept → IsNodeOf kept n → is_shown (shown n) ≡ true
+node_shown : (kept : List Kept) (n : LeafNode) → AllByRecursion IsKeyed kept → IsNodeOf kept n → is_shown (shown n) ≡ true
 node_shown [] n k h = absurd h
 node_shown (x ∷ kept) n k (inl e) = subst (λ (z : LeafNode). is_shown (shown z) ≡ true) (sym e) (keyed_shown (shown_by x) x.leaf k.0)
   where
@@ -380,9 +380,14 @@ node_shown (x ∷ kept) n k (inl e) = subst (λ (z : LeafNode). is_shown (shown 
     keyed_shown s leaf h = absurd h
 node_shown (x ∷ kept) n k (inr more) = node_shown kept n k.1 more
 
-copies_shown : (kept : List Kept) (copies : List Placed) → AllByRecursion IsKeyed kept → AllByRecursion (λ d. IsLeaf d.node × IsNodeOf kept d.node) copies → AllByRecursion (λ d. shows_same (shown d.node) (shown d.node) ≡ true) copies
-copies_shown kept [] k h = tt
-copies_shown kept (d ∷ copies) k h = (itself_shown d (node_shown kept d.node k h.0.1), copies_shown kept copies k h.1)
+copies_shown : (copies : List Placed) → AllByRecursion (λ c. IsSetting c.node) copies → AllByRecursion (λ d. shows_same (shown d.node) (shown d.node) ≡ true) copies
+copies_shown [] h = tt
+copies_shown (d ∷ copies) h = (itself_shown d h.0.shown, copies_shown copies h.1)
+
+-- nodes of leaves set something
+pub nodes_set : (kept : List Kept) (copies : List Placed) → AllByRecursion IsKeyed kept → AllByRecursion (λ d. IsLeaf d.node × IsNodeOf kept d.node) copies → AllByRecursion (λ c. IsSetting c.node) copies
+nodes_set kept [] k h = tt
+nodes_set kept (d ∷ copies) k h = (record { leaf = h.0.0; shown = node_shown kept d.node k h.0.1 }, nodes_set kept copies k h.1)
 
 own_far : (named : List Named) (nodes : List Placed) (committed : List Committed) → AllByRecursion (HasNamedPlace named) nodes → OfOwn named (λ leaf. IsFar leaf nodes) committed
 own_far named nodes [] a = tt
@@ -404,7 +409,7 @@ module _ (parts : Parts) (j : IsOfJournal parts) where
   ready = copies_filter parts.named spare parts.copies (record {
     apart = j.places.copies_apart;
     named_places = j.places.copies_named;
-    shown_places = copies_shown j.kept parts.copies j.fits.leaves.keyed j.fits.copies;
+    shown_places = copies_shown parts.copies j.copies;
   })
 
   pub names_differ : AreDistinct (leaves (names_in (leaves_found parts)))
@@ -419,8 +424,8 @@ module _ (parts : Parts) (j : IsOfJournal parts) where
       (found_names parts.named (λ leaf. IsFar leaf nodes) (spare_copies parts) parts.committed (own_far parts.named nodes parts.committed named_nodes) (copies_far nodes (spare_copies parts) beside))
 
 -- the leaves and the nodes are told, and the nodes can be applied
-pub leaves_told : (parts : Parts) (index : Index) (found nodes : List JournalNode) (listed : List ℕ) → IsToldBy parts index found nodes listed → IsLeafMap (leaves_found parts) → AreLeavesOf (leaves_found parts) index found
-leaves_told parts index found nodes listed t map_is = record { in_index = t.in_index; told = t.of_leaves; leaf_map = map_is; distinct = names_differ parts t.journal }
+pub leaves_told : (parts : Parts) (index : Index) (found nodes : List JournalNode) (listed : List ℕ) → IsToldBy parts index found nodes listed → AreLeavesOf (leaves_found parts) index found
+leaves_told parts index found nodes listed t = record { in_index = t.in_index; told = t.of_leaves; leaf_map = t.journal.found; distinct = names_differ parts t.journal }
 
 pub nodes_told : (parts : Parts) (index : Index) (found nodes : List JournalNode) (listed : List ℕ) → IsToldBy parts index found nodes listed → AreNodesOf (leaves_found parts) (in_order parts.nodes) nodes
 nodes_told parts index found nodes listed t = record { of_nodes = t.of_nodes; leaf_nodes = order_all (λ x. IsLeaf x.node) parts.nodes t.journal.places.leaf_nodes; fresh = nodes_fresh parts t.journal }

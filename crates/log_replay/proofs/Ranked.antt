@@ -21,9 +21,9 @@ use Rattle.journal_scan.specs.Content.{content_of, told}
 use Rattle.journal_scan.specs.declared.journal_node.JournalNode.{JournalNode}
 use Rattle.log_replay.specs.Changes.{place_of_node}
 use Rattle.log_replay.specs.Copies.{at_rank, copy_place, first_taken, is_of_rank, others, Ranked}
-use Rattle.log_replay.specs.Settling.{HasCopies, IsSetting, copy_at, of_rank}
+use Rattle.log_replay.specs.Settling.{HasCopies, copy_at, of_rank}
 use Rattle.log_replay.specs.Things.{is_same_told}
-use Rattle.log_replay.specs.Told.{told_leaf}
+use Rattle.log_replay.specs.Told.{IsSetting, told_leaf}
 use Rattle.log_replay.proofs.Noted.{number_at}
 use Rattle.log_replay.proofs.Telling.{has_key, set_key, told_same}
 use Rattle.log_replay.proofs.Tests.{key, name_here, name_is, number_same}

@@ -10,9 +10,8 @@ use Rattle.index_tree.specs.declared.index.Index.{Index}
 use Rattle.index_tree.specs.Distinct.{AreDistinct}
 use Rattle.index_tree.specs.Shape.{contents}
 use Rattle.index_tree.specs.Tree.{shape}
-use Rattle.leaf_map.specs.Allowed.{IsNodeOf}
 use Rattle.leaf_map.specs.Kept.{Kept, Placed, node_key}
-use Rattle.leaf_map.specs.LeafMap.{IsKeyed, IsLeafMap}
+use Rattle.leaf_map.specs.LeafMap.{IsKeyed}
 use Rattle.leaf_map.specs.Parts.{Committed, Named, Parts}
 use Rattle.leaf_map.specs.Recovered.{highest_key, in_order, is_original, leaves_after, leaves_found, leaves_left, placed_node, recovered_of, spare_copies}
 use Rattle.journal_scan.specs.Content.{told}
@@ -28,37 +27,29 @@ use Rattle.log_replay.specs.Copies.{Ranked, at_rank, is_of_rank}
 use Rattle.log_replay.specs.Moving.{candidate_at, candidates_of, moved_all, outside}
 use Rattle.log_replay.specs.Named.{IsNamed}
 use Rattle.log_replay.specs.Noting.{Says}
-use Rattle.log_replay.specs.Placing.{ArePlaced, AreSettled, Found, pair_told, present}
+use Rattle.log_replay.specs.Placing.{ArePlaced, AreSettled, LeafFound, pair_told, present}
 use Rattle.log_replay.specs.Reading.{read_told}
-use Rattle.log_replay.specs.Replay.{AreFound, AreParts, AreRead, CanRecover, NameTheSame, highest_of, told_committed}
-use Rattle.log_replay.specs.Settling.{CanSettle, HasCopies, IsSetting, read_of, settled_of, spare_of}
+use Rattle.log_replay.specs.Replay.{AreFound, AreParts, CanFind, CanRecover, NameTheSame, highest_of, highest_read, told_committed}
+use Rattle.log_replay.specs.Settling.{CanSettle, HasCopies, read_of, settled_of, spare_of}
 use Rattle.log_replay.specs.Standing.{Stands, leaves, leaves_in}
 use Rattle.log_replay.specs.Told.{AreNodesOf, IsOfJournal, without_orphans}
 use Rattle.log_replay.proofs.Carried.{nodes_carried, orphans_carried, start_carried}
 use Rattle.log_replay.proofs.Distinct.{all_distinct}
-use Rattle.log_replay.proofs.Founds.{found_pairs, found_places, found_present, found_well, founds, true_leaves}
+use Rattle.log_replay.proofs.Founds.{found_pairs, found_places, found_present, found_well, founds, true_keys}
 use Rattle.log_replay.proofs.Moved.{all_moved}
 use Rattle.log_replay.proofs.Outer.{all_cands}
 use Rattle.log_replay.proofs.Owning.{reads_are_told}
-use Rattle.log_replay.proofs.Places.{names_differ, node_shown, nodes_fresh, order_all}
+use Rattle.log_replay.proofs.Places.{names_differ, nodes_fresh, order_all}
 use Rattle.log_replay.proofs.Ranked.{filter_all, filter_setting, has_copies}
-
--- each copy sets something
-pub copies_set : (parts : Parts) → IsOfJournal parts → AllByRecursion (λ c. IsSetting c.node) parts.copies
-copies_set parts j = by parts.copies j.fits.copies
-  where
-    by : (copies : List Placed) → AllByRecursion (λ d. IsLeaf d.node × IsNodeOf j.kept d.node) copies → AllByRecursion (λ c. IsSetting c.node) copies
-    by [] a = tt
-    by (d ∷ copies) a = (record { leaf = a.0.0; shown = node_shown j.kept d.node j.fits.leaves.keyed a.0.1 }, by copies a.1)
 
 -- ---- first
 pub leaves_are_found : (parts : Parts) (committed : List CommittedLeaf) (references : List Named) (copies : List JournalNode) (m : BTreeMap ℕ ℕ) (ranked spare : Ranked) (reads settled : List ReadLeaf) (outer : List Candidate)
-    → AreRead parts committed references copies → IsNamed references m → ((r : ℕ) → at_rank ranked r ≡ filter (is_of_rank r) copies) → reads ≡ map (read_told m ranked) committed
+    → CanFind parts committed references copies → IsNamed references m → ((r : ℕ) → at_rank ranked r ≡ filter (is_of_rank r) copies) → reads ≡ map (read_told m ranked) committed
     → ((parts : Parts) (cs : List Committed) (left : List Placed) → CanSettle parts cs left → reads ≡ map (read_of parts) cs → HasCopies left ranked → HasCopies (spare_of parts cs left) spare)
     → ((parts : Parts) (cs : List Committed) (left : List Placed) → CanSettle parts cs left → reads ≡ map (read_of parts) cs → HasCopies left spare → settled ≡ settled_of parts left cs)
     → outer ≡ candidates_of m settled → AreFound parts settled outer
 leaves_are_found parts committed references copies m ranked spare reads settled outer is named ranks read drops settles outers =
-    let set = copies_set parts is.journal in
+    let set = is.journal.copies in
     let has : HasCopies parts.copies ranked = has_copies copies parts.copies ranked set is.copies ranks in
     let as_read : reads ≡ map (read_of parts) parts.committed =
     read ∙ ap (map (read_told m ranked)) is.of_leaves ∙ reads_are_told parts m ranked parts.committed is.grammar set (λ leaf. named.bud leaf ∙ sym (is.named.bud leaf)) has in
@@ -73,8 +64,8 @@ leaves_are_found parts committed references copies m ranked spare reads settled 
     }
 
 -- ---- second to fourth
-module _ (parts : Parts) (j : IsOfJournal parts) (is_map : IsLeafMap (leaves_found parts)) where
-  abbrev pub fs : List Found
+module _ (parts : Parts) (j : IsOfJournal parts) where
+  abbrev pub fs : List LeafFound
   fs = founds parts (spare_copies parts) parts.committed
 
   presents : present fs ≡ leaves_found parts
@@ -86,7 +77,7 @@ module _ (parts : Parts) (j : IsOfJournal parts) (is_map : IsLeafMap (leaves_fou
     in_index = ap (λ (x : Index). contents (shape x.root)) e ∙ i ∙ sym (found_places parts (spare_copies parts) parts.committed);
     told = ap (map pair_told) all ∙ found_pairs parts (spare_copies parts) parts.committed;
     distinct = subst AreDistinct (sym (found_places parts (spare_copies parts) parts.committed)) j.distinct;
-    well = found_well parts (spare_copies parts) parts.committed (true_leaves parts j.kept parts.committed j.fits.leaves.keyed j.fits.read) (subst (AllByRecursion IsKeyed) (sym presents) is_map.keyed);
+    well = found_well parts (spare_copies parts) parts.committed (true_keys parts.committed (contents (shape index.root)) i index.keyed) (subst (AllByRecursion IsKeyed) (sym presents) j.found.keyed);
     says = says;
   }
 
@@ -95,7 +86,7 @@ module _ (parts : Parts) (j : IsOfJournal parts) (is_map : IsLeafMap (leaves_fou
       let q : ArePlaced fs s = p in
       let i : leaves_in s ≡ leaves (leaves_found parts) = p.in_index ∙ ap leaves presents in
       let says : Says (leaves_found parts) s = subst (λ (ks : List Kept). Says ks s) presents p.says in
-      record { in_index = i; leaf_map = is_map; distinct = names_differ parts j; inodes = says.inodes; names = says.names }
+      record { in_index = i; leaf_map = j.found; distinct = names_differ parts j; inodes = says.inodes; names = says.names }
 
   pub nodes_are : (applied : List JournalNode) → applied ≡ map told (in_order parts.nodes) → AreNodesOf (leaves_found parts) (in_order parts.nodes) applied
   nodes_are applied e = record { of_nodes = e; leaf_nodes = order_all (λ x. IsLeaf x.node) parts.nodes j.places.leaf_nodes; fresh = nodes_fresh parts j }
@@ -109,7 +100,7 @@ module _ (parts : Parts) (j : IsOfJournal parts) (is_map : IsLeafMap (leaves_fou
       let carried = orphans_carried parts.named found_all (leaves_after found_all (in_order parts.nodes)) parts.listed
       (nodes_carried parts.named found_all found_all (in_order parts.nodes) (order_all (HasNamedPlace parts.named) parts.nodes j.places.nodes_named) (start_carried parts.named found_all)) in
       ap (λ (z : List Candidate). moved_all z (leaves_in s)) found.candidates ∙ ap (moved_all (map (candidate_at parts.copies) (outside parts.named found_all))) here.in_index
-      ∙ all_moved parts found_all left here.leaf_map.keyed is_map.keyed carried (all_distinct found_all is_map.keyed is_map.apart (names_differ parts j)) (copies_set parts j) j.places.copies_named
+      ∙ all_moved parts found_all left here.leaf_map.keyed j.found.keyed carried (all_distinct found_all j.found.keyed j.found.apart (names_differ parts j)) j.copies j.places.copies_named
       (all_distinct left here.leaf_map.keyed here.leaf_map.apart here.distinct)
 
 -- ---- numbers
@@ -124,13 +115,23 @@ committed_keys : (n : ℕ) (cs : List Committed) → fold (λ m x. max m (key_wo
 committed_keys n [] = refl
 committed_keys n (c ∷ cs) = committed_keys (max n (key_words c.leaf.key).0) cs
 
-pub highest_is : (parts : Parts) (committed : List CommittedLeaf) (read : ℕ) → committed ≡ map told_committed parts.committed → read ≡ highest_key 0 (map (λ x. node_key x.node) (in_order parts.nodes))
-    → max parts.highest (max (highest_of committed) read) ≡ (recovered_of parts).highest
-highest_is parts committed read e r =
+pub highest_is : (committed : List CommittedLeaf) (reads : List BudRead) (read : ℕ) → read ≡ highest_key 0 (map (λ x. node_key x.node) (in_order (nodes_in reads))) → max (highest_of committed) read ≡ highest_read committed reads
+highest_is committed reads read r = let a = highest_more (highest_of committed) (map (λ x. node_key x.node) (in_order (nodes_in reads))) in omega (arith, a, r)
+
+highest_all : (parts : Parts) (committed : List CommittedLeaf) → committed ≡ map told_committed parts.committed
+    → max parts.highest (highest_key (highest_of committed) (map (λ x. node_key x.node) (in_order parts.nodes))) ≡ (recovered_of parts).highest
+highest_all parts committed e =
     let a : highest_of committed ≡ highest_key 0 (map (λ c. c.leaf.key) parts.committed) = ap highest_of e ∙ committed_keys 0 parts.committed in
     let b = highest_more parts.highest (map (λ c. c.leaf.key) parts.committed) in
     let d = highest_more (highest_key parts.highest (map (λ c. c.leaf.key) parts.committed)) (map (λ x. node_key x.node) (in_order parts.nodes)) in
+    let r = highest_more (highest_of committed) (map (λ x. node_key x.node) (in_order parts.nodes)) in
     omega (arith, a, b, d, r)
+
+-- and with the master's number it is the recovered one
+pub highest_recovered : (parts : Parts) (reads : List BudRead) (index : Index) (committed : List CommittedLeaf) (listed : List ℕ) → AreParts parts reads index committed listed
+    → max parts.highest (highest_read committed reads) ≡ (recovered_of parts).highest
+highest_recovered parts reads index committed listed is =
+    ap (λ (ns : List Placed). max parts.highest (highest_key (highest_of committed) (map (λ x. node_key x.node) (in_order ns)))) (sym is.nodes) ∙ highest_all parts committed is.told
 
 placed_length : (nodes : List Placed) (new : Placed) → length (placed_node nodes new) ≡ length nodes + 1
 placed_length [] new = refl
@@ -144,11 +145,11 @@ order_length : (acc nodes : List Placed) → length (fold placed_node acc nodes)
 order_length acc [] = omega arith
 order_length acc (x ∷ nodes) = let a = order_length (placed_node acc x) nodes in let b = placed_length acc x in omega (arith, a, b)
 
-pub nodes_counted : (parts : Parts) (applied : List JournalNode) → applied ≡ map told (in_order parts.nodes) → length applied ≡ (recovered_of parts).nodes
-nodes_counted parts applied e =
+pub nodes_counted : (nodes : List Placed) (applied : List JournalNode) → applied ≡ map told (in_order nodes) → length applied ≡ length nodes
+nodes_counted nodes applied e =
     let a = ap length e in
-    let b = map_length (in_order parts.nodes) in
-    let d = order_length [] parts.nodes in
+    let b = map_length (in_order nodes) in
+    let d = order_length [] nodes in
     omega (arith, a, b, d)
   where
     map_length : (xs : List Placed) → length (map told xs) ≡ length xs
@@ -157,7 +158,7 @@ nodes_counted parts applied e =
 
 -- ---- all of it
 pub parts_read : (parts : Parts) (reads : List BudRead) (buds : List BudText) (index : Index) (committed : List CommittedLeaf) (listed : List ℕ) (copies : List JournalNode) → AreParts parts reads index committed listed → map (λ x. x.bud) reads ≡ buds
-    → copies ≡ map told (copies_in reads) → AreRead parts committed (map named_by buds) copies
+    → copies ≡ map told (copies_in reads) → CanFind parts committed (map named_by buds) copies
 parts_read parts reads buds index committed listed copies is of copy = record {
   of_leaves = is.told;
   grammar = is.grammar;

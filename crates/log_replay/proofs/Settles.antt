@@ -14,7 +14,8 @@ use Rattle.journal_scan.specs.Content.{told}
 use Rattle.journal_scan.specs.declared.journal_node.JournalNode.{JournalNode}
 use Rattle.log_replay.specs.declared.read_leaf.ReadLeaf.{ReadLeaf}
 use Rattle.log_replay.specs.Copies.{at_rank, first_taken, Ranked}
-use Rattle.log_replay.specs.Settling.{CanSettle, DropsOwned, HasCopies, HasGrammar, IsSetting, Settles, at_copy_told, kept_of, read_as, read_of, settled_at, settled_of, settled_one, spare_of}
+use Rattle.log_replay.specs.Settling.{CanSettle, DropsOwned, HasCopies, HasGrammar, Settles, at_copy_told, kept_of, read_as, read_of, settled_at, settled_of, settled_one, spare_of}
+use Rattle.log_replay.specs.Told.{IsSetting}
 use Rattle.log_replay.proofs.Owning.{own_rank, owns}
 use Rattle.log_replay.proofs.Ranked.{drops, filter_setting, first_told, takes, takes_none}
 
@@ -139,7 +140,7 @@ settled_once parts c left read settled old new all e has s = by (own_node parts.
         let p = un_as (kept_of c None) f in
         taken (copy_of_key c.leaf left) refl o (p.0 ∙ ap (λ (z : Option Placed). at_copy_told (read_as parts c.leaf (is_some z) (kept_of c z)) (slice_get (at_rank old (leaf_rank c.leaf)) 0)) (sym o)) p.1
 
-left_setting : (parts : Parts) (c : Committed) (left : List Placed) (own : Option Placed) → AllByRecursion (λ d. IsSetting d.node) left → AllByRecursion (λ d. IsSetting d.node) (copies_left left c own)
+pub left_setting : (parts : Parts) (c : Committed) (left : List Placed) (own : Option Placed) → AllByRecursion (λ d. IsSetting d.node) left → AllByRecursion (λ d. IsSetting d.node) (copies_left left c own)
 left_setting parts c left (Some own) all = all
 left_setting parts c left None all = by (copy_of_key c.leaf left) refl
   where

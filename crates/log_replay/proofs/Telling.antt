@@ -20,7 +20,7 @@ use Rattle.journal_scan.specs.Content.{content_of}
 use Rattle.journal_scan.specs.declared.node_content.NodeContent.{NodeContent}
 use Rattle.journal_scan.specs.declared.node_content.NodeContent.TheVariants.{Inode, Block, Entry, Truncation, Unknown}
 use Rattle.log_replay.specs.Things.{is_same_told, key_told}
-use Rattle.log_replay.specs.Settling.{IsSetting}
+use Rattle.log_replay.specs.Told.{IsSetting}
 use Rattle.log_replay.proofs.Keyed.{node_keyed}
 use Rattle.log_replay.proofs.Noted.{content_block, content_entry, content_inode}
 use Rattle.log_replay.proofs.OneNode.{known}

@@ -31,12 +31,12 @@ abbrev pub moved_to : Place → Leaf → List Leaf → List Leaf
 moved_to place leaf xs = if is_key leaf.key then swapped leaf (leaf_at leaf.key place) xs else xs
 
 -- a committed leaf, and as what it was found, if it was
-pub record Found : Type 0 where
+pub record LeafFound : Type 0 where
   pub leaf : Leaf
   pub kept : Option Kept
 
 -- the leaves that were found
-abbrev pub present : List Found → List Kept
+abbrev pub present : List LeafFound → List Kept
 present [] = []
 present (f ∷ found) = with_kept f.kept (present found)
   where
@@ -50,18 +50,18 @@ pub record IsSound (leaf : Leaf) (x : Kept) : Type 0 where
   pub key : x.leaf.key ≡ leaf.key
   pub is_key : is_key leaf.key ≡ true
 
-abbrev pub IsFoundWell : Found → Type 0
+abbrev pub IsFoundWell : LeafFound → Type 0
 IsFoundWell f = MatchOption f.kept (Unit {0}) (IsSound f.leaf)
 
 -- what is told of leaves
 abbrev pub pair_told : ReadLeaf → Leaf × Option JournalNode
 pair_told read = (read.leaf, read.node)
 
-abbrev pub pair_found : Found → Leaf × Option JournalNode
+abbrev pub pair_found : LeafFound → Leaf × Option JournalNode
 pair_found f = (f.leaf, option_map told_leaf f.kept)
 
 -- The index has these committed leaves, each as it is told, and nothing is kept of them yet.
-pub record AreSettled (found : List Found) (s : Standing) (settled : List ReadLeaf) : Type 0 where
+pub record AreSettled (found : List LeafFound) (s : Standing) (settled : List ReadLeaf) : Type 0 where
   pub in_index : leaves_in s ≡ map (λ f. f.leaf) found
   pub told : map pair_told settled ≡ map pair_found found
   pub distinct : AreDistinct (map (λ f. f.leaf) found)
@@ -69,7 +69,7 @@ pub record AreSettled (found : List Found) (s : Standing) (settled : List ReadLe
   pub says : Says [] s
 
 -- The index has the leaves that were found, and the maps say what they show.
-pub record ArePlaced (found : List Found) (s : Standing) : Type 0 where
+pub record ArePlaced (found : List LeafFound) (s : Standing) : Type 0 where
   pub in_index : leaves_in s ≡ leaves (present found)
   pub says : Says (present found) s
 

@@ -1,5 +1,5 @@
 -- What a mount recovers of what it has read.
-use Rattle.std.specs.Prelude.{◌≡◌, ℕ, max, fold, List, map}
+use Rattle.std.specs.Prelude.{◌≡◌, ℕ, max, fold, length, List, map}
 use Rattle.std.specs.List.{AllByRecursion}
 use Rattle.std.specs.Option.{option_map}
 use Rattle.ubifs_base.specs.Key.{key_words}
@@ -7,8 +7,9 @@ use Rattle.index_tree.specs.declared.index.Index.{Index}
 use Rattle.index_tree.specs.declared.leaf.Leaf.{Leaf}
 use Rattle.index_tree.specs.Shape.{contents}
 use Rattle.index_tree.specs.Tree.{shape}
+use Rattle.leaf_map.specs.Kept.{node_key}
 use Rattle.leaf_map.specs.Parts.{Committed, Named, Parts, in_bud, is_named}
-use Rattle.leaf_map.specs.Recovered.{in_order, leaves_found, recovered_of, spare_copies}
+use Rattle.leaf_map.specs.Recovered.{highest_key, in_order, leaves_found, recovered_of, spare_copies}
 use Rattle.journal_scan.specs.Content.{told}
 use Rattle.journal_scan.specs.Journal.{BudRead, IsBudRead, copies_in, greatest_in, nodes_in}
 use Rattle.journal_scan.specs.Places.{named_by}
@@ -44,7 +45,7 @@ pub record AreParts (parts : Parts) (reads : List BudRead) (index : Index) (comm
   pub journal : IsOfJournal parts
 
 -- These parts are what was read of leaves, references and copies.
-pub record AreRead (parts : Parts) (committed : List CommittedLeaf) (references : List Named) (from_copies : List JournalNode) : Type 0 where
+pub record CanFind (parts : Parts) (committed : List CommittedLeaf) (references : List Named) (from_copies : List JournalNode) : Type 0 where
   pub of_leaves : committed ≡ map told_committed parts.committed
   pub grammar : AllByRecursion HasGrammar parts.committed
   pub named : NameTheSame parts.named references
@@ -67,13 +68,17 @@ pub record CanRecover (parts : Parts) (index : Index) (applied : List JournalNod
 abbrev pub highest_of : List CommittedLeaf → ℕ
 highest_of committed = fold (λ n x. max n (key_words x.leaf.key).0) 0 committed
 
--- What is recovered of an index, its leaves, the LEBs that the log names, and the list: of the parts that say what was read the recovered leaves, the highest number of keys, and how many nodes were applied.
+-- the greatest inode number in the keys of leaves and of the nodes that were read, or 0
+abbrev pub highest_read : List CommittedLeaf → List BudRead → ℕ
+highest_read committed reads = highest_key (highest_of committed) (map (λ x. node_key x.node) (in_order (nodes_in reads)))
+
+-- What is recovered of an index, its leaves, the LEBs that the log names, and the list: of the parts that say what was read the recovered leaves; of what was read the highest number of keys, how many nodes were applied, the greatest sequence number, and the tails.
 pub record IsReplayed (index : Index) (committed : List CommittedLeaf) (buds : List BudText) (listed : List ℕ) (made : Replayed) : Type 0 where
   pub reads : List BudRead
   pub of_buds : map (λ x. x.bud) reads ≡ buds
   pub texts : AllByRecursion IsBudRead reads
   pub recovered : (parts : Parts) → AreParts parts reads index committed listed → contents (shape made.index.root) ≡ leaves (recovered_of parts).kept
-  pub nodes : (parts : Parts) → AreParts parts reads index committed listed → made.nodes ≡ (recovered_of parts).nodes
-  pub highest : (parts : Parts) → AreParts parts reads index committed listed → max parts.highest made.highest ≡ (recovered_of parts).highest
+  pub nodes : made.nodes ≡ length (nodes_in reads)
+  pub highest : made.highest ≡ highest_read committed reads
   pub sqnum : made.sqnum ≡ greatest_in 0 reads
   pub tails : made.tails.items ≡ map (λ x. x.tail) reads

@@ -4,23 +4,18 @@ use Rattle.std.specs.BTreeMap.{is_at}
 use Rattle.std.specs.List.{AllByRecursion, list_any}
 use Rattle.std.specs.Option.{option_map}
 use Rattle.std.specs.Ordering.{nat_cmp}
-use Rattle.media_leaf.specs.LeafNode.{IsLeaf, LeafNode}
+use Rattle.media_leaf.specs.LeafNode.{IsLeaf}
 use Rattle.index_tree.specs.declared.leaf.Leaf.{Leaf}
 use Rattle.index_tree.specs.Order.{leaf_rank}
-use Rattle.leaf_map.specs.Kept.{Kept, Placed, kept_at, shown}
-use Rattle.leaf_map.specs.Parts.{Committed, Parts, is_shown, own_node}
+use Rattle.leaf_map.specs.Kept.{Kept, Placed, kept_at}
+use Rattle.leaf_map.specs.Parts.{Committed, Parts, own_node}
 use Rattle.leaf_map.specs.Recovered.{copies_left, copy_of, copy_of_key, is_original, stand_in}
 use Rattle.journal_scan.specs.Content.{told}
 use Rattle.journal_scan.specs.declared.journal_node.JournalNode.{JournalNode}
 use Rattle.log_replay.specs.declared.application.Place.{Place}
 use Rattle.log_replay.specs.declared.read_leaf.ReadLeaf.{ReadLeaf}
 use Rattle.log_replay.specs.Copies.{at_rank, first_taken, others, Ranked}
-use Rattle.log_replay.specs.Told.{told_leaf}
-
--- a node of the grammar that sets an inode, a block or a name
-pub record IsSetting (node : LeafNode) : Type 0 where
-  pub leaf : IsLeaf node
-  pub shown : is_shown (shown node) ≡ true
+use Rattle.log_replay.specs.Told.{IsSetting, told_leaf}
 
 -- What stands at a leaf's place is a node of the grammar, if anything does.
 abbrev pub HasGrammar : Committed → Type 0

@@ -1,15 +1,14 @@
 -- What is told of leaves and nodes, and of which leaves.
-use Rattle.std.specs.Prelude.{◌≡◌, ℕ, List, fold, map}
+use Rattle.std.specs.Prelude.{◌≡◌, ℕ, true, List, fold, map}
 use Rattle.std.specs.List.{AllByRecursion}
-use Rattle.media_leaf.specs.LeafNode.{IsLeaf}
+use Rattle.media_leaf.specs.LeafNode.{IsLeaf, LeafNode}
 use Rattle.index_tree.specs.declared.index.Index.{Index}
 use Rattle.index_tree.specs.Distinct.{AreDistinct}
 use Rattle.index_tree.specs.Shape.{contents}
 use Rattle.index_tree.specs.Tree.{shape}
-use Rattle.leaf_map.specs.Allowed.{FitsLeaves}
-use Rattle.leaf_map.specs.Kept.{Kept, Placed}
+use Rattle.leaf_map.specs.Kept.{Kept, Placed, shown}
 use Rattle.leaf_map.specs.LeafMap.{IsLeafMap}
-use Rattle.leaf_map.specs.Parts.{Parts}
+use Rattle.leaf_map.specs.Parts.{Parts, is_shown}
 use Rattle.leaf_map.specs.Recovered.{in_order, leaves_found, without_orphan}
 use Rattle.journal_scan.specs.Content.{content_of, told}
 use Rattle.journal_scan.specs.Places.{HavePlaces}
@@ -37,10 +36,15 @@ pub record AreNodesOf (kept : List Kept) (placed : List Placed) (nodes : List Jo
 abbrev pub without_orphans : List Kept → List ℕ → List Kept
 without_orphans kept listed = fold without_orphan kept listed
 
--- What was read is that of a journal: own nodes and copies are nodes of committed leaves, of which no two are one; and all nodes stand at places of their own, which the log names.
+-- a node of the grammar that sets an inode, a block or a name
+pub record IsSetting (node : LeafNode) : Type 0 where
+  pub leaf : IsLeaf node
+  pub shown : is_shown (shown node) ≡ true
+
+-- What was read is that of a journal: each copy sets an inode, a block or a name; the leaves that are found are those of an index, and no two committed ones are one; and all nodes stand at places of their own, which the log names.
 pub record IsOfJournal (parts : Parts) : Type 0 where
-  pub kept : List Kept
-  pub fits : FitsLeaves parts kept
+  pub copies : AllByRecursion (λ c. IsSetting c.node) parts.copies
+  pub found : IsLeafMap (leaves_found parts)
   pub distinct : AreDistinct (map (λ c. c.leaf) parts.committed)
   pub places : HavePlaces parts.named parts.copies parts.nodes
 

@@ -28,6 +28,9 @@ mod standing;
 mod thing;
 
 pub use crate::committed_leaf::CommittedLeaf;
-pub use crate::laws::journals_can_be_applied;
+pub use crate::laws::{
+    found_leaves_that_differ_are_of_an_index, journals_can_be_applied,
+    what_fits_leaves_is_of_a_journal, what_was_read_has_the_numbers,
+};
 pub use crate::recovery::{replay, replay_nodes};
 pub use crate::replayed::Replayed;

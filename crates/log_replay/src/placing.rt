@@ -2,7 +2,7 @@
 
 ghost use Rattle.std.specs.Prelude.{◌≡◌, List, OnOk};
 ghost use Rattle.log_replay.specs.Changes.{IsHeavier};
-ghost use Rattle.log_replay.specs.Placing.{ArePlaced, AreSettled, Found, Places, moved_to};
+ghost use Rattle.log_replay.specs.Placing.{ArePlaced, AreSettled, LeafFound, Places, moved_to};
 ghost use Rattle.log_replay.specs.Standing.{leaves_in};
 
 use crate::application::{Place, at_place};
@@ -16,7 +16,7 @@ use ubifs_base::Memory;
 
 // Puts each leaf where its node was found, takes out the names that nobody can read, and keeps what the others show.
 pub(crate) fn place_leaves(standing: &mut Standing, settled: Vec<ReadLeaf>) -> Result<(), Memory>
-    ensures placed { OnOk result ((found : List Found) → AreSettled found standing.old settled.items → ArePlaced found standing.new) }
+    ensures placed { OnOk result ((found : List LeafFound) → AreSettled found standing.old settled.items → ArePlaced found standing.new) }
     ensures weight { IsHeavier 0 standing.old standing.new }
 {
     let mut left = settled;

@@ -10,7 +10,7 @@ ghost use Rattle.leaf_map.specs.Recovered.{leaves_left, recovered_of};
 ghost use Rattle.journal_scan.specs.Journal.{IsReadable};
 ghost use Rattle.journal_scan.specs.Places.{named_by};
 ghost use Rattle.log_replay.specs.Changes.{HasBlockKey};
-ghost use Rattle.log_replay.specs.Replay.{AreFound, AreRead, CanRecover, IsReplayed, highest_of};
+ghost use Rattle.log_replay.specs.Replay.{AreFound, CanFind, CanRecover, IsReplayed, highest_of};
 ghost use Rattle.log_replay.specs.Standing.{leaves};
 ghost use Rattle.log_replay.specs.Told.{IsToldBy};
 
@@ -30,13 +30,12 @@ use crate::replayed::Replayed;
 use crate::settling::{drop_owned, settle};
 use index_tree::Index;
 use journal_scan::{BudText, JournalNode, read_journal};
-use leaf_map::found_leaves_are_of_an_index;
 use std::alloc::Global;
 use ubifs_base::{Key, Memory};
 
 /// The index after the nodes of the journal and without the orphans that are listed and have no links, given the index of
 /// the leaves that were found, what is said of each of these in order, and the nodes in order of number. `Memory` consumes
-/// the index.
+/// the index, `found` and `nodes`.
 pub fn replay_nodes(
     alloc: Global,
     index: Index,
@@ -49,7 +48,6 @@ pub fn replay_nodes(
     ensures weight { IfOk result (λ made. shape_weight index.fanout (shape made.root) ≤ shape_weight index.fanout (shape index.root) + length nodes.items) }
     ensures fanout { IfOk result (λ made. made.fanout ≡ index.fanout) }
 {
-    found_leaves_are_of_an_index();
     let mut standing = stand(alloc, index, found)?;
     apply_nodes(alloc, &mut standing, nodes)?;
     drop_listed(&mut standing, listed);
@@ -57,7 +55,8 @@ pub fn replay_nodes(
 }
 
 /// What a mount recovers of the committed index, its leaves in order with what stands at the place of each, the texts of the LEBs
-/// in the order in which the log first names them, and the list of orphans. `Memory` consumes the index, and nothing else.
+/// in the order in which the log first names them, and the list of orphans. `Memory` consumes the index and the leaves, and nothing
+/// else.
 pub fn replay(
     alloc: Global,
     committed: Index,
@@ -119,7 +118,7 @@ fn find_leaves(
     buds: &[BudText],
     copies: Vec<JournalNode>,
 ) -> Result<FoundLeaves, Memory>
-    ensures { IfOk result (λ found. (parts : Parts) → AreRead parts leaves.items (map named_by buds.now) copies.items → AreFound parts found.settled.items found.candidates.items) }
+    ensures { IfOk result (λ found. (parts : Parts) → CanFind parts leaves.items (map named_by buds.now) copies.items → AreFound parts found.settled.items found.candidates.items) }
 {
     let named = named_lebs(alloc, buds)?;
     let mut ranked = by_rank(alloc, copies)?;
@@ -146,7 +145,6 @@ fn recover(
     ensures weight { IfOk result (λ made. shape_weight index.fanout (shape made.root) ≤ shape_weight index.fanout (shape index.root) + length nodes.items) }
     ensures fanout { IfOk result (λ made. made.fanout ≡ index.fanout) }
 {
-    found_leaves_are_of_an_index();
     let mut standing = stand_empty(alloc, index);
     place_leaves(&mut standing, found.settled)?;
     apply_nodes(alloc, &mut standing, nodes)?;

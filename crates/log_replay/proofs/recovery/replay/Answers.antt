@@ -1,6 +1,5 @@
-use Rattle.std.proofs.Common.{◌≡◌, ℕ, List, length, map, max, ap, ◌∙◌, arith, sym}
-use Rattle.leaf_map.specs.Kept.{Placed, node_key}
-use Rattle.leaf_map.specs.Recovered.{highest_key, in_order}
+use Rattle.std.proofs.Common.{◌≡◌, ℕ, length, max, ap, ◌∙◌, arith}
+use Rattle.journal_scan.specs.Journal.{nodes_in}
 use Rattle.log_replay.specs.Replay.{highest_of}
 use Rattle.log_replay.proofs.Recovering.{highest_is, nodes_counted, parts_read, parts_recover}
 use Rattle.log_replay.proofs.recovery.replay.Goals as goal
@@ -19,9 +18,8 @@ returns-clause-recovered c =
       texts = r.texts;
       recovered = λ parts is. c.in_ok-index.ensures.leaves parts (parts_recover parts r.reads c.args.committed committed listed read.nodes.items is r.nodes)
           (c.in_ok-found.ensures parts (parts_read parts r.reads c.args.buds.now c.args.committed committed listed read.copies.items is r.of_buds r.copies));
-      nodes = λ parts is. count ∙ nodes_counted parts read.nodes.items (parts_recover parts r.reads c.args.committed committed listed read.nodes.items is r.nodes).nodes;
-      highest = λ parts is. ap (λ (n : ℕ). max parts.highest n) most
-          ∙ highest_is parts committed read.highest is.told (r.highest ∙ sym (ap (λ (ns : List Placed). highest_key 0 (map (λ x. node_key x.node) (in_order ns))) is.nodes));
+      nodes = count ∙ nodes_counted (nodes_in r.reads) read.nodes.items r.nodes;
+      highest = most ∙ highest_is committed r.reads read.highest r.highest;
       sqnum = r.sqnum;
       tails = r.tails;
     }
