@@ -78,7 +78,7 @@ owned read copies = by read.is_own read.node
   where
     by : Bool → Option JournalNode → List JournalNode
     by true (Some node) = others node.content copies
-    by own node = copies
+    by own other = copies
 
 abbrev pub DropsOwned : ReadLeaf → Ranked → Ranked → Type 0
 DropsOwned read old new = (r : ℕ) → at_rank new r ≡ cond (is_at (nat_cmp (leaf_rank read.leaf)) r) (owned read (at_rank old r)) (at_rank old r)
