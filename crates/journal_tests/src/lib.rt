@@ -8,6 +8,8 @@ mod journal_scan_tests;
 #[cfg(test)]
 mod log_replay_tests;
 #[cfg(test)]
+mod recovery_cases;
+#[cfg(test)]
 mod recovery_tests;
 #[cfg(test)]
 mod replay_tests;

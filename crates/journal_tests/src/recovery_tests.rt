@@ -1,11 +1,11 @@
-// The whole of a replay: journals as bytes over committed leaves, of which some have no node of their own. The collector's LEB is 32,
-// the data head's 31 and the base head's 30, in this order of the log; committed leaves stand in LEBs 20 and 21, if nothing else is
-// said. Numbers, places and leaves that are left are written down by hand.
+// The whole of a replay: journals as bytes over committed leaves, of which some have no node of their own. `recovery_cases` has the
+// table.
 
 ghost use Rattle.std.specs.Prelude.{◌≤◌, ◌<◌, ◌^◌, IfOk};
 ghost use Rattle.journal_scan.specs.Journal.{IsReadable};
 ghost use Rattle.ubifs_base.specs.Key.{IsKey};
 
+use crate::recovery_cases::{ALL, CASES, Case, Node, Place, Row, Says};
 use index_tree::{Index, Leaf};
 use journal_scan::{BudText, JournalNode, NodeContent};
 use log_replay::{CommittedLeaf, Replayed, replay};
@@ -13,315 +13,6 @@ use media_leaf::{DataNode, DentNode, InoNode, TrunNode};
 use std::alloc::Global;
 use std::test::Fail;
 use ubifs_base::{Bytes, JournalHead, Key, Memory, Name, r5};
-
-// What a node says: an inode with or without a link, a block, one of the root's names 'am' and 'bb', which have one hash, or a
-// truncation.
-#[derive(Clone, Copy)]
-enum Says {
-    Inode(u32, bool),
-    Block(u32, u16),
-    Named(&'static str, bool),
-    Cut(u32, u64),
-}
-
-// What stands at the place of a committed leaf: its own node with this number, nothing, or another node.
-#[derive(Clone, Copy)]
-enum Place {
-    Own(u64),
-    Lost,
-    Other(Says),
-}
-
-// A committed leaf: the LEB and offset, what it is the leaf of, and what stands there.
-type Row = (u32, u32, Says, Place);
-
-// A node with its sequence number and group type.
-type Node = (u64, u8, Says);
-
-// The committed leaves, the nodes of each head, how many bytes of the base head's LEB were written, the list; then where the leaves
-// that are left stand, how many nodes were applied, and the greatest inode number and the greatest sequence number.
-#[derive(Clone, Copy)]
-struct Case<'a> {
-    committed: &'a [Row],
-    collector: &'a [Node],
-    data: &'a [Node],
-    base: &'a [Node],
-    written: usize,
-    listed: &'a [u32],
-    left: &'a [(u32, u32)],
-    numbers: (u64, u32, u64),
-}
-
-const ALL: usize = 16_384;
-
-// A file of two blocks, with a node of its own each.
-const FILE: [Row; 3] = [
-    (20, 0, Says::Inode(65, true), Place::Own(1)),
-    (20, 160, Says::Block(65, 0), Place::Own(2)),
-    (20, 320, Says::Block(65, 1), Place::Own(3)),
-];
-
-// Two names of one hash.
-const NAMES: [Row; 3] = [
-    (20, 0, Says::Inode(1, true), Place::Own(1)),
-    (20, 160, Says::Named("am", true), Place::Own(2)),
-    (21, 0, Says::Named("bb", true), Place::Lost),
-];
-
-const CASES: [Case<'static>; 18] = [
-    // A change whose nodes stand in the LEBs of two heads: the file's third block, and its inode before and behind it.
-    Case {
-        committed: &FILE,
-        collector: &[],
-        data: &[(5, 0, Says::Block(65, 2))],
-        base: &[(4, 0, Says::Inode(65, true)), (6, 0, Says::Inode(65, true))],
-        written: ALL,
-        listed: &[],
-        left: &[(30, 160), (20, 160), (20, 320), (31, 0)],
-        numbers: (3, 65, 6),
-    },
-    // A group lacks its last node.
-    Case {
-        committed: &FILE,
-        collector: &[],
-        data: &[],
-        base: &[
-            (4, 1, Says::Inode(66, true)),
-            (5, 2, Says::Inode(65, true)),
-            (6, 1, Says::Inode(65, false)),
-        ],
-        written: ALL,
-        listed: &[],
-        left: &[(30, 160), (20, 160), (20, 320), (30, 0)],
-        numbers: (2, 66, 6),
-    },
-    // Two heads interleave: the truncation is older than one block and newer than the other.
-    Case {
-        committed: &FILE,
-        collector: &[],
-        data: &[(4, 0, Says::Block(65, 1)), (6, 0, Says::Block(65, 1))],
-        base: &[(5, 0, Says::Cut(65, 4096))],
-        written: ALL,
-        listed: &[],
-        left: &[(20, 0), (20, 160), (31, 72)],
-        numbers: (3, 65, 6),
-    },
-    // Copies stand in the log in front of what deleted them, and bring nothing back.
-    Case {
-        committed: &[
-            (20, 0, Says::Inode(65, true), Place::Lost),
-            (20, 160, Says::Named("am", true), Place::Lost),
-        ],
-        collector: &[
-            (1, 1, Says::Inode(65, true)),
-            (2, 1, Says::Named("am", true)),
-        ],
-        data: &[],
-        base: &[
-            (8, 1, Says::Named("am", false)),
-            (9, 2, Says::Inode(65, false)),
-        ],
-        written: ALL,
-        listed: &[],
-        left: &[],
-        numbers: (2, 65, 9),
-    },
-    // A name goes and comes back. Its copy is that of the old one.
-    Case {
-        committed: &[(20, 0, Says::Named("am", true), Place::Lost)],
-        collector: &[(2, 0, Says::Named("am", true))],
-        data: &[],
-        base: &[
-            (7, 0, Says::Named("am", false)),
-            (8, 0, Says::Named("am", true)),
-        ],
-        written: ALL,
-        listed: &[],
-        left: &[(30, 64)],
-        numbers: (2, 1, 8),
-    },
-    // Of two listed inodes one got its link again.
-    Case {
-        committed: &[
-            (20, 0, Says::Inode(65, false), Place::Own(1)),
-            (20, 160, Says::Inode(66, false), Place::Own(2)),
-            (20, 320, Says::Block(66, 0), Place::Own(3)),
-        ],
-        collector: &[],
-        data: &[],
-        base: &[(7, 0, Says::Inode(65, true))],
-        written: ALL,
-        listed: &[65, 66],
-        left: &[(30, 0)],
-        numbers: (1, 66, 7),
-    },
-    // At a listed inode's old place another inode's node stands. Its copy has a link, so it stays.
-    Case {
-        committed: &[(
-            20,
-            0,
-            Says::Inode(65, true),
-            Place::Other(Says::Inode(66, false)),
-        )],
-        collector: &[(1, 0, Says::Inode(65, true))],
-        data: &[],
-        base: &[],
-        written: ALL,
-        listed: &[65],
-        left: &[(32, 0)],
-        numbers: (0, 65, 1),
-    },
-    // Nobody can read a listed inode, and it has no copy: it goes with its block.
-    Case {
-        committed: &[
-            (20, 0, Says::Inode(65, true), Place::Lost),
-            (20, 160, Says::Block(65, 0), Place::Own(2)),
-        ],
-        collector: &[],
-        data: &[],
-        base: &[],
-        written: ALL,
-        listed: &[65],
-        left: &[],
-        numbers: (0, 65, 0),
-    },
-    // Of two names of one hash one's original is gone. Each has a copy, and the other name's isn't taken for it.
-    Case {
-        committed: &NAMES,
-        collector: &[
-            (2, 0, Says::Named("am", true)),
-            (3, 0, Says::Named("bb", true)),
-        ],
-        data: &[],
-        base: &[],
-        written: ALL,
-        listed: &[],
-        left: &[(20, 0), (20, 160), (32, 64)],
-        numbers: (0, 1, 3),
-    },
-    // The same, and that name goes by its name.
-    Case {
-        committed: &NAMES,
-        collector: &[
-            (2, 0, Says::Named("am", true)),
-            (3, 0, Says::Named("bb", true)),
-        ],
-        data: &[],
-        base: &[(8, 0, Says::Named("bb", false))],
-        written: ALL,
-        listed: &[],
-        left: &[(20, 0), (20, 160)],
-        numbers: (1, 1, 8),
-    },
-    // Nobody can read a name, and it has no copy: its leaf goes.
-    Case {
-        committed: &NAMES,
-        collector: &[],
-        data: &[],
-        base: &[],
-        written: ALL,
-        listed: &[],
-        left: &[(20, 0), (20, 160)],
-        numbers: (0, 1, 0),
-    },
-    // At the place of a stale leaf stands a node of its key and length, of a group that lacks its last node. The leaf is at its copy.
-    Case {
-        committed: &[(30, 0, Says::Inode(65, true), Place::Own(9))],
-        collector: &[(1, 0, Says::Inode(65, true))],
-        data: &[],
-        base: &[(9, 1, Says::Inode(65, false))],
-        written: ALL,
-        listed: &[],
-        left: &[(32, 0)],
-        numbers: (0, 65, 9),
-    },
-    // At the place of a stale leaf stands a later node of its key and length, which makes it obsolete.
-    Case {
-        committed: &[(30, 160, Says::Inode(65, true), Place::Own(9))],
-        collector: &[(1, 0, Says::Inode(65, true))],
-        data: &[],
-        base: &[(8, 0, Says::Inode(65, true)), (9, 0, Says::Inode(65, true))],
-        written: ALL,
-        listed: &[],
-        left: &[(30, 160)],
-        numbers: (2, 65, 9),
-    },
-    // A group of 632 bytes, of which the first 512 were written.
-    Case {
-        committed: &FILE,
-        collector: &[],
-        data: &[],
-        base: &[
-            (4, 1, Says::Inode(65, true)),
-            (5, 1, Says::Inode(66, true)),
-            (6, 1, Says::Named("am", true)),
-            (7, 1, Says::Named("bb", true)),
-            (8, 1, Says::Named("am", false)),
-            (9, 1, Says::Named("bb", false)),
-            (10, 2, Says::Cut(65, 0)),
-        ],
-        written: 512,
-        listed: &[],
-        left: &[(20, 0), (20, 160), (20, 320)],
-        numbers: (0, 65, 8),
-    },
-    // All of it was written.
-    Case {
-        committed: &FILE,
-        collector: &[],
-        data: &[],
-        base: &[
-            (4, 1, Says::Inode(65, true)),
-            (5, 1, Says::Inode(66, true)),
-            (6, 1, Says::Named("am", true)),
-            (7, 1, Says::Named("bb", true)),
-            (8, 1, Says::Named("am", false)),
-            (9, 1, Says::Named("bb", false)),
-            (10, 2, Says::Cut(65, 0)),
-        ],
-        written: 632,
-        listed: &[],
-        left: &[(30, 0), (30, 160)],
-        numbers: (7, 66, 10),
-    },
-    // A collection copied each leaf of its LEB: all stand at their copies.
-    Case {
-        committed: &FILE,
-        collector: &[
-            (1, 0, Says::Inode(65, true)),
-            (2, 0, Says::Block(65, 0)),
-            (3, 0, Says::Block(65, 1)),
-        ],
-        data: &[],
-        base: &[],
-        written: ALL,
-        listed: &[],
-        left: &[(32, 0), (32, 160), (32, 232)],
-        numbers: (0, 65, 3),
-    },
-    // One is missing: all stand at their originals.
-    Case {
-        committed: &FILE,
-        collector: &[(1, 0, Says::Inode(65, true)), (2, 0, Says::Block(65, 0))],
-        data: &[],
-        base: &[],
-        written: ALL,
-        listed: &[],
-        left: &[(20, 0), (20, 160), (20, 320)],
-        numbers: (0, 65, 2),
-    },
-    // One is missing that the journal replaced: the others stand at their copies.
-    Case {
-        committed: &FILE,
-        collector: &[(1, 0, Says::Inode(65, true)), (2, 0, Says::Block(65, 0))],
-        data: &[(8, 0, Says::Block(65, 1))],
-        base: &[],
-        written: ALL,
-        listed: &[],
-        left: &[(32, 0), (32, 160), (31, 0)],
-        numbers: (1, 65, 8),
-    },
-];
 
 fn hash_of(name: &str) -> u32
     ensures { result < 2 ^ 29 }
@@ -580,7 +271,14 @@ fn replayed(alloc: Global, case: &Case<'_>) -> Result<Replayed, Memory> {
     let collector = bud_of(alloc, JournalHead::Collector, 32, case.collector, ALL)?;
     let data = bud_of(alloc, JournalHead::Data, 31, case.data, ALL)?;
     let base = bud_of(alloc, JournalHead::Base, 30, case.base, case.written)?;
-    replay(alloc, index, leaves, &[collector, data, base], case.listed)
+    let next = bud_of(alloc, JournalHead::Base, 29, case.next, ALL)?;
+    replay(
+        alloc,
+        index,
+        leaves,
+        &[collector, data, base, next],
+        case.listed,
+    )
 }
 
 fn places_of(alloc: Global, index: &Index) -> Result<Vec<(u32, u32)>, Memory> {
@@ -593,14 +291,88 @@ fn places_of(alloc: Global, index: &Index) -> Result<Vec<(u32, u32)>, Memory> {
     Ok(places)
 }
 
+// What is shown: a word, and two numbers.
+type Shown = (&'static str, u32, u32);
+
+// An inode with its links, a block, or a name of inode 65 in the root.
+fn shown(says: Says) -> Shown {
+    match says {
+        Says::Inode(ino, linked) => ("inode", ino, links_of(linked)),
+        Says::Block(ino, block) => ("block", ino, block as u32),
+        Says::Named(name, linked) => (name, 1, 65 * linked as u32),
+        Says::Cut(ino, _) => ("cut", ino, 0),
+    }
+}
+
+fn len_of(says: Says) -> u32 {
+    match says {
+        Says::Inode(..) => 160,
+        Says::Block(..) => 72,
+        Says::Named(..) => 64,
+        Says::Cut(..) => 56,
+    }
+}
+
+// What stands at an offset of a text.
+fn node_at(rows: &[Node], offs: u32) -> Shown {
+    let mut from = 0u32;
+    for row in rows {
+        if from == offs {
+            return shown(row.2);
+        }
+        from = from.wrapping_add(len_of(row.2));
+    }
+    ("nothing", 0, 0)
+}
+
+// What stands at a committed leaf's place.
+fn leaf_at(rows: &[Row], lnum: u32, offs: u32) -> Shown {
+    for row in rows {
+        if row.0 == lnum && row.1 == offs {
+            return shown(row.2);
+        }
+    }
+    ("nothing", 0, 0)
+}
+
+// What stands at a place.
+fn shown_at(case: &Case<'_>, lnum: u32, offs: u32) -> Shown {
+    match lnum {
+        29 => node_at(case.next, offs),
+        30 => node_at(case.base, offs),
+        31 => node_at(case.data, offs),
+        32 => node_at(case.collector, offs),
+        _ => leaf_at(case.committed, lnum, offs),
+    }
+}
+
+// What the leaves at places show.
+fn tree_at(alloc: Global, case: &Case<'_>, places: &[(u32, u32)]) -> Result<Vec<Shown>, Memory> {
+    let mut tree = Vec::new(alloc);
+    for place in places {
+        tree.push(shown_at(case, place.0, place.1))?;
+    }
+    Ok(tree)
+}
+
+fn tree_of(alloc: Global, rows: &[Says]) -> Result<Vec<Shown>, Memory> {
+    let mut tree = Vec::new(alloc);
+    for says in rows {
+        tree.push(shown(*says))?;
+    }
+    Ok(tree)
+}
+
 #[test]
 fn journals_are_replayed(rt: HostRuntime) -> Result<(), Fail> {
     for case in CASES.as_slice() {
         let made = replayed(rt.alloc(), case)?;
         let left = places_of(rt.alloc(), &made.index)?;
         assert_eq!(rt; left.as_slice(), case.left);
+        let tree = tree_at(rt.alloc(), case, left.as_slice())?;
+        assert_eq!(rt; tree.as_slice(), tree_of(rt.alloc(), case.tree)?.as_slice());
         assert_eq!(rt; (made.nodes, made.highest, made.sqnum), case.numbers);
-        assert_eq!(rt; made.tails.len(), 3);
+        assert_eq!(rt; made.tails.len(), 4);
     }
     Ok(())
 }
