@@ -1,8 +1,8 @@
 //! Times a replay, the call that a mount makes. Without a word it prints the weight of the index after a replay of three pages and
-//! their inodes. With a word it replays a thousand pages and their inodes, and the collector's copies of their old inodes, over an
-//! index that has them already, 25 times, and the checksum of the same bytes in turns with it. Every second old inode has no node of
-//! its own, so it is found at its copy. Then it prints the weight of the index, the nanoseconds of the best replay and those of the
-//! best checksum, and a sum of the checksums.
+//! their inodes. With a word it replays a thousand pages and their inodes 25 times, and the checksum of the same bytes in turns with
+//! it: with `first` over an empty index, and with any other word over an index that has them already, with the collector's copies of
+//! their old inodes, of which every second has no node of its own and so is found at its copy. Then it prints the weight of the index,
+//! the nanoseconds of the best replay and those of the best checksum, and a sum of the checksums.
 #![tactic(auto)]
 
 ghost use Rattle.std.specs.Prelude.{◌≡◌, ◌≤◌, IfOk};
@@ -52,19 +52,20 @@ struct Standing {
 fn main(rt: HostRuntime) -> anyhow::Result<()> {
     let mut words = env::args(&rt)?;
     words.next();
-    if words.next().is_none() {
-        let buds = buds_of(rt.alloc(), FEW)?;
+    let Some(word) = words.next() else {
+        let buds = buds_of(rt.alloc(), FEW, FEW)?;
         let standing = standing_of(rt.alloc(), FEW)?;
         println!(rt; "{}", replayed(rt.alloc(), &buds, standing)?)?;
         return Ok(());
-    }
-    let buds = buds_of(rt.alloc(), MANY)?;
+    };
+    let old = if word.as_str() == "first" { 0 } else { MANY };
+    let buds = buds_of(rt.alloc(), MANY, old)?;
     let mut weight = 0;
     let mut ours = Duration::MAX;
     let mut sum = 0u32;
     let mut summed = Duration::MAX;
     for _ in 0..TURNS {
-        let standing = standing_of(rt.alloc(), MANY)?;
+        let standing = standing_of(rt.alloc(), old)?;
         let start = Instant::now(&rt)?;
         weight = replayed(rt.alloc(), &buds, standing)?;
         ours = ours.min(start.elapsed(&rt)?);
@@ -97,11 +98,11 @@ fn checksums(buds: &[BudText]) -> u32 {
     sum
 }
 
-// A text of copies of inodes, one of pages, and one of their inodes.
-fn buds_of(alloc: Global, n: u32) -> Result<[BudText; 3], Memory>
+// A text of copies of old inodes, one of pages, and one of their inodes.
+fn buds_of(alloc: Global, n: u32, old: u32) -> Result<[BudText; 3], Memory>
     ensures { IfOk result (λ buds. AllByRecursion IsReadable buds) }
 {
-    let copies = bud_of(JournalHead::Collector, 19, inodes(alloc, n, true)?);
+    let copies = bud_of(JournalHead::Collector, 19, inodes(alloc, old, true)?);
     let data = bud_of(JournalHead::Data, 20, pages(alloc, n)?);
     let base = bud_of(JournalHead::Base, 21, inodes(alloc, n, false)?);
     Ok([copies, data, base])

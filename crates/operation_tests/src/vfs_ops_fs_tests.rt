@@ -17,16 +17,14 @@ use ubifs_base::{Bytes, Memory, Name};
 use vfs_ops::Fs;
 
 // The number of the inode to which a path leads.
-fn walked_to(alloc: Global, fs: &mut Fs<PlainBacking>, bytes: &[u8]) -> Result<u32, Refusal>
-{
+fn walked_to(alloc: Global, fs: &mut Fs<PlainBacking>, bytes: &[u8]) -> Result<u32, Refusal> {
     let path = path(alloc, bytes)?;
     let entry = fs.walk(&path)?;
     Ok(entry.ino)
 }
 
 // A group without a change, which asks for nothing.
-fn nothing_put(alloc: Global, fs: &mut Fs<PlainBacking>) -> Result<(), Refusal>
-{
+fn nothing_put(alloc: Global, fs: &mut Fs<PlainBacking>) -> Result<(), Refusal> {
     let need = Need {
         credits: 0,
         bytes: 0,
@@ -37,8 +35,7 @@ fn nothing_put(alloc: Global, fs: &mut Fs<PlainBacking>) -> Result<(), Refusal>
 }
 
 // How many entries the root has, and the number behind the name `f`, 0 where there is none.
-fn looked_up(alloc: Global, fs: &mut Fs<PlainBacking>) -> Result<(usize, u32), StoreFault>
-{
+fn looked_up(alloc: Global, fs: &mut Fs<PlainBacking>) -> Result<(usize, u32), StoreFault> {
     let entries = fs.entries(1)?;
     let name = Name::from_slice(alloc, b"f")?;
     match fs.lookup(1, &name)? {
@@ -48,8 +45,7 @@ fn looked_up(alloc: Global, fs: &mut Fs<PlainBacking>) -> Result<(usize, u32), S
 }
 
 // The time of an inode's last change, 0 where there is none.
-fn changed_at(fs: &mut Fs<PlainBacking>, ino: u32) -> Result<u64, StoreFault>
-{
+fn changed_at(fs: &mut Fs<PlainBacking>, ino: u32) -> Result<u64, StoreFault> {
     match fs.inode(ino)? {
         Some(inode) => Ok(inode.mtime),
         None => Ok(0),

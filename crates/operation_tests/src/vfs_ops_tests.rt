@@ -71,8 +71,7 @@ pub(crate) fn fresh_backing(alloc: Global) -> Result<PlainBacking, Fail>
 }
 
 // A file system over a fresh volume.
-pub(crate) fn fresh_files(alloc: Global) -> Result<Fs<PlainBacking>, Fail>
-{
+pub(crate) fn fresh_files(alloc: Global) -> Result<Fs<PlainBacking>, Fail> {
     a_fresh_volume_is_sound();
     let backing = fresh_backing(alloc)?;
     match Fs::new(alloc, backing, 4) {
@@ -133,8 +132,11 @@ fn number(reply: &Reply) -> u64 {
 }
 
 // Does the operation of a letter at the moment 7, and answers the number of its reply.
-pub(crate) fn answered(alloc: Global, fs: &mut Fs<PlainBacking>, letter: u8) -> Result<u64, Memory>
-{
+pub(crate) fn answered(
+    alloc: Global,
+    fs: &mut Fs<PlainBacking>,
+    letter: u8,
+) -> Result<u64, Memory> {
     let op = op_of(alloc, letter)?;
     let event = Event::Call {
         caller: 1,
@@ -152,8 +154,7 @@ pub(crate) fn answers(
     alloc: Global,
     fs: &mut Fs<PlainBacking>,
     letters: &[u8],
-) -> Result<Vec<u64>, Memory>
-{
+) -> Result<Vec<u64>, Memory> {
     let mut numbers = Vec::new(alloc);
     for letter in letters {
         let number = answered(alloc, fs, *letter)?;
