@@ -23,13 +23,13 @@ pub(crate) fn node_at(leb: &[u8], place: u32) -> Option<Found>
     if head.group > 2 {
         return None;
     }
-    let Some(kind) = NodeType::of(head.kind) else {
-        return None;
-    };
     let body = rest.split_at(head.len as usize).0.split_at(24).1;
     if !is_known(head.kind, body) {
         return None;
     }
+    let Some(kind) = NodeType::of(head.kind) else {
+        return None;
+    };
     Some(Found {
         offs: place,
         len: head.len,
