@@ -106,8 +106,8 @@ pub fn begins_below(nodes: &[Node], at: u128) -> bool
     requires sound { filled (row nodes.now) ≡ true }
     ensures { result ≡ (nat_lt 0 at && begins_within (at - 1) (row nodes.now)) }
 {
-    if at == 0 {
-        return false;
+    match nodes.split_first() {
+        Some((one, _)) => rank(&one.first) < at,
+        None => false,
     }
-    begins_within(nodes, at - 1)
 }
