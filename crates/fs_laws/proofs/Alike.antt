@@ -24,7 +24,7 @@ use Rattle.fs_model.specs.Files.{Tree, Inodes, Blocks, Handles, inode_at, name_c
 use Rattle.fs_model.specs.Need.{change_bytes}
 use Rattle.fs_model.specs.Path.{is_dir}
 use Rattle.fs_model.specs.Proper.{IsProper, ascends, same_kind, climbs, names_of, has_kind, is_entry_node, is_sound_entry, is_sound_dir, is_sound_inode, is_linked, are_numbered}
-use Rattle.fs_model.specs.Orphan.{nameless, revives_none, all_revive_none}
+use Rattle.fs_model.specs.Orphan.{nameless, is_nameless, revives_none, all_revive_none, drops_named, all_drop_named}
 use Rattle.fs_laws.specs.Alike.{kind_and_links, told_by, IsBuiltAlike, HasNodes}
 use Rattle.fs_laws.specs.Sound.{AreFiles}
 use Rattle.fs_laws.proofs.Local.{local_of, local_group}
@@ -248,6 +248,27 @@ revive_alike (change ∷ group) a b h =
     ap (λ c. c && all_revive_none (applied b change) group) (change_revives a b change h)
     ∙ ap (λ c. revives_none a change && c) (revive_alike group (applied a change) (applied b change) (change_alike a b change h))
 
+-- what drops no inode without a name drops none over the other
+nameless_alike : (a b : Tree) (ino : ℕ) → IsBuiltAlike a b → is_nameless b ino ≡ is_nameless a ino
+nameless_alike a b ino h =
+    sym (told_found kind_and_links (λ k. k.1 == 0) false ino b.inodes)
+    ∙ ap (λ told. option_map_or (λ (k : Kind × ℕ). k.1 == 0) (lookup (is_at (nat_cmp ino)) told) false) (sym h.inodes)
+    ∙ told_found kind_and_links (λ k. k.1 == 0) false ino a.inodes
+
+change_drops : (a b : Tree) (change : Change) → IsBuiltAlike a b → drops_named b change ≡ drops_named a change
+change_drops a b (SetInode ino inode) h = refl
+change_drops a b (SetEntry entry) h = refl
+change_drops a b (DropEntry dir name) h = refl
+change_drops a b (SetBlock ino block bytes) h = refl
+change_drops a b (CutBlocks ino old_size new_size) h = refl
+change_drops a b (DropInode ino) h = ap not (nameless_alike a b ino h)
+
+drop_alike : (group : List Change) (a b : Tree) → IsBuiltAlike a b → all_drop_named b group ≡ all_drop_named a group
+drop_alike [] a b h = refl
+drop_alike (change ∷ group) a b h =
+    ap (λ c. c && all_drop_named (applied b change) group) (change_drops a b change h)
+    ∙ ap (λ c. drops_named a change && c) (drop_alike group (applied a change) (applied b change) (change_alike a b change h))
+
 -- a group that its grant pays over one tree is paid over the other
 pub group_fits_alike : (a b : Tree) (grant : Grant) (group : List Change) → IsBuiltAlike a b → told_by inode_bytes a.inodes ≡ told_by inode_bytes b.inodes → IsProper b → FitsGroup a grant group → FitsGroup b grant group
 group_fits_alike a b grant group h bytes proper fits =
@@ -259,6 +280,7 @@ group_fits_alike a b grant group h bytes proper fits =
       bytes = subst (λ n. n ≤ grant.bytes) same fits.bytes;
       limit = subst (λ n. n ≤ group_limit) same fits.limit;
       revives_none = revive_alike group a b h ∙ fits.revives_none;
+      drops = drop_alike group a b h ∙ fits.drops;
       proper = proper_alike (apply a group) (apply b group) fits.proper (group_alike group a b h)
           (record { inode_nodes = local.inode_nodes; blocks_ascend = local.blocks_ascend; block_nodes = local.block_nodes; block_numbers = local.block_numbers });
     }

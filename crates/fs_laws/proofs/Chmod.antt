@@ -29,4 +29,4 @@ mode_keeps files now path mode sound moment =
     let small = ltb-false 4095 mode good in
     let node = node_touched at.ino (record inode { mode = mode }) now moment (node_moded at.ino inode mode small (node_at files.tree sound.proper at.ino inode g)) in
     let most = cap_most (SetInode at.ino (touched now (record inode { mode = mode }))) in
-    set_keeps files at.ino inode (touched now (record inode { mode = mode })) [] sound g refl refl node refl refl (omega (arith, most)) refl refl)))
+    set_keeps files at.ino inode (touched now (record inode { mode = mode })) [] sound g refl refl node refl refl refl (omega (arith, most)) refl refl)))

@@ -19,7 +19,7 @@ use Rattle.fs_laws.proofs.Sizes.{group_within, group_long}
 use Rattle.fs_laws.proofs.Truncates.{truncated_keeps}
 
 fits_from : (files : Files) (grant : Grant) (group : List Change) → KeepsSound files group → length group ≤ grant.nodes → sum_by (change_bytes files.tree) group ≤ grant.bytes → FitsGroup files.tree grant group
-fits_from files grant group keeps nodes bytes = record { are_nodes = keeps.nodes; nodes = nodes; bytes = bytes; limit = keeps.limit; revives_none = keeps.revives_none; proper = keeps.proper }
+fits_from files grant group keeps nodes bytes = record { are_nodes = keeps.nodes; nodes = nodes; bytes = bytes; limit = keeps.limit; revives_none = keeps.revives_none; drops = keeps.drops; proper = keeps.proper }
 
 pub group_fits : (files : Files) (caller now : ℕ) (op : Op) (grant : Grant) → IsSound files → now < 2 ^ 64 → list_all are_bytes (given op) ≡ true → Pays grant (need_of files caller now op) → FitsGroup files.tree grant (group_of files caller now op)
 group_fits files caller now (Truncate slot size) grant sound moment bytes pays =

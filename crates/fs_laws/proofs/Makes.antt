@@ -116,7 +116,7 @@ naming_keeps files e new now sound moment comes good node links revives apart =
     let most = cap_most (SetInode e.ino new) in
     let plain = cap_plain e.dir up Dir refl it.same in
     let P : List Change → Type 0 = λ rest. KeepsSound files (SetEntry e ∷ SetInode e.ino new ∷ rest) in
-    subst P (sym (touching_is tree e.dir now (share_of e) no_share it.inode it.found)) (keeps_sound files group sound nodes all_revive (omega (arith, most, plain)) last kept (λ h. linked_set (insert_entry nat_cmp tree.inodes e.ino new) e.dir up (counted_linked e.dir (share_of e) no_share it.inode now is_a_dir) (linked_set tree.inodes e.ino new links h)))
+    subst P (sym (touching_is tree e.dir now (share_of e) no_share it.inode it.found)) (keeps_sound files group sound nodes all_revive refl (omega (arith, most, plain)) last kept (λ h. linked_set (insert_entry nat_cmp tree.inodes e.ino new) e.dir up (counted_linked e.dir (share_of e) no_share it.inode now is_a_dir) (linked_set tree.inodes e.ino new links h)))
 
 making_keeps : (files : Files) (dir : ℕ) (name : List ℕ) (inode : Inode) (now : ℕ) → IsSound files → now < 2 ^ 64 → IsNew inode → is_name name ≡ true → kind_is files.tree.inodes dir Dir ≡ true → entry_in files.tree.entries (dir, name) ≡ None → files.tree.highest < inode_limit
     → KeepsSound files (making files.tree dir name inode now)

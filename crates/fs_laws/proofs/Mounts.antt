@@ -12,7 +12,7 @@ use Rattle.fs_model.specs.declared.inode.Entry.{Entry}
 use Rattle.fs_model.specs.declared.inode.Kind.TheVariants.{Dir}
 use Rattle.fs_model.specs.Change.{without_inode}
 use Rattle.fs_model.specs.Files.{Tree, inode_at, name_cmp}
-use Rattle.fs_model.specs.Orphan.{nameless, without_nameless}
+use Rattle.fs_model.specs.Orphan.{is_nameless, nameless, without_nameless}
 use Rattle.fs_model.specs.Path.{is_dir}
 use Rattle.fs_model.specs.Proper.{IsProper, is_linked}
 use Rattle.fs_laws.proofs.Climb.{proper_of}
@@ -100,3 +100,17 @@ mount_proper tree proper = all_dropped (nameless tree) tree proper (keys_pass (�
     idle true false h = refl
     idle false true h = refl
     idle false false h = refl
+
+-- one inode without a name goes, which is no directory
+pub nameless_dropped : (tree : Tree) (ino : ℕ) → IsProper tree → is_nameless tree ino ≡ true → IsProper (without_inode tree ino)
+nameless_dropped tree ino proper none = dropped_proper tree ino proper (by (inode_at tree ino) refl none)
+  where
+    idle : (d z : Bool) → not (d && z) ≡ true → z ≡ true → (not d && z) ≡ true
+    idle true true h e = absurd (false≢true h)
+    idle true false h e = absurd (false≢true e)
+    idle false true h e = refl
+    idle false false h e = absurd (false≢true e)
+
+    by : (o : Option Inode) → inode_at tree ino ≡ o → option_map_or (λ inode. inode.nlink == 0) o false ≡ true → option_map_or is_idle o true ≡ true
+    by None f h = refl
+    by (Some i) f h = idle (is_dir i.kind) (i.nlink == 0) (all_at nat_cmp numbers is_linked tree.inodes ino i proper.linked f) h

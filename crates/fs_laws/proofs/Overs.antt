@@ -25,8 +25,8 @@ use Rattle.fs_model.specs.Outcome.{Plan, refuse, with_found, with_some, group_in
 use Rattle.fs_model.specs.Path.{has_long_name, components, last_of, walked, parent_of, is_dir}
 use Rattle.fs_model.specs.Proper.{are_bytes, are_words, is_entry_node, is_name}
 use Rattle.fs_model.specs.Rename.{is_under, comes_linked_out, moving, moved, renamed}
-use Rattle.fs_model.specs.Orphan.{revives_none}
-use Rattle.fs_laws.proofs.Revives.{less_revives}
+use Rattle.fs_model.specs.Orphan.{revives_none, drops_named}
+use Rattle.fs_laws.proofs.Revives.{less_revives, linked_drops}
 use Rattle.fs_laws.specs.Sound.{IsSound, KeepsSound}
 use Rattle.fs_laws.proofs.Groups.{keeps_nothing, node_at}
 use Rattle.fs_laws.proofs.Linking.{both_paths}
@@ -41,7 +41,7 @@ use Rattle.fs_laws.proofs.Nodes.{InodeNode, node_of, node_number}
 use Rattle.fs_laws.specs.Orders.{numbers, named}
 use Rattle.fs_laws.proofs.Plans.{refuse_to, found_to, some_to}
 use Rattle.fs_laws.proofs.Rel.{Rel, Reaches, there_of, rel_of, inode_in, entry_in, kind_is}
-use Rattle.fs_laws.proofs.Removals.{Leaves, leaves_less, leaving_cases, drop_node, parent_of_entry, handles_left, no_entry_childless, plain_childless}
+use Rattle.fs_laws.proofs.Removals.{Leaves, has_links, leaves_less, leaving_cases, drop_node, parent_of_entry, handles_left, no_entry_childless, plain_childless}
 use Rattle.fs_laws.proofs.Renames.{Dirs, both, both_touch, joined_keeps, moving_free}
 use Rattle.fs_laws.proofs.Sizes.{cap_most}
 use Rattle.fs_laws.proofs.Steps.{keeps_kinds, some_same}
@@ -56,6 +56,7 @@ record Lost (files : Files) (e : Entry) (change : Change) : Type 0 where
   pub makes : (t : Tree) → t.inodes ≡ files.tree.inodes → (applied t change).inodes ≡ inodes
   pub leaves : (t : Tree) → (applied t change).entries ≡ t.entries
   pub revives : (t : Tree) → t.inodes ≡ files.tree.inodes → revives_none t change ≡ true
+  pub drops : (t : Tree) → t.inodes ≡ files.tree.inodes → drops_named t change ≡ true
   pub others : (x : ℕ) → (x ≡ e.ino → ⊥) → inode_in inodes x ≡ inode_in files.tree.inodes x
   pub handles : list_all (λ h. kind_is inodes h.1 File) files.handles ≡ true
   pub linked : are_linked files.tree.inodes ≡ true → are_linked inodes ≡ true
@@ -69,6 +70,7 @@ lost_by files e inode left now it = leaving_cases files e inode left now it (Los
       makes = λ t same. ap (λ (is : Inodes). remove_entry (is_at (nat_cmp e.ino)) is) same;
       linked = λ h. linked_left files.tree.inodes e.ino h;
       revives = λ t same. refl;
+      drops = λ t same. linked_drops t e.ino inode (ap (λ (is : Inodes). inode_in is e.ino) same ∙ it.found) (has_links files e inode left now it one);
       leaves = λ t. refl;
       others = λ x other. removed_other nat_cmp numbers files.tree.inodes e.ino x other;
       handles = handles_left files.tree.inodes (remove_entry (is_at (nat_cmp e.ino)) files.tree.inodes) e.ino (λ x k other h. kind_left files.tree.inodes e.ino x k other h) files.handles it.sound.handles closed;
@@ -79,6 +81,7 @@ lost_by files e inode left now it = leaving_cases files e inode left now it (Los
       rel = rel_unlinked files.tree.inodes files.tree.entries e inode left it.sound.proper.entries_ascend it.here it.childless it.found it.kind (ap is_dir it.kind ∙ plain) links rel;
       makes = λ t same. ap (λ (is : Inodes). insert_entry nat_cmp is e.ino left) same;
       revives = λ t same. less_revives t e.ino inode left (ap (λ (is : Inodes). inode_in is e.ino) same ∙ it.found) (it.plain plain);
+      drops = λ t same. refl;
       linked = λ h. linked_set files.tree.inodes e.ino left (plain_linked e.ino left (ap is_dir it.kind ∙ plain)) h;
       leaves = λ t. refl;
       others = λ x other. set_other nat_cmp numbers files.tree.inodes e.ino left x other;
@@ -146,7 +149,7 @@ moving_over files from over dir name change now sound moment it good lost =
     let handles = subst (λ (is : Inodes). list_all (λ h. kind_is is h.1 File) files.handles ≡ true) inodes lost.handles in
     let most = cap_most change in
     let dirs : Dirs tree from.dir dir = record { p = old.inode; q = new.inode; at_a = old.found; at_b = new.found; dir_p = old.same; dir_q = new.same; node_p = old_node; node_q = new_node; linked = sound.proper.linked } in
-    joined_keeps files front (both tree from.dir dir now no_share (share_of from)) sound nodes (and_from (revives_none (apply tree before) change) true (lost.revives (apply tree before) refl) refl) (omega (arith, most)) (λ h. subst (λ (is : Inodes). are_linked is ≡ true) inodes (lost.linked h))
+    joined_keeps files front (both tree from.dir dir now no_share (share_of from)) sound nodes (and_from (revives_none (apply tree before) change) true (lost.revives (apply tree before) refl) refl) (and_from (drops_named (apply tree before) change) true (lost.drops (apply tree before) refl) refl) (omega (arith, most)) (λ h. subst (λ (is : Inodes). are_linked is ≡ true) inodes (lost.linked h))
     (both_touch tree (apply tree front) from.dir dir now no_share (share_of from) dirs moment at_old at_new after) handles
 
 over_childless : (files : Files) (over : Entry) → IsSound files → IsIn files.tree.entries over → (is_dir over.kind && not (has_no_entry files.tree over.ino)) ≡ false → IsChildless files.tree.entries over.ino

@@ -39,7 +39,7 @@ page_keeps files page sound it =
     let nodes : list_all is_node rest ≡ true = and_from (is_block_node ((page.ino, page.block), page.bytes)) true it.block refl in
     let same = set_block_inodes (apply files.tree (SetInode page.ino page.inode ∷ [])) page.ino page.block page.bytes in
     let plain = cap_plain page.ino page.inode File refl (regular files.tree page it) in
-    set_keeps files page.ino old.inode page.inode rest sound old.found (it.kind old.inode old.found) (it.links old.inode old.found) it.inode nodes refl (omega (arith, plain)) same.0 same.1
+    set_keeps files page.ino old.inode page.inode rest sound old.found (it.kind old.inode old.found) (it.links old.inode old.found) it.inode nodes refl refl (omega (arith, plain)) same.0 same.1
 
 pub page_fits : (tree : Tree) (page : PageNode) → IsProper tree → IsFilePage tree page → FitsPage tree page
 page_fits tree page proper it =

@@ -6,6 +6,7 @@ use Rattle.std.specs.Map.{remove_entry}
 use Rattle.std.specs.BTreeMap.{is_at, insert_entry}
 use Rattle.std.specs.Ordering.{nat_cmp}
 use Rattle.std.proofs.lemmas.Bool.{false≢true, and_parts, and_from, or_parts, or_cases, eqb-true, eq-eqb}
+use Rattle.std.proofs.lemmas.Bool.Decides.{eqb_tells}
 use Rattle.fs_model.specs.declared.change.Change.{Change}
 use Rattle.fs_model.specs.declared.change.Change.TheVariants.{SetInode, DropEntry, DropInode}
 use Rattle.fs_model.specs.declared.inode.Inode.{Inode}
@@ -25,8 +26,8 @@ use Rattle.fs_model.specs.Orphan.{is_open}
 use Rattle.fs_model.specs.Outcome.{Plan, refuse, with_found, with_some, group_in}
 use Rattle.fs_model.specs.Path.{has_long_name, walked, is_dir, is_empty}
 use Rattle.fs_model.specs.Proper.{is_inode_node, is_entry_node, is_name, are_words}
-use Rattle.fs_model.specs.Orphan.{revives_none, all_revive_none}
-use Rattle.fs_laws.proofs.Revives.{linked_revives, less_revives}
+use Rattle.fs_model.specs.Orphan.{revives_none, all_revive_none, drops_named}
+use Rattle.fs_laws.proofs.Revives.{linked_drops, linked_revives, less_revives}
 use Rattle.fs_laws.specs.Sound.{IsSound, KeepsSound}
 use Rattle.fs_laws.proofs.Climb.{proper_of}
 use Rattle.fs_laws.proofs.Groups.{bytes_few, keeps_nothing, keeps_sound, node_at, touching_is}
@@ -79,6 +80,16 @@ pub record Leaves (files : Files) (e : Entry) (inode left : Inode) (now : ℕ) :
   pub dir : is_dir inode.kind ≡ true → left.nlink ≡ 0
   pub plain : is_dir inode.kind ≡ false → left.nlink ≡ inode.nlink - 1
 
+-- an inode that has one name has links
+pub has_links : (files : Files) (e : Entry) (inode left : Inode) (now : ℕ) → Leaves files e inode left now → names files.tree.entries e.ino ≡ 1 → (inode.nlink == 0) ≡ false
+has_links files e inode left now it one = by (is_dir inode.kind) refl
+  where
+    by : (d : Bool) → is_dir inode.kind ≡ d → (inode.nlink == 0) ≡ false
+    by true d = dir_linked files.tree.inodes e.ino inode it.found d it.sound.proper.linked
+    by false d =
+        let links = ((rel_of files.tree it.sound.proper).inode e.ino inode it.found).plain d in
+        elim (eqb_tells inode.nlink 0) [ inl none ↦ (let z = none.1 in absurd (omega (arith, z, links, one))) | inr some ↦ some.0 ]
+
 pub drop_node : (files : Files) (e : Entry) → IsSound files → IsIn files.tree.entries e → (are_words (e.dir ∷ []) && is_name e.name) ≡ true
 drop_node files e sound here =
     let node = entry_node_of (e.dir, e.name) e (all_at name_cmp named is_entry_node files.tree.entries (e.dir, e.name) e sound.proper.entry_nodes here) in
@@ -114,6 +125,7 @@ drop_keeps files e inode left now it one closed =
     let plain = cap_plain e.dir left_up Dir refl up.same in
     let all : KeepsSound files group = record {
       nodes = nodes;
+      drops = and_from (drops_named (applied tree (DropEntry e.dir e.name)) (DropInode e.ino)) true (linked_drops (applied tree (DropEntry e.dir e.name)) e.ino inode it.found (has_links files e inode left now it one)) refl;
       revives_none = and_from (revives_none (applied (applied tree (DropEntry e.dir e.name)) (DropInode e.ino)) (SetInode e.dir left_up)) true (linked_revives (applied (applied tree (DropEntry e.dir e.name)) (DropInode e.ino)) e.dir up.inode left_up at (dir_linked tree.inodes e.dir up.inode up.found is_a_dir it.sound.proper.linked)) refl;
       limit = bytes_few files group it.sound nodes (omega (arith, plain));
       proper = proper_of (apply tree group) (local_group group tree nodes (local_of tree it.sound.proper)) last (linked_set left_inodes e.dir left_up (counted_linked e.dir no_share (share_of e) up.inode now is_a_dir) (linked_left tree.inodes e.ino it.sound.proper.linked));
@@ -150,7 +162,7 @@ unlink_keeps files e inode left now it plain links =
     let most = cap_most (SetInode e.ino left) in
     let dir = cap_plain e.dir left_up Dir refl up.same in
     let P : List Change → Type 0 = λ rest. KeepsSound files (DropEntry e.dir e.name ∷ SetInode e.ino left ∷ rest) in
-    subst P (sym (touching_is tree e.dir now no_share (share_of e) up.inode up.found)) (keeps_sound files group it.sound nodes revives (omega (arith, most, dir)) last kept (λ h. linked_set left_inodes e.dir left_up (counted_linked e.dir no_share (share_of e) up.inode now is_a_dir) (linked_set tree.inodes e.ino left (plain_linked e.ino left (ap is_dir it.kind ∙ plain)) h)))
+    subst P (sym (touching_is tree e.dir now no_share (share_of e) up.inode up.found)) (keeps_sound files group it.sound nodes revives refl (omega (arith, most, dir)) last kept (λ h. linked_set left_inodes e.dir left_up (counted_linked e.dir no_share (share_of e) up.inode now is_a_dir) (linked_set tree.inodes e.ino left (plain_linked e.ino left (ap is_dir it.kind ∙ plain)) h)))
 
 -- either the inode goes, or it stays with a link less
 pub leaving_cases : (files : Files) (e : Entry) (inode left : Inode) (now : ℕ) → Leaves files e inode left now → (P : Change → Type 0) → (names files.tree.entries e.ino ≡ 1 → is_open files e.ino ≡ false → P (DropInode e.ino)) → (is_dir inode.kind ≡ false → left.nlink + 1 ≡ names files.tree.entries e.ino → P (SetInode e.ino left))

@@ -20,8 +20,8 @@ use Rattle.fs_model.specs.Making.{touched, touching}
 use Rattle.fs_model.specs.Path.{is_dir}
 use Rattle.fs_model.specs.Proper.{same_kind, is_inode_node, is_name, are_words}
 use Rattle.fs_model.specs.Rename.{moving}
-use Rattle.fs_model.specs.Orphan.{revives_none, all_revive_none}
-use Rattle.fs_laws.proofs.Revives.{linked_revives, revive_append}
+use Rattle.fs_model.specs.Orphan.{revives_none, all_revive_none, all_drop_named}
+use Rattle.fs_laws.proofs.Revives.{drop_append, linked_revives, revive_append}
 use Rattle.fs_laws.specs.Sound.{IsSound, KeepsSound}
 use Rattle.fs_laws.proofs.Climb.{proper_of}
 use Rattle.fs_laws.proofs.Groups.{KeepsLinks, bytes_few, node_at, touching_is}
@@ -51,12 +51,13 @@ pub record Touches (t : Tree) (group : List Change) : Type 0 where
   pub nodes : list_all is_node group ≡ true
   pub few : sum_by cap group ≤ 320
   pub revives : all_revive_none t group ≡ true
+  pub drops : all_drop_named t group ≡ true
   pub linked : KeepsLinks t group
   pub rel : Rel (apply t group).inodes (apply t group).entries
   pub kinds : KeepsKinds t.inodes (apply t group).inodes
 
-pub joined_keeps : (files : Files) (front tail : List Change) → IsSound files → list_all is_node front ≡ true → all_revive_none files.tree front ≡ true → sum_by cap front ≤ 4880 → KeepsLinks files.tree front → Touches (apply files.tree front) tail → list_all (λ h. kind_is (apply files.tree front).inodes h.1 File) files.handles ≡ true → KeepsSound files (front ++ tail)
-joined_keeps files front tail sound nodes revives few linked it handles =
+pub joined_keeps : (files : Files) (front tail : List Change) → IsSound files → list_all is_node front ≡ true → all_revive_none files.tree front ≡ true → all_drop_named files.tree front ≡ true → sum_by cap front ≤ 4880 → KeepsLinks files.tree front → Touches (apply files.tree front) tail → list_all (λ h. kind_is (apply files.tree front).inodes h.1 File) files.handles ≡ true → KeepsSound files (front ++ tail)
+joined_keeps files front tail sound nodes revives drops few linked it handles =
     let same = sym (apply_append front tail files.tree) in
     let all = nodes_append front tail nodes it.nodes in
     let rel = subst (λ (t : Tree). Rel t.inodes t.entries) same it.rel in
@@ -66,6 +67,7 @@ joined_keeps files front tail sound nodes revives few linked it handles =
     record {
       nodes = all;
       revives_none = revive_append front tail files.tree revives it.revives;
+      drops = drop_append front tail files.tree drops it.drops;
       limit = bytes_few files (front ++ tail) sound all (omega (arith, few, more, sums));
       proper = proper_of (apply files.tree (front ++ tail)) (local_group (front ++ tail) files.tree all (local_of files.tree sound.proper)) rel (subst (λ (t : Tree). are_linked t.inodes ≡ true) same (it.linked (linked sound.proper.linked)));
       handles = all_weaken (λ h. kind_is (apply files.tree front).inodes h.1 File) (λ h. kind_is (apply files.tree (front ++ tail)).inodes h.1 File) (λ h t. kinds h.1 File t) files.handles handles;
@@ -125,7 +127,7 @@ both_touch tree t a b now came gone d moment ga gb rel =
     second = cap_plain b come Dir refl d.dir_q
 
     by : (s : Bool) → (a == b) ≡ s → Touches t (SetInode a (left (cond s came no_share)) ∷ cond s [] (SetInode b come ∷ []))
-    by true e = let few = first came in record { nodes = and_from (is_inode_node (a, left came)) true (node_changed a came gone d.p now moment d.node_p) refl; few = omega (arith, few); revives = and_from (revives_none t (SetInode a (left came))) true (first_revives came) refl; linked = first_linked came; rel = one came; kinds = kept came }
+    by true e = let few = first came in record { nodes = and_from (is_inode_node (a, left came)) true (node_changed a came gone d.p now moment d.node_p) refl; few = omega (arith, few); revives = and_from (revives_none t (SetInode a (left came))) true (first_revives came) refl; drops = refl; linked = first_linked came; rel = one came; kinds = kept came }
     by false e =
         let it : Inode = left no_share in
         let few = first no_share in
@@ -136,6 +138,7 @@ both_touch tree t a b now came gone d moment ga gb rel =
           few = omega (arith, few, second);
           revives = and_from (revives_none t (SetInode a it)) (all_revive_none (applied t (SetInode a it)) (SetInode b come ∷ [])) (first_revives no_share)
               (and_from (revives_none (applied t (SetInode a it)) (SetInode b come)) true (linked_revives (applied t (SetInode a it)) b d.q come at (dir_linked tree.inodes b d.q d.at_b q_dir d.linked)) refl);
+          drops = refl;
           linked = λ h. linked_set (insert_entry nat_cmp t.inodes a it) b come (counted_linked b came no_share d.q now q_dir) (first_linked no_share h);
           rel = rel_touched (insert_entry nat_cmp t.inodes a it) t.entries b d.q come at refl (λ z. absurd (false≢true (sym z ∙ q_dir))) (one no_share);
           kinds = λ x k h. keeps_kinds (insert_entry nat_cmp t.inodes a it) b come (λ o f. ap (λ (i : Inode). i.kind) (some_same (sym at ∙ f))) x k (kept no_share x k h);
@@ -158,5 +161,5 @@ moving_free files from dir name now sound moment m good =
     (and_from (are_words (from.dir ∷ []) && is_name from.name) true (drop_node files from sound m.here) refl) in
     let after = rel_moved tree.inodes tree.entries from dir name rel m in
     let dirs : Dirs tree from.dir dir = record { p = old.inode; q = new.inode; at_a = old.found; at_b = new.found; dir_p = old.same; dir_q = new.same; node_p = old_node; node_q = new_node; linked = sound.proper.linked } in
-    joined_keeps files front (both tree from.dir dir now (share_of e) (share_of from)) sound nodes refl (omega arith) (λ h. h)
+    joined_keeps files front (both tree from.dir dir now (share_of e) (share_of from)) sound nodes refl refl (omega arith) (λ h. h)
     (both_touch tree (apply tree front) from.dir dir now (share_of e) (share_of from) dirs moment old.found new.found after) sound.handles

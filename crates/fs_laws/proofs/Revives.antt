@@ -1,15 +1,15 @@
--- Groups that bring back no inode.
+-- Groups that bring back no inode, and drop none without a name.
 use Rattle.std.proofs.Common.{◌≡◌, ℕ, ◌-◌, Bool, true, false, not, ◌||◌, List, [], ◌∷◌, ◌++◌, Some, refl, sym, ap, ◌∙◌, inl, inr, arith}
 use Rattle.std.specs.Prelude.{◌==◌, nat_lt}
 use Rattle.std.specs.Option.{option_map_or}
 use Rattle.std.proofs.lemmas.Bool.{and_parts, and_from}
 use Rattle.std.proofs.lemmas.Bool.Decides.{eqb_tells}
 use Rattle.fs_model.specs.declared.change.Change.{Change}
-use Rattle.fs_model.specs.declared.change.Change.TheVariants.{SetInode}
+use Rattle.fs_model.specs.declared.change.Change.TheVariants.{DropInode, SetInode}
 use Rattle.fs_model.specs.declared.inode.Inode.{Inode}
 use Rattle.fs_model.specs.Change.{apply, applied}
 use Rattle.fs_model.specs.Files.{Tree, inode_at}
-use Rattle.fs_model.specs.Orphan.{revives_none, all_revive_none}
+use Rattle.fs_model.specs.Orphan.{revives_none, all_revive_none, drops_named, all_drop_named}
 
 found_revives : (t : Tree) (ino : ℕ) (old new : Inode) → inode_at t ino ≡ Some old → ((new.nlink == 0) || not (old.nlink == 0)) ≡ true → revives_none t (SetInode ino new) ≡ true
 found_revives t ino old new f h = ap (λ o. option_map_or (λ (i : Inode). (new.nlink == 0) || not (i.nlink == 0)) o (nat_lt t.highest ino)) f ∙ h
@@ -45,3 +45,13 @@ revive_append [] b t h i = i
 revive_append (c ∷ a) b t h i =
     let parts = and_parts (revives_none t c) (all_revive_none (applied t c) a) h in
     and_from (revives_none t c) (all_revive_none (applied t c) (a ++ b)) parts.0 (revive_append a b (applied t c) parts.1 i)
+
+-- one that has links is dropped
+pub linked_drops : (t : Tree) (ino : ℕ) (inode : Inode) → inode_at t ino ≡ Some inode → (inode.nlink == 0) ≡ false → drops_named t (DropInode ino) ≡ true
+linked_drops t ino inode f some = ap (λ o. not (option_map_or (λ (i : Inode). i.nlink == 0) o false)) f ∙ ap not some
+
+pub drop_append : (a b : List Change) (t : Tree) → all_drop_named t a ≡ true → all_drop_named (apply t a) b ≡ true → all_drop_named t (a ++ b) ≡ true
+drop_append [] b t h i = i
+drop_append (c ∷ a) b t h i =
+    let parts = and_parts (drops_named t c) (all_drop_named (applied t c) a) h in
+    and_from (drops_named t c) (all_drop_named (applied t c) (a ++ b)) parts.0 (drop_append a b (applied t c) parts.1 i)

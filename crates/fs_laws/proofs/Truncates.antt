@@ -115,12 +115,12 @@ sized_keeps files ino inode size now sound moment found file low =
 
     by : (l s : Bool) → (not (size % 4096 == 0) && nat_lt (size % 4096) (length (block_at files.tree.blocks ino (size / 4096)))) ≡ s
         → Sized files (SetInode ino (touched now (record inode { size = size })) ∷ cond l (CutBlocks ino (size_of files.tree ino inode) size ∷ cond s (SetBlock ino (size / 4096) (take (size % 4096) (block_at files.tree.blocks ino (size / 4096))) ∷ []) []) [])
-    by false s e = record { keeps = set_keeps files ino inode (touched now (record inode { size = size })) [] sound found refl refl node refl refl (omega (arith, plain)) refl refl; bytes = omega (arith, plain); nodes = omega arith }
+    by false s e = record { keeps = set_keeps files ino inode (touched now (record inode { size = size })) [] sound found refl refl node refl refl refl (omega (arith, plain)) refl refl; bytes = omega (arith, plain); nodes = omega arith }
     by true false e =
         let a = node_size ino inode at in
         let b = ends_low files.tree.blocks ino sound.proper.block_nodes in
         let cut = cut_node ino (size_of files.tree ino inode) size (node_number ino inode at) (omega (arith, a, b)) (omega (arith, low)) in
-        record { keeps = set_keeps files ino inode (touched now (record inode { size = size })) (CutBlocks ino (size_of files.tree ino inode) size ∷ []) sound found refl refl node (rw cut refl) refl (omega (arith, plain)) refl refl; bytes = omega (arith, plain); nodes = omega arith }
+        record { keeps = set_keeps files ino inode (touched now (record inode { size = size })) (CutBlocks ino (size_of files.tree ino inode) size ∷ []) sound found refl refl node (rw cut refl) refl refl (omega (arith, plain)) refl refl; bytes = omega (arith, plain); nodes = omega arith }
     by true true e =
         let a = node_size ino inode at in
         let b = ends_low files.tree.blocks ino sound.proper.block_nodes in
@@ -131,7 +131,7 @@ sized_keeps files ino inode size now sound moment found file low =
         let before : Tree = apply files.tree (SetInode ino (touched now (record inode { size = size })) ∷ CutBlocks ino (size_of files.tree ino inode) size ∷ []) in
         let same = set_block_inodes before ino (size / 4096) bytes in
         let nodes : list_all is_node rest ≡ true = and_from (are_words (ino ∷ []) && are_long_words (size_of files.tree ino inode ∷ size ∷ [])) (list_all is_node (SetBlock ino (size / 4096) bytes ∷ [])) cut (and_from (is_block_node ((ino, size / 4096), bytes)) true set refl) in
-        record { keeps = set_keeps files ino inode (touched now (record inode { size = size })) rest sound found refl refl node nodes refl (omega (arith, plain)) same.0 same.1; bytes = omega (arith, plain); nodes = omega arith }
+        record { keeps = set_keeps files ino inode (touched now (record inode { size = size })) rest sound found refl refl node nodes refl refl (omega (arith, plain)) same.0 same.1; bytes = omega (arith, plain); nodes = omega arith }
 
 pub truncated_keeps : (files : Files) (caller now slot size : ℕ) → IsSound files → now < 2 ^ 64 → Sized files (group_in (truncated files caller now slot size))
 truncated_keeps files caller now slot size sound moment =

@@ -13,7 +13,7 @@ use Rattle.fs_model.specs.Backing.{is_node, group_limit}
 use Rattle.fs_model.specs.Change.{apply}
 use Rattle.fs_model.specs.Files.{Tree, Files, Handles, inode_at}
 use Rattle.fs_model.specs.Need.{change_bytes}
-use Rattle.fs_model.specs.Orphan.{all_revive_none}
+use Rattle.fs_model.specs.Orphan.{all_revive_none, all_drop_named}
 use Rattle.fs_model.specs.Proper.{IsProper, are_bytes, is_inode_node, is_block_node, has_kind}
 
 -- each handle names a regular file that is there
@@ -43,11 +43,12 @@ given op = []
 abbrev pub IsCall : Op → Type 0
 IsCall op = IsTrue (list_all are_bytes (given op))
 
--- A group whose changes are nodes, with no more bytes than a group may have, which brings back no inode and after which the files are sound
+-- A group whose changes are nodes, with no more bytes than a group may have, which brings back no inode, drops none without a name, and after which the files are sound
 pub record KeepsSound (files : Files) (group : List Change) : Type 0 where
   pub nodes : IsTrue (list_all is_node group)
   pub limit : sum_by (change_bytes files.tree) group ≤ group_limit
   pub revives_none : IsTrue (all_revive_none files.tree group)
+  pub drops : IsTrue (all_drop_named files.tree group)
   pub proper : IsProper (apply files.tree group)
   pub handles : AreFiles (apply files.tree group) files.handles
 

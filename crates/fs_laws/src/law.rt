@@ -121,6 +121,11 @@ pub fn a_mount_keeps_trees_proper()
     ensures { (tree : Tree) → IsProper tree → IsProper (without_nameless tree) }
 {}
 
+/// So does a close that drops an inode without a name: no entry leads to it, and it is no directory.
+pub fn a_dropped_inode_keeps_trees_proper()
+    ensures { (tree : Tree) (ino : ℕ) → IsProper tree → IsTrue (is_nameless tree ino) → IsProper (without_inode tree ino) }
+{}
+
 /// A tree that hangs together as a proper one does is proper where its own inodes and blocks are nodes, and what is a
 /// regular file in the one is one in the other.
 pub fn trees_built_alike_are_proper()

@@ -11,8 +11,8 @@ mod caller;
 mod law;
 
 pub use crate::law::{
-    a_closed_file_keeps_trees_proper, a_fresh_volume_is_sound, a_further_name_keeps_trees_proper,
-    a_mount_keeps_trees_proper, a_moved_name_keeps_trees_proper,
+    a_closed_file_keeps_trees_proper, a_dropped_inode_keeps_trees_proper, a_fresh_volume_is_sound,
+    a_further_name_keeps_trees_proper, a_mount_keeps_trees_proper, a_moved_name_keeps_trees_proper,
     a_new_directory_keeps_trees_proper, a_new_file_keeps_trees_proper,
     a_new_mode_keeps_trees_proper, a_new_size_keeps_trees_proper,
     a_new_symbolic_link_keeps_trees_proper, a_page_keeps_trees_proper, a_page_leaves_files_sound,

@@ -28,7 +28,7 @@ use Rattle.fs_model.specs.Cover.{index_lebs}
 use Rattle.fs_model.specs.Files.{Tree}
 use Rattle.fs_model.specs.Journal.{Journal, Medium, IfTold, IfBothTold, MayLeave, AreSynced, base_head, data_head, later_groups}
 use Rattle.fs_model.specs.Need.{change_bytes}
-use Rattle.fs_model.specs.Orphan.{nameless, without_nameless, all_revive_none}
+use Rattle.fs_model.specs.Orphan.{nameless, without_nameless, all_revive_none, all_drop_named}
 use Rattle.fs_model.specs.Proper.{IsProper, is_inode_node, is_entry_node, is_block_node, is_name, are_words, are_long_words, has_kind}
 
 -- All that there is to say of a backing at one moment, but for what is expected of its volume.
@@ -216,6 +216,7 @@ pub record FitsGroup (tree : Tree) (grant : Grant) (group : List Change) : Type 
   pub bytes : sum_by (change_bytes tree) group ≤ grant.bytes
   pub limit : sum_by (change_bytes tree) group ≤ group_limit
   pub revives_none : IsTrue (all_revive_none tree group)
+  pub drops : IsTrue (all_drop_named tree group)
   pub proper : IsProper (apply tree group)
 
 -- how many orphans the next list has: the open inodes without a name, and those closed that the list of the last commit names

@@ -4,7 +4,7 @@ use Rattle.std.specs.List.{list_any}
 use Rattle.std.specs.Map.{keys_of}
 use Rattle.std.specs.Option.{option_map_or}
 use Rattle.fs_model.specs.declared.change.Change.{Change}
-use Rattle.fs_model.specs.declared.change.Change.TheVariants.{SetInode}
+use Rattle.fs_model.specs.declared.change.Change.TheVariants.{DropInode, SetInode}
 use Rattle.fs_model.specs.declared.refusal.Refusal.TheVariants.{Enfile}
 use Rattle.fs_model.specs.declared.refusal.Table.TheVariants.{Orphans}
 use Rattle.fs_model.specs.Change.{applied, without_inode}
@@ -36,6 +36,16 @@ revives_none tree change = true
 abbrev pub all_revive_none : Tree → List Change → Bool
 all_revive_none tree [] = true
 all_revive_none tree (change ∷ group) = revives_none tree change && all_revive_none (applied tree change) group
+
+-- Whether a change drops no inode without a name: such an inode goes when it is closed, by a call of its own.
+abbrev pub drops_named : Tree → Change → Bool
+drops_named tree (DropInode ino) = not (is_nameless tree ino)
+drops_named tree change = true
+
+-- whether no change of a group does, each made on what those before it leave
+abbrev pub all_drop_named : Tree → List Change → Bool
+all_drop_named tree [] = true
+all_drop_named tree (change ∷ group) = drops_named tree change && all_drop_named (applied tree change) group
 
 -- an inode that has neither a name nor a handle is gone
 abbrev pub without_lost : Files → ℕ → Files

@@ -19,6 +19,7 @@ sample_fits bytes enough = record {
   bytes = omega (arith, enough);
   limit = omega arith;
   revives_none = refl;
+  drops = refl;
   proper = record { inodes_ascend = refl; blocks_ascend = refl; entries_ascend = refl; inode_nodes = refl; block_nodes = refl; entry_nodes = refl; root = refl; entries = refl; inodes = refl; linked = refl; numbers = refl };
 }
 

@@ -11,7 +11,7 @@ apply_group-requires c =
     let none : MayApply (files_state c.args.fs.now) [] (record { credits = 0; bytes = 0; nodes = 0; class = Ordinary }) = record {
       modest = record { credits = omega arith; bytes = omega arith; nodes = omega arith };
       credits = refl;
-      fits = record { are_nodes = refl; nodes = omega arith; bytes = omega arith; limit = omega arith; revives_none = refl; proper = ready.sound.proper };
+      fits = record { are_nodes = refl; nodes = omega arith; bytes = omega arith; limit = omega arith; revives_none = refl; drops = refl; proper = ready.sound.proper };
       orphans = inl (omega arith);
       names = tt;
       sound = ready.sound;
