@@ -3,3 +3,4 @@ pub mod Full
 pub mod Index
 pub mod Keeps
 pub mod NextIndex
+pub mod PassSums

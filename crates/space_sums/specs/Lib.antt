@@ -1,3 +1,4 @@
 pub mod MainLebs
+pub mod Passes
 pub mod Spaces
 pub mod Sums

@@ -8,6 +8,7 @@ mod admission;
 mod commits;
 mod grants;
 mod law;
+mod passes;
 mod pigeonhole;
 mod settling;
 mod sides;
@@ -21,6 +22,7 @@ pub use crate::law::{
     growth_keeps_what_was_granted, more_never_lowers_the_need,
     what_takes_no_more_keeps_what_was_granted,
 };
+pub use crate::passes::a_collection_gains;
 pub use crate::pigeonhole::a_packed_store_has_spare_lebs;
 pub use crate::settling::settled;
 pub use crate::sides::Room;

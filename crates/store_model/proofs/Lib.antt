@@ -41,7 +41,6 @@ mod Offers
 mod Opens
 mod Orphans
 mod Owned
-mod PassSums
 mod Places
 mod PutGroups
 mod PutNumbers

@@ -8,7 +8,6 @@ pub mod Invariant
 pub mod Lebs
 pub mod Legal
 pub mod LogRing
-pub mod Passes
 pub mod Recovery
 pub mod Store
 pub mod Texts

@@ -11,7 +11,6 @@ mod grants;
 mod invariant;
 mod law;
 mod lebs;
-mod passes;
 mod recovery;
 mod texts;
 mod worked;
@@ -41,7 +40,6 @@ pub use crate::lebs::{
     each_event_keeps_what_a_commit_took, each_event_keeps_what_came_since,
     each_event_keeps_what_lebs_are_for, lebs_are_counted, lebs_keep_what_they_are_for,
 };
-pub use crate::passes::a_collection_gains;
 pub use crate::recovery::{a_store_is_recovered, what_fits_is_recovered, what_fits_loses_no_leaf};
 pub use crate::texts::{
     leaves_are_of_the_views, live_leaves_stand, nodes_of_the_index_are_written_first,

@@ -4,7 +4,7 @@ ghost use Rattle.std.specs.Prelude.{ℕ, ◌+◌, ◌*◌, ◌-◌, ◌<◌, ◌
 ghost use Rattle.std.specs.List.{list_all};
 ghost use Rattle.ubifs_base.specs.declared.raw_geometry.RawGeometry.{RawGeometry as Raw};
 ghost use Rattle.ubifs_base.specs.Geometry.{leb_reserve};
-ghost use Rattle.store_model.specs.Passes.{Copies, collected};
+ghost use Rattle.space_sums.specs.Passes.{Copies, collected};
 
 /// A whole collection of a LEB that isn't full gains at least 1,024 bytes, counted over empty LEBs and what the collector's LEB
 /// has left. It wastes less than one node, of at most 4,256 bytes, and one unit. So collections end.

@@ -7,7 +7,7 @@ use Rattle.std.proofs.lemmas.List.Sums.{sum_by-cons}
 use Rattle.std.proofs.Math.Nat.{lt-div-mul-add, mul-suc}
 use Rattle.ubifs_base.specs.declared.raw_geometry.RawGeometry.{RawGeometry}
 use Rattle.ubifs_base.specs.Geometry.{leb_reserve}
-use Rattle.store_model.specs.Passes.{Copies, collected, copied}
+use Rattle.space_sums.specs.Passes.{Copies, collected, copied}
 
 sub_none : (n : ℕ) → n ≡ n - 0
 sub_none n = omega arith
