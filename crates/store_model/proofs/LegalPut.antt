@@ -41,8 +41,7 @@ part = record {
     (record { node = record { numbered = omega arith; most = omega arith; plain = λ _. refl }; carries = refl }, tt),
   );
   fits = ((refl, refl, refl, (refl, refl, refl, tt)), omega arith);
-  keeps = record { are_nodes = refl; revives_none = refl; proper = am_is_proper };
-  drops = refl;
+  keeps = record { are_nodes = refl; revives_none = refl; drops = refl; proper = am_is_proper };
 }
 
 index : IsIndexAfter before 2 (put putting_am before).live (changed_index am_leaves)

@@ -59,8 +59,7 @@ part = record {
     (record { node = record { numbered = omega arith; most = omega arith; plain = λ _. refl }; carries = refl }, tt),
   );
   fits = ((refl, refl, refl, (refl, refl, refl, tt)), omega arith);
-  keeps = record { are_nodes = refl; revives_none = refl; proper = bb_is_proper };
-  drops = refl;
+  keeps = record { are_nodes = refl; revives_none = refl; drops = refl; proper = bb_is_proper };
 }
 
 index : IsIndexAfter started 2 (put putting_bb started).live (changed_index bb_leaves)

@@ -13,7 +13,7 @@ use Rattle.fs_model.specs.declared.change.Change.TheVariants.{SetInode, SetEntry
 use Rattle.fs_model.specs.declared.inode.Inode.{Inode}
 use Rattle.fs_model.specs.Change.{applied, apply}
 use Rattle.fs_model.specs.Files.{Inodes, Tree, inode_at, with_block}
-use Rattle.fs_model.specs.Orphan.{all_revive_none, is_nameless, nameless, revives_none}
+use Rattle.fs_model.specs.Orphan.{all_drop_named, all_revive_none, drops_named, is_nameless, nameless, revives_none}
 use Rattle.fs_laws.specs.Maps.{key_cases, removed_other, set_here, set_other}
 use Rattle.fs_laws.specs.Orders.{numbers}
 use Rattle.leaf_map.specs.Kept.{Kept, shown_by}
@@ -23,7 +23,7 @@ use Rattle.store_model.specs.Fits.{faced_now, next_lists}
 use Rattle.store_model.specs.Heads.{changes_of, with_copy, with_group}
 use Rattle.store_model.specs.Invariant.{AreOrphans, HasOrphans, HaveOrphans, is_listed, is_still_listed, IsStore, KeepOrphans}
 use Rattle.store_model.specs.Lebs.{is_among}
-use Rattle.store_model.specs.Legal.{all_drop_named, AreParts, drops_named, IsLegalEvent, IsPart}
+use Rattle.store_model.specs.Legal.{AreParts, IsLegalEvent, IsPart}
 use Rattle.store_model.specs.Store.{Bud, Index, Moving, Next, Store}
 use Rattle.store_model.proofs.JournalEvents.{listed_nameless}
 use Rattle.store_model.proofs.RecoveryCopies.{either_of}
@@ -150,7 +150,7 @@ part_orphans m part is h = same_lists m (after_part m part) (record {
     still n g = by (either_of (is_nameless m.tree n) (is_among m.closed n) g)
       where
         by : (is_nameless m.tree n ≡ true) ⊎ (is_among m.closed n ≡ true) → is_still_listed (after_part m part) n ≡ true
-        by (inl e) = or_left (is_nameless (after_part m part).tree n) (is_among m.closed n) (group_stays (changes_of part.group) m.tree n is.keeps.revives_none is.drops e)
+        by (inl e) = or_left (is_nameless (after_part m part).tree n) (is_among m.closed n) (group_stays (changes_of part.group) m.tree n is.keeps.revives_none is.keeps.drops e)
         by (inr e) = or_right (is_nameless (after_part m part).tree n) (is_among m.closed n) e
 
 parts_orphans : (parts : List Part) (m : Store) → AreParts m parts → HasOrphans m → HasOrphans (fold after_part m parts)

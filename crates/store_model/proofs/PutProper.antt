@@ -68,6 +68,7 @@ inode_keeps law tree page proper fits =
     record {
       are_nodes = and_from (is_node (SetInode page.ino page.inode)) true fits.inode refl;
       revives_none = and_from (revives_none tree (SetInode page.ino page.inode)) true p.0 refl;
+      drops = refl;
       proper = law (with_both t page b) t fits.proper (alike t page b (max_twice tree.highest page.ino)) (record {
         inode_nodes = nodes_left t page b fits.proper.inode_nodes;
         blocks_ascend = proper.blocks_ascend;
@@ -77,7 +78,7 @@ inode_keeps law tree page proper fits =
     }
 
 pub block_keeps : (tree : Tree) (page : PageNode) → FitsPage tree page → KeepsProper (apply tree (SetInode page.ino page.inode ∷ [])) (SetBlock page.ino page.block page.bytes ∷ [])
-block_keeps tree page fits = record { are_nodes = and_from (is_node (SetBlock page.ino page.block page.bytes)) true fits.block refl; revives_none = refl; proper = fits.proper }
+block_keeps tree page fits = record { are_nodes = and_from (is_node (SetBlock page.ino page.block page.bytes)) true fits.block refl; revives_none = refl; drops = refl; proper = fits.proper }
 
 -- ---- numbers
 length_numbered : (group : List Carried) → length (numbered group) ≡ length group

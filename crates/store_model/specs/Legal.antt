@@ -11,14 +11,14 @@ use Rattle.fs_model.specs.declared.space.Class.TheVariants.{Removal}
 use Rattle.fs_model.specs.declared.space.Grant.{Grant}
 use Rattle.fs_model.specs.declared.space.Need.{Need}
 use Rattle.fs_model.specs.declared.change.Change.{Change}
-use Rattle.fs_model.specs.declared.change.Change.TheVariants.{DropInode, SetBlock}
+use Rattle.fs_model.specs.declared.change.Change.TheVariants.{SetBlock}
 use Rattle.fs_model.specs.Backing.{is_node}
-use Rattle.fs_model.specs.Change.{applied, apply}
+use Rattle.fs_model.specs.Change.{apply}
 use Rattle.fs_model.specs.Files.{Tree}
 use Rattle.fs_model.specs.Journal.{base_head, data_head}
 use Rattle.fs_model.specs.Proper.{IsProper}
 use Rattle.fs_model.specs.Recovery.{Numbered}
-use Rattle.fs_model.specs.Orphan.{all_revive_none, is_nameless}
+use Rattle.fs_model.specs.Orphan.{all_drop_named, all_revive_none}
 use Rattle.change_nodes.specs.Texts.{leaf_len}
 use Rattle.leaf_map.specs.After.{Carries}
 use Rattle.leaf_map.specs.Kept.{Kept, Placed}
@@ -114,22 +114,14 @@ abbrev pub is_block : Change → Bool
 is_block (SetBlock ino block bytes) = true
 is_block change = false
 
--- Whether no change of a group drops an inode that has no name: such an inode goes when it is closed, by an event of its own, which notes that the last list has it.
-abbrev pub drops_named : Tree → Change → Bool
-drops_named tree (DropInode ino) = not (is_nameless tree ino)
-drops_named tree change = true
-
-abbrev pub all_drop_named : Tree → List Change → Bool
-all_drop_named tree [] = true
-all_drop_named tree (change ∷ group) = drops_named tree change && all_drop_named (applied tree change) group
-
--- a group that leaves a proper tree: leaf nodes can carry its changes, and it brings back no inode
+-- a group that leaves a proper tree: leaf nodes can carry its changes, it brings back no inode, and drops none without a name
 pub record KeepsProper (tree : Tree) (group : List Change) : Type 0 where
   pub are_nodes : IsTrue (list_all is_node group)
   pub revives_none : IsTrue (all_revive_none tree group)
+  pub drops : IsTrue (all_drop_named tree group)
   pub proper : IsProper (apply tree group)
 
--- A group that can be put: at the end of its head, with the next numbers. It leaves a proper tree, and drops no orphan. The base takes any group, the head of data takes blocks alone.
+-- A group that can be put: at the end of its head, with the next numbers. It leaves a proper tree. The base takes any group, the head of data takes blocks alone.
 pub record IsPart (m : Store) (part : Part) : Type 0 where
   pub head : (part.head ≡ base_head) ⊎ (part.head ≡ data_head)
   pub data_nodes : part.head ≡ data_head → IsTrue (list_all is_block (changes_of part.group))
@@ -138,7 +130,6 @@ pub record IsPart (m : Store) (part : Part) : Type 0 where
   pub carried : AllByRecursion IsCarried part.group
   pub fits : FitHead m (end_at m.ends part.head) (map (λ c. c.placed) part.group)
   pub keeps : KeepsProper m.tree (changes_of part.group)
-  pub drops : IsTrue (all_drop_named m.tree (changes_of part.group))
 
 abbrev pub AreParts : Store → List Part → Type 0
 AreParts m [] = Unit {0}
