@@ -48,7 +48,7 @@ within_at (x ∷ a) [] n h = absurd cc
 within_at (x ∷ a) (y ∷ b) zero h = leb-true x y (and_parts (nat_le x y) (are_within a b) h).0
 within_at (x ∷ a) (y ∷ b) (suc n) h = within_at a b n (and_parts (nat_le x y) (are_within a b) h).1
 
-synced_further : (buds : List Bud) (synced : List ℕ) → are_within synced (counts_of buds) ≡ true → AreFurther (heads_of buds synced) (heads_of buds (counts_of buds))
+pub synced_further : (buds : List Bud) (synced : List ℕ) → are_within synced (counts_of buds) ≡ true → AreFurther (heads_of buds synced) (heads_of buds (counts_of buds))
 synced_further buds synced h = ((refl, omega arith, ((refl, within_at synced (counts_of buds) 1 h, (refl, within_at synced (counts_of buds) 2 h, tt)))))
 
 pub sync_leaves : (m : Store) → HasNumbers m → Leaves (journal_of m) (journal_of (sync m)) []

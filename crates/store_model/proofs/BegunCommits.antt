@@ -40,7 +40,7 @@ numbers_joined : (groups : List (List Carried)) → in_groups (map numbered grou
 numbers_joined [] = refl
 numbers_joined (group ∷ groups) = ap (λ (ns : Numbered). numbered group ++ ns) (numbers_joined groups)
 
-low_head : (n : ℕ) (groups : List (List Carried)) → are_given n (flat_map numbered groups) ≡ true → list_all (λ (c : ℕ × Change). nat_le c.0 n) (in_groups (map numbered groups)) ≡ true
+pub low_head : (n : ℕ) (groups : List (List Carried)) → are_given n (flat_map numbered groups) ≡ true → list_all (λ (c : ℕ × Change). nat_le c.0 n) (in_groups (map numbered groups)) ≡ true
 low_head n groups h = ap (list_all (λ (c : ℕ × Change). nat_le c.0 n)) (numbers_joined groups) ∙ (and_parts _ (list_all (λ c. nat_le c.0 n) (flat_map numbered groups)) h).1
 
 -- no group is above the number given last
@@ -60,7 +60,7 @@ abbrev pub next_started : Store → List ℕ → Next
 next_started m taken = record { view = view_now m taken; taken = taken; written = 0; listed = next_list m; offered = false }
 
 -- the heads of a new section have got nothing
-none_since : (m : Store) (taken : List ℕ) → m.synced ≡ counts_of m.now.buds → heads_of (open_buds 0 m.ends) (synced_since (start taken m) (next_started m taken)) ≡ empty_head ∷ empty_head ∷ empty_head ∷ []
+pub none_since : (m : Store) (taken : List ℕ) → m.synced ≡ counts_of m.now.buds → heads_of (open_buds 0 m.ends) (synced_since (start taken m) (next_started m taken)) ≡ empty_head ∷ empty_head ∷ empty_head ∷ []
 none_since m taken synced =
     let one = none_head (groups_of 1 m.now.buds) (groups_of 1 (open_buds 0 m.ends)) (get_or m.synced 1 0) (no_groups 1 0 m.ends) (ap (λ (counts : List ℕ). get_or counts 1 0) synced) in
     let two = none_head (groups_of 2 m.now.buds) (groups_of 2 (open_buds 0 m.ends)) (get_or m.synced 2 0) (no_groups 2 0 m.ends) (ap (λ (counts : List ℕ). get_or counts 2 0) synced) in

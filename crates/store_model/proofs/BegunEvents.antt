@@ -44,7 +44,7 @@ plain_head groups synced = record { groups = groups; synced = synced }
 abbrev pub head_with : List (List Carried) → ℕ → List (List Carried) → Head
 head_with groups synced all = record { groups = map numbered groups; synced = synced - (length all - length groups) }
 
-abbrev since_heads : List ℕ → List Bud → List Bud → List Head
+abbrev pub since_heads : List ℕ → List Bud → List Bud → List Head
 since_heads synced all last =
     (record { groups = []; synced = 0 }) ∷ head_with (groups_of 1 last) (get_or synced 1 0) (groups_of 1 all) ∷ head_with (groups_of 2 last) (get_or synced 2 0) (groups_of 2 all) ∷ []
 
@@ -56,7 +56,7 @@ since_is m next =
     ∙ ap (λ (n : ℕ). (record { groups = []; synced = 0 }) ∷ head_with (groups_of 1 next.view.buds) (get_or m.synced 1 0) (groups_of 1 m.now.buds) ∷ (record { groups = map numbered (groups_of 2 next.view.buds); synced = n }) ∷ [])
     (two_less m.synced _ _ _)
 
-same_since : (a b : Store) (next after : Next) → a.synced ≡ b.synced → groups_of 1 a.now.buds ≡ groups_of 1 b.now.buds → groups_of 2 a.now.buds ≡ groups_of 2 b.now.buds
+pub same_since : (a b : Store) (next after : Next) → a.synced ≡ b.synced → groups_of 1 a.now.buds ≡ groups_of 1 b.now.buds → groups_of 2 a.now.buds ≡ groups_of 2 b.now.buds
     → groups_of 1 after.view.buds ≡ groups_of 1 next.view.buds → groups_of 2 after.view.buds ≡ groups_of 2 next.view.buds
     → heads_of after.view.buds (synced_since a after) ≡ heads_of next.view.buds (synced_since b next)
 same_since a b next after synced one two one_next two_next = since_is a after ∙ rw (synced, one, two, one_next, two_next) refl ∙ sym (since_is b next)

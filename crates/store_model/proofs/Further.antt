@@ -47,7 +47,7 @@ further_puts n k olds news (put ∷ puts) after le f (group, next, same, rest) =
     let it = further_puts (last_number n group) (last_number k group) (with_group_at olds put.0 group) (with_group_at news put.0 group) puts after (last_low n k group le) (further_with olds news put.0 group f) rest in
     record { later = it.later; put = (group, record { ascending = next.ascending; above = all_lower n k group le next.above }, same, it.put); further = it.further }
 
-further_keeps : (olds news : List Head) (counts : List ℕ) → AreFurther olds news → KeepsSynced news counts → KeepsSynced olds counts
+pub further_keeps : (olds news : List Head) (counts : List ℕ) → AreFurther olds news → KeepsSynced news counts → KeepsSynced olds counts
 further_keeps [] [] counts f k = k
 further_keeps [] (b ∷ news) counts f k = absurd f
 further_keeps (a ∷ olds) [] counts f k = absurd f
@@ -58,7 +58,7 @@ further_keeps (a ∷ olds) (b ∷ news) (count ∷ counts) f k =
     let P : List Numbered → Type 0 = λ groups. count ≤ length groups in
     (omega (arith, more, low), subst P f.0 k.1, further_keeps olds news counts f.2 k.2)
 
-further_taken : (olds news : List Head) (counts : List ℕ) → AreFurther olds news → taken news counts ≡ taken olds counts
+pub further_taken : (olds news : List Head) (counts : List ℕ) → AreFurther olds news → taken news counts ≡ taken olds counts
 further_taken [] [] counts f = refl
 further_taken [] (b ∷ news) counts f = absurd f
 further_taken (a ∷ olds) [] counts f = absurd f

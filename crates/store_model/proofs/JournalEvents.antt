@@ -14,7 +14,7 @@ use Rattle.fs_model.specs.Change.{apply}
 use Rattle.fs_model.specs.declared.inode.Inode.{Inode}
 use Rattle.fs_model.specs.Files.{Inodes, Tree}
 use Rattle.fs_model.specs.JournalLaws.{groups_of as head_groups, left_of_synced, replayed_named}
-use Rattle.fs_model.specs.Orphan.{nameless, without_nameless}
+use Rattle.fs_model.specs.Orphan.{is_nameless, nameless, without_nameless}
 use Rattle.fs_model.specs.Proper.{ascends, IsProper}
 use Rattle.fs_model.specs.Recovery.{as_replayed, by_number, Head, IsRecovered, KeepsSynced, Numbered, placed, recovered, taken}
 use Rattle.fs_model.specs.RecoveryLaws.{all_counts, are_high, AreHigh, AreLow, in_groups, in_heads, joined, recovered_of_later, replayed}
@@ -38,19 +38,19 @@ use Rattle.store_model.proofs.RecoveryCopies.{either_of}
 
 -- ---- groups in two parts
 -- heads with these groups, all synced
-abbrev full : List Numbered → Head
+abbrev pub full : List Numbered → Head
 full groups = record { groups = groups; synced = length groups }
 
-abbrev fulls : List (List Numbered) → List Head
+abbrev pub fulls : List (List Numbered) → List Head
 fulls lists = map full lists
 
 -- of each head the first groups and those behind them
-abbrev both : List (List Numbered) → List (List Numbered) → List (List Numbered)
+abbrev pub both : List (List Numbered) → List (List Numbered) → List (List Numbered)
 both [] last = []
 both (groups ∷ before) [] = []
 both (groups ∷ before) (more ∷ last) = (groups ++ more) ∷ both before last
 
-full_joined : (before last : List (List Numbered)) → joined before (fulls last) ≡ fulls (both before last)
+pub full_joined : (before last : List (List Numbered)) → joined before (fulls last) ≡ fulls (both before last)
 full_joined [] last = refl
 full_joined (groups ∷ before) [] = refl
 full_joined (groups ∷ before) (more ∷ last) =
@@ -61,7 +61,7 @@ full_groups : (lists : List (List Numbered)) → head_groups (fulls lists) ≡ l
 full_groups [] = refl
 full_groups (groups ∷ lists) = ap (λ (rest : List (List Numbered)). groups ∷ rest) (full_groups lists)
 
-full_length : (lists : List (List Numbered)) → length (fulls lists) ≡ length lists
+pub full_length : (lists : List (List Numbered)) → length (fulls lists) ≡ length lists
 full_length [] = refl
 full_length (groups ∷ lists) = ap (λ n. suc n) (full_length lists)
 
@@ -118,61 +118,75 @@ placed_all n front (c ∷ group) h follow =
     ∙ and_from (list_all (λ (x : ℕ × Change). nat_le x.0 (n + 1)) front) (list_all (λ (x : ℕ × Change). nat_le x.0 (n + 1)) (c ∷ [])) (all_low n front h) one in
     ap (λ (z : Numbered). fold placed z group) (placed_last n c front h follow.0) ∙ placed_all (n + 1) (front ++ c ∷ []) group low follow.1 ∙ append_assoc front (c ∷ []) group
 
-in_turn : (n : ℕ) (group : Numbered) → AreConsecutive n group → by_number group ≡ group
+pub in_turn : (n : ℕ) (group : Numbered) → AreConsecutive n group → by_number group ≡ group
 in_turn n group follow = placed_all n [] group refl follow
 
-numbered_replayed : (group : List Carried) → map (λ c. as_replayed c.1) (numbered group) ≡ map as_replayed (changes_of group)
+pub numbered_replayed : (group : List Carried) → map (λ c. as_replayed c.1) (numbered group) ≡ map as_replayed (changes_of group)
 numbered_replayed [] = refl
 numbered_replayed (c ∷ group) = ap (λ (rest : List Change). as_replayed c.change ∷ rest) (numbered_replayed group)
 
 -- ---- a group
 -- the groups of the three heads
-abbrev lists_of : List Bud → List (List Numbered)
+abbrev pub lists_of : List Bud → List (List Numbered)
 lists_of buds = [] ∷ map numbered (groups_of 1 buds) ∷ map numbered (groups_of 2 buds) ∷ []
 
 high_one : (mark : ℕ) (group : Numbered) → are_high mark group ≡ true → are_high mark (in_groups (group ∷ [])) ≡ true
 high_one mark group h = ap (are_high mark) (append-nil group) ∙ h
 
+-- a group that is put last at a head: the groups of each head that come with it
+pub record IsPutLast (mark head : ℕ) (group : List Carried) (buds : List Bud) : Type 0 where
+  pub last : List (List Numbered)
+  pub long : length last ≡ 3
+  pub lists : lists_of (with_group head group buds) ≡ both (lists_of buds) last
+  pub high : AreHigh mark (fulls last)
+  pub alone : in_heads last ≡ numbered group
+
+pub put_last : (mark head : ℕ) (group : List Carried) (buds : List Bud) → AreConsecutive mark (numbered group) → (head ≡ 1) ⊎ (head ≡ 2) → groups_of head (with_group head group buds) ≡ groups_of head buds ++ group ∷ [] → IsPutLast mark head group buds
+put_last mark head group buds follow (inl one) added =
+    let mine = subst (λ (k : ℕ). groups_of k (with_group head group buds) ≡ groups_of k buds ++ group ∷ []) one added in
+    let other = groups_other 2 head group buds (ap (λ (k : ℕ). k == 2) one) in
+    let new : Numbered = numbered group in
+    record {
+      last = [] ∷ (new ∷ []) ∷ [] ∷ [];
+      long = refl;
+      lists =
+          ap (λ (gs : List (List Carried)). [] ∷ map numbered gs ∷ map numbered (groups_of 2 (with_group head group buds)) ∷ []) mine
+          ∙ ap (λ (gs : List Numbered). [] ∷ gs ∷ map numbered (groups_of 2 (with_group head group buds)) ∷ []) (map-append numbered (groups_of 1 buds) (group ∷ []))
+          ∙ ap (λ (gs : List (List Carried)). [] ∷ (map numbered (groups_of 1 buds) ++ new ∷ []) ∷ map numbered gs ∷ []) other
+          ∙ ap (λ (gs : List Numbered). [] ∷ (map numbered (groups_of 1 buds) ++ new ∷ []) ∷ gs ∷ []) (sym (append-nil (map numbered (groups_of 2 buds))));
+      high = and_from (are_high mark (in_groups (new ∷ []))) true (high_one mark new (high_group mark mark new (omega arith) follow)) refl;
+      alone = append-nil (new ++ []) ∙ append-nil new;
+    }
+put_last mark head group buds follow (inr two) added =
+    let mine = subst (λ (k : ℕ). groups_of k (with_group head group buds) ≡ groups_of k buds ++ group ∷ []) two added in
+    let other = groups_other 1 head group buds (ap (λ (k : ℕ). k == 1) two) in
+    let new : Numbered = numbered group in
+    record {
+      last = [] ∷ [] ∷ (new ∷ []) ∷ [];
+      long = refl;
+      lists =
+          ap (λ (gs : List (List Carried)). [] ∷ map numbered (groups_of 1 (with_group head group buds)) ∷ map numbered gs ∷ []) mine
+          ∙ ap (λ (gs : List Numbered). [] ∷ map numbered (groups_of 1 (with_group head group buds)) ∷ gs ∷ []) (map-append numbered (groups_of 2 buds) (group ∷ []))
+          ∙ ap (λ (gs : List (List Carried)). [] ∷ map numbered gs ∷ (map numbered (groups_of 2 buds) ++ new ∷ []) ∷ []) other
+          ∙ ap (λ (gs : List Numbered). [] ∷ gs ∷ (map numbered (groups_of 2 buds) ++ new ∷ []) ∷ []) (sym (append-nil (map numbered (groups_of 1 buds))));
+      high = and_from (are_high mark (in_groups (new ∷ []))) true (high_one mark new (high_group mark mark new (omega arith) follow)) refl;
+      alone = append-nil (new ++ []) ∙ append-nil new;
+    }
+
 -- what a group makes of that to which all before lead
-group_replayed : (m : Store) (part : Part) → IsPart m part → AreNumbered m (faced_now m) → nameless (without_nameless m.now.tree) ≡ [] → (part.head ≡ 1) ⊎ (part.head ≡ 2) → groups_of part.head (with_group part.head part.group m.now.buds) ≡ groups_of part.head m.now.buds ++ part.group ∷ []
+group_replayed : (m : Store) (part : Part) → IsPart m part → AreNumbered m (faced_now m) → nameless (without_nameless m.now.tree) ≡ [] → groups_of part.head (with_group part.head part.group m.now.buds) ≡ groups_of part.head m.now.buds ++ part.group ∷ []
     → replayed (without_nameless m.now.tree) (in_heads (lists_of (with_group part.head part.group m.now.buds)))
     ≡ apply (replayed (without_nameless m.now.tree) (in_heads (lists_of m.now.buds))) (map as_replayed (changes_of part.group))
-group_replayed m part is n named (inl one) added =
+group_replayed m part is n named added =
     let committed : Tree = without_nameless m.now.tree in
     let group : Numbered = numbered part.group in
     let before : List (List Numbered) = lists_of m.now.buds in
-    let last : List (List Numbered) = [] ∷ (group ∷ []) ∷ [] ∷ [] in
-    let mine = subst (λ (k : ℕ). groups_of k (with_group part.head part.group m.now.buds) ≡ groups_of k m.now.buds ++ part.group ∷ []) one added in
-    let other = groups_other 2 part.head part.group m.now.buds (ap (λ (k : ℕ). k == 2) one) in
-    let lists : lists_of (with_group part.head part.group m.now.buds) ≡ both before last =
-    ap (λ (gs : List (List Carried)). [] ∷ map numbered gs ∷ map numbered (groups_of 2 (with_group part.head part.group m.now.buds)) ∷ []) mine
-    ∙ ap (λ (gs : List Numbered). [] ∷ gs ∷ map numbered (groups_of 2 (with_group part.head part.group m.now.buds)) ∷ []) (map-append numbered (groups_of 1 m.now.buds) (part.group ∷ []))
-    ∙ ap (λ (gs : List (List Carried)). [] ∷ (map numbered (groups_of 1 m.now.buds) ++ group ∷ []) ∷ map numbered gs ∷ []) other
-    ∙ ap (λ (gs : List Numbered). [] ∷ (map numbered (groups_of 1 m.now.buds) ++ group ∷ []) ∷ gs ∷ []) (sym (append-nil (map numbered (groups_of 2 m.now.buds)))) in
-    let high : AreHigh m.sqnum (fulls last) = and_from (are_high m.sqnum (in_groups (group ∷ []))) true (high_one m.sqnum group (high_group m.sqnum m.sqnum group (omega arith) is.numbers)) refl in
-    let alone : in_heads last ≡ group = append-nil (group ++ []) ∙ append-nil group in
-    let parts = split committed m.sqnum before last refl (low_heads m n) high named in
-    ap (λ (z : List (List Numbered)). replayed committed (in_heads z)) lists ∙ parts ∙ ap (replayed (replayed committed (in_heads before))) alone
-    ∙ ap (λ (z : Numbered). apply (replayed committed (in_heads before)) (map (λ c. as_replayed c.1) z)) (in_turn m.sqnum group is.numbers) ∙ ap (apply (replayed committed (in_heads before))) (numbered_replayed part.group)
-group_replayed m part is n named (inr two) added =
-    let committed : Tree = without_nameless m.now.tree in
-    let group : Numbered = numbered part.group in
-    let before : List (List Numbered) = lists_of m.now.buds in
-    let last : List (List Numbered) = [] ∷ [] ∷ (group ∷ []) ∷ [] in
-    let mine = subst (λ (k : ℕ). groups_of k (with_group part.head part.group m.now.buds) ≡ groups_of k m.now.buds ++ part.group ∷ []) two added in
-    let other = groups_other 1 part.head part.group m.now.buds (ap (λ (k : ℕ). k == 1) two) in
-    let lists : lists_of (with_group part.head part.group m.now.buds) ≡ both before last =
-    ap (λ (gs : List (List Carried)). [] ∷ map numbered (groups_of 1 (with_group part.head part.group m.now.buds)) ∷ map numbered gs ∷ []) mine
-    ∙ ap (λ (gs : List Numbered). [] ∷ map numbered (groups_of 1 (with_group part.head part.group m.now.buds)) ∷ gs ∷ []) (map-append numbered (groups_of 2 m.now.buds) (part.group ∷ []))
-    ∙ ap (λ (gs : List (List Carried)). [] ∷ map numbered gs ∷ (map numbered (groups_of 2 m.now.buds) ++ group ∷ []) ∷ []) other
-    ∙ ap (λ (gs : List Numbered). [] ∷ gs ∷ (map numbered (groups_of 2 m.now.buds) ++ group ∷ []) ∷ []) (sym (append-nil (map numbered (groups_of 1 m.now.buds)))) in
-    let high : AreHigh m.sqnum (fulls last) = and_from (are_high m.sqnum (in_groups (group ∷ []))) true (high_one m.sqnum group (high_group m.sqnum m.sqnum group (omega arith) is.numbers)) refl in
-    let alone : in_heads last ≡ group = append-nil (group ++ []) ∙ append-nil group in
-    let parts = split committed m.sqnum before last refl (low_heads m n) high named in
-    ap (λ (z : List (List Numbered)). replayed committed (in_heads z)) lists ∙ parts ∙ ap (replayed (replayed committed (in_heads before))) alone
+    let it = put_last m.sqnum part.head part.group m.now.buds is.numbers is.head added in
+    let parts = split committed m.sqnum before it.last it.long (low_heads m n) it.high named in
+    ap (λ (z : List (List Numbered)). replayed committed (in_heads z)) it.lists ∙ parts ∙ ap (replayed (replayed committed (in_heads before))) it.alone
     ∙ ap (λ (z : Numbered). apply (replayed committed (in_heads before)) (map (λ c. as_replayed c.1) z)) (in_turn m.sqnum group is.numbers) ∙ ap (apply (replayed committed (in_heads before))) (numbered_replayed part.group)
 
-in_order : (tree : Tree) → IsProper tree → IsInOrder tree
+pub in_order : (tree : Tree) → IsProper tree → IsInOrder tree
 in_order tree p = record { inodes = p.inodes_ascend; blocks = p.blocks_ascend }
 
 part_leads : (m : Store) (part : Part) → IsPart m part → IsProper m.tree → AreApart m → AreNumbered m (faced_now m) → JournalLeads m → JournalLeads (after_part m part)
@@ -184,7 +198,7 @@ part_leads m part is proper a n j = by (end_at m.ends part.head) refl is.fits
         record {
           named = j.named;
           leads = group_forgotten (changes_of part.group) m.tree (in_order m.tree proper) is.keeps.revives_none ∙ ap (λ (t : Tree). apply t (map as_replayed (changes_of part.group))) j.leads
-              ∙ sym (group_replayed m part is n j.named is.head (groups_added part.head part.group m.now.buds has));
+              ∙ sym (group_replayed m part is n j.named (groups_added part.head part.group m.now.buds has));
         }
 
     by : (o : Option At) → end_at m.ends part.head ≡ o → FitHead m o (map (λ c. c.placed) part.group) → JournalLeads (after_part m part)
@@ -248,11 +262,14 @@ orphan_listed : (ino : ℕ) (orphans : List Orphan) → list_any (λ orphan. orp
 orphan_listed ino [] = refl
 orphan_listed ino (orphan ∷ orphans) = ap (λ (b : Bool). (orphan.ino == ino) || b) (orphan_listed ino orphans)
 
-pub drop_leads : (m : Store) (ino : ℕ) (index : Index) → is_orphan m ino ≡ true → map (λ orphan. orphan.ino) m.orphans ≡ nameless m.tree → IsProper m.tree → JournalLeads m → JournalLeads (drop_inode ino index m)
-drop_leads m ino index orphan are proper j =
+-- an open inode that is told as without a name has none
+pub orphan_nameless : (m : Store) (ino : ℕ) → is_orphan m ino ≡ true → map (λ orphan. orphan.ino) m.orphans ≡ nameless m.tree → IsProper m.tree → is_nameless m.tree ino ≡ true
+orphan_nameless m ino orphan are proper =
     let listed = sym (ap (λ (ns : List ℕ). list_any (λ k. k == ino) ns) are) ∙ sym (orphan_listed ino m.orphans) ∙ orphan in
-    let gone = listed_nameless m.tree.inodes ino proper.inodes_ascend listed in
-    record { named = j.named; leads = dropped_forgotten m.tree ino (in_order m.tree proper) gone ∙ j.leads }
+    listed_nameless m.tree.inodes ino proper.inodes_ascend listed
+
+pub drop_leads : (m : Store) (ino : ℕ) (index : Index) → is_orphan m ino ≡ true → map (λ orphan. orphan.ino) m.orphans ≡ nameless m.tree → IsProper m.tree → JournalLeads m → JournalLeads (drop_inode ino index m)
+drop_leads m ino index orphan are proper j = record { named = j.named; leads = dropped_forgotten m.tree ino (in_order m.tree proper) (orphan_nameless m ino orphan are proper) ∙ j.leads }
 
 -- ---- a commit's end
 joined_lists : (before : List (List Numbered)) (heads : List Head) → head_groups (joined before heads) ≡ both before (head_groups heads)

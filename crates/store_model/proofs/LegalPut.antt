@@ -46,7 +46,7 @@ part = record {
 
 index : IsIndexAfter before 2 (put putting_am before).live (changed_index am_leaves)
 unfolding key_rank r5_of same_leaf
-index = record { contents_are = refl; weight = omega arith; places = tt; children = refl }
+index = record { contents_are = refl; weight = omega arith; all = refl; places = tt; children = refl }
 
 pub can : CanPut before putting_am
 can = record {

@@ -64,7 +64,7 @@ part = record {
 
 index : IsIndexAfter started 2 (put putting_bb started).live (changed_index bb_leaves)
 unfolding key_rank r5_of same_leaf
-index = record { contents_are = refl; weight = omega arith; places = tt; children = refl }
+index = record { contents_are = refl; weight = omega arith; all = refl; places = tt; children = refl }
 
 puts : CanPut started putting_bb
 unfolding key_rank r5_of same_leaf
@@ -100,7 +100,7 @@ root_moves = record {
   node_is = refl;
   sqnum = refl;
   fits = ((refl, refl, refl, tt), omega arith);
-  index = record { contents_are = refl; weight = omega arith; places = tt; children = refl };
+  index = record { contents_are = refl; weight = omega arith; all = refl; places = tt; children = refl };
 }
 
 abbrev half : Store
@@ -114,7 +114,7 @@ entry_moves = record {
   node_is = refl;
   sqnum = refl;
   fits = ((refl, refl, refl, tt), omega arith);
-  index = record { contents_are = refl; weight = omega arith; places = tt; children = refl };
+  index = record { contents_are = refl; weight = omega arith; all = refl; places = tt; children = refl };
 }
 
 abbrev two_moved : Store
@@ -128,7 +128,7 @@ file_moves = record {
   node_is = refl;
   sqnum = refl;
   fits = ((refl, refl, refl, tt), omega arith);
-  index = record { contents_are = refl; weight = omega arith; places = tt; children = refl };
+  index = record { contents_are = refl; weight = omega arith; all = refl; places = tt; children = refl };
 }
 
 abbrev copied : Store

@@ -6,14 +6,18 @@ mod BackingPuts
 mod BackingStarts
 mod BegunCommits
 mod BegunEvents
+mod Beside
 mod Bytes
 mod CopiedLeaves
+mod CutTrees
 mod DataHeads
+mod DistinctLeaves
 mod Drops
 mod EventFiles
 mod EventNumbers
 mod Further
 mod GrantCounts
+mod History
 mod IndexCommits
 mod JournalEvents
 mod LebCollections
@@ -35,6 +39,7 @@ mod LogSteps
 mod MainArea
 mod Moves
 mod Nameless
+mod NodePlaces
 mod Numbers
 mod OfViews
 mod Offers
@@ -42,6 +47,7 @@ mod Opens
 mod Orphans
 mod Owned
 mod Places
+mod ProperFiles
 mod PutGroups
 mod PutNumbers
 mod PutProper

@@ -147,7 +147,7 @@ new_stand : (n : ℕ) (nodes : List Placed) (lebs : List Leb) (group : List Carr
 new_stand n nodes lebs [] there at is = tt
 new_stand n nodes lebs (c ∷ group) there at is = (put_stand n nodes lebs c.placed there at.0 is.0, new_stand n nodes lebs group there at.1 is.1)
 
-part_stands : (m : Store) (part : Part) → IsPart m part → AreApart m → AllByRecursion (Stands m.lebs) m.live → AllByRecursion (Stands (after_part m part).lebs) (after_part m part).live
+pub part_stands : (m : Store) (part : Part) → IsPart m part → AreApart m → AllByRecursion (Stands m.lebs) m.live → AllByRecursion (Stands (after_part m part).lebs) (after_part m part).live
 part_stands m part is a s = by (end_at m.ends part.head) refl is.fits
   where
     nodes : List Placed

@@ -58,7 +58,7 @@ record AreEach (P : Kept → Type 0) (h : Held) : Type 0 where
   live : AllByRecursion P h.live
   held : AllByRecursion P h.held
 
-change_live : (P : Kept → Type 0) (c : Carried) (h : Held) → P (kept_at c.placed) → AllByRecursion P h.live → AllByRecursion P (after_change h c).live
+pub change_live : (P : Kept → Type 0) (c : Carried) (h : Held) → P (kept_at c.placed) → AllByRecursion P h.live → AllByRecursion P (after_change h c).live
 change_live P c h n e = by (is_idle h.live c.change) (is_set c.change)
   where
     by : (idle set : Bool) → AllByRecursion P (cond idle h.live (cond set (put_leaf (is_gone c.change) (kept_at c.placed) h.live) (filter (λ x. not (is_gone c.change x)) h.live)))

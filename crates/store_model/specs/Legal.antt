@@ -69,10 +69,11 @@ are_placed_below waiting (first ∷ nodes) (at ∷ places) =
 abbrev pub has_placed_children : Index → Bool
 has_placed_children index = are_placed_below [] (listed index.shape) index.places
 
--- The index of these leaves, after so many nodes were put: it weighs at most so much more, and a node that changed has lost its place, as those above it.
+-- The index of these leaves, after so many nodes were put: it weighs at most so much more, each node has a place or none yet, and one that changed has lost its place, as those above it.
 pub record IsIndexAfter (m : Store) (nodes : ℕ) (live : List Kept) (index : Index) : Type 0 where
   pub contents_are : contents index.shape ≡ map (λ x. x.leaf) live
   pub weight : shape_weight m.geo.fanout index.shape ≤ shape_weight m.geo.fanout m.index.shape + nodes
+  pub all : length index.places ≡ node_count index.shape
   pub places : KeepPlaces m.index (rows_of index.shape) index.places
   pub children : IsTrue (has_placed_children index)
 

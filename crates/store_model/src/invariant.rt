@@ -1,9 +1,12 @@
 // Laws of what is always so: fields of the invariant that each event keeps.
 
-ghost use Rattle.std.specs.Prelude.{◌≡◌, map};
+ghost use Rattle.std.specs.Prelude.{◌≡◌, length, map};
+ghost use Rattle.index_tree.specs.Distinct.{AreDistinct};
+ghost use Rattle.index_tree.specs.Shape.{node_count};
 ghost use Rattle.fs_model.specs.Orphan.{nameless};
-ghost use Rattle.store_model.specs.Events.{after, Event, Offer};
-ghost use Rattle.store_model.specs.Invariant.{AreWholeOrLeft, HasOrphans, HasViews, IsLight, IsStore, OfBoth};
+ghost use Rattle.fs_model.specs.Proper.{IsProper};
+ghost use Rattle.store_model.specs.Events.{after, Event, Offer, Put, Putting};
+ghost use Rattle.store_model.specs.Invariant.{AreProper, AreWholeOrLeft, HasOrphans, HasViews, IsLight, IsStore, LeadsTo, OfBoth};
 ghost use Rattle.store_model.specs.Legal.{IsLegalEvent};
 ghost use Rattle.store_model.specs.Store.{Store as AnyStore};
 
@@ -11,6 +14,8 @@ use crate::law::{
     a_commit_keeps_what_was_committed, a_copy_keeps_what_was_committed, a_drop_keeps_the_files,
     a_put_keeps_the_files, a_sync_keeps_the_files, an_opened_leb_keeps_the_files,
 };
+use fs_laws::{a_dropped_inode_keeps_trees_proper, a_mount_keeps_trees_proper};
+use leaf_map::{leaves_stay_distinct, the_last_change_wins};
 
 /// Each event keeps it that committed inodes without links are listed. A put revives and drops none, one that is closed is noted, and a
 /// commit's list has those that have no name or were closed.
@@ -45,3 +50,38 @@ pub fn each_event_keeps_who_has_no_name()
 pub fn an_offered_list_has_what_may_be_empty()
     ensures { (m : AnyStore) → IsStore m → OfBoth (after Offer m) (AreWholeOrLeft (after Offer m)) }
 {}
+
+/// No two live leaves stand at one place, after each event: what is put or copied stands at the end of a head, behind all that its LEB
+/// has.
+pub fn each_event_keeps_leaves_apart()
+    ensures { (m : AnyStore) (event : Event) → IsLegalEvent m event → IsStore m → AreDistinct (map (λ x. x.leaf) (after event m).live) }
+{
+    leaves_stay_distinct();
+}
+
+/// Each event keeps it that each node of the index has a place, or none yet.
+pub fn each_event_keeps_a_place_for_each_node()
+    ensures { (m : AnyStore) (event : Event) → IsLegalEvent m event → length m.index.places ≡ node_count m.index.shape → length (after event m).index.places ≡ node_count (after event m).index.shape }
+{}
+
+/// The files are a proper tree after each event, also where an inode without a name was dropped.
+pub fn each_event_keeps_a_proper_tree()
+    ensures { (m : AnyStore) (event : Event) → IsLegalEvent m event → IsStore m → IsProper (after event m).tree }
+{
+    a_dropped_inode_keeps_trees_proper();
+}
+
+/// Each event keeps it that all groups since a view's commit began lead to the files, but for inodes without a name. A group brings back
+/// no inode, so its replay makes of the committed tree what it made of the files.
+pub fn each_event_keeps_the_history()
+    ensures { (m : AnyStore) (event : Event) → IsLegalEvent m event → IsStore m → OfBoth (after event m) (LeadsTo (after event m).tree) }
+{
+    the_last_change_wins();
+}
+
+/// Each event but a put keeps it that the trees which a cut may leave are proper.
+pub fn each_event_but_a_put_keeps_cut_trees_proper()
+    ensures { (m : AnyStore) (event : Event) → IsLegalEvent m event → ((p : Putting) → event ≡ Put p → ⊥) → IsStore m → OfBoth (after event m) AreProper }
+{
+    a_mount_keeps_trees_proper();
+}
