@@ -1,19 +1,19 @@
 -- What changes leave once all is forgotten that has no name: what their replay makes of a tree from which that was gone before.
-use Rattle.std.proofs.Common.{◌≡◌, ℕ, ◌⊎◌, Bool, true, false, cond, not, ◌&&◌, ◌||◌, List, [], ◌∷◌, map, refl, sym, ap, subst, ◌∙◌, inl, inr, max}
+use Rattle.std.proofs.Common.{◌≡◌, ℕ, Bool, true, false, cond, not, ◌&&◌, ◌||◌, List, [], ◌∷◌, map, refl, sym, ap, subst, ◌∙◌, inl, inr, max}
 use Rattle.std.specs.Prelude.{◌==◌, ◌*◌, Option, Some, None, is_some, nat_lt, nat_le, filter, fold}
 use Rattle.std.specs.List.{list_any}
 use Rattle.std.specs.Map.{lookup, remove_entry, keys_of}
 use Rattle.std.specs.BTreeMap.{is_at, insert_entry}
 use Rattle.std.specs.Option.{option_map_or}
-use Rattle.std.specs.Ordering.{is_eq, nat_cmp, ordering_reverse}
+use Rattle.std.specs.Ordering.{nat_cmp, ordering_reverse}
 use Rattle.std.specs.declared.cmp.Ordering.{Ordering}
 use Rattle.std.specs.declared.cmp.Ordering.TheVariants.{Less, Equal, Greater}
-use Rattle.std.proofs.lemmas.Bool.{false≢true, and_parts, eqb-true}
+use Rattle.std.proofs.lemmas.Bool.{false≢true, and_parts}
 use Rattle.std.proofs.lemmas.Bool.Decides.{eqb_tells}
 use Rattle.fs_model.specs.declared.change.Change.{Change}
 use Rattle.fs_model.specs.declared.change.Change.TheVariants.{SetInode, SetEntry, DropEntry, SetBlock, CutBlocks, DropInode}
 use Rattle.fs_model.specs.declared.inode.Inode.{Inode}
-use Rattle.fs_model.specs.Change.{apply, applied, changed, key_number, without_inode, without_blocks, cut_blocks}
+use Rattle.fs_model.specs.Change.{apply, applied, without_inode, without_blocks}
 use Rattle.fs_model.specs.Files.{Tree, Inodes, Blocks, inode_at, name_cmp, pair_cmp, with_block}
 use Rattle.fs_model.specs.Orphan.{is_nameless, nameless, without_nameless, revives_none, all_revive_none}
 use Rattle.fs_model.specs.Proper.{ascends}
