@@ -63,6 +63,7 @@ mod SettledSteps
 mod Since
 mod SinceCommits
 mod Sorting
+mod StandEvents
 mod Syncs
 mod TakingCommits
 mod TakingStarts
@@ -77,6 +78,7 @@ mod Units
 mod ViewCommits
 mod Views
 mod Weights
+mod WholeEvents
 mod WorkedHalf
 mod WorkedOffered
 mod WorkedStates

@@ -39,17 +39,17 @@ meant_last x (branching b ∷ text) items h = meant_last x text items h
 meant_last x (gap n ∷ text) items h = meant_last x text items h
 
 -- ---- LEBs that keep what stands in one of them
-stands_map : (f : Leb → Leb) (x : Kept) (lebs : List Leb) → ((leb : Leb) → (f leb).lnum ≡ leb.lnum) → ((leb : Leb) → leb.lnum ≡ x.leaf.lnum → IsMeantIn x leb.text → IsMeantIn x (f leb).text)
+pub stands_map : (f : Leb → Leb) (x : Kept) (lebs : List Leb) → ((leb : Leb) → (f leb).lnum ≡ leb.lnum) → ((leb : Leb) → leb.lnum ≡ x.leaf.lnum → IsMeantIn x leb.text → IsMeantIn x (f leb).text)
     → Stands lebs x → Stands (map f lebs) x
 stands_map f x [] keeps more s = absurd s
 stands_map f x (leb ∷ lebs) keeps more (inl (same, is)) = inl (keeps leb ∙ same, more leb same is)
 stands_map f x (leb ∷ lebs) keeps more (inr s) = inr (stands_map f x lebs keeps more s)
 
-changed_number : (n : ℕ) (change : Leb → Leb) → ((leb : Leb) → (change leb).lnum ≡ leb.lnum) → (leb : Leb) (b : Bool) → (cond b (change leb) leb).lnum ≡ leb.lnum
+pub changed_number : (n : ℕ) (change : Leb → Leb) → ((leb : Leb) → (change leb).lnum ≡ leb.lnum) → (leb : Leb) (b : Bool) → (cond b (change leb) leb).lnum ≡ leb.lnum
 changed_number n change keeps leb true = keeps leb
 changed_number n change keeps leb false = refl
 
-items_stand : (n : ℕ) (items : List Item) (lebs : List Leb) (x : Kept) → Stands lebs x → Stands (with_items n items lebs) x
+pub items_stand : (n : ℕ) (items : List Item) (lebs : List Leb) (x : Kept) → Stands lebs x → Stands (with_items n items lebs) x
 items_stand n items lebs x s = stands_map (λ leb. cond (leb.lnum == n) (more leb) leb) x lebs (λ leb. changed_number n more (λ leb. refl) leb (leb.lnum == n)) (λ leb same is. by leb is (leb.lnum == n)) s
   where
     more : Leb → Leb
@@ -82,7 +82,7 @@ freed_stands k lebs x live s = stands_map (freed k) x lebs (λ leb. changed_numb
     by leb is false = is
 
 -- ---- all live leaves
-all_freed : (k : Store) (lebs : List Leb) (xs : List Kept) → list_all (λ x. list_any (stands_in x.leaf.lnum) k.live) xs ≡ true → AllByRecursion (Stands lebs) xs → AllByRecursion (Stands (map (freed k) lebs)) xs
+pub all_freed : (k : Store) (lebs : List Leb) (xs : List Kept) → list_all (λ x. list_any (stands_in x.leaf.lnum) k.live) xs ≡ true → AllByRecursion (Stands lebs) xs → AllByRecursion (Stands (map (freed k) lebs)) xs
 all_freed k lebs [] h s = tt
 all_freed k lebs (x ∷ xs) h s =
     let p = and_parts (list_any (stands_in x.leaf.lnum) k.live) (list_all (λ x. list_any (stands_in x.leaf.lnum) k.live) xs) h in
@@ -128,7 +128,7 @@ open_stands m head lnum empty a s =
     (each_weaker (Stands m.lebs) (Stands before) (λ x h. padded_stand m.geo m.lebs (end_at m.ends head) x h) m.live s)
 
 -- ---- a put
-put_stand : (n : ℕ) (nodes : List Placed) (lebs : List Leb) (p : Placed) → is_there n lebs ≡ true → p.lnum ≡ n → IsMeantIn (kept_at p) (map leaf nodes) → Stands (with_items n (map leaf nodes) lebs) (kept_at p)
+pub put_stand : (n : ℕ) (nodes : List Placed) (lebs : List Leb) (p : Placed) → is_there n lebs ≡ true → p.lnum ≡ n → IsMeantIn (kept_at p) (map leaf nodes) → Stands (with_items n (map leaf nodes) lebs) (kept_at p)
 put_stand n nodes [] p there same is = absurd (false≢true there)
 put_stand n nodes (leb ∷ lebs) p there same is = by (λ h. put_stand n nodes lebs p h same is) (leb.lnum == n) refl there
   where

@@ -35,7 +35,7 @@ not_same z [] y h i = absurd i
 not_same z (x ∷ live) y h (inl e) = ap (λ (k : Kept). same_leaf z k.leaf) (sym e) ∙ h.0
 not_same z (x ∷ live) y h (inr i) = not_same z live y h.1 i
 
-one_leaf : (live : List Kept) (x y : Kept) → AreDistinct (map (λ x. x.leaf) live) → IsLeafOf live x → IsLeafOf live y → same_leaf y.leaf x.leaf ≡ true → y ≡ x
+pub one_leaf : (live : List Kept) (x y : Kept) → AreDistinct (map (λ x. x.leaf) live) → IsLeafOf live x → IsLeafOf live y → same_leaf y.leaf x.leaf ≡ true → y ≡ x
 one_leaf [] x y d i j h = absurd i
 one_leaf (z ∷ live) x y d (inl e) (inl f) h = sym f ∙ e
 one_leaf (z ∷ live) x y d (inl e) (inr j) h =

@@ -282,6 +282,15 @@ pub record HasViews (m : Store) : Type 0 where
   pub committed : OfBoth m (λ f. HasCommitted f.view)
   pub carried : OfBoth m (λ f. AreCarried f.view)
 
+-- Of the invariant these are the fields that no law gives of each event.
+pub record HasRest (m : Store) : Type 0 where
+  pub proper : OfBoth m AreProper
+  pub whole_or_left : OfBoth m (AreWholeOrLeft m)
+  pub texts : AreTexts m
+  pub indexed : IsIndexed m
+  pub covered : AreGrantsCovered (book_of m)
+  pub settled : IsStoreSettled m
+
 pub record IsStore (m : Store) : Type 0 where
   -- its numbers are a volume's, and each LEB of the main area has a row
   pub geometry : IsGeometry m.geo

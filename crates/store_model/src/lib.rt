@@ -13,6 +13,7 @@ mod law;
 mod lebs;
 mod recovery;
 mod texts;
+mod whole;
 mod worked;
 
 pub use crate::backing::{
@@ -47,6 +48,7 @@ pub use crate::texts::{
     leaves_are_of_the_views, live_leaves_stand, nodes_of_the_index_are_written_first,
     nodes_of_the_index_stay, texts_have_what_was_put,
 };
+pub use crate::whole::{a_begin_and_an_offer_keep_a_store, each_event_keeps_a_store};
 pub use crate::worked::{
     a_collection_is_told, a_commit_is_told, a_long_run_is_told, a_put_is_told, a_sync_is_told,
     a_worked_store_is_one, an_orphan_closed_in_a_commit_is_told, cuts_of_a_long_run_are_told,

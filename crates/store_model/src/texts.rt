@@ -41,10 +41,7 @@ pub fn leaves_are_of_the_views()
     ensures { (m : AnyStore) (event : Event) → IsLegalEvent m event → IsStore m → AreOfViews (after event m) }
 {}
 
-/// After a put, an opened LEB, a sync and a drop each live leaf's node is among the items that are meant for its LEB.
+/// After each event each live leaf's node is among the items that are meant for its LEB. A leaf that is copied stands at its copy.
 pub fn live_leaves_stand()
-    ensures put { (m : AnyStore) (p : Putting) → IsLegalEvent m (Put p) → IsStore m → AllByRecursion (Stands (after (Put p) m).lebs) (after (Put p) m).live }
-    ensures open { (m : AnyStore) (head lnum : ℕ) → IsLegalEvent m (Open head lnum) → IsStore m → AllByRecursion (Stands (after (Open head lnum) m).lebs) (after (Open head lnum) m).live }
-    ensures sync { (m : AnyStore) → IsStore m → AllByRecursion (Stands (after Sync m).lebs) (after Sync m).live }
-    ensures dropped { (m : AnyStore) (ino : ℕ) (index : AnyIndex) → IsStore m → AllByRecursion (Stands (after (Drop ino index) m).lebs) (after (Drop ino index) m).live }
+    ensures { (m : AnyStore) (event : Event) → IsLegalEvent m event → IsStore m → AllByRecursion (Stands (after event m).lebs) (after event m).live }
 {}

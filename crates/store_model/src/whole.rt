@@ -1,0 +1,70 @@
+// Laws of the whole invariant: what each event keeps of it together.
+
+ghost use Rattle.std.specs.Prelude.{ℕ};
+ghost use Rattle.store_model.specs.Events.{after, Begin, Event, Offer};
+ghost use Rattle.store_model.specs.Invariant.{HasRest, IsStore};
+ghost use Rattle.store_model.specs.Legal.{IsLegalEvent};
+ghost use Rattle.store_model.specs.Store.{Store as AnyStore};
+
+use crate::backing::{
+    each_event_keeps_what_a_commit_began_on, each_event_keeps_what_the_journal_leads_to,
+};
+use crate::grants::a_store_stays_settled;
+use crate::invariant::{
+    an_offered_list_has_what_may_be_empty, each_event_but_a_put_keeps_cut_trees_proper,
+    each_event_keeps_a_place_for_each_node, each_event_keeps_a_proper_tree,
+    each_event_keeps_leaves_apart, each_event_keeps_the_history, each_event_keeps_the_orphans,
+    each_event_keeps_the_weight, each_event_keeps_what_was_committed,
+    each_event_keeps_who_has_no_name,
+};
+use crate::law::{
+    each_event_keeps_blocks_with_their_inodes, each_event_keeps_the_files,
+    each_event_keeps_the_head_of_data, each_event_keeps_the_log, each_event_keeps_the_numbers,
+};
+use crate::lebs::{
+    each_event_keeps_the_main_area, each_event_keeps_what_a_commit_took,
+    each_event_keeps_what_came_since, each_event_keeps_what_lebs_are_for,
+};
+use crate::texts::{
+    leaves_are_of_the_views, live_leaves_stand, nodes_of_the_index_are_written_first,
+};
+
+/// After each event a store is a store again, if six things are so of it: the trees that a cut may leave, whole or left LEBs, texts, the
+/// nodes of the indexes, cover, and settledness. All else is kept by each event.
+pub fn each_event_keeps_a_store()
+    ensures { (m : AnyStore) (event : Event) → IsLegalEvent m event → IsStore m → HasRest (after event m) → IsStore (after event m) }
+{
+    each_event_keeps_the_main_area();
+    each_event_keeps_the_files();
+    each_event_keeps_blocks_with_their_inodes();
+    each_event_keeps_what_was_committed();
+    each_event_keeps_leaves_apart();
+    each_event_keeps_a_place_for_each_node();
+    live_leaves_stand();
+    each_event_keeps_a_proper_tree();
+    each_event_keeps_the_head_of_data();
+    each_event_keeps_the_history();
+    each_event_keeps_what_the_journal_leads_to();
+    each_event_keeps_the_numbers();
+    each_event_keeps_the_orphans();
+    each_event_keeps_who_has_no_name();
+    each_event_keeps_what_lebs_are_for();
+    each_event_keeps_what_a_commit_took();
+    each_event_keeps_what_came_since();
+    each_event_keeps_what_a_commit_began_on();
+    leaves_are_of_the_views();
+    each_event_keeps_the_weight();
+    each_event_keeps_the_log();
+}
+
+/// A collection's begin and the offer of a commit's master keep the whole invariant.
+pub fn a_begin_and_an_offer_keep_a_store()
+    ensures begun { (m : AnyStore) (victim : ℕ) → IsLegalEvent m (Begin victim) → IsStore m → IsStore (after (Begin victim) m) }
+    ensures offered { (m : AnyStore) → IsLegalEvent m Offer → IsStore m → IsStore (after Offer m) }
+{
+    each_event_keeps_a_store();
+    each_event_but_a_put_keeps_cut_trees_proper();
+    nodes_of_the_index_are_written_first();
+    a_store_stays_settled();
+    an_offered_list_has_what_may_be_empty();
+}
