@@ -134,7 +134,7 @@ all_places (place ∷ places) =
     (or_left (place.lnum == place.lnum) (has_node places place.lnum) (eq-eqb place.lnum place.lnum refl))
     (all_weaker (λ (c : Place). has_node places c.lnum) (λ c. has_node (place ∷ places) c.lnum) (λ c h. or_right (place.lnum == c.lnum) (has_node places c.lnum) h) places (all_places places))
 
-among_all : (test : ℕ → Bool) (taken : List ℕ) (n : ℕ) → list_all test taken ≡ true → is_among taken n ≡ true → test n ≡ true
+pub among_all : (test : ℕ → Bool) (taken : List ℕ) (n : ℕ) → list_all test taken ≡ true → is_among taken n ≡ true → test n ≡ true
 among_all test [] n h i = absurd (false≢true i)
 among_all test (k ∷ taken) n h i = let p = and_parts (test k) (list_all test taken) h in by p.0 (among_all test taken n p.1) (either_of (k == n) (is_among taken n) i)
   where

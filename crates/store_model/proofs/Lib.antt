@@ -4,6 +4,7 @@ mod BackingCalls
 mod BackingEnds
 mod BackingPuts
 mod BackingStarts
+mod BareLebs
 mod BegunCommits
 mod BegunEvents
 mod Beside
@@ -79,6 +80,7 @@ mod ViewCommits
 mod Views
 mod Weights
 mod WholeEvents
+mod WholeOpens
 mod WorkedHalf
 mod WorkedOffered
 mod WorkedStates

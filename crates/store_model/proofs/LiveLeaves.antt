@@ -59,7 +59,7 @@ items_stand n items lebs x s = stands_map (λ leb. cond (leb.lnum == n) (more le
     by leb is true = meant_more x leb.text items is
     by leb is false = is
 
-padded_stand : (geo : RawGeometry) (lebs : List Leb) (at : Option At) (x : Kept) → Stands lebs x → Stands (padded geo lebs at) x
+pub padded_stand : (geo : RawGeometry) (lebs : List Leb) (at : Option At) (x : Kept) → Stands lebs x → Stands (padded geo lebs at) x
 padded_stand geo lebs None x s = s
 padded_stand geo lebs (Some at) x s = items_stand at.lnum (last_gap geo at) lebs x s
 

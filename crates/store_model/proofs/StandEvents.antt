@@ -18,7 +18,7 @@ use Rattle.store_model.specs.Store.{At, Item, leaf, Leb, Moving, Next, Store, Vi
 use Rattle.store_model.proofs.LebEnds.{ended_store}
 use Rattle.store_model.proofs.LebFrees.{all_stand}
 use Rattle.store_model.proofs.LebPuts.{head_role, other_leb}
-use Rattle.store_model.proofs.LebRows.{AreRows, has_one, has_row, numbers_of, role_row, rows, to_rows}
+use Rattle.store_model.proofs.LebRows.{has_one, has_row, numbers_of, role_row, rows, to_rows}
 use Rattle.store_model.proofs.LiveLeaves.{all_freed, changed_number, drop_stands, items_stand, open_stands, put_stand, put_stands, stands_map, sync_stands}
 use Rattle.store_model.proofs.Moves.{all_leaves, one_leaf}
 use Rattle.store_model.proofs.OfViews.{each_weaker}

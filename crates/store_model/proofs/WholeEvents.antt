@@ -2,16 +2,19 @@
 use Rattle.std.proofs.Common.{◌≡◌, ◌⊎◌, ℕ, List, [], ◌∷◌, inl, inr, Option, Some, None}
 use Rattle.std.specs.Option.{option_map}
 use Rattle.leaf_map.specs.Kept.{Kept}
-use Rattle.store_model.specs.Events.{begin, Begin, Offer, offer, offered, Put, Putting}
+use Rattle.store_model.specs.Events.{begin, Begin, Offer, offer, offered, Open, Put, Putting}
 use Rattle.store_model.specs.Fits.{AreLeft, Faced, faced_now}
 use Rattle.store_model.specs.Invariant.{AreWhole, AreWholeOrLeft, faced_later, OfBoth, OfNext}
 use Rattle.store_model.specs.Lebs.{IsSettledWith, IsStoreSettled, lent, space_of}
 use Rattle.space_sums.specs.Spaces.{with_empty}
-use Rattle.store_model.specs.Store.{Leb, Next, Store, View}
+use Rattle.store_model.specs.Store.{Next, Store, View}
 use Rattle.store_model.specs.Texts.{AreNextBudsIn, AreTexts}
 
 pub is_no_begin : (victim : ℕ) (p : Putting) → Begin victim ≡ Put p → ⊥
 is_no_begin victim p e = absurd cc
+
+pub is_no_open : (head lnum : ℕ) (p : Putting) → Open head lnum ≡ Put p → ⊥
+is_no_open head lnum p e = absurd cc
 
 pub is_no_offer : (p : Putting) → Offer ≡ Put p → ⊥
 is_no_offer p e = absurd cc

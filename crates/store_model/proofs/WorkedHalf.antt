@@ -13,6 +13,7 @@ use Rattle.store_model.specs.Invariant.{AreProper, AreWholeOrLeft, HasCommitted,
 use Rattle.store_model.specs.LogRing.{HasLogLebs}
 use Rattle.store_model.specs.Store.{Store}
 use Rattle.store_model.specs.Worked.{am_tree, half_collected, one_file}
+use Rattle.store_model.proofs.BareLebs.{bare_by}
 use Rattle.store_model.proofs.WorkedStates.{half_stands}
 use Rattle.store_model.proofs.WorkedStore.{file_is_proper, geometry, same_tree}
 
@@ -70,6 +71,7 @@ half_is_store = record {
   distinct = distinct;
   places = refl;
   stands = (inr (inr (inr (inr (inl (refl, inl refl))))), (inl (refl, inr (inl refl)), (inl (refl, inr (inr (inl refl))), tt)));
+  bare = bare_by half.lebs refl;
   proper_now = file_is_proper;
   proper = (proper, tt);
   data_head = (refl, tt);

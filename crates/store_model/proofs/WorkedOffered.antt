@@ -17,6 +17,7 @@ use Rattle.store_model.specs.Legal.{IsCarried}
 use Rattle.store_model.specs.LogRing.{HasLogLebs}
 use Rattle.store_model.specs.Store.{Next, Store, View}
 use Rattle.store_model.specs.Worked.{am_entry, am_inode, am_tree, bb_entry, bb_inode, bb_tree, root_tree, rooted, until_offer}
+use Rattle.store_model.proofs.BareLebs.{bare_by}
 use Rattle.store_model.proofs.LegalPut.{am_is_proper}
 use Rattle.store_model.proofs.LegalRuns.{bb_is_proper}
 use Rattle.store_model.proofs.WorkedStates.{offered_stands}
@@ -130,6 +131,7 @@ offering_is_store = record {
   distinct = distinct;
   places = refl;
   stands = (inl (refl, inl refl), (inr (inr (inl (refl, inl refl))), (inr (inr (inl (refl, inr (inr (inl refl))))), (inr (inr (inl (refl, inr (inl refl)))), (inr (inr (inl (refl, inr (inr (inr (inl refl)))))), tt)))));
+  bare = bare_by offering.lebs refl;
   proper_now = bb_is_proper;
   proper = (λ tree r. either_proper tree (recovered root_tree (taken (heads_of offering.now.buds offering.synced) r.counts)) r.tree_is (now_left r.counts r.synced), λ tree r. either_proper tree (recovered am_tree (taken (heads_of later.buds (0 ∷ 0 ∷ 0 ∷ [])) r.counts)) r.tree_is (later_left r.counts r.synced));
   data_head = (refl, refl);

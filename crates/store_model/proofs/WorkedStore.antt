@@ -20,6 +20,7 @@ use Rattle.store_model.specs.Invariant.{AreOfViews, AreProper, AreWholeOrLeft, H
 use Rattle.store_model.specs.LogRing.{HasLogLebs}
 use Rattle.store_model.specs.Texts.{AreTexts, IsLaidOut}
 use Rattle.store_model.specs.Worked.{am_tree, geo, one_file, root_tree, rooted}
+use Rattle.store_model.proofs.BareLebs.{bare_by}
 
 root_is_proper : IsProper root_tree
 root_is_proper = record {
@@ -138,6 +139,7 @@ root_is_store = record {
   distinct = distinct;
   places = refl;
   stands = (inl (refl, inl refl), tt);
+  bare = bare_by rooted.lebs refl;
   proper_now = root_is_proper;
   proper = (proper, tt);
   data_head = (refl, tt);
@@ -215,6 +217,7 @@ file_is_store = record {
   distinct = file_distinct;
   places = refl;
   stands = (inl (refl, inl refl), (inl (refl, inr (inl refl)), (inl (refl, inr (inr (inl refl))), tt)));
+  bare = bare_by one_file.lebs refl;
   proper_now = file_is_proper;
   proper = (file_proper, tt);
   data_head = (refl, tt);

@@ -34,7 +34,7 @@ use Rattle.store_model.specs.Legal.{are_distinct, is_block, IsCarried, IsLeafOf}
 use Rattle.store_model.specs.Lebs.{has_leaf, has_role, is_among, is_victim_of, IsStoreSettled, weight_of}
 use Rattle.store_model.specs.LogRing.{HasLogLebs}
 use Rattle.store_model.specs.Store.{At, Bud, Carried, Item, leaf, branching, gap, Leb, Moving, Next, Store, View}
-use Rattle.store_model.specs.Texts.{AreTexts}
+use Rattle.store_model.specs.Texts.{AreTexts, leaf_nodes}
 
 -- ---- both views
 -- what a running commit's master will lead to, whose list is the one that the medium has then
@@ -258,6 +258,16 @@ pub record IsStanding (m : Store) : Type 0 where
   pub indexed : IsIndexed m
   pub of_views : AreOfViews m
 
+-- leaves stand in leaf LEBs and buds
+abbrev pub takes_leaves : LebKind → Bool
+takes_leaves kind.Leaf = true
+takes_leaves kind.Bud = true
+takes_leaves role = false
+
+-- in a LEB of another role, such as an empty one, no leaf node is meant to stand
+abbrev pub IsBare : Leb → Type 0
+IsBare leb = takes_leaves leb.role ≡ false → leaf_nodes leb.text ≡ []
+
 -- ---- the invariant
 -- The live leaves are leaves of an index and show the files, and the index has them in order.
 pub record HasFiles (m : Store) : Type 0 where
@@ -303,6 +313,8 @@ pub record IsStore (m : Store) : Type 0 where
   pub places : length m.index.places ≡ node_count m.index.shape
   -- each live leaf's node is meant at its place
   pub stands : AllByRecursion (Stands m.lebs) m.live
+  -- leaf nodes stand in leaf LEBs and buds alone
+  pub bare : AllByRecursion IsBare m.lebs
   -- the files are a proper tree, and so is each that a cut may leave
   pub proper_now : IsProper m.tree
   pub proper : OfBoth m AreProper

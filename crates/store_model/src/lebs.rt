@@ -1,11 +1,12 @@
 // Laws of LEBs: what each is for.
 
 ghost use Rattle.std.specs.Prelude.{◌≡◌, ◌≤◌, ◌+◌, ℕ, List, length, map, None, Some};
+ghost use Rattle.std.specs.List.{AllByRecursion};
 ghost use Rattle.ubifs_base.specs.Geometry.{IsGeometry};
 ghost use Rattle.index_tree.specs.Shape.{node_count};
 ghost use Rattle.store_model.specs.Events.{after, Begin, Copying, Drop, End, Event, Free, Move, Offer, Open, Put, Putting, Start, Sync, Write};
 ghost use Rattle.store_model.specs.Indexed.{HasLastPlaces};
-ghost use Rattle.store_model.specs.Invariant.{AreApart, HasSince, IsTaking};
+ghost use Rattle.store_model.specs.Invariant.{AreApart, HasSince, IsBare, IsTaking};
 ghost use Rattle.store_model.specs.Lebs.{space_of};
 ghost use Rattle.store_model.specs.Legal.{IsLegalEvent};
 ghost use Rattle.store_model.specs.Store.{Index as AnyIndex, Store as AnyStore};
@@ -76,6 +77,12 @@ pub fn each_event_keeps_what_a_commit_took()
 {
     a_running_commit_keeps_its_lebs();
 }
+
+/// Each event keeps it that leaf nodes stand in leaf LEBs and buds alone: an empty LEB, one of the index and one that a commit took have
+/// none.
+pub fn each_event_keeps_other_lebs_bare()
+    ensures { (m : AnyStore) (event : Event) → IsLegalEvent m event → AreApart m → AllByRecursion IsBare m.lebs → AllByRecursion IsBare (after event m).lebs }
+{}
 
 /// Each event keeps what came since a running commit began: at its start nothing came yet, and all before is synced; a copy stands
 /// in the buds of both views; and after its end no commit runs.

@@ -40,15 +40,18 @@ pub use crate::law::{
 pub use crate::lebs::{
     a_collection_keeps_what_lebs_are_for, a_commit_keeps_what_lebs_are_for,
     a_running_commit_gets_what_is_put, a_running_commit_keeps_its_lebs,
-    each_event_keeps_what_a_commit_took, each_event_keeps_what_came_since,
-    each_event_keeps_what_lebs_are_for, lebs_are_counted, lebs_keep_what_they_are_for,
+    each_event_keeps_other_lebs_bare, each_event_keeps_what_a_commit_took,
+    each_event_keeps_what_came_since, each_event_keeps_what_lebs_are_for, lebs_are_counted,
+    lebs_keep_what_they_are_for,
 };
 pub use crate::recovery::{a_store_is_recovered, what_fits_is_recovered, what_fits_loses_no_leaf};
 pub use crate::texts::{
     leaves_are_of_the_views, live_leaves_stand, nodes_of_the_index_are_written_first,
     nodes_of_the_index_stay, texts_have_what_was_put,
 };
-pub use crate::whole::{a_begin_and_an_offer_keep_a_store, each_event_keeps_a_store};
+pub use crate::whole::{
+    a_begin_and_an_offer_keep_a_store, an_opened_leb_keeps_a_store, each_event_keeps_a_store,
+};
 pub use crate::worked::{
     a_collection_is_told, a_commit_is_told, a_long_run_is_told, a_put_is_told, a_sync_is_told,
     a_worked_store_is_one, an_orphan_closed_in_a_commit_is_told, cuts_of_a_long_run_are_told,

@@ -1,7 +1,7 @@
 // Laws of the whole invariant: what each event keeps of it together.
 
 ghost use Rattle.std.specs.Prelude.{ℕ};
-ghost use Rattle.store_model.specs.Events.{after, Begin, Event, Offer};
+ghost use Rattle.store_model.specs.Events.{after, Begin, Event, Offer, Open};
 ghost use Rattle.store_model.specs.Invariant.{HasRest, IsStore};
 ghost use Rattle.store_model.specs.Legal.{IsLegalEvent};
 ghost use Rattle.store_model.specs.Store.{Store as AnyStore};
@@ -9,7 +9,7 @@ ghost use Rattle.store_model.specs.Store.{Store as AnyStore};
 use crate::backing::{
     each_event_keeps_what_a_commit_began_on, each_event_keeps_what_the_journal_leads_to,
 };
-use crate::grants::a_store_stays_settled;
+use crate::grants::{a_store_stays_settled, what_was_granted_stays_covered};
 use crate::invariant::{
     an_offered_list_has_what_may_be_empty, each_event_but_a_put_keeps_cut_trees_proper,
     each_event_keeps_a_place_for_each_node, each_event_keeps_a_proper_tree,
@@ -22,11 +22,13 @@ use crate::law::{
     each_event_keeps_the_head_of_data, each_event_keeps_the_log, each_event_keeps_the_numbers,
 };
 use crate::lebs::{
-    each_event_keeps_the_main_area, each_event_keeps_what_a_commit_took,
-    each_event_keeps_what_came_since, each_event_keeps_what_lebs_are_for,
+    each_event_keeps_other_lebs_bare, each_event_keeps_the_main_area,
+    each_event_keeps_what_a_commit_took, each_event_keeps_what_came_since,
+    each_event_keeps_what_lebs_are_for,
 };
 use crate::texts::{
     leaves_are_of_the_views, live_leaves_stand, nodes_of_the_index_are_written_first,
+    nodes_of_the_index_stay, texts_have_what_was_put,
 };
 
 /// After each event a store is a store again, if six things are so of it: the trees that a cut may leave, whole or left LEBs, texts, the
@@ -41,6 +43,7 @@ pub fn each_event_keeps_a_store()
     each_event_keeps_leaves_apart();
     each_event_keeps_a_place_for_each_node();
     live_leaves_stand();
+    each_event_keeps_other_lebs_bare();
     each_event_keeps_a_proper_tree();
     each_event_keeps_the_head_of_data();
     each_event_keeps_the_history();
@@ -55,6 +58,18 @@ pub fn each_event_keeps_a_store()
     leaves_are_of_the_views();
     each_event_keeps_the_weight();
     each_event_keeps_the_log();
+}
+
+/// A LEB that is opened keeps the whole invariant: no committed leaf stood in it, since an empty LEB has no leaf node. What was
+/// granted stays covered, and the store is settled, as the event asks.
+pub fn an_opened_leb_keeps_a_store()
+    ensures { (m : AnyStore) (head lnum : ℕ) → IsLegalEvent m (Open head lnum) → IsStore m → IsStore (after (Open head lnum) m) }
+{
+    each_event_keeps_a_store();
+    each_event_but_a_put_keeps_cut_trees_proper();
+    texts_have_what_was_put();
+    nodes_of_the_index_stay();
+    what_was_granted_stays_covered();
 }
 
 /// A collection's begin and the offer of a commit's master keep the whole invariant.

@@ -1,7 +1,5 @@
-use Rattle.std.proofs.Common.{◌≡◌, ◌∙◌, ℕ, List, map, sym, ap, subst}
-use Rattle.ubifs_base.specs.declared.raw_geometry.RawGeometry.{RawGeometry}
+use Rattle.std.proofs.Common.{◌∙◌, sym, ap, subst}
 use Rattle.ubifs_base.specs.Geometry.{IsGeometry}
-use Rattle.store_model.specs.Events.{after}
 use Rattle.store_model.specs.Invariant.{main_lnums}
 use Rattle.store_model.proofs.whole.each_event_keeps_a_store.Goals as goal
 
@@ -18,6 +16,7 @@ returns c = λ m event can s rest.
       distinct = c.each_event_keeps_leaves_apart.ensures m event can s;
       places = c.each_event_keeps_a_place_for_each_node.ensures m event can s.places;
       stands = c.live_leaves_stand.ensures m event can s;
+      bare = c.each_event_keeps_other_lebs_bare.ensures m event can s.apart s.bare;
       proper_now = c.each_event_keeps_a_proper_tree.ensures m event can s;
       proper = rest.proper;
       data_head = c.each_event_keeps_the_head_of_data.ensures m event can s.data_head;
