@@ -1,7 +1,7 @@
 -- What was granted stays covered: of the numbers that admission reckons with, no event raises more than was paid for.
 use Rattle.std.proofs.Common.{◌≡◌, ◌≤◌, ◌+◌, ◌∙◌, ℕ, suc, arith, Bool, true, false, cond, List, [], ◌∷◌, length, map, refl, sym, ap, subst, Option, Some, None}
-use Rattle.std.specs.Prelude.{◌==◌, fold}
-use Rattle.std.specs.List.{AllByRecursion, list_all}
+use Rattle.std.specs.Prelude.{◌==◌, fold, get_or}
+use Rattle.std.specs.List.{AllByRecursion, flat_map, list_all}
 use Rattle.std.proofs.lemmas.Bool.{eqb-true}
 use Rattle.media_lpt.specs.declared.leb_kind.LebKind.{LebKind}
 use Rattle.media_lpt.specs.declared.leb_kind.LebKind.TheVariants as kind
@@ -13,14 +13,15 @@ use Rattle.fs_model.specs.Settled.{IsCovered}
 use Rattle.space_budget.specs.Books.{AreGrantsCovered, group_need}
 use Rattle.space_sums.specs.Spaces.{HasRoom, IsAfterGroup, IsAfterPage, IsNoMore}
 use Rattle.store_model.specs.Backing.{book_of}
-use Rattle.store_model.specs.Events.{after_part, credit, drop_inode, free_victim, granted, open_leb, paid, Part, Payment, put, Putting, start, sync}
+use Rattle.store_model.specs.Events.{after_part, credit, drop_inode, free_victim, granted, node_items, open_leb, paid, Part, Payment, put, Putting, start, sync, view_branchings, write_index}
 use Rattle.store_model.specs.Invariant.{AreApart}
 use Rattle.store_model.specs.Lebs.{has_role, is_among, is_role, space_of}
 use Rattle.store_model.specs.Legal.{CanStart, IsPaid, need_of, nodes_of}
-use Rattle.store_model.specs.Store.{Index, Leb, Moving, Store}
+use Rattle.store_model.specs.Store.{Index, Leb, Moving, Next, Store}
 use Rattle.store_model.proofs.LebCollections.{free_row, free_rows}
 use Rattle.store_model.proofs.LebCounts.{count_rows, drop_index, open_index, row_count, sync_index, sync_rows}
 use Rattle.store_model.proofs.LebDrops.{dropped_store}
+use Rattle.store_model.proofs.LebEnds.{set_rows}
 use Rattle.store_model.proofs.LebFrees.{freed_rows}
 use Rattle.store_model.proofs.LebOpens.{open_lebs}
 use Rattle.store_model.proofs.LebRows.{IsRowIn, Row, all_in, all_weaker, has_row, one_role, role_row, rows, to_rows, victim_row}
@@ -170,3 +171,18 @@ put_covered pages groups m p pays page group c = by p.payment refl pays
     by : (payment : Payment) → p.payment ≡ payment → IsPaid m payment (nodes_of p.parts) → AreGrantsCovered (book_of (put p m))
     by credit e pays = page_covered pages m (put p m) (put_geo m p) (ap (λ (payment : Payment). (paid payment end).grant) e ∙ parts_grant p.parts m) (page e) c
     by granted e (grant, is, nodes, bytes) = group_covered groups m (put p m) grant (put_geo m p) is (ap (λ (payment : Payment). (paid payment end).grant) e) (group grant e is) c
+
+-- ---- a LEB of a running commit is written
+pub write_covered : NoMoreLaw → (m : Store) (next : Option Next) → AreGrantsCovered (book_of m) → AreGrantsCovered (book_of (write_index m next))
+write_covered law m None c = c
+write_covered law m (Some next) c =
+    let k : Store = write_index m (Some next) in
+    let lnum : ℕ = get_or next.taken next.written 0 in
+    let same : rows k.lebs ≡ rows m.lebs = set_rows lnum (flat_map (node_items m.geo) (view_branchings next.view lnum m.sqnum)) m.lebs in
+    covered_still law m k refl refl (record {
+      bytes = omega arith;
+      credits = refl;
+      weight = omega arith;
+      index = count_rows kind.Index k.lebs ∙ ap (row_count kind.Index) same ∙ sym (count_rows kind.Index m.lebs);
+      main = sym (rows_length k.lebs) ∙ ap (λ (rs : List Row). length rs) same ∙ rows_length m.lebs;
+    }) c

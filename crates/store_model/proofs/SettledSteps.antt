@@ -1,6 +1,7 @@
 -- A store stays settled through steps that open no LEB and put no node.
 use Rattle.std.proofs.Common.{◌≡◌, ◌⊎◌, ◌≤◌, ◌+◌, ◌∙◌, ℕ, arith, Bool, true, false, cond, List, [], ◌∷◌, length, map, refl, sym, ap, subst, inl, inr, Option, Some, None}
-use Rattle.std.specs.Prelude.{◌==◌, ◌&&◌, count_by}
+use Rattle.std.specs.Prelude.{◌==◌, ◌&&◌, count_by, get_or}
+use Rattle.std.specs.List.{flat_map}
 use Rattle.std.specs.Option.{option_map}
 use Rattle.std.proofs.lemmas.Bool.{and_parts, false≢true}
 use Rattle.std.proofs.lemmas.List.Recursion.{is_count_by}
@@ -10,15 +11,16 @@ use Rattle.media_lpt.specs.declared.leb_kind.LebKind.TheVariants as kind
 use Rattle.fs_model.specs.declared.space.Space.{Space}
 use Rattle.fs_model.specs.Settled.{IsSettled}
 use Rattle.space_sums.specs.Spaces.{IsSettledTwice, Running, with_empty}
-use Rattle.store_model.specs.Events.{begin, Copying, drop_inode, end_at, free_victim, in_next, move, sync}
+use Rattle.store_model.specs.Events.{begin, Copying, drop_inode, end_at, free_victim, in_next, move, node_items, sync, view_branchings, write_index}
 use Rattle.store_model.specs.Heads.{with_copy}
 use Rattle.store_model.specs.Invariant.{AreApart}
-use Rattle.store_model.specs.Lebs.{has_node, is_role, IsSettledWith, IsStoreSettled, lent, running_of, space_of, weight_of}
+use Rattle.store_model.specs.Lebs.{has_node, is_role, IsSettledWith, IsStoreSettled, lent, role_count, running_of, space_of, weight_of}
 use Rattle.store_model.specs.Store.{Index, Leb, Moving, Next, Place, Store}
 use Rattle.store_model.proofs.GrantCounts.{free_index}
 use Rattle.store_model.proofs.LebCollections.{free_number, free_row, free_rows}
 use Rattle.store_model.proofs.LebCounts.{count_rows, drop_index, freed_more, row_count, sync_empty, sync_index, sync_rows}
 use Rattle.store_model.proofs.LebDrops.{dropped_store}
+use Rattle.store_model.proofs.LebEnds.{set_rows}
 use Rattle.store_model.proofs.LebFrees.{freed_number, freed_row, freed_rows, synced_store}
 use Rattle.store_model.proofs.LebMoves.{moved_rows}
 use Rattle.store_model.proofs.LebRows.{Row, has_row, numbers_kept, numbers_of, rows, to_rows, victim_row}
@@ -198,3 +200,19 @@ freed_settled m moving e a s =
 pub free_settled : (m : Store) (moving : Option Moving) → m.moving ≡ moving → AreApart m → IsStoreSettled m → IsStoreSettled (free_victim m moving)
 free_settled m None e a s = s
 free_settled m (Some moving) e a s = freed_settled m moving e a s
+
+-- ---- a LEB of a running commit is written
+pub write_rows : (m : Store) (next : Next) → rows (write_index m (Some next)).lebs ≡ rows m.lebs
+write_rows m next = set_rows (get_or next.taken next.written 0) (flat_map (node_items m.geo) (view_branchings next.view (get_or next.taken next.written 0) m.sqnum)) m.lebs
+
+write_count : (role : LebKind) (m : Store) (next : Next) → role_count role (write_index m (Some next)).lebs ≡ role_count role m.lebs
+write_count role m next = count_rows role (write_index m (Some next)).lebs ∙ ap (row_count role) (write_rows m next) ∙ sym (count_rows role m.lebs)
+
+pub write_settled : (m : Store) (next : Option Next) → m.next ≡ next → IsStoreSettled m → IsStoreSettled (write_index m next)
+write_settled m None e s = s
+write_settled m (Some next) e s =
+    let k : Store = write_index m (Some next) in
+    let free = write_count kind.Free m next in
+    settled_running m k next (record next { written = next.written + 1 })
+    (record { geo = refl; empty = omega (arith, free); index = write_count kind.Index m next; weight = refl; numbers = ap numbers_of (write_rows m next) }) refl refl refl
+    (subst (λ (o : Option Next). IsSettledWith m (with_empty (lent m.moving) (space_of m)) o) e s)

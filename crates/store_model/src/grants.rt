@@ -3,7 +3,7 @@
 ghost use Rattle.std.specs.Prelude.{ℕ, List};
 ghost use Rattle.space_budget.specs.Books.{AreGrantsCovered};
 ghost use Rattle.store_model.specs.Backing.{book_of};
-ghost use Rattle.store_model.specs.Events.{after, Begin, Copying, Drop, Free, Move, Open, Put, Putting, Start, Sync};
+ghost use Rattle.store_model.specs.Events.{after, Begin, Copying, Drop, Free, Move, Open, Put, Putting, Start, Sync, Write};
 ghost use Rattle.store_model.specs.Invariant.{AreApart, HasFiles};
 ghost use Rattle.store_model.specs.Lebs.{IsStoreSettled};
 ghost use Rattle.store_model.specs.Legal.{IsLegalEvent};
@@ -37,3 +37,12 @@ pub fn a_store_stays_settled()
     ensures moved { (m : AnyStore) (c : Copying) → IsStoreSettled m → IsStoreSettled (after (Move c) m) }
     ensures freed { (m : AnyStore) → AreApart m → IsStoreSettled m → IsStoreSettled (after Free m) }
 {}
+
+/// The writing of a running commit's LEBs changes no number that admission reckons with: what was granted stays covered, and the store
+/// settled.
+pub fn a_commits_writing_changes_no_number()
+    ensures covered { (m : AnyStore) → AreGrantsCovered (book_of m) → AreGrantsCovered (book_of (after Write m)) }
+    ensures settled { (m : AnyStore) → IsStoreSettled m → IsStoreSettled (after Write m) }
+{
+    what_takes_no_more_keeps_what_was_granted();
+}

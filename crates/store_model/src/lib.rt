@@ -21,7 +21,9 @@ pub use crate::backing::{
     a_put_is_a_backings, a_sync_is_a_backings, an_opened_leb_is_no_backings,
     each_event_keeps_what_a_commit_began_on, each_event_keeps_what_the_journal_leads_to,
 };
-pub use crate::grants::{a_store_stays_settled, what_was_granted_stays_covered};
+pub use crate::grants::{
+    a_commits_writing_changes_no_number, a_store_stays_settled, what_was_granted_stays_covered,
+};
 pub use crate::invariant::{
     an_offered_list_has_what_may_be_empty, each_event_but_a_put_keeps_cut_trees_proper,
     each_event_keeps_a_place_for_each_node, each_event_keeps_a_proper_tree,
