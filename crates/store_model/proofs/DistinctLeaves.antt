@@ -62,7 +62,7 @@ stands_there (leb ∷ lebs) x (inl is) = or_left (leb.lnum == x.leaf.lnum) (list
 stands_there (leb ∷ lebs) x (inr s) = or_right (leb.lnum == x.leaf.lnum) (list_any (λ k. k == x.leaf.lnum) (lnums lebs)) (stands_there lebs x s)
 
 -- a leaf that stands ends in the text of its LEB
-stood_low : (geo : RawGeometry) (lebs : List Leb) (x : Kept) → AllByRecursion (IsLaidOut geo) lebs → are_distinct (lnums lebs) ≡ true → Stands lebs x → x.leaf.offs + round_8 x.leaf.len ≤ items_len (text_in lebs x.leaf.lnum)
+pub stood_low : (geo : RawGeometry) (lebs : List Leb) (x : Kept) → AllByRecursion (IsLaidOut geo) lebs → are_distinct (lnums lebs) ≡ true → Stands lebs x → x.leaf.offs + round_8 x.leaf.len ≤ items_len (text_in lebs x.leaf.lnum)
 stood_low geo [] x laid d s = absurd s
 stood_low geo (leb ∷ lebs) x laid d (inl is) =
     let all = subst (λ (n : ℕ). list_all (λ p. (p.lnum == leb.lnum) && nat_le (p.offs + round_8 p.len) n) (leaf_nodes leb.text) ≡ true) (none_plus (items_len leb.text)) (standing_ends leb.lnum 0 leb.text laid.0.places) in
@@ -89,7 +89,7 @@ all_low m head at xs a t e s = each_weaker (Stands m.lebs) (IsLow at.lnum at.off
         subst (λ (n : ℕ). x.leaf.offs + round_8 x.leaf.len ≤ n) (sym off) h
 
 -- ---- a leaf at that offset is none of these
-round_more : (n : ℕ) → n ≤ round_8 n
+pub round_more : (n : ℕ) → n ≤ round_8 n
 round_more n = omega arith
 
 not_here : (lnum offs : ℕ) (x : Kept) (new : Leaf) → IsLow lnum offs x → new.lnum ≡ lnum → new.offs ≡ offs → 0 < new.len → same_leaf x.leaf new ≡ false
@@ -113,7 +113,7 @@ free_here : (lnum offs : ℕ) (new : Leaf) (xs : List Kept) → AllByRecursion (
 free_here lnum offs new [] low at stand some = refl
 free_here lnum offs new (x ∷ xs) low at stand some = rw (not_here lnum offs x new low.0 at stand some) (free_here lnum offs new xs low.1 at stand some)
 
-some_len : (node : LeafNode) → 0 < leaf_len node
+pub some_len : (node : LeafNode) → 0 < leaf_len node
 some_len (inode node) = omega arith
 some_len (block node) = omega arith
 some_len (entry node) = omega arith

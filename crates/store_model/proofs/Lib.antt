@@ -81,6 +81,7 @@ mod Views
 mod Weights
 mod WholeEvents
 mod WholeOpens
+mod WholeStarts
 mod WorkedHalf
 mod WorkedOffered
 mod WorkedStates

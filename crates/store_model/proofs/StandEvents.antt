@@ -91,7 +91,7 @@ take_meant taken leb x is = by (is_among taken leb.lnum)
     by true = is
     by false = is
 
-start_stands : (m : Store) (taken : List ℕ) (xs : List Kept) → AllByRecursion (Stands m.lebs) xs → AllByRecursion (Stands (map (take_leb taken) m.lebs)) xs
+pub start_stands : (m : Store) (taken : List ℕ) (xs : List Kept) → AllByRecursion (Stands m.lebs) xs → AllByRecursion (Stands (map (take_leb taken) m.lebs)) xs
 start_stands m taken xs s = each_weaker (Stands m.lebs) (Stands (map (take_leb taken) m.lebs)) (λ x h. stands_map (take_leb taken) x m.lebs (take_number taken) (λ leb same is. take_meant taken leb x is) h) xs s
 
 -- a LEB that is written was taken, so no leaf stands there

@@ -30,12 +30,12 @@ use Rattle.store_model.proofs.TextOpens.{opened}
 
 -- ---- leaves that needn't stand
 -- a master that leads to the same, but for a bud to which nothing was put
-record IsAsLeft (f g : Faced) : Type 0 where
-  tree : g.view.tree ≡ f.view.tree
-  copies : copies_of g.view.buds ≡ copies_of f.view.buds
-  synced : g.synced ≡ f.synced
-  heads : heads_of g.view.buds g.synced ≡ heads_of f.view.buds f.synced
-  lists : g.lists ≡ f.lists
+pub record IsAsLeft (f g : Faced) : Type 0 where
+  pub tree : g.view.tree ≡ f.view.tree
+  pub copies : copies_of g.view.buds ≡ copies_of f.view.buds
+  pub synced : g.synced ≡ f.synced
+  pub heads : heads_of g.view.buds g.synced ≡ heads_of f.view.buds f.synced
+  pub lists : g.lists ≡ f.lists
 
 nameless_as : (f g : Faced) → IsAsLeft f g → (s : Option Change) → IsOfNameless f s → IsOfNameless g s
 nameless_as f g same (Some (SetInode ino inode)) h = (subst (λ (t : Tree). is_nameless t ino ≡ true) (sym same.tree) h.0, subst (λ (hs : List Head). IsUnset hs ino) (sym same.heads) h.1)
@@ -53,7 +53,7 @@ left_as f g x same (inl copy) =
 left_as f g x same (inr (inl touched)) = inr (inl (subst (λ (hs : List Head). IsTouchedBy hs x) (sym same.heads) touched))
 left_as f g x same (inr (inr (of, none))) = inr (inr (subst (λ (ls : List (List ℕ)). AreOfListed ls x) (sym same.lists) of, nameless_as f g same (shown_by x) none))
 
-all_left_as : (f g : Faced) (n : ℕ) (kept : List Kept) → IsAsLeft f g → AreLeft f n kept → AreLeft g n kept
+pub all_left_as : (f g : Faced) (n : ℕ) (kept : List Kept) → IsAsLeft f g → AreLeft f n kept → AreLeft g n kept
 all_left_as f g n [] same h = tt
 all_left_as f g n (x ∷ kept) same h = (λ at. left_as f g x same (h.0 at), all_left_as f g n kept same h.1)
 

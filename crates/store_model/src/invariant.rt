@@ -1,11 +1,11 @@
 // Laws of what is always so: fields of the invariant that each event keeps.
 
-ghost use Rattle.std.specs.Prelude.{◌≡◌, length, map};
+ghost use Rattle.std.specs.Prelude.{◌≡◌, ℕ, List, length, map};
 ghost use Rattle.index_tree.specs.Distinct.{AreDistinct};
 ghost use Rattle.index_tree.specs.Shape.{node_count};
 ghost use Rattle.fs_model.specs.Orphan.{nameless};
 ghost use Rattle.fs_model.specs.Proper.{IsProper};
-ghost use Rattle.store_model.specs.Events.{after, Event, Offer, Put, Putting};
+ghost use Rattle.store_model.specs.Events.{after, Event, Offer, Put, Putting, Start};
 ghost use Rattle.store_model.specs.Invariant.{AreProper, AreWholeOrLeft, HasOrphans, HasViews, IsLight, IsStore, LeadsTo, OfBoth};
 ghost use Rattle.store_model.specs.Legal.{IsLegalEvent};
 ghost use Rattle.store_model.specs.Store.{Store as AnyStore};
@@ -85,3 +85,9 @@ pub fn each_event_but_a_put_keeps_cut_trees_proper()
 {
     a_mount_keeps_trees_proper();
 }
+
+/// All leaves that a commit starts with stand, in front of where the heads end in their LEBs; and those of the last commit stand as
+/// before, or need not.
+pub fn a_commit_starts_with_whole_lebs()
+    ensures { (m : AnyStore) (taken : List ℕ) → IsLegalEvent m (Start taken) → IsStore m → OfBoth (after (Start taken) m) (AreWholeOrLeft (after (Start taken) m)) }
+{}
