@@ -25,11 +25,10 @@ pub use crate::grants::{
     a_commits_writing_changes_no_number, a_store_stays_settled, what_was_granted_stays_covered,
 };
 pub use crate::invariant::{
-    a_commit_starts_with_whole_lebs,
-    an_offered_list_has_what_may_be_empty, each_event_but_a_put_keeps_cut_trees_proper,
-    each_event_keeps_a_place_for_each_node, each_event_keeps_a_proper_tree,
-    each_event_keeps_leaves_apart, each_event_keeps_the_history, each_event_keeps_the_orphans,
-    each_event_keeps_the_weight, each_event_keeps_what_was_committed,
+    a_commit_starts_with_whole_lebs, an_offered_list_has_what_may_be_empty,
+    each_event_but_a_put_keeps_cut_trees_proper, each_event_keeps_a_place_for_each_node,
+    each_event_keeps_a_proper_tree, each_event_keeps_leaves_apart, each_event_keeps_the_history,
+    each_event_keeps_the_orphans, each_event_keeps_the_weight, each_event_keeps_what_was_committed,
     each_event_keeps_who_has_no_name,
 };
 pub use crate::law::{
