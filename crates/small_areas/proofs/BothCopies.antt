@@ -32,9 +32,9 @@ pub copied_spelled : (a b : VolumeState) (lnum room sqnum : ℕ) (m : Master) (n
 copied_spelled a b lnum room sqnum m node e h = let P : List ℕ → Type 0 = λ n. IsCopied a b lnum room (copy_of room n) in subst P e h
 
 -- a copy that was written is whole
-whole_copy : (a b : VolumeState) (lnum room : ℕ) (copy left : List ℕ) → IsCopied a b lnum room copy → b.left_now lnum left → HasWholeCopy a lnum room copy left
-whole_copy a b lnum room copy left (inl (place, is_place, done)) now = let kept = done.left left now in inl (place, is_place, kept.0, kept.1, kept.2)
-whole_copy a b lnum room copy left (inr (none, done)) now = inr (none, done.left left now)
+whole_copy : (a b : VolumeState) (lnum room : ℕ) (copy left : List ℕ) → HasMapped a → IsCopied a b lnum room copy → b.left_now lnum left → HasWholeCopy a lnum room copy left
+whole_copy a b lnum room copy left sub (inl (place, is_place, done)) now = let kept = done.left left now in inl (place, is_place, kept.0, sub lnum kept.0 kept.1, kept.1, kept.2)
+whole_copy a b lnum room copy left sub (inr (none, done)) now = inr (none, done.left left now)
 
 -- the first copy alone, whatever it answered
 pub works_one : OneText → OneNode → (a b : VolumeState) (node : List ℕ) (room number : ℕ) (m : Master) → IsRoom room → HasMapped a → IsCall a b 1 room (number + 1) m node → Works a b IsMasterLeb (MasterUnderWay a room number m)
@@ -65,7 +65,7 @@ works_two one one_node a b e node other room number m is_room sub_a sub_b size f
       elsewhere = λ l apart. h.works.others_left l (x l) (λ is. apart (inl is)) (w.0 l (λ is. apart (inr is)));
       first = h.works.left (x 1) (w.0 1 (omega arith));
       second = copying_from a b 2 1 room (copy_of room n2) D (omega arith) size h.works (x 2) w.1;
-      in_order = inr (whole_copy a b 1 room (copy_of room n1) (x 1) (copied_spelled a b 1 room (number + 1) m node first.spelling done) (w.0 1 (omega arith)));
+      in_order = inr (whole_copy a b 1 room (copy_of room n1) (x 1) sub_a (copied_spelled a b 1 room (number + 1) m node first.spelling done) (w.0 1 (omega arith)));
       old_or_new = λ old start. second_moment one one_node a b n1 n2 room number m old D is_room h.is_node k.is_node sub_a sub_b start h.works (copied_spelled a b 1 room (number + 1) m node first.spelling done) x w;
     }) (works_one one one_node a b node room number m is_room sub_a first) (Works-on b e 2 E k.works)
 

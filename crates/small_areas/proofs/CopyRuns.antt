@@ -1,9 +1,10 @@
 -- Two copies, one after the other, as a volume sees them.
-use Rattle.std.proofs.Common.{◌≡◌, ◌≢◌, ◌⊎◌, ℕ, ◌+◌, ◌<◌, ◌≤◌, List, length, Option, Some, None, IfSome, IfNone, Result, Ok, Err, refl, ap, sym, ◌∙◌, subst, inl, inr, arith}
+use Rattle.std.proofs.Common.{◌≡◌, ◌≢◌, ◌⊎◌, ℕ, ◌+◌, ◌<◌, ◌≤◌, List, Option, Some, None, IfSome, IfNone, Result, Ok, Err, refl, ap, sym, ◌∙◌, subst, inl, inr, arith}
 use Rattle.std.specs.Prelude.{OnOk}
 use Rattle.std.proofs.lemmas.Bool.{lt-ltb, le-ltb}
 use Rattle.ubifs_base.specs.NodeLaws.{IsBytes}
-use Rattle.ubi_volume.specs.Volume.{VolumeState, Only, filled, put, Torn, UnderWay, WorksOn, Keeps}
+use Rattle.ubi_volume.specs.TornLaws.{Torn-units, units-Torn}
+use Rattle.ubi_volume.specs.Volume.{VolumeState, Only, filled, put, UnderWay, WorksOn, Keeps}
 use Rattle.ubi_volume.specs.VolumeLaws.{Leaves-then, Leaves-keeps}
 use Rattle.media_sys.specs.declared.master.Master.{Master}
 use Rattle.leb_scan.specs.declared.tail.Tail.TheVariants.{Clean}
@@ -44,14 +45,13 @@ works_after a b c lnum D E more keeps works = record {
   unbroken = λ h. keeps.unbroken (works.unbroken h);
 }
 
-pub put_copying : (a b : VolumeState) (lnum room : ℕ) (copy : List ℕ) (place : Option ℕ) → Keeps a b → b.leb_size ≡ a.leb_size → length copy ≡ room → IsBytes (a.holds lnum) → IfSome place (IsPlace (a.holds lnum) room) → IfNone place (HasNoPlace (a.holds lnum) room)
+pub put_copying : (a b : VolumeState) (lnum room : ℕ) (copy : List ℕ) (place : Option ℕ) → Keeps a b → b.leb_size ≡ a.leb_size → IsBytes (a.holds lnum) → IfSome place (IsPlace (a.holds lnum) room) → IfNone place (HasNoPlace (a.holds lnum) room)
     → (x : List ℕ) → PutUnderWay b lnum copy place x → CopyUnderWay a lnum room copy x
-put_copying a b lnum room copy None keeps size long fits is none x (inl now) = inl (inl ((keeps.left lnum x).0 now))
-put_copying a b lnum room copy None keeps size long fits is none x (inr e) = inl (inr (none, e ∙ ap (λ (s : ℕ). filled s copy) size))
-put_copying a b lnum room copy (Some offs) keeps size long fits is none x (inl now) = inl (inl ((keeps.left lnum x).0 now))
-put_copying a b lnum room copy (Some offs) keeps size long fits is none x (inr (d, mapped, torn)) =
-    let P : ℕ → Type 0 = λ n. Torn offs n d x in
-    inr (record { place = offs; bytes = fits; is_place = is; under_way = inr (d, (keeps.left_mapped lnum d).0 mapped, subst P long torn) })
+put_copying a b lnum room copy None keeps size fits is none x (inl now) = inl (inl ((keeps.left lnum x).0 now))
+put_copying a b lnum room copy None keeps size fits is none x (inr e) = inl (inr (none, e ∙ ap (λ (s : ℕ). filled s copy) size))
+put_copying a b lnum room copy (Some offs) keeps size fits is none x (inl now) = inl (inl ((keeps.left lnum x).0 now))
+put_copying a b lnum room copy (Some offs) keeps size fits is none x (inr (d, mapped, torn)) =
+    inr (record { place = offs; bytes = fits; is_place = is; before = d; mapped = (keeps.left_mapped lnum d).0 mapped; torn = Torn-units a.min_io offs copy d x torn })
 
 pub put_copied : (a b c : VolumeState) (lnum room : ℕ) (copy : List ℕ) (place : Option ℕ) → Keeps a b → b.leb_size ≡ a.leb_size → IfSome place (IsPlace (a.holds lnum) room) → IfNone place (HasNoPlace (a.holds lnum) room)
     → IsPut b c lnum copy place → IsCopied a c lnum room copy
@@ -128,7 +128,9 @@ copying_from a c lnum other room copy D ne size works x (inr w) =
       place = w.place;
       bytes = subst B still w.bytes;
       is_place = subst P still w.is_place;
-      under_way = elim w.under_way [ inl now ↦ inl (works.others_left lnum x ne now) | inr (d, mapped, torn) ↦ inr (d, works.others_mapped lnum d ne mapped, torn) ];
+      before = w.before;
+      mapped = works.others_mapped lnum w.before ne w.mapped;
+      torn = Torn-units a.min_io w.place copy w.before x (units-Torn c.min_io w.place copy w.before x w.torn);
     })
 
 -- and after a call that keeps all
@@ -145,7 +147,9 @@ copying_kept a c lnum room copy keeps size x (inr w) =
       place = w.place;
       bytes = subst B still w.bytes;
       is_place = subst P still w.is_place;
-      under_way = elim w.under_way [ inl now ↦ inl ((keeps.left lnum x).0 now) | inr (d, mapped, torn) ↦ inr (d, (keeps.left_mapped lnum d).0 mapped, torn) ];
+      before = w.before;
+      mapped = (keeps.left_mapped lnum w.before).0 w.mapped;
+      torn = Torn-units a.min_io w.place copy w.before x (units-Torn c.min_io w.place copy w.before x w.torn);
     })
 
 -- where a cut left what a LEB held, it does so after the copy

@@ -5,7 +5,6 @@ use Rattle.std.proofs.lemmas.List.Elements.{All-nil}
 use Rattle.ubifs_base.specs.Gap.{gap_of}
 use Rattle.ubifs_base.specs.NodeLaws.{IsBytes}
 use Rattle.ubi_volume.specs.Volume.{VolumeState, Only, filled, put}
-use Rattle.ubi_volume.specs.VolumeLaws.{WriteUnderWay-only}
 use Rattle.media_sys.specs.SystemNode.{IsMaster}
 use Rattle.media_sys.specs.declared.master.Master.{Master}
 use Rattle.ubifs_base.specs.declared.node_type.NodeType.TheVariants as types
@@ -185,10 +184,10 @@ left_of one one_node old node left lnum room sqnum new o is_room is_node only su
 left_of one one_node old node left lnum room sqnum new o is_room is_node only sub h (inl (inr (none, is))) meant =
     inr (0, (replaced one_node left node old.leb_size lnum room sqnum new is_room is is_node).read)
 left_of one one_node old node left lnum room sqnum new o is_room is_node only sub h (inr w) meant =
-    elim (WriteUnderWay-only old lnum w.place room (old.holds lnum) only sub left w.under_way) [
-      | inl same ↦ let P : List ℕ → Type 0 = λ leb. IsReadOf lnum leb o in inl (subst P (sym same) h)
-      | inr torn ↦ elim (read_behind one one_node (old.holds lnum) left node lnum room w.place sqnum new o w.bytes is_node w.is_place (sym torn.front) (sym torn.len) (meant w.place w.is_place) h) [
-        | inl kept ↦ inl kept
-        | inr fresh ↦ inr (w.place, fresh)
-      ]
+    let is : w.before ≡ old.holds lnum = only w.before (sub w.before w.mapped) in
+    let front : take w.place left ≡ take w.place (old.holds lnum) = w.torn.front ∙ ap (take w.place) is in
+    let len : length left ≡ length (old.holds lnum) = w.torn.len ∙ ap (λ (bytes : List ℕ). length bytes) is in
+    elim (read_behind one one_node (old.holds lnum) left node lnum room w.place sqnum new o w.bytes is_node w.is_place (sym front) (sym len) (meant w.place w.is_place) h) [
+      | inl kept ↦ inl kept
+      | inr fresh ↦ inr (w.place, fresh)
     ]

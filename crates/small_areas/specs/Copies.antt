@@ -3,7 +3,7 @@ use Rattle.std.specs.Prelude.{◌≡◌, ◌⊎◌, ℕ, ◌+◌, ◌-◌, ◌*�
 use Rattle.ubifs_base.specs.Gap.{gap_of}
 use Rattle.ubifs_base.specs.NodeLaws.{IsBytes}
 use Rattle.ubifs_base.specs.declared.node_type.NodeType.TheVariants as types
-use Rattle.ubi_volume.specs.Volume.{VolumeState, Keeps, Only, filled, put, IsWritten, IsChanged, WriteUnderWay}
+use Rattle.ubi_volume.specs.Volume.{VolumeState, Keeps, Only, IsTornInUnits, filled, put, IsWritten, IsChanged}
 use Rattle.ubi_volume.specs.Frame.{Elsewhere}
 use Rattle.media_sys.specs.SystemNode.{IsMaster, master, written}
 use Rattle.media_sys.specs.declared.master.Master.{Master}
@@ -63,17 +63,21 @@ abbrev pub IsCopied : VolumeState → VolumeState → ℕ → ℕ → List ℕ �
 IsCopied old new lnum room copy =
     ((place : ℕ) × IsPlace (old.holds lnum) room place × IsWritten old new lnum place copy) ⊎ (HasNoPlace (old.holds lnum) room × IsChanged old new lnum copy)
 
--- a write at the place for the next copy, under way
-pub record IsAppending (old : VolumeState) (lnum room : ℕ) (left : List ℕ) : Type 0 where
+-- a write of this copy at its place, under way: each unit of it is as it was, as it is to be, or anything, and no other byte changes
+pub record IsAppending (old : VolumeState) (lnum room : ℕ) (copy left : List ℕ) : Type 0 where
   pub place : ℕ
   pub bytes : IsBytes (old.holds lnum)
   pub is_place : IsPlace (old.holds lnum) room place
-  pub under_way : WriteUnderWay old lnum place room left
+  pub before : List ℕ
+  pub mapped : old.left_mapped lnum before
+  pub torn : IsTornInUnits old.min_io place copy before left
 
--- What a cut leaves of a LEB while a copy is written: what it might have left before; the copy in place of all of it, where it
--- has no place for one; or what it held, with the copy at its place, whole or torn.
+-- What a cut leaves of a LEB while a copy is written: what it might have left before; the copy in place of all of it, if it has
+-- no place for one; or what it might have left before, if no unmapping is undone, with the copy at its place, whole or torn.
+-- A torn unit can be anything, so this alone doesn't tell a copy from garbage. That the latest master is the old one or the new
+-- one needs the premise on checksums (IsMeant).
 abbrev pub CopyUnderWay : VolumeState → ℕ → ℕ → List ℕ → List ℕ → Type 0
-CopyUnderWay old lnum room copy left = (old.left_now lnum left ⊎ (HasNoPlace (old.holds lnum) room × (left ≡ filled old.leb_size copy))) ⊎ IsAppending old lnum room left
+CopyUnderWay old lnum room copy left = (old.left_now lnum left ⊎ (HasNoPlace (old.holds lnum) room × (left ≡ filled old.leb_size copy))) ⊎ IsAppending old lnum room copy left
 
 -- Of what a cut may leave of a LEB while a master's node is written at a place, this is what is meant: no torn node has a
 -- matching checksum. So the text from the place on has no master but that node, whole. Each list of bytes has a text.
@@ -117,9 +121,9 @@ pub record IsStart (state : VolumeState) (number : ℕ) (old : PlacedMaster) : T
 abbrev pub IsMasterLeb : ℕ → Type 0
 IsMasterLeb lnum = (lnum ≡ 1) ⊎ (lnum ≡ 2)
 
--- a cut leaves the whole copy: at its place, or in place of all that the LEB held where there was none
+-- a cut leaves the whole copy: at its place, in what it might have left before the call, or in place of all that the LEB held if there was none
 abbrev pub HasWholeCopy : VolumeState → ℕ → ℕ → List ℕ → List ℕ → Type 0
-HasWholeCopy old lnum room copy left = ((place : ℕ) × IsPlace (old.holds lnum) room place × (before : List ℕ) × old.left_mapped lnum before × (left ≡ put place copy before)) ⊎ (HasNoPlace (old.holds lnum) room × (left ≡ filled old.leb_size copy))
+HasWholeCopy old lnum room copy left = ((place : ℕ) × IsPlace (old.holds lnum) room place × (before : List ℕ) × old.left_now lnum before × old.left_mapped lnum before × (left ≡ put place copy before)) ⊎ (HasNoPlace (old.holds lnum) room × (left ≡ filled old.leb_size copy))
 
 -- What a cut leaves while a master is written with the numbers behind this one: of all other LEBs what it might have left
 -- before; of LEBs 1 and 2 this too, or their copies under way, but of LEB 2 no copy unless LEB 1 has the whole one; and from such

@@ -5,7 +5,6 @@ use Rattle.small_areas.specs.Puts.{IsPut, PutUnderWay}
 use Rattle.small_areas.proofs.ByteLists.{copied_bytes}
 use Rattle.small_areas.proofs.CopyRuns.{on_ok, works_after, put_copying, put_copied}
 use Rattle.small_areas.proofs.Rooms.{place_starts}
-use Rattle.small_areas.proofs.TornCopy.{copy_length}
 use Rattle.small_areas.proofs.copies.write_copy.Goals as goal
 
 pub put_copy-requires-clause-starts : goal.put_copy-requires-clause-starts
@@ -69,7 +68,6 @@ returns-clause-works g c =
     let is = subst S c.in_ok-read_leb.ensures.read c.next_place-place.ensures.some in
     let none = subst N c.in_ok-read_leb.ensures.read c.next_place-place.ensures.none in
     let fits = subst B c.in_ok-read_leb.ensures.read c.next_place-place.ensures.bytes in
-    let long = copy_length room c.args.node.now c.requires.room.low c.requires.node in
     works_after a b e lnum (PutUnderWay b lnum c.lay_copy.new.copy place) (CopyUnderWay a lnum room copy)
-    (λ x h. let P : List ℕ → Type 0 = λ bytes. PutUnderWay b lnum bytes place x in put_copying a b lnum room copy place c.read_leb.ensures.keeps c.read_leb.ensures.shape.leb_size long fits is none x (subst P spelled h))
+    (λ x h. let P : List ℕ → Type 0 = λ bytes. PutUnderWay b lnum bytes place x in put_copying a b lnum room copy place c.read_leb.ensures.keeps c.read_leb.ensures.shape.leb_size fits is none x (subst P spelled h))
     c.read_leb.ensures.keeps c.put_copy.ensures.works
