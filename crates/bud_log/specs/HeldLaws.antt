@@ -1,5 +1,5 @@
 -- A log that its calls left is held, as a mount behind an unmount finds it.
-use Rattle.std.proofs.Common.{◌≡◌, inl, inr, ℕ, ◌+◌, true, false, List, [], ◌∷◌, Some, ap, sym, ◌∙◌, subst, arith}
+use Rattle.std.proofs.Common.{◌≡◌, inl, inr, ℕ, ◌+◌, ◌<◌, true, false, List, [], ◌∷◌, Some, ap, sym, ◌∙◌, subst, arith}
 use Rattle.std.proofs.lemmas.Bool.{cases_eq}
 use Rattle.ubifs_base.specs.NodeLaws.{IsBytes}
 use Rattle.ubifs_base.specs.declared.raw_geometry.RawGeometry.{RawGeometry}
@@ -11,7 +11,7 @@ use Rattle.bud_log.specs.AfterCut.{IsHeldLog, IsOpenBehind, IsSettledOrOlder}
 use Rattle.bud_log.specs.AfterCutLaws.{goes_lnum, IsReady-held, IsAt-behind}
 use Rattle.bud_log.specs.Log.{Log, IsLogLeb, next_leb, Run}
 use Rattle.bud_log.specs.LogAnswers.{StartsWith, IsSection}
-use Rattle.bud_log.specs.LogAt.{LogAt, IsAt}
+use Rattle.bud_log.specs.LogAt.{LogAt, IsAt, steps_to}
 use Rattle.bud_log.specs.LogLaws.{older_more, next_in}
 use Rattle.bud_log.specs.LogText.{LogText, begins_with, start_of, is_start_alone, IsNoLoneStart}
 use Rattle.bud_log.specs.RingRuns.{OneText}
@@ -40,9 +40,9 @@ IsReady-start one a geo from lnum offs number start buds h fits (text, is, start
     let both : Some h.start ≡ Some start = sym h.chain.starts ∙ ap (λ (n : List Found). start_of (begins_with n)) nodes ∙ starts in
     cc
 
--- A log whose present section stands as it was started is held. Opened over what is told of it, it goes on where nothing counts as written.
+-- A log whose present section stands as it was started is held. Opened over what is told of it, it goes on in the same LEB, where nothing counts as written.
 pub IsReady-unmounted : OneText → (a : VolumeState) (at : LogAt) (number low : ℕ) (buds : List HeadAt) → IsReady a at.geo at.section at.lnum at.offs number buds → IsAt a at → IsSection a at low → ((k : ℕ) → IsLogLeb at.geo k → IsBytes (a.holds k)) → ((k : ℕ) → IsLogLeb at.geo k → a.left_now k (a.holds k))
-    → (log : Log) × IsHeldLog a at.geo at.section number log × (log.buds ≡ buds) × IsOpenBehind a at.geo log.ends
+    → (log : Log) × IsHeldLog a at.geo at.section number log × (log.buds ≡ buds) × IsOpenBehind a at.geo log.ends × (log.ends.lnum ≡ at.lnum)
 IsReady-unmounted one a at number low buds h is_at section fits held =
     let geo = at.geo in
     let from = at.section in
@@ -71,7 +71,7 @@ IsReady-unmounted one a at number low buds h is_at section fits held =
           let both : true ≡ false = sym lone.2 ∙ ap is_start_alone nodes ∙ more.2 in
           absurd cc
     ] in
-    (r.0, r.1, r.2, IsAt-behind a at r.0.ends is_at goes)
+    (r.0, r.1, r.2, IsAt-behind a at r.0.ends is_at goes, goes_lnum at.geo r.0.ends at.lnum at.offs goes)
 
 -- The present section stands as it was started where the LEBs of its log are as they were.
 pub IsSection-same : (a b : VolumeState) (at : LogAt) (number : ℕ) → IsLogLeb at.geo at.section → IsLogLeb at.geo at.lnum → ((k : ℕ) → IsLogLeb at.geo k → IsSameLeb a b k) → IsSection a at number → IsSection b at number
@@ -82,4 +82,20 @@ IsSection-same a b at number s l same section =
       starts = subst P (sym (same at.section s).holds) section.starts;
       more = λ other. subst Q (sym (same at.lnum l).holds) (section.more other);
       older = λ k leb is behind left. section.older k leb is behind ((same k is).left leb left);
+    }
+
+-- So it does where the log is opened again, wherever it goes on in the same LEB.
+pub IsSection-moved : (state : VolumeState) (a b : LogAt) (number : ℕ) → b.geo ≡ a.geo → b.section ≡ a.section → b.lnum ≡ a.lnum → IsSection state a number → IsSection state b number
+IsSection-moved state a b number geo section lnum h =
+    let S : ℕ → Type 0 = λ n. StartsWith (state.holds n) n (number + 1) in
+    let M : ℕ → Type 0 = λ n. IsNoLoneStart (state.holds n) n in
+    record {
+      starts = subst S (sym section) h.starts;
+      more = λ other. subst M (sym lnum) (h.more (λ same. other (lnum ∙ same ∙ sym section)));
+      older = λ k leb is behind left.
+          let L : RawGeometry → Type 0 = λ g. IsLogLeb g k in
+          let G : RawGeometry → Type 0 = λ g. steps_to g a.section a.lnum < steps_to g a.section k in
+          let F : ℕ → Type 0 = λ n. steps_to b.geo n a.lnum < steps_to b.geo n k in
+          let H : ℕ → Type 0 = λ n. steps_to b.geo b.section n < steps_to b.geo b.section k in
+          h.older k leb (subst L geo is) (subst G geo (subst F section (subst H lnum behind))) left;
     }

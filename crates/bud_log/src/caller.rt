@@ -49,8 +49,9 @@ pub fn start_and_open<V: Volume>(
     Some(())
 }
 
-/// As a mount behind an unmount does: reads a log whose present section stands as it was started, and opens a bud in it. None if a
-/// call failed, the log was full, or no sequence number is left.
+/// As a mount behind an unmount does: reads a log whose present section stands as it was started, and opens a bud in it. It gives the
+/// log, whose section still stands so, and the number of its last node. None if a call failed, the log was full, or no sequence number is
+/// left.
 pub fn open_unmounted<V: Volume>(
     alloc: Global,
     volume: &mut V,
@@ -58,15 +59,19 @@ pub fn open_unmounted<V: Volume>(
     log: &Log,
     head: JournalHead,
     lnum: u32,
-) -> Option<Log>
+) -> Option<(Log, u64)>
     requires geo { log.now.geo ≡ raw_of geometry.now }
     requires at { IsAt (V.state volume.old) log.now }
     requires stands { (number : ℕ) × (low : ℕ) × (buds : List AHead) × IsReady (V.state volume.old) log.now.geo log.now.section log.now.lnum log.now.offs number buds × IsSection (V.state volume.old) log.now low }
     requires main { main_first log.now.geo ≤ lnum }
     requires bud { lnum < (V.state volume.old).leb_cnt }
-    ensures { IfSome result (λ after. (number : ℕ) (buds : List AHead)
+    ensures at { IfSome result (λ after. IsAt (V.state volume.new) after.0) }
+    ensures ready { IfSome result (λ after. (number : ℕ) (buds : List AHead)
         → IsReady (V.state volume.old) log.now.geo log.now.section log.now.lnum log.now.offs number buds
-        → (next : ℕ) × IsReady (V.state volume.new) after.geo after.section after.lnum after.offs next (named buds (record { lnum = lnum; offs = 0; head = head }))) }
+        → IsReady (V.state volume.new) after.0.geo after.0.section after.0.lnum after.0.offs after.1 (named buds (record { lnum = lnum; offs = 0; head = head }))) }
+    ensures stands { IfSome result (λ after. (number low : ℕ) (buds : List AHead)
+        → IsReady (V.state volume.old) log.now.geo log.now.section log.now.lnum log.now.offs number buds
+        → IsSection (V.state volume.old) log.now low → IsSection (V.state volume.new) after.0 low) }
 {
     one_text();
     let from = log.section();
@@ -82,7 +87,7 @@ pub fn open_unmounted<V: Volume>(
     let Ok(()) = again.open_bud(volume, head, lnum, &mut sqnum) else {
         return None;
     };
-    Some(again)
+    Some((again, sqnum))
 }
 
 // Where a log goes on that was read.
