@@ -11,3 +11,4 @@ pub mod Exchanged
 pub mod ExchangeSound
 pub mod Removed
 pub mod Changed
+pub mod Counted

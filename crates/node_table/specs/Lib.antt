@@ -4,3 +4,4 @@ pub mod Walk
 pub mod Staging
 pub mod Exchange
 pub mod Changing
+pub mod Counting

@@ -8,6 +8,8 @@
 mod after;
 mod bisect;
 mod change;
+mod counting;
+mod counts;
 mod exchange;
 mod find;
 mod holding;

@@ -6,6 +6,7 @@ ghost use Rattle.node_table.specs.NodeView.{tree_at, leaves_at};
 ghost use Rattle.node_table.specs.Staging.{IsAdded, IsSoundRoot};
 
 use crate::change::Change;
+use crate::counting::truncate_both;
 use crate::node::Root;
 use crate::table::NodeTable;
 use index_media::{
@@ -89,7 +90,7 @@ impl NodeTable {
         match self.stage_all(alloc, root, changes) {
             Ok(made) => Ok(made),
             Err(fault) => {
-                self.nodes.truncate(number);
+                truncate_both(&mut self.nodes, &mut self.counts, number);
                 Err(fault)
             }
         }

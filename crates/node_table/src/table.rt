@@ -4,11 +4,14 @@ ghost use Rattle.std.specs.Prelude.{◌≡◌, ◌≤◌, IfOk, OnOk, OnErr, Opt
 ghost use Rattle.index_tree.specs.Order.{key_rank, of_rank, first_after};
 ghost use Rattle.index_tree.specs.Removal.{holds};
 ghost use Rattle.index_media.specs.KeyedRow.{no_more, node_in};
+ghost use Rattle.node_table.specs.Counting.{counts_of_all, counted-prop};
 ghost use Rattle.node_table.specs.NodeView.{views, view_of, row_of, stretch_at, tree_at, leaves_at, IsRootIn};
 ghost use Rattle.node_table.specs.Sound.{IsSoundView, AreSoundViews, sound_views-prop};
 ghost use Rattle.node_table.specs.declared.node.Root.{Root as ARoot};
 ghost use Rattle.ubifs_base.specs.declared.key.Key.{Key as AKey};
 
+use crate::counting::push_both;
+use crate::counts::TreeCounts;
 use crate::node::{Root, TableNode};
 use crate::rank::rank;
 use index_tree::Leaf;
@@ -21,10 +24,12 @@ use ubifs_base::{Key, Memory};
 #[derive(Drop)]
 pub struct NodeTable {
     pub(crate) nodes: Vec<TableNode>,
+    pub(crate) counts: Vec<TreeCounts>,
     pub(crate) fanout: u32,
     ghost least: { 3 ≤ fanout },
     ghost most: { fanout ≤ 256 },
     ghost sound: { AreSoundViews fanout (views nodes.items) } by { sound_views-prop fanout (views nodes.items) },
+    ghost counted: { counts.items ≡ counts_of_all fanout (views nodes.items) } by { counted-prop fanout counts.items (views nodes.items) },
 }
 
 impl NodeTable {
@@ -37,6 +42,7 @@ impl NodeTable {
     {
         NodeTable {
             nodes: Vec::new(alloc),
+            counts: Vec::new(alloc),
             fanout,
         }
     }
@@ -55,8 +61,9 @@ impl NodeTable {
         ensures fanout { self.new.fanout ≡ self.old.fanout }
         ensures err { OnErr result (self.new.nodes.items ≡ self.old.nodes.items) }
     {
+        let own = self.counts_over(node.links.as_slice())?;
         let number = self.nodes.len() as u64;
-        self.nodes.push(node)?;
+        push_both(&mut self.nodes, &mut self.counts, node, own)?;
         Ok(number)
     }
 
