@@ -9,5 +9,6 @@ pub mod InsertedContents
 pub mod Removing
 pub mod RemovingSound
 pub mod RemovedContents
+pub mod Pruned
 pub mod InsertionWeight
 pub mod FirstKeys

@@ -45,7 +45,7 @@ no_leaves done z = refl
 no_leaves (leaf x rest) z = absurd (omega (arith, z))
 no_leaves (node c rest) z = absurd (omega (arith, z))
 
-tidied_leaves : (key : Key) (place : Option Stretch) (c rest : KeyedRow) → contents (bare (keyed_tidied (node_in key place c rest))) ≡ contents (bare c) ++ contents (bare rest)
+pub tidied_leaves : (key : Key) (place : Option Stretch) (c rest : KeyedRow) → contents (bare (keyed_tidied (node_in key place c rest))) ≡ contents (bare c) ++ contents (bare rest)
 tidied_leaves key place c rest = elim (cases_Bool (count (bare c) == 0)) [
   | inl e ↦ rw e (ap (λ (v : List Leaf). v ++ contents (bare rest)) (sym (no_leaves (bare c) (eqb-true (count (bare c)) 0 e))))
   | inr e ↦ rw e refl
@@ -71,7 +71,7 @@ lone_one done h = absurd cc
 lone_one (leaf x rest) h = absurd cc
 lone_one (node c rest) h = let none = eqb-true (count rest) 0 h in omega (arith, none)
 
-collapsed_leaves : (row : KeyedRow) → count (bare row) ≤ 1 → contents (bare (keyed_collapsed row)) ≡ contents (bare row)
+pub collapsed_leaves : (row : KeyedRow) → count (bare row) ≤ 1 → contents (bare (keyed_collapsed row)) ≡ contents (bare row)
 collapsed_leaves no_more one = refl
 collapsed_leaves (leaf_in x rest) one = refl
 collapsed_leaves (node_in key place c rest) one =

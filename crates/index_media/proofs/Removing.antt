@@ -15,7 +15,7 @@ use Rattle.index_media.specs.KeyedRow.{KeyedRow, no_more, leaf_in, node_in, bare
 use Rattle.index_media.specs.Keys.{IsAtMost}
 use Rattle.index_media.specs.PlacedRow.{Stretch}
 
-tidied_bare : (row : KeyedRow) → bare (keyed_tidied row) ≡ tidied (bare row)
+pub tidied_bare : (row : KeyedRow) → bare (keyed_tidied row) ≡ tidied (bare row)
 tidied_bare no_more = refl
 tidied_bare (leaf_in x rest) = refl
 tidied_bare (node_in key place c rest) = elim (cases_Bool (count (bare c) == 0)) [
@@ -34,7 +34,7 @@ removed_bare gone (node_in key place c rest) = elim (cases_Bool (holds gone (con
   | inr e ↦ rw e (ap (node (bare c)) (removed_bare gone rest))
 ]
 
-collapsed_bare : (row : KeyedRow) → bare (keyed_collapsed row) ≡ collapsed (bare row)
+pub collapsed_bare : (row : KeyedRow) → bare (keyed_collapsed row) ≡ collapsed (bare row)
 collapsed_bare no_more = refl
 collapsed_bare (leaf_in x rest) = refl
 collapsed_bare (node_in key place c rest) = elim (cases_Bool (lone (bare c))) [
@@ -58,7 +58,7 @@ replaced_bare old new (node_in key place c rest) = elim (cases_Bool (holds old (
 ]
 
 -- a weaker bound from above
-weaken_most : (least : ℕ) (m most : Option ℕ) (row : KeyedRow) → ((n : ℕ) → IsAtMost n m → IsAtMost n most) → AreKeysBounded least m row → AreKeysBounded least most row
+pub weaken_most : (least : ℕ) (m most : Option ℕ) (row : KeyedRow) → ((n : ℕ) → IsAtMost n m → IsAtMost n most) → AreKeysBounded least m row → AreKeysBounded least most row
 weaken_most least m most no_more w h = tt
 weaken_most least m most (leaf_in x rest) w h = (h.0, w (leaf_rank x) h.1, weaken_most (leaf_rank x) m most rest w h.2)
 weaken_most least m most (node_in key place c no_more) w h =
@@ -69,11 +69,11 @@ weaken_most least m most (node_in key place c (node_in own p d rest)) w h =
     (h.0, w (key_rank key) h.1, h.2, weaken_most (key_rank key) m most (node_in own p d rest) w h.3)
 
 -- what is within the bound in front of a row is within that in front of what stands there later
-abbrev BoundsLess : Option ℕ → KeyedRow → KeyedRow → Type 0
+abbrev pub BoundsLess : Option ℕ → KeyedRow → KeyedRow → Type 0
 BoundsLess most row other = (n : ℕ) → IsAtMost n (key_before row most) → IsAtMost n (key_before other most)
 
 -- a row that is bounded from a key on has no key below it
-within_row : (least : ℕ) (most : Option ℕ) (row : KeyedRow) (n : ℕ) → n ≤ least → IsAtMost n most → AreKeysBounded least most row → IsAtMost n (key_before row most)
+pub within_row : (least : ℕ) (most : Option ℕ) (row : KeyedRow) (n : ℕ) → n ≤ least → IsAtMost n most → AreKeysBounded least most row → IsAtMost n (key_before row most)
 within_row least most no_more n l m h = m
 within_row least most (leaf_in x rest) n l m h = omega (arith, l, h.0)
 within_row least most (node_in key place c rest) n l m h = omega (arith, l, h.0)
@@ -96,9 +96,9 @@ removed_before gone least most (node_in key place c rest) h n l = elim (cases_Bo
   | inr e ↦ rw e l
 ]
 
-tidied_bounded : (least : ℕ) (most : Option ℕ) (key : Key) (c rest : KeyedRow) → least ≤ key_rank key → IsAtMost (key_rank key) most
-    → AreKeysBounded (key_rank key) (key_before rest most) c → AreKeysBounded (key_rank key) most rest → AreKeysBounded least most (keyed_tidied (node_in key None c rest))
-tidied_bounded least most key c rest l m below others = elim (cases_Bool (count (bare c) == 0)) [
+pub tidied_bounded : (least : ℕ) (most : Option ℕ) (key : Key) (place : Option Stretch) (c rest : KeyedRow) → least ≤ key_rank key → IsAtMost (key_rank key) most
+    → AreKeysBounded (key_rank key) (key_before rest most) c → AreKeysBounded (key_rank key) most rest → AreKeysBounded least most (keyed_tidied (node_in key place c rest))
+tidied_bounded least most key place c rest l m below others = elim (cases_Bool (count (bare c) == 0)) [
   | inl e ↦ rw e (lower_least least (key_rank key) most rest l others)
   | inr e ↦ rw e (l, m, below, others)
 ]
@@ -112,13 +112,13 @@ removed_bounded gone least most (leaf_in x rest) h = elim (cases_Bool (same_leaf
 removed_bounded gone least most (node_in key place c rest) h = elim (cases_Bool (holds gone (contents (bare c)))) [
   | inl e ↦
       let below = removed_bounded gone (key_rank key) (key_before rest most) c h.2 in
-      rw e (tidied_bounded least most key (removed_by_keys gone c) rest h.0 h.1 below h.3)
+      rw e (tidied_bounded least most key None (removed_by_keys gone c) rest h.0 h.1 below h.3)
   | inr e ↦
       let below = weaken_most (key_rank key) (key_before rest most) (key_before (removed_by_keys gone rest) most) c (removed_before gone (key_rank key) most rest h.3) h.2 in
       rw e (h.0, h.1, below, removed_bounded gone (key_rank key) most rest h.3)
 ]
 
-collapsed_bounded : (least : ℕ) (row : KeyedRow) → AreKeysBounded least None row → AreKeysBounded least None (keyed_collapsed row)
+pub collapsed_bounded : (least : ℕ) (row : KeyedRow) → AreKeysBounded least None row → AreKeysBounded least None (keyed_collapsed row)
 collapsed_bounded least no_more h = tt
 collapsed_bounded least (leaf_in x rest) h = h
 collapsed_bounded least (node_in key place c rest) h = elim (cases_Bool (lone (bare c))) [

@@ -11,7 +11,7 @@ use Rattle.index_media.specs.InsertionSound.{AreKeys, fit_node, fits_node, level
 use Rattle.index_media.specs.KeyedRemoval.{removed_by_keys, keyed_collapsed, without_leaf_by_keys, replaced_by_keys}
 use Rattle.index_media.specs.KeyedRow.{KeyedRow, no_more, leaf_in, node_in, bare}
 
-some_children : (n : ℕ) → (n == 0) ≡ false → 0 < n
+pub some_children : (n : ℕ) → (n == 0) ≡ false → 0 < n
 some_children n e = let other = eqb-false n 0 e in grind (arith, other)
 
 -- a removal leaves no more siblings
@@ -83,7 +83,7 @@ removed_keys gone (node_in key place c rest) k = elim (cases_Bool (holds gone (c
   | inr e ↦ rw e (k.0, k.1, removed_keys gone rest k.2)
 ]
 
-collapsed_keys : (row : KeyedRow) → AreKeys row → AreKeys (keyed_collapsed row)
+pub collapsed_keys : (row : KeyedRow) → AreKeys row → AreKeys (keyed_collapsed row)
 collapsed_keys no_more k = tt
 collapsed_keys (leaf_in x rest) k = k
 collapsed_keys (node_in key place c rest) k = elim (cases_Bool (lone (bare c))) [

@@ -7,6 +7,7 @@ pub mod Insertion
 pub mod KeyedKeys
 pub mod KeyedBounds
 pub mod KeyedRemoval
+pub mod KeyedRange
 pub mod InsertionLaws
 pub mod InsertionKeys
 pub mod InsertionSound

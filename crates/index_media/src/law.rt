@@ -1,11 +1,12 @@
 // Laws of the definitions: what makes a stored index, what keeps it, and what it is without its places.
 
-ghost use Rattle.std.specs.Prelude.{◌≡◌, ◌≤◌, ◌+◌, ◌*◌, ℕ, All, IsTrue, List, Option, None, map, length, take, drop};
+ghost use Rattle.std.specs.Prelude.{◌≡◌, ◌≤◌, ◌+◌, ◌*◌, ℕ, All, IsTrue, List, [], Option, None, map, length, take, drop};
 ghost use Rattle.ubifs_base.specs.Key.{IsKey};
 ghost use Rattle.ubifs_base.specs.NodeLaws.{IsBytes};
 ghost use Rattle.index_tree.specs.Levels.{levelled};
 ghost use Rattle.index_tree.specs.Listing.{listed};
 ghost use Rattle.index_tree.specs.Order.{leaf_rank, placed};
+ghost use Rattle.index_tree.specs.RangeRemoval.{within_range, outside_range, without_range};
 ghost use Rattle.index_tree.specs.Rebuild.{IsIndex};
 ghost use Rattle.index_tree.specs.Removal.{without, without_leaf};
 ghost use Rattle.index_tree.specs.Replacement.{swapped, replaced};
@@ -17,6 +18,7 @@ ghost use Rattle.media_sys.specs.declared.branch.Branch.{Branch as ABranch};
 ghost use Rattle.index_media.specs.Insertion.{inserted_by_keys, with_leaf_by_keys};
 ghost use Rattle.index_media.specs.InsertionSound.{AreKeys};
 ghost use Rattle.index_media.specs.KeyedKeys.{AreKeysBounded};
+ghost use Rattle.index_media.specs.KeyedRange.{pruned_by_keys, without_range_by_keys};
 ghost use Rattle.index_media.specs.KeyedRemoval.{removed_by_keys, without_leaf_by_keys, replaced_by_keys};
 ghost use Rattle.index_media.specs.Keys.{AreBounded};
 ghost use Rattle.index_media.specs.KeyedRow.{KeyedRow, bare, all_clean, HaveFirstKeys};
@@ -153,4 +155,26 @@ pub fn a_replacement_keeps_what_nodes_are()
     ensures number { (old new : ALeaf) (row : KeyedRow) → count (bare (replaced_by_keys old new row)) ≡ count (bare row) }
     ensures levels { (levels : ℕ) (old new : ALeaf) (row : KeyedRow) → IsTrue (levelled levels (bare row)) → IsTrue (levelled levels (bare (replaced_by_keys old new row))) }
     ensures keys { (old new : ALeaf) (row : KeyedRow) → IsKey new.key → AreKeys row → AreKeys (replaced_by_keys old new row) }
+{}
+
+/// A removal of a range of keys makes the shape that it makes without keys and places, and takes the range's leaves out of an
+/// index's. Keys lie between those of branches again. A row below which no leaf of the range stands keeps its places.
+pub fn a_range_removal_leaves_the_keys_of_branches()
+    ensures same { (from to : ℕ) (row : KeyedRow) → bare (without_range_by_keys from to row) ≡ without_range from to (bare row) }
+    ensures contents { (from to : ℕ) (row : KeyedRow) → count (bare row) ≤ 1
+        → contents (bare (without_range_by_keys from to row)) ≡ outside_range from to (contents (bare row)) }
+    ensures keys { (from to : ℕ) (row : KeyedRow) → AreKeysBounded 0 None row → AreKeysBounded 0 None (without_range_by_keys from to row) }
+    ensures untouched { (fanout from to : ℕ) (row : KeyedRow) → IsTrue (fits fanout (bare row)) → within_range from to (contents (bare row)) ≡ []
+        → pruned_by_keys from to row ≡ row }
+{}
+
+/// A removal of a range from a row of an index keeps what its nodes are: they have 1 to fanout children, leaves stand on the
+/// lowest level, and keys are keys and lie between those of branches. The row gets no more siblings.
+pub fn a_range_removal_keeps_what_nodes_are()
+    ensures children { (fanout from to : ℕ) (row : KeyedRow) → IsTrue (fits fanout (bare row)) → IsTrue (fits fanout (bare (pruned_by_keys from to row))) }
+    ensures number { (from to : ℕ) (row : KeyedRow) → count (bare (pruned_by_keys from to row)) ≤ count (bare row) }
+    ensures levels { (levels from to : ℕ) (row : KeyedRow) → IsTrue (levelled levels (bare row)) → IsTrue (levelled levels (bare (pruned_by_keys from to row))) }
+    ensures bounded { (from to least : ℕ) (most : Option ℕ) (row : KeyedRow) → AreKeysBounded least most row → AreKeysBounded least most (pruned_by_keys from to row) }
+    ensures keys { (from to : ℕ) (row : KeyedRow) → AreKeys row → AreKeys (pruned_by_keys from to row) }
+    ensures whole { (from to : ℕ) (row : KeyedRow) → AreKeys row → AreKeys (without_range_by_keys from to row) }
 {}

@@ -10,7 +10,8 @@
 mod law;
 
 pub use crate::law::{
-    a_node_behind_its_children_stands, a_removal_keeps_what_nodes_are,
+    a_node_behind_its_children_stands, a_range_removal_keeps_what_nodes_are,
+    a_range_removal_leaves_the_keys_of_branches, a_removal_keeps_what_nodes_are,
     a_removal_leaves_the_keys_of_branches, a_replacement_keeps_what_nodes_are,
     a_replacement_leaves_the_keys_of_branches, a_root_behind_its_children_makes_an_index,
     a_root_leads_to_one_index, a_stored_index_is_an_index, an_index_depends_on_its_lebs_alone,
