@@ -12,3 +12,7 @@ pub mod ExchangeSound
 pub mod Removed
 pub mod Changed
 pub mod Counted
+pub mod Ending
+pub mod LastBlocks
+pub mod Pruned
+pub mod PrunedRoot

@@ -5,3 +5,4 @@ pub mod Staging
 pub mod Exchange
 pub mod Changing
 pub mod Counting
+pub mod Pruning

@@ -1,6 +1,7 @@
 // A key's place in the order.
 
 ghost use Rattle.std.specs.Prelude.{◌≡◌};
+ghost use Rattle.index_tree.specs.LastBlock.{last_rank};
 ghost use Rattle.index_tree.specs.Order.{key_rank};
 ghost use Rattle.node_table.specs.NodeView.{link_key};
 
@@ -32,4 +33,11 @@ pub fn link_rank(link: &Link) -> u128
         Link::ToLeaf(leaf) => rank(&leaf.key),
         Link::ToNode { key, .. } => rank(key),
     }
+}
+
+/// The greatest rank that a block of this inode can have.
+pub fn last_rank(ino: u32) -> u128
+    ensures { result ≡ last_rank ino }
+{
+    ino as u128 * FIRST + 2 * KIND - 1
 }

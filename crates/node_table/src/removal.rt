@@ -22,7 +22,7 @@ use ubifs_base::Memory;
 
 impl NodeTable {
     /// The root that is left of one: while a root leads to one node alone, that node takes its place.
-    fn sink_root(&self, root: Root) -> Root
+    pub(crate) fn sink_root(&self, root: Root) -> Root
         requires there { root.number < length self.now.nodes.items }
         ensures made { tree_at self.now.nodes.items (Some result) ≡ keyed_collapsed (tree_at self.now.nodes.items (Some root)) }
         ensures there { result.number < length self.now.nodes.items }

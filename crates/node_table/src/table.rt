@@ -1,7 +1,9 @@
 // The table.
 
 ghost use Rattle.std.specs.Prelude.{◌≡◌, ◌≤◌, IfOk, OnOk, OnErr, Option, Some, [], ◌∷◌, ◌++◌, filter, ◌==◌, length, slice_get};
+ghost use Rattle.index_tree.specs.LastBlock.{last_block};
 ghost use Rattle.index_tree.specs.Order.{key_rank, of_rank, first_after};
+ghost use Rattle.index_tree.specs.RangeRemoval.{within_range};
 ghost use Rattle.index_tree.specs.Removal.{holds};
 ghost use Rattle.index_media.specs.KeyedRow.{no_more, node_in};
 ghost use Rattle.node_table.specs.Counting.{counts_of_all, counted-prop};
@@ -87,6 +89,16 @@ impl NodeTable {
         self.after_below(top.number, rank(key))
     }
 
+    /// The greatest block leaf of this inode below a root, the last one of equals; none where it has no block.
+    ///
+    /// It goes down one path, and at most one more.
+    pub fn last_of(&self, root: Option<Root>, ino: u32) -> Option<Leaf>
+        ensures { result ≡ last_block ino (leaves_at self.now.nodes.items root) }
+    {
+        let top = root?;
+        self.last_block_below(top.number, ino)
+    }
+
     /// Whether this leaf, with its key and its place, stands below a root.
     ///
     /// It goes down one path, and where leaves of the key stand in several nodes, on to the next of them.
@@ -113,6 +125,28 @@ impl NodeTable {
             None => Ok(leaves),
             Some(top) => {
                 self.push_below(top.number, lnum, &mut leaves)?;
+                Ok(leaves)
+            }
+        }
+    }
+
+    /// The leaves below a root with keys from `from` to `to`, both included, in the order of the index.
+    ///
+    /// It goes down the paths to these leaves alone.
+    pub fn leaves_between(
+        &self,
+        alloc: Global,
+        root: Option<Root>,
+        from: &Key,
+        to: &Key,
+    ) -> Result<Vec<Leaf>, Memory>
+        ensures { IfOk result (λ leaves. leaves.items ≡ within_range (key_rank from.now) (key_rank to.now) (leaves_at self.now.nodes.items root)) }
+    {
+        let mut leaves = Vec::new(alloc);
+        match root {
+            None => Ok(leaves),
+            Some(top) => {
+                self.push_range_below(top.number, rank(from), rank(to), &mut leaves)?;
                 Ok(leaves)
             }
         }

@@ -1,0 +1,66 @@
+// A removal of a range of keys answers another root, and the old one goes on showing the old index.
+
+ghost use Rattle.std.specs.Prelude.{◌≡◌, ◌-◌, ◌^◌, min, IfOk, length};
+ghost use Rattle.index_tree.specs.Order.{key_rank};
+ghost use Rattle.index_tree.specs.RangeRemoval.{within_range};
+ghost use Rattle.index_media.specs.KeyedRange.{without_range_by_keys};
+ghost use Rattle.node_table.specs.NodeView.{tree_at, leaves_at};
+ghost use Rattle.node_table.specs.Staging.{IsAdded, IsSoundRoot};
+
+use crate::node::Root;
+use crate::rank::rank;
+use crate::rooting::only_node;
+use crate::table::NodeTable;
+use index_media::{
+    a_range_removal_keeps_what_nodes_are, a_range_removal_leaves_the_keys_of_branches,
+};
+use std::alloc::Global;
+use ubifs_base::{Key, Memory};
+
+/// What a removal of a range makes: the root of what is left, and how many leaves went (`u64::MAX` stands for more as well).
+#[derive(Clone, Copy, Debug, PartialEq, Eq)]
+pub struct RangeRemoved {
+    pub root: Option<Root>,
+    pub number: u64,
+}
+
+impl NodeTable {
+    /// Stages a removal of a range: takes out the leaves with keys from `from` to `to`, both included, with the nodes that this
+    /// empties. All nodes stay where they stood, and below each root stands what stood there, after `Memory` too.
+    pub fn remove_range(
+        &mut self,
+        alloc: Global,
+        root: Option<Root>,
+        from: &Key,
+        to: &Key,
+    ) -> Result<RangeRemoved, Memory>
+        requires root { IsSoundRoot self.old.nodes.items root }
+        ensures made { IfOk result (λ made. tree_at self.new.nodes.items made.root ≡ without_range_by_keys (key_rank from.now) (key_rank to.now) (tree_at self.old.nodes.items root)) }
+        ensures number { IfOk result (λ made. made.number ≡ min (length (within_range (key_rank from.now) (key_rank to.now) (leaves_at self.old.nodes.items root))) (2 ^ 64 - 1)) }
+        ensures root { IfOk result (λ made. IsSoundRoot self.new.nodes.items made.root) }
+        ensures added { IsAdded self.old.nodes.items self.new.nodes.items }
+        ensures fanout { self.new.fanout ≡ self.old.fanout }
+    {
+        a_range_removal_keeps_what_nodes_are();
+        a_range_removal_leaves_the_keys_of_branches();
+        let low = rank(from);
+        let high = rank(to);
+        match root {
+            None => Ok(RangeRemoved {
+                root: None,
+                number: 0,
+            }),
+            Some(top) => {
+                let mut made = Vec::new(alloc);
+                let number = self.prune_below(alloc, top, low, high, &mut made)?;
+                match only_node(made.as_slice()) {
+                    None => Ok(RangeRemoved { root: None, number }),
+                    Some(left) => Ok(RangeRemoved {
+                        root: Some(self.sink_root(left)),
+                        number,
+                    }),
+                }
+            }
+        }
+    }
+}
