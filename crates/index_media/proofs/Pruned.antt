@@ -1,6 +1,6 @@
 -- The removal of a range makes the same of a row as without keys and places, and keeps what an index is.
-use Rattle.std.proofs.Common.{◌≡◌, ℕ, ◌+◌, ◌-◌, ◌<◌, ◌≤◌, true, false, List, [], ◌∷◌, ◌++◌, length, refl, ap, sym, ◌∙◌, subst, arith, inl, inr}
-use Rattle.std.specs.Prelude.{Option, Some, None, ◌==◌, not}
+use Rattle.std.proofs.Common.{◌≡◌, ℕ, ◌-◌, ◌<◌, ◌≤◌, true, false, List, [], ◌∷◌, ◌++◌, refl, ap, sym, ◌∙◌, arith, inl, inr}
+use Rattle.std.specs.Prelude.{Option, None, ◌==◌, not}
 use Rattle.std.proofs.lemmas.Bool.{cases_Bool}
 use Rattle.std.proofs.lemmas.Bool.Decides.{nat_tests}
 use Rattle.std.proofs.lemmas.List.Elements.{filter-append}
@@ -15,9 +15,8 @@ use Rattle.index_media.specs.InsertionSound.{AreKeys, fit_node, fits_node, level
 use Rattle.index_media.specs.KeyedBounds.{lower_at_most, lower_least}
 use Rattle.index_media.specs.KeyedKeys.{key_before, AreKeysBounded}
 use Rattle.index_media.specs.KeyedRange.{place_without_range, pruned_by_keys, without_range_by_keys}
-use Rattle.index_media.specs.KeyedRemoval.{keyed_tidied, keyed_collapsed}
+use Rattle.index_media.specs.KeyedRemoval.{keyed_tidied}
 use Rattle.index_media.specs.KeyedRow.{KeyedRow, no_more, leaf_in, node_in, bare}
-use Rattle.index_media.specs.Keys.{IsAtMost}
 use Rattle.index_media.specs.PlacedRow.{Stretch}
 use Rattle.index_media.proofs.RemovedContents.{tidied_leaves, collapsed_leaves}
 use Rattle.index_media.proofs.Removing.{BoundsLess, tidied_bare, collapsed_bare, weaken_most, within_row, tidied_bounded, collapsed_bounded}
