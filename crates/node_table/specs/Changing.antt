@@ -1,22 +1,25 @@
 -- Changes of an index, one after another, and what they make of its leaves.
 use Rattle.std.specs.Prelude.{◌≡◌, ℕ, List, [], ◌∷◌, ⊤}
 use Rattle.ubifs_base.specs.Key.{IsKey}
-use Rattle.index_tree.specs.Order.{leaf_rank, placed}
+use Rattle.index_tree.specs.Order.{key_rank, leaf_rank, placed}
+use Rattle.index_tree.specs.RangeRemoval.{outside_range}
 use Rattle.index_tree.specs.Removal.{without}
 use Rattle.index_tree.specs.Replacement.{swapped}
 use Rattle.index_tree.specs.declared.leaf.Leaf.{Leaf}
 use Rattle.index_media.specs.Insertion.{with_leaf_by_keys}
+use Rattle.index_media.specs.KeyedRange.{without_range_by_keys}
 use Rattle.index_media.specs.KeyedRemoval.{replaced_by_keys}
 use Rattle.index_media.specs.KeyedRow.{KeyedRow}
 use Rattle.node_table.specs.Exchange.{tree_without}
 use Rattle.node_table.specs.declared.change.Change.{Change}
-use Rattle.node_table.specs.declared.change.Change.TheVariants.{Insert, Remove, Replace}
+use Rattle.node_table.specs.declared.change.Change.TheVariants.{Insert, Remove, Replace, RemoveRange}
 
 -- a leaf that comes has a key, and that of the leaf whose place it takes
 abbrev pub IsChange : Change → Type 0
 IsChange (Insert x) = IsKey x.key
 IsChange (Remove x) = ⊤
 IsChange (Replace gone come) = (leaf_rank come ≡ leaf_rank gone) × IsKey come.key
+IsChange (RemoveRange from to) = ⊤
 
 abbrev pub AreChanges : List Change → Type 0
 AreChanges [] = ⊤
@@ -27,6 +30,7 @@ abbrev pub changed : ℕ → Change → KeyedRow → KeyedRow
 changed fanout (Insert x) row = with_leaf_by_keys fanout x row
 changed fanout (Remove x) row = tree_without x row
 changed fanout (Replace gone come) row = replaced_by_keys gone come row
+changed fanout (RemoveRange from to) row = without_range_by_keys (key_rank from) (key_rank to) row
 
 -- after several, the first one first
 abbrev pub changed_by : ℕ → List Change → KeyedRow → KeyedRow
@@ -38,6 +42,7 @@ abbrev pub leaves_after : Change → List Leaf → List Leaf
 leaves_after (Insert x) xs = placed x xs
 leaves_after (Remove x) xs = without x xs
 leaves_after (Replace gone come) xs = swapped gone come xs
+leaves_after (RemoveRange from to) xs = outside_range (key_rank from) (key_rank to) xs
 
 -- after several
 abbrev pub leaves_after_all : List Change → List Leaf → List Leaf

@@ -10,8 +10,8 @@ use crate::counting::truncate_both;
 use crate::node::Root;
 use crate::table::NodeTable;
 use index_media::{
-    a_removal_leaves_the_keys_of_branches, a_replacement_leaves_the_keys_of_branches,
-    an_insertion_goes_by_the_keys_of_branches,
+    a_range_removal_leaves_the_keys_of_branches, a_removal_leaves_the_keys_of_branches,
+    a_replacement_leaves_the_keys_of_branches, an_insertion_goes_by_the_keys_of_branches,
 };
 use std::alloc::Global;
 use ubifs_base::Memory;
@@ -33,6 +33,7 @@ impl NodeTable {
         ensures fanout { self.new.fanout ≡ self.old.fanout }
     {
         an_insertion_goes_by_the_keys_of_branches();
+        a_range_removal_leaves_the_keys_of_branches();
         a_removal_leaves_the_keys_of_branches();
         a_replacement_leaves_the_keys_of_branches();
         match *change {
@@ -42,6 +43,10 @@ impl NodeTable {
             }
             Change::Remove(leaf) => self.remove(alloc, root, &leaf),
             Change::Replace { gone, come } => self.replace(alloc, root, &gone, come),
+            Change::RemoveRange { from, to } => {
+                let left = self.remove_range(alloc, root, &from, &to)?;
+                Ok(left.root)
+            }
         }
     }
 

@@ -1,5 +1,6 @@
 use Rattle.std.proofs.Common.{Option, ◌≡◌, ap, sym, subst, ◌∙◌}
 use Rattle.std.specs.Prelude.{IfOk}
+use Rattle.index_tree.specs.Order.{key_rank}
 use Rattle.index_tree.specs.Removal.{without}
 use Rattle.index_tree.specs.Shape.{contents}
 use Rattle.index_media.specs.KeyedRow.{KeyedRow, bare}
@@ -23,3 +24,16 @@ returns-in-Remove-clause-leaves c =
     let Q : Option Root → Type 0 = λ made. leaves_at now made ≡ without leaf (leaves_at old c.args.root) in
     let C : Change → Type 0 = λ x. IfOk c.remove.result (λ made. leaves_at now made ≡ leaves_after x (leaves_at old c.args.root)) in
     subst C (sym c.in-Remove.is) (ok_to P Q (λ made e. ap (λ (r : KeyedRow). contents (bare r)) e ∙ left) c.remove.result c.remove.ensures.made)
+
+pub returns-in_ok-left-in-RemoveRange-clause-leaves : goal.returns-in_ok-left-in-RemoveRange-clause-leaves
+returns-in_ok-left-in-RemoveRange-clause-leaves c =
+    let old = c.args.self.now.nodes.items in
+    let now = c.remove_range.new.self.nodes.items in
+    let from = key_rank c.in-RemoveRange.from in
+    let to = key_rank c.in-RemoveRange.to in
+    let root = c.in_ok-left-in-RemoveRange.left.root in
+    let tree = tree_at old c.args.root in
+    let C : Change → Type 0 = λ x. leaves_at now root ≡ leaves_after x (leaves_at old c.args.root) in
+    subst C (sym c.in-RemoveRange.is)
+    (ap (λ (r : KeyedRow). contents (bare r)) c.in_ok-left-in-RemoveRange.ensures.made
+    ∙ c.a_range_removal_leaves_the_keys_of_branches.ensures.contents from to tree (top_short old c.args.root))
