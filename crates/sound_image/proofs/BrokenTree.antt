@@ -1,10 +1,14 @@
 -- A tree in which something is wrong doesn't meet the rules on it.
 use Rattle.std.proofs.Common.{◌≡◌, ℕ, Bool, true, false, List, [], ◌∷◌, ◌++◌, Option, Some, None, refl, ap, sym, ◌∙◌, subst, inl, inr}
-use Rattle.std.specs.Prelude.{◌==◌, ◌&&◌, ◌||◌, not, IsSome}
+use Rattle.std.specs.Prelude.{◌==◌, ◌&&◌, ◌||◌, not, if◌then◌else◌, map, IsSome}
 use Rattle.std.specs.List.{list_all, list_any}
 use Rattle.std.specs.Option.{option_map_or}
 use Rattle.std.proofs.lemmas.Bool.{not_from_true}
+use Rattle.std.proofs.lemmas.Map.Keys.{IsDistinct-head, IsDistinct-tail}
 use Rattle.media_sys.specs.declared.master.Master.{Master}
+use Rattle.index_tree.specs.Distinct.{AreDistinct}
+use Rattle.index_tree.specs.Removal.{holds, same_leaf}
+use Rattle.index_tree.specs.declared.leaf.Leaf.{Leaf}
 use Rattle.fs_model.specs.declared.change.Change.{Change}
 use Rattle.fs_model.specs.declared.change.Change.TheVariants.{SetBlock, SetEntry, SetInode, DropEntry, CutBlocks, DropInode}
 use Rattle.fs_model.specs.declared.inode.Inode.{Inode}
@@ -17,11 +21,11 @@ use Rattle.leaf_map.specs.LeafMap.{are_apart, shows_same}
 use Rattle.leaf_map.specs.Parts.{Parts}
 use Rattle.leaf_map.specs.Recovered.{recovered_of, tree_found}
 use Rattle.leaf_map.specs.Shown.{inodes_of, with_inode}
-use Rattle.sound_image.specs.Breaches.{IsWrongInTree, IsWrongLink, IsWrongNode, IsWrongThere, is_misfit}
+use Rattle.sound_image.specs.Breaches.{IsCommittedTwice, IsWrongInTree, IsWrongLink, IsWrongNode, IsWrongThere, is_misfit}
 use Rattle.sound_image.specs.Leaves.{empty_names}
 use Rattle.sound_image.specs.Tree.{HasLinks, HasTree, IsCopy, ShowsItsNode, has_its_links, is_in_place, is_named_well}
 use Rattle.sound_image.specs.Wrong.{IsOneOf, Wrong}
-use Rattle.sound_image.proofs.Lists.{all_at, none_of, one_more, test_at, two_true}
+use Rattle.sound_image.proofs.Lists.{all_at, each_at, none_of, one_more, test_at, two_true}
 
 -- an inode that a leaf shows is one of the tree's
 in_front : (shown : Option Change) (e : ℕ × Inode) (inodes : Inodes) → IsOneOf e inodes → IsOneOf e (with_inode shown inodes)
@@ -93,19 +97,33 @@ node_broken contents parts at h (x, inl (one, none), is) =
     absurd cc
 node_broken contents parts at h (x, inr (one, other), is) = other (all_at (IsCopy parts) x parts.copies one h.copies)
 
+-- no leaf is there before itself, if leaves are distinct
+not_held : (before behind : List Leaf) (leaf : Leaf) → AreDistinct (before ++ (leaf ∷ behind)) → holds leaf before ≡ false
+not_held [] behind leaf h = refl
+not_held (b ∷ before) behind leaf h =
+    let apart = each_at (λ (y : Leaf). same_leaf b y ≡ false) leaf (before ++ (leaf ∷ behind)) (before, behind, refl) (IsDistinct-head same_leaf b (before ++ (leaf ∷ behind)) h) in
+    ap (λ (c : Bool). if c then true else holds leaf before) apart ∙ not_held before behind leaf (IsDistinct-tail same_leaf b (before ++ (leaf ∷ behind)) h)
+
+twice_broken : (parts : Parts) (at : Wrong) → IsCommittedTwice parts at → AreDistinct (map (λ x. x.leaf) parts.committed) → ⊥
+twice_broken parts at (leaf, before, behind, e, again, is) h =
+    let P : List Leaf → Type 0 = λ xs. AreDistinct xs in
+    let f : true ≡ false = sym again ∙ not_held before behind leaf (subst P e h) in
+    absurd cc
+
 -- a tree with a root has its inode
 no_root : (tree : Tree) → has_kind tree 1 Dir ≡ true → inode_at tree 1 ≡ None → ⊥
 no_root tree root none = let e : true ≡ false = sym root ∙ ap (λ (o : Option Inode). option_map_or (λ inode. same_kind inode.kind Dir) o false) none in absurd cc
 
 pub tree_broken : (contents : ℕ → List ℕ) (master : Master) (parts : Parts) (at : Wrong) → IsWrongInTree contents master parts at → HasTree contents parts → ⊥
 tree_broken contents master parts at (inl node) h = node_broken contents parts at h node
-tree_broken contents master parts at (inr (inl (x, before, behind, e, again, is))) h =
+tree_broken contents master parts at (inr (inl twice)) h = twice_broken parts at twice h.distinct
+tree_broken contents master parts at (inr (inr (inl (x, before, behind, e, again, is)))) h =
     let P : List Kept → Type 0 = λ xs. are_apart xs ≡ true in
     let f : true ≡ false = sym again ∙ none_before before behind x (subst P e h.found) in
     absurd cc
-tree_broken contents master parts at (inr (inr (inl (x, one, is, there)))) h = there_broken contents parts x one h there
-tree_broken contents master parts at (inr (inr (inr (inl (leaf, one, is))))) h = none_of leaf (empty_names parts) one h.named
-tree_broken contents master parts at (inr (inr (inr (inr (none, is))))) h = no_root (tree_found parts) h.root none
+tree_broken contents master parts at (inr (inr (inr (inl (x, one, is, there))))) h = there_broken contents parts x one h there
+tree_broken contents master parts at (inr (inr (inr (inr (inl (leaf, one, is)))))) h = none_of leaf (empty_names parts) one h.named
+tree_broken contents master parts at (inr (inr (inr (inr (inr (none, is)))))) h = no_root (tree_found parts) h.root none
 
 pub links_broken : (parts : Parts) (at : Wrong) → IsWrongLink parts at → HasLinks (tree_found parts) → ⊥
 links_broken parts at wrong h =

@@ -6,7 +6,7 @@ use Rattle.media_sys.specs.declared.feature.Feature.{Feature}
 use Rattle.media_sys.specs.declared.feature.Feature.TheVariants.{KeyHash, KeyFmt, Version, Heads, DoubleHash, Encryption, Authentication, Flags, BigModel, Compressed, Attributes}
 use Rattle.sound_image.specs.Wrong.{IsFirstOr, IsFirstWrong, Misfit, Wrong, comes_before, differs, feature_number, is_lesser, is_told_before, needs}
 
-with_true : (a b : Bool) → a ≡ true → (a && b) ≡ false → b ≡ false
+pub with_true : (a b : Bool) → a ≡ true → (a && b) ≡ false → b ≡ false
 with_true true b e h = h
 with_true false b e h = absurd cc
 

@@ -1,6 +1,7 @@
 -- The least image is sound.
 use Rattle.std.proofs.Common.{◌≡◌, ℕ, zero, suc, ◌+◌, ◌-◌, ◌*◌, ◌^◌, ◌<◌, ◌≤◌, nat_lt, Bool, true, false, List, [], ◌∷◌, Some, None, slice_get, drop, refl, ap, sym, ◌∙◌, subst, inl, inr, arith}
 use Rattle.std.specs.Prelude.{◌≢◌, ◌⊎◌, All, IsSome, cond, map}
+use Rattle.std.specs.List.{IsDistinct}
 use Rattle.std.specs.Int.Count.{count_leading_zeros, ones}
 use Rattle.std.proofs.Math.Nat.{le_refl}
 use Rattle.std.proofs.lemmas.Bool.{leb-true, ltb-false, ltb-true}
@@ -11,6 +12,7 @@ use Rattle.ubifs_base.specs.Properties.{fls, height_from, tree_height, tree_len}
 use Rattle.ubifs_base.specs.R5.{r5_of}
 use Rattle.ubifs_base.specs.declared.key.Key.TheVariants.{Ino}
 use Rattle.media_lpt.specs.declared.lprop.Lprop.{Lprop}
+use Rattle.index_tree.specs.Distinct.{AreDistinct}
 use Rattle.index_tree.specs.Order.{key_rank}
 use Rattle.index_tree.specs.Removal.{same_leaf}
 use Rattle.index_tree.specs.declared.leaf.Leaf.{Leaf}
@@ -130,11 +132,16 @@ has_leaves contents props log fits leaf orphans unmarked same =
     }
 
 -- ---- the tree
+pub one_is_distinct : (leaf : Leaf) → AreDistinct (leaf ∷ [])
+unfolding IsDistinct
+one_is_distinct leaf = (tt, tt)
+
 has_tree : (contents : ℕ → List ℕ) → IsLeastVolume contents → HasTree contents (parts_of (least_image []))
 unfolding key_rank same_leaf r5_of
 has_tree contents h = record {
   changes = All-nil (λ (x : Placed). IsSome (change_of x.node));
   copies = All-nil (IsCopy (parts_of (least_image [])));
+  distinct = one_is_distinct root_leaf;
   named = refl;
   found = refl;
   shown = All-cons (ShowsItsNode contents) root_kept [] (record { sqnum = 2; group = 0; is = h.leaf.is; shown = refl }) (All-nil (ShowsItsNode contents));

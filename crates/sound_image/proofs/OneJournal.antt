@@ -82,8 +82,12 @@ one_read text one a b fits e h k =
     let nodes = ap nodes_of same.0 in
     read_same a.bud b.bud a.nodes b.nodes a.sqnum b.sqnum a.tail b.tail e (one_leaves one b.bud (nodes_of k.items) a.nodes b.nodes fits (subst Q nodes (subst P e h.leaves)) k.leaves) (h.sqnum ∙ ap greatest_found nodes ∙ sym k.sqnum) same.2
 
-reads_same : OneText → OneLeaf → (contents : ℕ → List ℕ) (buds : List HeadAt) (a b : List BudRead) → ((k : ℕ) → IsBytes (contents k)) → map (λ x. x.bud) a ≡ map (bud_text contents) buds → map (λ x. x.bud) b ≡ map (bud_text contents) buds
-    → AllByRecursion IsSoundBud a → AllByRecursion IsSoundBud b → a ≡ b
+pub all_read : (reads : List BudRead) → AllByRecursion IsSoundBud reads → AllByRecursion IsBudRead reads
+all_read [] h = tt
+all_read (read ∷ reads) h = (h.0.is_read, all_read reads h.1)
+
+pub reads_same : OneText → OneLeaf → (contents : ℕ → List ℕ) (buds : List HeadAt) (a b : List BudRead) → ((k : ℕ) → IsBytes (contents k)) → map (λ x. x.bud) a ≡ map (bud_text contents) buds → map (λ x. x.bud) b ≡ map (bud_text contents) buds
+    → AllByRecursion IsBudRead a → AllByRecursion IsBudRead b → a ≡ b
 reads_same text one contents [] [] [] fits e f h k = refl
 reads_same text one contents [] (x ∷ a) b fits e f h k = absurd cc
 reads_same text one contents [] [] (y ∷ b) fits e f h k = absurd cc
@@ -93,8 +97,8 @@ reads_same text one contents (bud ∷ buds) (x ∷ a) (y ∷ b) fits e f h k =
     let p = cons_parts x.bud (bud_text contents bud) (map (λ z. z.bud) a) (map (bud_text contents) buds) e in
     let q = cons_parts y.bud (bud_text contents bud) (map (λ z. z.bud) b) (map (bud_text contents) buds) f in
     let P : BudText → Type 0 = λ t. IsBytes t.bytes in
-    ap (λ (z : BudRead). z ∷ a) (one_read text one x y (subst P (sym q.0) (fits bud.lnum)) (p.0 ∙ sym q.0) h.0.is_read k.0.is_read)
+    ap (λ (z : BudRead). z ∷ a) (one_read text one x y (subst P (sym q.0) (fits bud.lnum)) (p.0 ∙ sym q.0) h.0 k.0)
     ∙ ap (λ (zs : List BudRead). y ∷ zs) (reads_same text one contents buds a b fits p.1 q.1 h.1 k.1)
 
 pub one_journal : OneText → OneLeaf → (contents : ℕ → List ℕ) (buds : List HeadAt) (a b : List BudRead) → ((k : ℕ) → IsBytes (contents k)) → HasBuds contents buds a → HasBuds contents buds b → a ≡ b
-one_journal text one contents buds a b fits h k = reads_same text one contents buds a b fits h.of_buds k.of_buds h.sound k.sound
+one_journal text one contents buds a b fits h k = reads_same text one contents buds a b fits h.of_buds k.of_buds (all_read a h.sound) (all_read b k.sound)

@@ -42,7 +42,7 @@ system_frame bytes body found node type fits h frame =
     (one_frame (drop found.offs bytes) h.is.body body found.len frame.len found.sqnum frame.sqnum (type_number (node_type node)) (type_number type) found.group frame.group
     (bytes_drop found.offs bytes fits) h.is.framed frame.framed).0
 
-known_system : (bytes : List ℕ) (found : Found) (node : SystemNode) → IsBytes bytes → StandsAt bytes found.offs found (system node) → IsKnownAt bytes found.offs
+pub known_system : (bytes : List ℕ) (found : Found) (node : SystemNode) → IsBytes bytes → StandsAt bytes found.offs found (system node) → IsKnownAt bytes found.offs
 known_system bytes found node fits h what (inl (is, body, frame, c)) =
     let own : type_number (node_type node) ≡ 1 = system_frame bytes body found node types.Data fits h frame in
     let high = system_high node in

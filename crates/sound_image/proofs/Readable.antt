@@ -1,9 +1,9 @@
 -- What a sound image's log names can be read, and its nodes have places.
-use Rattle.std.proofs.Common.{◌≡◌, ℕ, ◌%◌, ◌<◌, ◌≤◌, nat_le, Bool, true, false, List, [], ◌∷◌, fold, refl, ap, sym, ◌∙◌, subst, inl, inr, arith}
-use Rattle.std.specs.Prelude.{◌⊎◌, ◌==◌, ◌&&◌, ◌||◌, if◌then◌else◌, map, min}
-use Rattle.std.specs.List.{AllByRecursion, list_any}
+use Rattle.std.proofs.Common.{◌≡◌, ℕ, ◌%◌, ◌<◌, ◌≤◌, Bool, true, false, List, [], ◌∷◌, fold, refl, sym, ◌∙◌, subst, inl, inr, arith}
+use Rattle.std.specs.Prelude.{◌==◌, if◌then◌else◌, map, min}
+use Rattle.std.specs.List.{AllByRecursion}
 use Rattle.std.proofs.Math.Nat.{min-eq_left, min-eq_right}
-use Rattle.std.proofs.lemmas.Bool.{cases_Bool, cases_lt, eq-eqb, eqb-true, or_left, or_right}
+use Rattle.std.proofs.lemmas.Bool.{cases_Bool, cases_lt, eq-eqb, eqb-true}
 use Rattle.ubifs_base.specs.Geometry.{IsGeometry}
 use Rattle.ubifs_base.specs.declared.raw_geometry.RawGeometry.{RawGeometry}
 use Rattle.media_sys.specs.declared.ref_node.RefNode.{RefNode}
@@ -16,10 +16,12 @@ use Rattle.journal_scan.specs.Places.{AreToldOnce, HasNamedPlace, HavePlaces, na
 use Rattle.journal_scan.specs.declared.bud_text.BudText.{BudText}
 use Rattle.leaf_map.specs.Kept.{Placed, kept_at}
 use Rattle.leaf_map.specs.Parts.{Named, in_bud}
-use Rattle.sound_image.specs.Buds.{IsSoundBud, bud_text}
+use Rattle.sound_image.specs.Buds.{bud_text}
 use Rattle.sound_image.specs.Image.{AreOfVolume, Image, named_by, parts_of}
 use Rattle.sound_image.specs.Log.{NamesMain}
 use Rattle.sound_image.specs.Sound.{SoundImage}
+use Rattle.sound_image.proofs.OneJournal.{all_read}
+use Rattle.sound_image.proofs.References.{same_places}
 
 min_of : (P : ℕ → Type 0) (a b : ℕ) → P a → P b → P (min a b)
 min_of P a b x y = elim (cases_lt a b) [
@@ -102,73 +104,9 @@ told_once contents (bud ∷ buds) h = (others_told contents bud.lnum buds h.0, t
 pub buds_told_once : (contents : ℕ → List ℕ) (nodes : List RefNode) → AreToldOnce (map (bud_text contents) (buds_of nodes))
 buds_told_once contents nodes = told_once contents (buds_of nodes) (fold_once nodes [] tt)
 
--- ---- what a bud's offset names, a reference names
-abbrev holds_place : ℕ → ℕ → ℕ → ℕ → Bool
-holds_place lnum offs k place = (lnum == k) && nat_le offs place
-
-abbrev in_heads : List HeadAt → Leaf → Bool
-in_heads heads leaf = list_any (λ (b : HeadAt). holds_place b.lnum b.offs leaf.lnum leaf.offs) heads
-
-abbrev in_nodes : List RefNode → Leaf → Bool
-in_nodes nodes leaf = list_any (λ (b : RefNode). holds_place b.lnum b.offs leaf.lnum leaf.offs) nodes
-
-either : (a b : Bool) → (a || b) ≡ true → (a ≡ true) ⊎ (b ≡ true)
-either true b h = inl refl
-either false b h = inr h
-
--- a place behind the lesser offset is behind one of both
-behind_lesser : (l m k place a b : ℕ) → l ≡ m → holds_place l (min a b) k place ≡ true → (holds_place l a k place ≡ true) ⊎ (holds_place m b k place ≡ true)
-behind_lesser l m k place a b same h = elim (cases_lt a b) [
-  | inl less ↦ let le : a ≤ b = omega (arith, less) in inl (ap (λ n. holds_place l n k place) (sym (min-eq_left {n = a} {m = b} le)) ∙ h)
-  | inr less ↦ inr (ap (λ n. holds_place n b k place) (sym same) ∙ ap (λ n. holds_place l n k place) (sym (min-eq_right {n = b} {m = a} less)) ∙ h)
-]
-
-in_named : (leaf : Leaf) (buds : List HeadAt) (node : RefNode) → in_heads (named buds node) leaf ≡ true → (in_heads buds leaf ≡ true) ⊎ (holds_place node.lnum node.offs leaf.lnum leaf.offs ≡ true)
-in_named leaf [] node h = elim (either (holds_place node.lnum node.offs leaf.lnum leaf.offs) false h) [ inl own ↦ inr own | inr never ↦ absurd cc ]
-in_named leaf (bud ∷ buds) node h = by (in_named leaf buds node) (bud.lnum == node.lnum) refl h
-  where
-    by : (in_heads (named buds node) leaf ≡ true → (in_heads buds leaf ≡ true) ⊎ (holds_place node.lnum node.offs leaf.lnum leaf.offs ≡ true)) → (b : Bool) → (bud.lnum == node.lnum) ≡ b → in_heads (if b then record { head = bud.head; lnum = bud.lnum; offs = min bud.offs node.offs } ∷ buds else bud ∷ named buds node) leaf ≡ true
-        → (in_heads (bud ∷ buds) leaf ≡ true) ⊎ (holds_place node.lnum node.offs leaf.lnum leaf.offs ≡ true)
-    by more true e k = elim (either (holds_place bud.lnum (min bud.offs node.offs) leaf.lnum leaf.offs) (in_heads buds leaf) k) [
-      | inl own ↦ elim (behind_lesser bud.lnum node.lnum leaf.lnum leaf.offs bud.offs node.offs (eqb-true bud.lnum node.lnum e) own) [
-        | inl x ↦ inl (or_left (holds_place bud.lnum bud.offs leaf.lnum leaf.offs) (in_heads buds leaf) x)
-        | inr y ↦ inr y
-      ]
-      | inr rest ↦ inl (or_right (holds_place bud.lnum bud.offs leaf.lnum leaf.offs) (in_heads buds leaf) rest)
-    ]
-    by more false e k = elim (either (holds_place bud.lnum bud.offs leaf.lnum leaf.offs) (in_heads (named buds node) leaf) k) [
-      | inl own ↦ inl (or_left (holds_place bud.lnum bud.offs leaf.lnum leaf.offs) (in_heads buds leaf) own)
-      | inr rest ↦ elim (more rest) [
-        | inl x ↦ inl (or_right (holds_place bud.lnum bud.offs leaf.lnum leaf.offs) (in_heads buds leaf) x)
-        | inr y ↦ inr y
-      ]
-    ]
-
-in_fold : (leaf : Leaf) (nodes : List RefNode) (buds : List HeadAt) → in_heads (fold named buds nodes) leaf ≡ true → (in_heads buds leaf ≡ true) ⊎ (in_nodes nodes leaf ≡ true)
-in_fold leaf [] buds h = inl h
-in_fold leaf (node ∷ nodes) buds h = elim (in_fold leaf nodes (named buds node) h) [
-  | inl here ↦ elim (in_named leaf buds node here) [ inl x ↦ inl x | inr y ↦ inr (or_left (holds_place node.lnum node.offs leaf.lnum leaf.offs) (in_nodes nodes leaf) y) ]
-  | inr later ↦ inr (or_right (holds_place node.lnum node.offs leaf.lnum leaf.offs) (in_nodes nodes leaf) later)
-]
-
-in_heads_is : (contents : ℕ → List ℕ) (leaf : Leaf) (buds : List HeadAt) → in_bud (map named_of (map (bud_text contents) buds)) leaf ≡ in_heads buds leaf
-in_heads_is contents leaf [] = refl
-in_heads_is contents leaf (bud ∷ buds) = ap (λ b. holds_place bud.lnum bud.offs leaf.lnum leaf.offs || b) (in_heads_is contents leaf buds)
-
-in_nodes_is : (leaf : Leaf) (nodes : List RefNode) → in_bud (map named_by nodes) leaf ≡ in_nodes nodes leaf
-in_nodes_is leaf [] = refl
-in_nodes_is leaf (node ∷ nodes) = ap (λ b. holds_place node.lnum node.offs leaf.lnum leaf.offs || b) (in_nodes_is leaf nodes)
-
-pub named_too : (contents : ℕ → List ℕ) (nodes : List RefNode) (leaf : Leaf) → in_bud (map named_of (map (bud_text contents) (buds_of nodes))) leaf ≡ true → in_bud (map named_by nodes) leaf ≡ true
-named_too contents nodes leaf h = elim (in_fold leaf nodes [] (sym (in_heads_is contents leaf (buds_of nodes)) ∙ h)) [
-  | inl never ↦ absurd cc
-  | inr there ↦ in_nodes_is leaf nodes ∙ there
-]
-
 -- ---- where nodes stand
-all_read : (reads : List BudRead) → AllByRecursion IsSoundBud reads → AllByRecursion IsBudRead reads
-all_read [] h = tt
-all_read (read ∷ reads) h = (h.0.is_read, all_read reads h.1)
+named_too : (contents : ℕ → List ℕ) (nodes : List RefNode) (leaf : Leaf) → in_bud (map named_of (map (bud_text contents) (buds_of nodes))) leaf ≡ true → in_bud (map named_by nodes) leaf ≡ true
+named_too contents nodes leaf h = same_places contents nodes leaf ∙ h
 
 all_named : (a b : List Named) (nodes : List Placed) → ((leaf : Leaf) → in_bud a leaf ≡ true → in_bud b leaf ≡ true) → AllByRecursion (HasNamedPlace a) nodes → AllByRecursion (HasNamedPlace b) nodes
 all_named a b [] more h = tt

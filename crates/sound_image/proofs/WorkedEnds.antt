@@ -101,7 +101,7 @@ none_listed leb [] h = refl
 none_listed leb (found ∷ nodes) h = let kind = All-head IsPadding found nodes h in inl (λ e. absurd cc, none_listed leb nodes (All-tail IsPadding found nodes h))
 
 -- one that is no padding is the first
-only_first : (first found : Found) (nodes before behind : List Found) → All IsPadding nodes → found.kind ≢ types.Padding → first ∷ nodes ≡ before ++ (found ∷ behind) → first ≡ found
+pub only_first : (first found : Found) (nodes before behind : List Found) → All IsPadding nodes → found.kind ≢ types.Padding → first ∷ nodes ≡ before ++ (found ∷ behind) → first ≡ found
 only_first first found nodes [] behind h other e = (cons_parts first found nodes behind e).0
 only_first first found nodes (b ∷ before) behind h other e =
     let rest = (cons_parts first b nodes (before ++ (found ∷ behind)) e).1 in

@@ -7,7 +7,7 @@ use Rattle.std.proofs.lemmas.List.Elements.{All-nil, All-cons}
 use Rattle.ubifs_base.specs.R5.{r5_of}
 use Rattle.bud_log.specs.LogText.{LogText}
 use Rattle.index_tree.specs.Order.{key_rank}
-use Rattle.index_tree.specs.Removal.{same_leaf}
+use Rattle.index_tree.specs.Removal.{holds, same_leaf}
 use Rattle.index_tree.specs.declared.leaf.Leaf.{Leaf}
 use Rattle.index_media.specs.PlacedRow.{are_disjoint, branch_to}
 use Rattle.fs_model.specs.declared.inode.Inode.{Inode}
@@ -32,7 +32,7 @@ use Rattle.sound_image.proofs.Lists.{cons_parts, none_of}
 use Rattle.sound_image.proofs.WorkedEnds.{before_ends, before_orphans}
 use Rattle.sound_image.proofs.WorkedRows.{before_sums, least_super_has, not_before}
 
-before_tree : (contents : ℕ → List ℕ) (image : Image) → MeetsBefore contents image rules.Orphans → HasOrphanLists contents image.geo → MeetsBefore contents image rules.Tree
+pub before_tree : (contents : ℕ → List ℕ) (image : Image) → MeetsBefore contents image rules.Orphans → HasOrphanLists contents image.geo → MeetsBefore contents image rules.Tree
 before_tree contents image h orphans rules.Superblock n = h rules.Superblock (ltb-true 1 10 refl)
 before_tree contents image h orphans rules.Masters n = h rules.Masters (ltb-true 2 10 refl)
 before_tree contents image h orphans rules.Properties n = h rules.Properties (ltb-true 3 10 refl)
@@ -106,7 +106,7 @@ has_file contents log h same =
       apart = subst D (sym leaves) refl;
     }
 
-one_alone : (a x : Kept) (before behind : List Kept) → a ∷ [] ≡ before ++ (x ∷ behind) → (before ≡ []) × (a ≡ x)
+pub one_alone : {X : Type 0} (a x : X) (before behind : List X) → a ∷ [] ≡ before ++ (x ∷ behind) → (before ≡ []) × (a ≡ x)
 one_alone a x [] behind h = (refl, (cons_parts a x [] behind h).0)
 one_alone a x (b ∷ before) behind h = absurd (none_of x (before ++ (x ∷ behind)) (before, behind, refl) (sym (cons_parts a b [] (before ++ (x ∷ behind)) h).1))
 
@@ -124,18 +124,21 @@ none_there {X = X} x before behind e = none_of x [] (before, behind, e) refl
 file_least : (contents : ℕ → List ℕ) (other : Wrong) → IsWrongInTree contents least_master file_parts other → comes_before other at_root ≡ false
 file_least contents other (inl (x, inl ((before, behind, e), none), is)) = absurd (none_there x before behind e)
 file_least contents other (inl (x, inr ((before, behind, e), none), is)) = absurd (none_there x before behind e)
-file_least contents other (inr (inl (x, before, behind, e, again, is))) =
+file_least contents other (inr (inl (leaf, before, behind, e, again, is))) =
+    let f : true ≡ false = sym again ∙ ap (holds leaf) (one_alone root_leaf leaf before behind e).0 in
+    absurd cc
+file_least contents other (inr (inr (inl (x, before, behind, e, again, is)))) =
     let own = one_alone file_kept x before behind (sym file_found ∙ e) in
     let f : true ≡ false = sym again ∙ ap (list_any (λ y. shows_same (shown_by y) (shown_by x))) own.0 in
     absurd cc
-file_least contents other (inr (inr (inl (x, (before, behind, e), is, there)))) =
+file_least contents other (inr (inr (inr (inl (x, (before, behind, e), is, there))))) =
     let own = (one_alone file_kept x before behind (sym file_recovered ∙ e)).1 in
     itself other (is ∙ ap (λ (k : Kept). record { lnum = k.leaf.lnum; offs = k.leaf.offs; misfit = differs (number_of k) 0 }) (sym own))
-file_least contents other (inr (inr (inr (inl (leaf, one, is))))) = absurd (none_of leaf (empty_names file_parts) one none_empty)
-file_least contents other (inr (inr (inr (inr (none, is))))) = let e = sym none ∙ file_root.1 in absurd cc
+file_least contents other (inr (inr (inr (inr (inl (leaf, one, is)))))) = absurd (none_of leaf (empty_names file_parts) one none_empty)
+file_least contents other (inr (inr (inr (inr (inr (none, is)))))) = let e = sym none ∙ file_root.1 in absurd cc
 
 file_first : (contents : ℕ → List ℕ) → IsFirstWrong (IsWrongInTree contents least_master file_parts) at_root
-file_first contents = record { wrong = inr (inr (inl (file_kept, ([], [], file_recovered), refl, inr (inl out_of_place)))); least = file_least contents }
+file_first contents = record { wrong = inr (inr (inr (inl (file_kept, ([], [], file_recovered), refl, inr (inl out_of_place))))); least = file_least contents }
 
 pub root_file_row : (contents : ℕ → List ℕ) → HasRootFile contents → IsFirstBreach contents (Damaged rules.Tree 10 0 1 0)
 root_file_row contents h =

@@ -65,14 +65,14 @@ pub no_master_row : (contents : ℕ → List ℕ) → BeginsWithSuper (contents 
 no_master_row contents h one two = (least_geometry, least_super_has contents h, blank_none (contents 1) one, blank_none (contents 2) two)
 
 -- ---- what comes before nothing
-not_lesser_of : (a b c d : ℕ) → c ≤ a → (a ≡ c → d ≤ b) → is_lesser (a, b) (c, d) ≡ false
+pub not_lesser_of : (a b c d : ℕ) → c ≤ a → (a ≡ c → d ≤ b) → is_lesser (a, b) (c, d) ≡ false
 not_lesser_of a b c d high later =
     or_from (nat_lt a c) ((a == c) && nat_lt b d) (le-ltb a c high) (elim (cases_eq a c) [
       | inl same ↦ and_right (a == c) (nat_lt b d) (le-ltb b d (later same))
       | inr other ↦ and_left (a == c) (nat_lt b d) (ne_eqb a c other)
     ])
 
-told_once : (a : Misfit) → is_told_before a a ≡ false
+pub told_once : (a : Misfit) → is_told_before a a ≡ false
 told_once (needs what) = le-ltb (feature_number what) (feature_number what) (le_refl (feature_number what))
 told_once (differs wanted found) = not_lesser_of wanted found wanted found (le_refl wanted) (λ e. le_refl found)
 

@@ -1,5 +1,5 @@
 -- What breaks a rule, where, and with which values; and which breach is the first.
-use Rattle.std.specs.Prelude.{◌≡◌, ◌≢◌, ◌⊎◌, ℕ, ◌+◌, ◌-◌, ◌<◌, ◌≤◌, ◌==◌, ◌&&◌, ◌||◌, not, IsTrue, IsFalse, Bool, List, [], ◌∷◌, ◌++◌, Option, Some, None, get_or, length}
+use Rattle.std.specs.Prelude.{◌≡◌, ◌≢◌, ◌⊎◌, ℕ, ◌+◌, ◌-◌, ◌<◌, ◌≤◌, ◌==◌, ◌&&◌, ◌||◌, not, IsTrue, IsFalse, Bool, List, [], ◌∷◌, ◌++◌, Option, Some, None, get_or, length, map}
 use Rattle.std.specs.List.{list_any}
 use Rattle.ubifs_base.specs.Areas.{orph_first, main_first}
 use Rattle.ubifs_base.specs.GeometryFaults.{IsFirstOut, tested_fields}
@@ -30,6 +30,7 @@ use Rattle.bud_log.specs.Buds.{buds_of}
 use Rattle.bud_log.specs.Log.{references_of}
 use Rattle.bud_log.specs.LogText.{LogText}
 use Rattle.bud_log.specs.declared.head_at.HeadAt.{HeadAt}
+use Rattle.index_tree.specs.Removal.{holds}
 use Rattle.index_tree.specs.Shape.{contents as leaves_in}
 use Rattle.index_tree.specs.declared.leaf.Leaf.{Leaf}
 use Rattle.index_media.specs.PlacedRow.{PlacedRow, plain}
@@ -152,14 +153,22 @@ abbrev pub IsRepeated : Parts → Wrong → Type 0
 IsRepeated parts at =
     (x : Kept) × (before : List Kept) × (behind : List Kept) × (leaves_found parts ≡ before ++ (x ∷ behind)) × IsTrue (list_any (λ y. shows_same (shown_by y) (shown_by x)) before) × IsAtNode x (differs (number_of x) 0) at
 
--- A node isn't what it should be, a leaf is repeated, a recovered leaf is wrong, a name is one of inode number 0, or there is no inode 1, which is wrong at the root of the index.
+-- a committed leaf has the key and the place of one before it; the number in its key is wanted
+abbrev pub IsCommittedTwice : Parts → Wrong → Type 0
+IsCommittedTwice parts at =
+    (leaf : Leaf) × (before : List Leaf) × (behind : List Leaf) × (map (λ x. x.leaf) parts.committed ≡ before ++ (leaf ∷ behind)) × IsTrue (holds leaf before)
+    × (at ≡ record { lnum = leaf.lnum; offs = leaf.offs; misfit = differs (key_words leaf.key).0 0 })
+
+-- A node isn't what it should be, a committed leaf is there twice, a leaf is repeated, a recovered leaf is wrong, a name is one of inode number 0,
+-- or there is no inode 1, which is wrong at the root of the index.
 abbrev pub IsWrongInTree : (ℕ → List ℕ) → Master → Parts → Wrong → Type 0
 IsWrongInTree contents master parts at =
     IsWrongNode parts at
+    ⊎ (IsCommittedTwice parts at
     ⊎ (IsRepeated parts at
     ⊎ (((x : Kept) × IsOneOf x (recovered_of parts).kept × IsAtNode x (differs (number_of x) 0) at × IsWrongThere contents parts x)
     ⊎ (((leaf : Leaf) × IsOneOf leaf (empty_names parts) × (at ≡ record { lnum = leaf.lnum; offs = leaf.offs; misfit = differs 0 0 }))
-    ⊎ ((inode_at (tree_found parts) 1 ≡ None) × (at ≡ record { lnum = master.root_lnum; offs = master.root_offs; misfit = differs 1 0 })))))
+    ⊎ ((inode_at (tree_found parts) 1 ≡ None) × (at ≡ record { lnum = master.root_lnum; offs = master.root_offs; misfit = differs 1 0 }))))))
 
 -- a leaf shows an inode that is no directory and has other links than names, or none
 pub record IsWrongLink (parts : Parts) (at : Wrong) : Type 0 where

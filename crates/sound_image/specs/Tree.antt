@@ -1,5 +1,5 @@
 -- The rules on the recovered tree: directories and entries, and links (`dbg_check_filesystem` of Linux fs/ubifs).
-use Rattle.std.specs.Prelude.{◌≡◌, ◌⊎◌, ℕ, ◌==◌, ◌&&◌, ◌||◌, nat_lt, not, is_some, Bool, true, IsSome, IsTrue, List, [], All, Option, Some, length, take, drop}
+use Rattle.std.specs.Prelude.{◌≡◌, ◌⊎◌, ℕ, ◌==◌, ◌&&◌, ◌||◌, nat_lt, not, is_some, Bool, true, IsSome, IsTrue, List, [], All, Option, Some, length, map, take, drop}
 use Rattle.std.specs.List.{list_all, list_any}
 use Rattle.media_leaf.specs.LeafNode.{IsLeafNode}
 use Rattle.fs_model.specs.declared.change.Change.{Change}
@@ -9,6 +9,7 @@ use Rattle.fs_model.specs.declared.inode.Kind.TheVariants.{Dir}
 use Rattle.fs_model.specs.Files.{Tree}
 use Rattle.fs_model.specs.Path.{is_dir}
 use Rattle.fs_model.specs.Proper.{has_kind, is_sound_dir, is_sound_entry, names_of}
+use Rattle.index_tree.specs.Distinct.{AreDistinct}
 use Rattle.index_tree.specs.Order.{leaf_rank}
 use Rattle.change_nodes.specs.Nodes.{change_of}
 use Rattle.leaf_map.specs.Allowed.{IsOwnNode}
@@ -40,12 +41,14 @@ abbrev pub is_named_well : Tree → Option Change → Bool
 is_named_well tree (Some (SetEntry e)) = is_sound_entry tree e
 is_named_well tree other = true
 
--- Each node that the journal has says a change of the tree, and each one of the collector's is a copy. No two leaves show the same, neither
--- of those that are found nor of those after recovery. Each of the latter shows what stands at its place, and no name is one of inode number 0. Inode 1 is a directory; each entry stands in a directory,
--- and its inode is there, of its kind, and not the root; each directory but the root has one entry and is reached from the root.
+-- Each node that the journal has says a change of the tree, and each one of the collector's is a copy. No two committed leaves have one key and place.
+-- No two leaves show the same, neither of those that are found nor of those after recovery. Each of the latter shows what stands at its place,
+-- and no name is one of inode number 0. Inode 1 is a directory; each entry stands in a directory, and its inode is there, of its kind,
+-- and not the root; each directory but the root has one entry and is reached from the root.
 pub record HasTree (contents : ℕ → List ℕ) (parts : Parts) : Type 0 where
   pub changes : All (λ (x : Placed). IsSome (change_of x.node)) parts.nodes
   pub copies : All (IsCopy parts) parts.copies
+  pub distinct : AreDistinct (map (λ x. x.leaf) parts.committed)
   pub named : empty_names parts ≡ []
   pub found : IsTrue (are_apart (leaves_found parts))
   pub shown : All (ShowsItsNode contents) (recovered_of parts).kept

@@ -2,6 +2,7 @@
 use Rattle.std.specs.Prelude.{◌≡◌, ℕ, ◌<◌, ◌≤◌, IsTrue, true, false, List, [], ◌∷◌, Some, get_or, take, drop, replicate}
 use Rattle.ubifs_base.specs.Geometry.{plain_geometry}
 use Rattle.ubifs_base.specs.NodeLaws.{IsBytes}
+use Rattle.ubifs_base.specs.declared.journal_head.JournalHead.TheVariants.{Base}
 use Rattle.ubifs_base.specs.declared.key.Key.TheVariants.{Ino}
 use Rattle.ubifs_base.specs.declared.raw_geometry.RawGeometry.{RawGeometry}
 use Rattle.media_leaf.specs.LeafNode.{inode}
@@ -17,12 +18,14 @@ use Rattle.leb_scan.specs.Text.{is_blank}
 use Rattle.index_tree.specs.declared.leaf.Leaf.{Leaf}
 use Rattle.index_media.specs.PlacedRow.{PlacedRow, ended, leaf_at, node_at, branch_to}
 use Rattle.index_media.specs.Stored.{IsIndexNodeAt}
+use Rattle.bud_log.specs.Log.{references_of}
 use Rattle.bud_log.specs.LogText.{LogText}
 use Rattle.leaf_map.specs.Kept.{Kept, Placed}
 use Rattle.sound_image.specs.Image.{Image}
 use Rattle.sound_image.specs.Index.{root_branch}
 use Rattle.sound_image.specs.Laid.{BeginsAlone, IsFreshLog}
 use Rattle.sound_image.specs.Leaves.{IsPlacedIn}
+use Rattle.sound_image.specs.Log.{HasLog}
 use Rattle.sound_image.specs.Properties.{HasProperties}
 use Rattle.sound_image.specs.Superblock.{BeginsWithSuper}
 
@@ -208,6 +211,49 @@ pub record HasRootFile (contents : ℕ → List ℕ) : Type 0 where
   pub leaf : IsPlacedIn contents file_placed
   pub behind : IsTrue (is_blank (drop 160 (contents 10)))
   pub index : IsIndexNodeAt contents least_branch (record { level = 0; branches = branch_to root_leaf ∷ [] })
+
+-- a file's inode, one link of which is told
+abbrev pub lone_inode : InoNode
+lone_inode = record root_inode { ino = 65; size = 0; nlink = 1; mode = 0o100644 }
+
+abbrev pub lone_leaf : Leaf
+lone_leaf = record { key = Ino 65; lnum = 10; offs = 160; len = 160 }
+
+abbrev pub lone_placed : Placed
+lone_placed = record { node = inode lone_inode; sqnum = 3; group = 0; lnum = 10; offs = 160; len = 160 }
+
+-- an index of both inodes, its latest master, and its properties
+abbrev pub lone_latest : PlacedMaster
+lone_latest = record least_latest { master = record least_master { highest_inum = 65; root_len = 68 } }
+
+abbrev pub lone_branch : Branch
+lone_branch = root_branch lone_latest.master (Ino 1)
+
+abbrev pub lone_index : PlacedRow
+lone_index = node_at lone_branch (leaf_at root_leaf (leaf_at lone_leaf ended)) ended
+
+abbrev pub lone_props : List Lprop
+lone_props = record { free = 16064; dirty = 0; index = false } ∷ record { free = 16312; dirty = 0; index = true } ∷ []
+
+-- contents with a file beside the root, to which no name leads
+pub record HasLoneFile (contents : ℕ → List ℕ) : Type 0 where
+  pub begins : BeginsLeast contents least_super lone_latest
+  pub log : IsFreshLog contents least_geometry 3 1 0
+  pub properties : HasProperties contents least_geometry lone_latest.master lone_props
+  pub orphans : IsTrue (is_blank (contents 9))
+  pub root : IsPlacedIn contents root_placed
+  pub file : IsPlacedIn contents lone_placed
+  pub behind : IsTrue (is_blank (drop 320 (contents 10)))
+  pub index : IsIndexNodeAt contents lone_branch (record { level = 0; branches = branch_to root_leaf ∷ branch_to lone_leaf ∷ [] })
+
+-- contents whose log names LEB 10 as a bud, in which the start of a commit stands
+pub record HasStartInBud (contents : ℕ → List ℕ) (log : List LogText) : Type 0 where
+  pub begins : BeginsLeast contents least_super least_latest
+  pub properties : HasProperties contents least_geometry least_master least_props
+  pub index : IsIndexNodeAt contents least_branch (record { level = 0; branches = branch_to root_leaf ∷ [] })
+  pub has_log : HasLog contents least_geometry least_master log
+  pub named : references_of log ≡ record { lnum = 10; offs = 0; head = Base } ∷ []
+  pub start : BeginsAlone (contents 10) (written 1 0 (commit_start (record { cmt_no = 0 })))
 
 -- contents in which its nodes stand, and nothing else is written
 pub record IsLeastVolume (contents : ℕ → List ℕ) : Type 0 where

@@ -1,11 +1,12 @@
 // Laws: what the rules promise, and that what is written meets them.
 
-ghost use Rattle.std.specs.Prelude.{◌≡◌, ◌⊎◌, ◌<◌, ◌≤◌, ◌^◌, ℕ, All, IsTrue, List, None, Some, [], ◌∷◌, drop, length, map};
+ghost use Rattle.std.specs.Prelude.{◌≡◌, ◌⊎◌, ◌<◌, ◌≤◌, ◌^◌, ℕ, All, IsFalse, IsTrue, List, None, Some, [], ◌∷◌, drop, length, map};
 ghost use Rattle.std.specs.List.{AllByRecursion, list_all};
 ghost use Rattle.std.specs.Map.{values_of};
 ghost use Rattle.ubifs_base.specs.Geometry.{IsGeometry};
 ghost use Rattle.ubifs_base.specs.NodeLaws.{IsBytes};
 ghost use Rattle.ubifs_base.specs.declared.raw_geometry.RawGeometry.{RawGeometry};
+ghost use Rattle.media_leaf.specs.LeafNode.{IsLeaf};
 ghost use Rattle.media_lpt.specs.declared.lprop.Lprop.{Lprop};
 ghost use Rattle.media_sys.specs.declared.feature.Feature.TheVariants.{KeyHash};
 ghost use Rattle.media_sys.specs.declared.super_field.SuperField.TheVariants.{MinIo};
@@ -23,14 +24,17 @@ ghost use Rattle.bud_log.specs.Buds.{buds_of};
 ghost use Rattle.bud_log.specs.Log.{IsLog, IsLogLeb, Log, references_of};
 ghost use Rattle.bud_log.specs.LogText.{LogText, begins_with, start_of};
 ghost use Rattle.bud_log.specs.Writing.{IsAmong, IsOlder};
+ghost use Rattle.index_tree.specs.declared.leaf.Leaf.{Leaf};
 ghost use Rattle.index_media.specs.PlacedRow.{PlacedRow};
-ghost use Rattle.fs_model.specs.Proper.{has_kind, is_sound_entry, is_sound_inode};
+ghost use Rattle.fs_model.specs.Proper.{IsProper, has_kind, is_sound_entry, is_sound_inode};
 ghost use Rattle.fs_model.specs.declared.inode.Kind.TheVariants.{Dir};
 ghost use Rattle.journal_scan.specs.Journal.{BudRead, IsBudRead, IsReadable};
-ghost use Rattle.journal_scan.specs.Places.{HavePlaces};
-ghost use Rattle.leaf_map.specs.Kept.{Placed};
-ghost use Rattle.leaf_map.specs.Recovered.{tree_found};
-ghost use Rattle.sound_image.specs.Breaches.{IsBroken, IsFirstBreach};
+ghost use Rattle.journal_scan.specs.Places.{HavePlaces, named_by};
+ghost use Rattle.leaf_map.specs.Kept.{Placed, shown};
+ghost use Rattle.leaf_map.specs.LeafMap.{IsLeafMap};
+ghost use Rattle.leaf_map.specs.Parts.{Parts, in_bud, is_named, is_shown};
+ghost use Rattle.leaf_map.specs.Recovered.{leaves_found, tree_found};
+ghost use Rattle.sound_image.specs.Breaches.{IsBroken, IsFirstBreach, IsWrongLink, IsWrongSum};
 ghost use Rattle.sound_image.specs.Buds.{IsSoundBud, MayStandInBud, bud_text};
 ghost use Rattle.sound_image.specs.Frames.{IsKnownAt};
 ghost use Rattle.sound_image.specs.Image.{AreOfVolume, Image, parts_of};
@@ -43,15 +47,21 @@ ghost use Rattle.sound_image.specs.OrphanLists.{HasOrphanLists, HasOrphanNodes};
 ghost use Rattle.sound_image.specs.Properties.{HasProperties};
 ghost use Rattle.sound_image.specs.Rules.{Meets};
 ghost use Rattle.sound_image.specs.Sound.{SoundImage};
-ghost use Rattle.sound_image.specs.Summary.{is_clean, space_of_image};
+ghost use Rattle.sound_image.specs.Space.{HasSums};
+ghost use Rattle.sound_image.specs.Summary.{is_clean, space_of_image, tree_of_image};
+ghost use Rattle.sound_image.specs.Tree.{HasLinks};
 ghost use Rattle.sound_image.specs.Superblock.{BeginsWithSuper, HasSuperblock};
-ghost use Rattle.sound_image.specs.Worked.{BeginsLeast, HasRootFile, HasStartForOrphans, HasWrittenEnd, IsLeastVolume, IsLeastWith, LacksItsLeaf, LacksItsProperties, dirtier_props, least_image, least_props, least_super, misplaced_latest, unmarked_props};
-ghost use Rattle.sound_image.specs.Wrong.{Wrong};
+ghost use Rattle.sound_image.specs.Worked.{BeginsLeast, HasLoneFile, HasRootFile, HasStartForOrphans, HasStartInBud, HasWrittenEnd, IsLeastVolume, IsLeastWith, LacksItsLeaf, LacksItsProperties, dirtier_props, least_image, least_props, least_super, misplaced_latest, unmarked_props};
+ghost use Rattle.sound_image.specs.Wrong.{IsFirstWrong, IsOneOf, Wrong, comes_before};
 ghost use Rattle.sound_image.specs.declared.breach.Breach.{Breach as ABreach};
 ghost use Rattle.sound_image.specs.declared.rule.Rule.{Rule as ARule};
 
-use index_media::a_root_leads_to_one_index;
+use index_media::{a_root_leads_to_one_index, a_stored_index_is_an_index};
 use journal_scan::nodes_have_places;
+use leaf_map::{
+    a_change_of_leaves_is_one_of_the_tree, a_copy_changes_no_tree, indexes_follow,
+    the_last_change_wins,
+};
 use leb_scan::one_text;
 use lpt_area::{one_list, still_there};
 use media_leaf::one_node as one_leaf;
@@ -168,6 +178,42 @@ pub fn a_mount_can_read_a_sound_image()
     nodes_have_places();
 }
 
+/// What a sound image says is what a replay asks for: each copy is a node that sets something, the leaves that are found are those of
+/// an index, and references name the places and the LEBs that buds do. No two committed leaves are one by the rule on the tree.
+pub fn what_a_sound_image_says_can_be_replayed()
+    ensures copies { (contents : ℕ → List ℕ) (image : Image) → SoundImage contents image → AllByRecursion (λ (x : Placed). IsLeaf x.node × IsTrue (is_shown (shown x.node))) (parts_of image).copies }
+    ensures found { (contents : ℕ → List ℕ) (image : Image) → SoundImage contents image → IsLeafMap (leaves_found (parts_of image)) }
+    ensures places { (contents : ℕ → List ℕ) (image : Image) (leaf : Leaf) → SoundImage contents image → in_bud (parts_of image).named leaf ≡ in_bud (map (λ x. named_by x.bud) image.buds) leaf }
+    ensures lebs { (contents : ℕ → List ℕ) (image : Image) (lnum : ℕ) → SoundImage contents image → is_named (parts_of image).named lnum ≡ is_named (map (λ x. named_by x.bud) image.buds) lnum }
+{
+    a_stored_index_is_an_index();
+}
+
+/// The tree of which a mount makes its files is proper: the recovered one, where each directory has a link.
+pub fn the_tree_of_a_mount_is_proper()
+    ensures { (contents : ℕ → List ℕ) (image : Image) → ((k : ℕ) → IsBytes (contents k)) → SoundImage contents image → IsProper (tree_of_image image) }
+{
+    nodes_have_places();
+    a_stored_index_is_an_index();
+    a_change_of_leaves_is_one_of_the_tree();
+    a_copy_changes_no_tree();
+    indexes_follow();
+    the_last_change_wins();
+}
+
+/// Of what is wrong at some places, one is first: places are in order, and what is told before something isn't told behind it.
+pub fn of_some_places_one_is_first()
+    ensures first { (x : Wrong) (xs : List Wrong) → (first : Wrong) × IsOneOf first (x ∷ xs) × ((other : Wrong) → IsOneOf other (x ∷ xs) → IsFalse (comes_before other first)) }
+    ensures later { (a b c : Wrong) → IsFalse (comes_before b a) → IsFalse (comes_before c b) → IsFalse (comes_before c a) }
+    ensures one_way { (a b : Wrong) → IsTrue (comes_before a b) → IsFalse (comes_before b a) }
+{}
+
+/// The sums of main LEBs are right, or one is wrong first; and so are the links of inodes.
+pub fn sums_and_links_are_right_or_one_is_wrong()
+    ensures sums { (geo : RawGeometry) (props : List Lprop) (placed : PlacedRow) → HasSums geo props placed ⊎ ((at : Wrong) × IsFirstWrong (IsWrongSum geo props placed) at) }
+    ensures links { (parts : Parts) → HasLinks (tree_found parts) ⊎ ((at : Wrong) × IsFirstWrong (IsWrongLink parts) at) }
+{}
+
 /// Damaged images by hand, each told exactly: another hash of names, a size of units that is no power of two, no master, a root
 /// behind the last LEB, a log of another commit, and too many dirty bytes in both main LEBs, of which the first is told.
 pub fn damaged_images_are_told()
@@ -183,14 +229,17 @@ pub fn damaged_images_are_told()
     one_text();
 }
 
-/// And six more: a tree of properties whose root is erased, the root of the index in a LEB that isn't marked as the index's, a leaf
-/// whose LEB is erased, a byte among free ones, the start of a commit where orphans may stand, and a file as inode 1.
+/// And eight more: a tree of properties whose root is erased, the root of the index in a LEB that isn't marked as the index's, a leaf
+/// whose LEB is erased, a byte among free ones, the start of a commit where orphans may stand, a file as inode 1, a file without
+/// a name, and the start of a commit in a bud.
 pub fn lost_nodes_are_told()
     ensures properties { (contents : ℕ → List ℕ) → LacksItsProperties contents → IsFirstBreach contents (ABreach.Damaged ARule.Properties 7 15 32782 65535) }
     ensures index { (contents : ℕ → List ℕ) → IsLeastWith contents unmarked_props 0 → IsFirstBreach contents (ABreach.Damaged ARule.Index 11 0 1 0) }
     ensures leaf { (contents : ℕ → List ℕ) → LacksItsLeaf contents → IsFirstBreach contents (ABreach.Damaged ARule.Leaves 10 0 0 255) }
     ensures end { (contents : ℕ → List ℕ) → HasWrittenEnd contents → IsFirstBreach contents (ABreach.Damaged ARule.Ends 10 200 255 0) }
     ensures tree { (contents : ℕ → List ℕ) → HasRootFile contents → IsFirstBreach contents (ABreach.Damaged ARule.Tree 10 0 1 0) }
+    ensures buds { (contents : ℕ → List ℕ) (log : List LogText) → HasStartInBud contents log → IsFirstBreach contents (ABreach.Damaged ARule.Buds 10 0 1 10) }
+    ensures links { (contents : ℕ → List ℕ) → HasLoneFile contents → IsFirstBreach contents (ABreach.Damaged ARule.Links 10 160 0 1) }
     ensures orphans { (contents : ℕ → List ℕ) → HasStartForOrphans contents → IsFirstBreach contents (ABreach.Damaged ARule.Orphans 9 0 11 10) }
 {
     one_node();

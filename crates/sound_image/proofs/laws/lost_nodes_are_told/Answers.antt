@@ -2,6 +2,8 @@ use Rattle.sound_image.proofs.WorkedLeaves.{lost_leaf_row, unmarked_row}
 use Rattle.sound_image.proofs.WorkedTrees.{erased_tree_row}
 use Rattle.sound_image.proofs.WorkedEnds.{no_orphan_row, written_end_row}
 use Rattle.sound_image.proofs.WorkedFiles.{root_file_row}
+use Rattle.sound_image.proofs.WorkedBuds.{bud_row}
+use Rattle.sound_image.proofs.WorkedLinks.{lone_file_row}
 use Rattle.sound_image.proofs.laws.lost_nodes_are_told.Goals as goal
 
 pub returns-clause-index : goal.returns-clause-index
@@ -21,3 +23,9 @@ returns-clause-orphans c = no_orphan_row c.one_text.ensures
 
 pub returns-clause-tree : goal.returns-clause-tree
 returns-clause-tree c = root_file_row
+
+pub returns-clause-buds : goal.returns-clause-buds
+returns-clause-buds c = bud_row c.one_text.ensures
+
+pub returns-clause-links : goal.returns-clause-links
+returns-clause-links c = lone_file_row
