@@ -1,0 +1,18 @@
+-- What is seen of an index.
+use Rattle.std.specs.Prelude.{ℕ, List}
+use Rattle.index_tree.specs.declared.leaf.Leaf.{Leaf}
+use Rattle.index_media.specs.KeyedRow.{KeyedRow}
+use Rattle.node_table.specs.NodeView.{tree_at, leaves_at}
+use Rattle.index_cache.specs.declared.paged.PagedIndex.{PagedIndex}
+
+-- its shape, with the keys of branches, and with places where nodes are clean
+abbrev pub tree_of : PagedIndex → KeyedRow
+tree_of index = tree_at index.table.nodes.items index.root
+
+-- its leaves from left to right
+abbrev pub leaves_of : PagedIndex → List Leaf
+leaves_of index = leaves_at index.table.nodes.items index.root
+
+-- the most children that its nodes have
+abbrev pub fanout_of : PagedIndex → ℕ
+fanout_of index = index.table.fanout

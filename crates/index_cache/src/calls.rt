@@ -1,0 +1,162 @@
+// Look-ups and changes.
+
+ghost use Rattle.std.specs.Prelude.{◌≡◌, ◌≤◌, ◌==◌, IfOk, OnOk, OnErr, filter, slice_get};
+ghost use Rattle.index_media.specs.Insertion.{with_leaf_by_keys};
+ghost use Rattle.index_media.specs.KeyedRemoval.{replaced_by_keys};
+ghost use Rattle.index_media.specs.KeyedRow.{no_more};
+ghost use Rattle.index_tree.specs.Order.{key_rank, leaf_rank, of_rank, first_after, placed};
+ghost use Rattle.index_tree.specs.Removal.{holds, without};
+ghost use Rattle.index_tree.specs.Replacement.{swapped};
+ghost use Rattle.node_table.specs.Changing.{IsChange, AreChanges, changed, changed_by, leaves_after, leaves_after_all};
+ghost use Rattle.node_table.specs.Exchange.{tree_without};
+ghost use Rattle.node_table.specs.NodeView.{tree_at, leaves_at};
+ghost use Rattle.node_table.specs.Staging.{IsSoundRoot};
+ghost use Rattle.ubifs_base.specs.Key.{IsKey};
+ghost use Rattle.index_cache.specs.Paged.{tree_of, leaves_of, fanout_of};
+
+use crate::paged::PagedIndex;
+use index_tree::Leaf;
+use node_table::{Change, NodeTable, Root, roots_stay};
+use std::alloc::Global;
+use ubifs_base::{Key, Memory};
+
+/// Changes that are made and not yet seen: the root that they make.
+#[derive(Clone, Copy, Debug, PartialEq, Eq)]
+pub struct Staged {
+    pub(crate) root: Option<Root>,
+}
+
+impl PagedIndex {
+    /// The empty index, of nodes with 1 to `fanout` children.
+    pub fn new(alloc: Global, fanout: u32) -> PagedIndex
+        requires least { 3 ≤ fanout }
+        requires most { fanout ≤ 256 }
+        ensures tree { tree_of result ≡ no_more }
+        ensures fanout { fanout_of result ≡ fanout }
+    {
+        PagedIndex {
+            table: NodeTable::new(alloc, fanout),
+            root: None,
+        }
+    }
+
+    /// The leaf of this key behind `nth` others of the same key; none where there are too few.
+    pub fn find(&self, key: &Key, nth: u32) -> Option<Leaf>
+        ensures { result ≡ slice_get (of_rank (key_rank key.now) (leaves_of self.now)) nth }
+    {
+        self.table.find(self.root, key, nth)
+    }
+
+    /// The first leaf of a greater key; none where there is none.
+    pub fn after(&self, key: &Key) -> Option<Leaf>
+        ensures { result ≡ first_after (key_rank key.now) (leaves_of self.now) }
+    {
+        self.table.after(self.root, key)
+    }
+
+    /// Whether this leaf, with its key and its place, is there.
+    pub fn holds(&self, leaf: &Leaf) -> bool
+        ensures { result ≡ holds leaf.now (leaves_of self.now) }
+    {
+        self.table.holds(self.root, leaf)
+    }
+
+    /// The leaves that stand in this LEB, in the order of the index. It looks at all leaves.
+    pub fn leaves_in(&self, alloc: Global, lnum: u32) -> Result<Vec<Leaf>, Memory>
+        ensures { IfOk result (λ leaves. leaves.items ≡ filter (λ x. x.lnum == lnum) (leaves_of self.now)) }
+    {
+        self.table.leaves_in(alloc, self.root, lnum)
+    }
+
+    /// Puts the leaf after all leaves whose key isn't greater. Nodes on its way are dirty, and all others keep their places.
+    ///
+    /// After `Memory` the index is as before.
+    pub fn insert(&mut self, alloc: Global, leaf: Leaf) -> Result<(), Memory>
+        requires key { IsKey leaf.key }
+        ensures tree { OnOk result (tree_of self.new ≡ with_leaf_by_keys (fanout_of self.old) leaf (tree_of self.old)) }
+        ensures leaves { OnOk result (leaves_of self.new ≡ placed leaf (leaves_of self.old)) }
+        ensures err { OnErr result (tree_of self.new ≡ tree_of self.old) }
+        ensures fanout { fanout_of self.new ≡ fanout_of self.old }
+    {
+        self.make(alloc, Change::Insert(leaf))
+    }
+
+    /// Takes the leaf out, with the nodes that this empties; false exactly where it isn't there. Nodes on its way are dirty,
+    /// and all others keep their places.
+    ///
+    /// After `Memory` the index is as before.
+    pub fn remove(&mut self, alloc: Global, leaf: &Leaf) -> Result<bool, Memory>
+        ensures found { IfOk result (λ found. found ≡ holds leaf.now (leaves_of self.old)) }
+        ensures tree { OnOk result (tree_of self.new ≡ tree_without leaf.now (tree_of self.old)) }
+        ensures leaves { OnOk result (leaves_of self.new ≡ without leaf.now (leaves_of self.old)) }
+        ensures err { OnErr result (tree_of self.new ≡ tree_of self.old) }
+        ensures fanout { fanout_of self.new ≡ fanout_of self.old }
+    {
+        let found = self.holds(leaf);
+        self.make(alloc, Change::Remove(*leaf))?;
+        Ok(found)
+    }
+
+    /// Puts a leaf at the place of another of its key; false exactly where that one isn't there. Nodes on its way are dirty,
+    /// and all others keep their places.
+    ///
+    /// After `Memory` the index is as before.
+    pub fn replace(&mut self, alloc: Global, old: &Leaf, new: Leaf) -> Result<bool, Memory>
+        requires key { IsKey new.key }
+        requires one_key { leaf_rank new ≡ leaf_rank old.now }
+        ensures found { IfOk result (λ found. found ≡ holds old.now (leaves_of self.old)) }
+        ensures tree { OnOk result (tree_of self.new ≡ replaced_by_keys old.now new (tree_of self.old)) }
+        ensures leaves { OnOk result (leaves_of self.new ≡ swapped old.now new (leaves_of self.old)) }
+        ensures err { OnErr result (tree_of self.new ≡ tree_of self.old) }
+        ensures fanout { fanout_of self.new ≡ fanout_of self.old }
+    {
+        let found = self.holds(old);
+        let change = Change::Replace {
+            gone: *old,
+            come: new,
+        };
+        self.make(alloc, change)?;
+        Ok(found)
+    }
+
+    /// Makes changes beside the index, each over what the ones before it make. The index is as before until they are adopted.
+    ///
+    /// After `Memory` the table of nodes is as before too.
+    pub fn stage(&mut self, alloc: Global, changes: &[Change]) -> Result<Staged, Memory>
+        requires changes { AreChanges changes.now }
+        ensures made { IfOk result (λ staged. tree_at self.new.table.nodes.items staged.root ≡ changed_by (fanout_of self.old) changes.now (tree_of self.old)) }
+        ensures leaves { IfOk result (λ staged. leaves_at self.new.table.nodes.items staged.root ≡ leaves_after_all changes.now (leaves_of self.old)) }
+        ensures root { IfOk result (λ staged. IsSoundRoot self.new.table.nodes.items staged.root) }
+        ensures tree { tree_of self.new ≡ tree_of self.old }
+        ensures fanout { fanout_of self.new ≡ fanout_of self.old }
+        ensures err { OnErr result (self.new.table.nodes.items ≡ self.old.table.nodes.items) }
+    {
+        roots_stay();
+        let root = self.table.stage(alloc, self.root, changes)?;
+        Ok(Staged { root })
+    }
+
+    // Makes one change.
+    fn make(&mut self, alloc: Global, change: Change) -> Result<(), Memory>
+        requires change { IsChange change }
+        ensures tree { OnOk result (tree_of self.new ≡ changed (fanout_of self.old) change (tree_of self.old)) }
+        ensures leaves { OnOk result (leaves_of self.new ≡ leaves_after change (leaves_of self.old)) }
+        ensures err { OnErr result (tree_of self.new ≡ tree_of self.old) }
+        ensures fanout { fanout_of self.new ≡ fanout_of self.old }
+    {
+        let changes: &[Change] = &[change];
+        let staged = self.stage(alloc, changes)?;
+        self.adopt(staged);
+        Ok(())
+    }
+
+    /// Shows changes that were staged. It takes no memory, and can't fail.
+    pub fn adopt(&mut self, staged: Staged)
+        requires root { IsSoundRoot self.old.table.nodes.items staged.root }
+        ensures tree { tree_of self.new ≡ tree_at self.old.table.nodes.items staged.root }
+        ensures fanout { fanout_of self.new ≡ fanout_of self.old }
+        ensures root { self.new.root ≡ staged.root }
+    {
+        self.root = staged.root;
+    }
+}
