@@ -3,7 +3,9 @@ use Rattle.std.specs.Prelude.{◌<◌, ℕ, IsTrue, All, None, Result}
 use Rattle.std.specs.List.{AllByRecursion}
 use Rattle.ubifs_base.specs.Key.{IsKey}
 use Rattle.index_tree.specs.Shape.{fits}
+use Rattle.ubifs_base.specs.declared.key.Key.{Key}
 use Rattle.media_sys.specs.declared.branch.Branch.{Branch}
+use Rattle.node_table.specs.declared.node.NodePlace.{NodePlace}
 use Rattle.index_media.specs.Keys.{AreBounded}
 use Rattle.index_media.specs.PlacedRow.{PlacedRow, plain, branches_of, lebs_of}
 use Rattle.index_media.specs.Stored.{AreStored, IsStoredIndex}
@@ -17,6 +19,10 @@ pub record IsRead {T : Type 0} (old new : VolumeState) (result : Result T AreaFa
   pub shape : SameShape old new
   pub cause : HasAreaCause old.faults new.faults result
   pub sure : StaysSureArea old new result
+
+-- the branch to a root that stands at a place, with a key
+abbrev pub root_at : NodePlace → Key → Branch
+root_at place key = record { lnum = place.lnum; offs = place.offs; len = place.len; key = key }
 
 -- an index stands in a volume's LEBs, from the root's branch on, to which a key is given
 pub record IsIndexOn (state : VolumeState) (fanout : ℕ) (root : Branch) (placed : PlacedRow) : Type 0 where

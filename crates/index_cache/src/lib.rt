@@ -13,3 +13,4 @@ mod reading;
 
 pub use crate::calls::Staged;
 pub use crate::paged::PagedIndex;
+pub use crate::reading::read_root;

@@ -1,15 +1,18 @@
 // An index node is read from a volume.
 
-ghost use Rattle.std.specs.Prelude.{◌≡◌, ◌<◌, ◌≤◌, ℕ, IfOk, length};
+ghost use Rattle.std.specs.Prelude.{◌≡◌, ◌<◌, ◌≤◌, ℕ, [], ◌∷◌, IfOk, length, map, take};
 ghost use Rattle.index_media.specs.Stored.{IsIndexNodeAt};
 ghost use Rattle.media_sys.specs.Index.{Index as AnIndexNode, index_of};
 ghost use Rattle.media_sys.specs.SystemNode.{IsSystemNode, index};
-ghost use Rattle.index_cache.specs.Loaded.{IsRead};
+ghost use Rattle.ubifs_base.specs.Key.{IsKey};
+ghost use Rattle.ubifs_base.specs.declared.key.Key.{Key as AKey};
+ghost use Rattle.index_cache.specs.Loaded.{IsRead, root_at};
 
 use media_sys::{Branch, IdxNode, one_node};
+use node_table::NodePlace;
 use std::alloc::Global;
 use ubi_volume::{AreaFault, Volume};
-use ubifs_base::Memory;
+use ubifs_base::{Key, Memory};
 
 /// The index node that bytes are. Bytes that are none are answered as want of memory: no caller hands such.
 fn decoded(alloc: Global, bytes: &[u8]) -> Result<IdxNode, Memory>
@@ -39,4 +42,37 @@ pub fn read_node<V: Volume>(
     volume.read(branch.lnum, branch.offs, &mut bytes)?;
     let node = decoded(alloc, &bytes)?;
     Ok(node)
+}
+
+/// Reads the branch to the root that stands at a place (`root_lnum`, `root_offs` and `root_len` of `struct ubifs_mst_node`).
+/// Its key is that of the root's first branch, since no branch of a parent gives it one.
+pub fn read_root<V: Volume>(
+    alloc: Global,
+    volume: &mut V,
+    place: &NodePlace,
+) -> Result<Branch, AreaFault>
+    requires lnum { place.now.lnum < (V.state volume.old).leb_cnt }
+    requires node { (key : AKey) × (said : AnIndexNode) × IsIndexNodeAt (V.state volume.old).holds (root_at place.now key) said }
+    ensures place { IfOk result (λ root. root ≡ root_at place.now root.key) }
+    ensures first { (key : AKey) (said : AnIndexNode) → IsIndexNodeAt (V.state volume.old).holds (root_at place.now key) said
+        → IfOk result (λ root. map (λ branch. branch.key) (take 1 said.branches) ≡ root.key ∷ []) }
+    ensures key { IfOk result (λ root. IsKey root.key) }
+    ensures reads { IsRead (V.state volume.old) (V.state volume.new) result }
+{
+    let root = Branch {
+        lnum: place.lnum,
+        offs: place.offs,
+        len: place.len,
+        key: Key::Ino { ino: 0 },
+    };
+    let node = read_node(alloc, volume, &root)?;
+    match node.branches.as_slice().split_first() {
+        None => Err(AreaFault::Memory),
+        Some((first, _)) => Ok(Branch {
+            lnum: place.lnum,
+            offs: place.offs,
+            len: place.len,
+            key: first.key,
+        }),
+    }
 }
