@@ -1,0 +1,10 @@
+pub mod Added
+pub mod Calls
+pub mod Firsts
+pub mod Judged
+pub mod LogTexts
+pub mod Members
+pub mod NewerLebs
+pub mod NodeLists
+pub mod OneText
+pub mod TakenReferences
