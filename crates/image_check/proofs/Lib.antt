@@ -1,5 +1,12 @@
 pub mod Answered
 pub mod FirstOfAll
+pub mod ForeignNodes
+pub mod Kept
 pub mod Latest
+pub mod OrphanArea
 pub mod Order
 pub mod Supers
+pub mod Misfits
+pub mod PropertyWalks
+pub mod WalkedRows
+pub mod WholeWalks

@@ -1,17 +1,25 @@
 //! Is what a volume holds a sound image, rule by rule, and what is wrong with it first?
 //!
 //! The rules, and what breaks them, are those of sound_image: definitions over contents. Each call here reads what its rule
-//! speaks of and answers Ok where the contents meet it; else it tells the breach of that rule that is the first. `specs/
-//! Told.antt` says what a breach that is told has to be, and when a check may fail.
+//! speaks of and answers Ok where the contents meet it; else it tells the breach of that rule that is the first. LEBs are tested
+//! one after another, so the invariant is that all LEBs so far meet the rule. The properties tree is gone over level by level,
+//! and what is wrong first of all its nodes is kept on the way (`specs/PropertyWalk.antt`).
 #![tactic(auto)]
 
 mod fault;
 mod laws;
 mod masters;
+mod orphan_lists;
+mod places;
+mod properties;
+mod property_rows;
 mod superblock;
 mod told;
+mod wrong_node;
 
 pub use crate::fault::CheckFault;
 pub use crate::laws::a_breach_is_first;
 pub use crate::masters::check_masters;
+pub use crate::orphan_lists::check_orphans;
+pub use crate::properties::check_properties;
 pub use crate::superblock::check_superblock;
