@@ -1,5 +1,5 @@
 -- What is told of an answer is told of what a check answers.
-use Rattle.std.proofs.Common.{◌≡◌, ◌⊎◌, ℕ, ◌≤◌, Result, Ok, Err, IfOk, sym, subst, inl, inr}
+use Rattle.std.proofs.Common.{◌≡◌, ℕ, Result, Ok, Err, IfOk, sym, subst, inl, inr}
 use Rattle.std.specs.Prelude.{IfErr}
 use Rattle.ubi_volume.specs.Faults.{HasAreaCause, StaysSureArea}
 use Rattle.ubi_volume.specs.Volume.{VolumeState}

@@ -1,5 +1,5 @@
 -- A breach of a rule is the first if all rules before it are met.
-use Rattle.std.proofs.Common.{◌≡◌, ℕ, List, sym, subst}
+use Rattle.std.proofs.Common.{ℕ, List, sym, subst}
 use Rattle.sound_image.specs.Breaches.{IsBroken, IsFirstBreach}
 use Rattle.sound_image.specs.Image.{Image}
 use Rattle.sound_image.specs.Rules.{MeetsBefore}

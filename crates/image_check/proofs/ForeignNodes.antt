@@ -1,7 +1,6 @@
 -- What stands in a LEB of the orphan area.
-use Rattle.std.proofs.Common.{◌≡◌, ℕ, zero, suc, ◌+◌, ◌<◌, ◌≤◌, min, Bool, true, false, List, [], ◌∷◌, ◌++◌, Option, Some, None, IfSome, IfNone, length, take, drop, ap, sym, subst, ◌∙◌, inl, inr, arith, refl, append_assoc}
-use Rattle.std.specs.Prelude.{◌⊎◌, ◌≢◌, All, if◌then◌else◌, cond}
-use Rattle.std.proofs.lemmas.Bool.{cases_Bool, cases_lt}
+use Rattle.std.proofs.Common.{◌≡◌, ℕ, ◌+◌, ◌<◌, ◌≤◌, Bool, true, false, List, [], ◌∷◌, ◌++◌, Option, Some, None, IfSome, IfNone, length, drop, ap, sym, subst, ◌∙◌, inl, inr, arith, refl, append_assoc}
+use Rattle.std.specs.Prelude.{◌⊎◌, ◌≢◌, All, if◌then◌else◌}
 use Rattle.std.proofs.lemmas.List.{length-take}
 use Rattle.std.proofs.lemmas.List.Elements.{All-head, All-nil, All-push, All-tail}
 use Rattle.ubifs_base.specs.Node.{node_bytes}
@@ -11,8 +10,8 @@ use Rattle.ubifs_base.specs.declared.node_type.NodeType.{NodeType}
 use Rattle.ubifs_base.specs.declared.node_type.NodeType.TheVariants as types
 use Rattle.leb_scan.specs.Fronts.{own_before}
 use Rattle.leb_scan.specs.Fronts as front
-use Rattle.leb_scan.specs.Gathered.{IsGathered, gathered_end, gathered_next}
-use Rattle.leb_scan.specs.Text.{AnyNode, IsLast, IsNext, IsText, Stand, StandsAt, behind, leaf, nodes_of, system, tail_at}
+use Rattle.leb_scan.specs.Gathered.{IsGathered, gathered_end}
+use Rattle.leb_scan.specs.Text.{AnyNode, IsLast, IsText, Stand, StandsAt, behind, leaf, nodes_of, system, tail_at}
 use Rattle.leb_scan.specs.TextLaws.{same_parts}
 use Rattle.leb_scan.specs.declared.found.Found.{Found}
 use Rattle.leb_scan.specs.declared.item.Item.{Item}

@@ -10,17 +10,16 @@ use Rattle.leb_scan.specs.TextLaws.{same_parts}
 use Rattle.leb_scan.specs.declared.found.Found.{Found}
 use Rattle.small_areas.specs.Addresses.{addresses_of, first_past}
 use Rattle.small_areas.specs.MasterLaws.{OneNode, OneText, last_or_none, one_last, one_latest}
-use Rattle.small_areas.specs.Masters.{HasNoMaster, HasNone, IsLastFound, IsLastMaster, IsLatest}
+use Rattle.small_areas.specs.Masters.{HasNoMaster, HasNone, IsLastMaster, IsLatest}
 use Rattle.small_areas.specs.declared.misplaced.Misplaced.{Misplaced}
 use Rattle.small_areas.specs.declared.placed_master.PlacedMaster.{PlacedMaster}
 use Rattle.media_sys.specs.declared.master.Master.{Master}
 use Rattle.index_media.specs.PlacedRow.{ended}
 use Rattle.sound_image.specs.Breaches.{IsFirstBreach, IsMisplaced}
 use Rattle.sound_image.specs.Image.{Image}
-use Rattle.sound_image.specs.Masters.{HasMasters}
 use Rattle.sound_image.specs.Rules.{MeetsBefore}
 use Rattle.sound_image.specs.Superblock.{HasSuperblock}
-use Rattle.sound_image.specs.Wrong.{IsFirstWrong, Misfit, Wrong, differs}
+use Rattle.sound_image.specs.Wrong.{IsFirstWrong, Wrong, differs}
 use Rattle.sound_image.specs.declared.breach.Breach.TheVariants.{Damaged}
 use Rattle.sound_image.specs.declared.rule.Rule.TheVariants as rules
 use Rattle.image_check.proofs.Order.{not_before}

@@ -1,13 +1,13 @@
 -- The LEBs of the orphan area, one after another.
-use Rattle.std.proofs.Common.{◌≡◌, ℕ, ◌+◌, ◌<◌, ◌≤◌, List, length, ap, sym, subst, ◌∙◌, inl, inr, arith, refl}
+use Rattle.std.proofs.Common.{◌≡◌, ℕ, ◌+◌, ◌<◌, ◌≤◌, List, length, ap, subst, ◌∙◌, inl, inr, arith, refl}
 use Rattle.ubifs_base.specs.Areas.{main_first, orph_first}
 use Rattle.ubifs_base.specs.NodeLaws.{IsBytes}
 use Rattle.ubifs_base.specs.declared.raw_geometry.RawGeometry.{RawGeometry}
 use Rattle.ubi_volume.specs.Volume.{VolumeState}
 use Rattle.small_areas.specs.MasterLaws.{OneText}
 use Rattle.sound_image.specs.Breaches.{IsNoOrphan}
-use Rattle.sound_image.specs.OrphanLists.{HasOrphanLists, HasOrphanNodes}
-use Rattle.sound_image.specs.Wrong.{IsFirstWrong, Misfit, Wrong, differs}
+use Rattle.sound_image.specs.OrphanLists.{HasOrphanNodes}
+use Rattle.sound_image.specs.Wrong.{IsFirstWrong, Wrong, differs}
 use Rattle.sound_image.specs.declared.rule.Rule.TheVariants as rules
 use Rattle.sound_image.specs.declared.breach.Breach.TheVariants.{Damaged}
 use Rattle.std.proofs.lemmas.Bool.{cases_lt}

@@ -1,24 +1,22 @@
 -- The tree of LEB properties, gone over row by row.
-use Rattle.std.proofs.Common.{◌≡◌, ◌⊎◌, ℕ, zero, suc, ◌+◌, ◌-◌, ◌*◌, ◌/◌, ◌%◌, ◌<◌, ◌≤◌, List, [], ◌∷◌, ◌++◌, Option, Some, None, length, take, drop, slice_get, refl, ap, sym, ◌∙◌, subst, inl, inr, arith, get_or-drop}
+use Rattle.std.proofs.Common.{◌≡◌, ◌⊎◌, ℕ, zero, suc, ◌+◌, ◌-◌, ◌*◌, ◌/◌, ◌%◌, ◌<◌, List, [], ◌∷◌, Option, Some, length, take, drop, slice_get, refl, ap, sym, ◌∙◌, subst, inl, inr, arith, get_or-drop}
 use Rattle.std.specs.Prelude.{◌≢◌}
 use Rattle.std.proofs.lemmas.Bool.{cases_eq, cases_lt}
-use Rattle.ubifs_base.specs.Areas.{main_first, main_lebs}
 use Rattle.ubifs_base.specs.NodeLaws.{IsBytes}
-use Rattle.ubifs_base.specs.Properties.{level_nodes, nnode_len, pnode_count, pnode_len, quarter, tree_height}
+use Rattle.ubifs_base.specs.Properties.{nnode_len}
 use Rattle.ubifs_base.specs.declared.raw_geometry.RawGeometry.{RawGeometry}
 use Rattle.media_lpt.specs.Nodes.{IsNnodeBytes}
-use Rattle.media_lpt.specs.declared.lprop.Lprop.{Lprop}
 use Rattle.media_lpt.specs.declared.nnode.LptPlace.{LptPlace}
 use Rattle.media_lpt.specs.declared.nnode.Nnode.{Nnode}
 use Rattle.media_sys.specs.declared.master.Master.{Master}
 use Rattle.small_areas.specs.MasterLaws.{take_bytes}
-use Rattle.lpt_area.specs.Tree.{AtPlace, HasNnode, HasPnode, IsBelow, IsTree, Row, alone, empty_leb, no_place, row_len}
-use Rattle.sound_image.specs.Properties.{HasProperties, lpt_root}
+use Rattle.lpt_area.specs.Tree.{AtPlace, HasNnode, alone, no_place, row_len}
+use Rattle.sound_image.specs.Properties.{lpt_root}
 use Rattle.sound_image.specs.PropertyBreaches.{IsPlaceBelow, IsWrongProperty, LacksNode, lpt_misfit, pnode_depth}
-use Rattle.sound_image.specs.Wrong.{IsFirstWrong, Misfit, Wrong, comes_before, differs}
-use Rattle.image_check.specs.PropertyWalk.{IsFirstAbove, IsStep, IsWalked, IsWalkedTo, IsWrongPlace, RowKind, lesser_of, nnodes, pnodes, wrong_at}
+use Rattle.sound_image.specs.Wrong.{Misfit, Wrong, differs}
+use Rattle.image_check.specs.PropertyWalk.{IsFirstAbove, IsStep, IsWalked, IsWrongPlace, RowKind, nnodes, pnodes, wrong_at}
 use Rattle.image_check.specs.declared.wrong_node.WrongNode.{WrongNode}
-use Rattle.image_check.proofs.WalkedRows.{IsKeptBefore, IsRowKind, alone_here, alone_other, get_inside, get_taken, get_there, kept_is, new_kept, nnodes_are, older_kept, pnodes_are, said_at, some_same, taken_inside, walked_long, walked_row}
+use Rattle.image_check.proofs.WalkedRows.{IsKeptBefore, IsRowKind, alone_here, alone_other, get_inside, get_taken, get_there, kept_is, new_kept, nnodes_are, older_kept, pnodes_are, said_at, some_same, taken_inside, walked_long}
 
 -- bytes are at most one nnode
 abbrev pub OneNnode : Type 0

@@ -1,15 +1,13 @@
 -- A row of the properties tree, gone over.
-use Rattle.std.proofs.Common.{◌≡◌, ◌⊎◌, ℕ, zero, suc, ◌+◌, ◌-◌, ◌*◌, ◌/◌, ◌%◌, ◌<◌, ◌≤◌, Bool, true, false, List, [], ◌∷◌, ◌++◌, Option, Some, None, length, take, drop, slice_get, refl, ap, sym, ◌∙◌, subst, inl, inr, arith, append_assoc, append-nil, length-append}
+use Rattle.std.proofs.Common.{◌≡◌, ℕ, zero, suc, ◌+◌, ◌*◌, ◌<◌, Bool, true, false, List, [], ◌∷◌, ◌++◌, Option, Some, None, length, take, slice_get, refl, ap, sym, ◌∙◌, subst, inl, inr, arith, append_assoc, append-nil, length-append}
 use Rattle.std.specs.Prelude.{◌≢◌, if◌then◌else◌}
-use Rattle.std.proofs.lemmas.Bool.{cases_Bool, cases_eq, eq-eqb, ne_eqb}
-use Rattle.ubifs_base.specs.NodeLaws.{IsBytes}
+use Rattle.std.proofs.lemmas.Bool.{eq-eqb, ne_eqb}
 use Rattle.ubifs_base.specs.Properties.{nnode_len, pnode_len}
 use Rattle.ubifs_base.specs.declared.raw_geometry.RawGeometry.{RawGeometry}
-use Rattle.media_lpt.specs.declared.lprop.Lprop.{Lprop}
 use Rattle.media_lpt.specs.declared.nnode.LptPlace.{LptPlace}
-use Rattle.lpt_area.specs.Tree.{AtPlace, HasNnode, HasPnode, Row, alone, empty_leb, no_place}
+use Rattle.lpt_area.specs.Tree.{Row, alone}
 use Rattle.sound_image.specs.Wrong.{Wrong, comes_before}
-use Rattle.image_check.specs.PropertyWalk.{IsStep, IsWalked, IsWrongPlace, RowKind, lesser_of, nnodes, pnodes, wrong_at}
+use Rattle.image_check.specs.PropertyWalk.{IsStep, IsWalked, RowKind, lesser_of, nnodes, pnodes, wrong_at}
 use Rattle.image_check.specs.declared.wrong_node.WrongNode.{WrongNode}
 use Rattle.image_check.proofs.Order.{before_then, not_before}
 

@@ -1,14 +1,14 @@
 -- The whole tree of LEB properties, gone over.
-use Rattle.std.proofs.Common.{◌≡◌, ◌⊎◌, ℕ, zero, suc, ◌+◌, ◌-◌, ◌/◌, ◌<◌, ◌≤◌, nat_lt, Bool, true, false, List, [], ◌∷◌, ◌++◌, Option, Some, None, Result, Ok, Err, IfOk, length, take, drop, slice_get, refl, ap, sym, ◌∙◌, subst, inl, inr, arith}
-use Rattle.std.specs.Prelude.{◌≢◌, if◌then◌else◌, IfErr}
+use Rattle.std.proofs.Common.{◌≡◌, ℕ, zero, suc, ◌+◌, ◌<◌, ◌≤◌, nat_lt, Bool, true, false, List, [], ◌∷◌, Option, Some, None, Result, Ok, Err, IfOk, take, drop, slice_get, refl, ap, sym, ◌∙◌, subst, inl, inr, arith}
+use Rattle.std.specs.Prelude.{if◌then◌else◌, IfErr}
 use Rattle.std.specs.declared.vec.Vec.{Vec}
 use Rattle.std.specs.declared.alloc.Global.{Global}
 use Rattle.std.specs.Option.{option_or}
-use Rattle.std.proofs.lemmas.Bool.{cases_lt, ltb-false, ltb-true}
-use Rattle.ubifs_base.specs.Areas.{lpt_first, main_first, main_lebs, orph_first}
+use Rattle.std.proofs.lemmas.Bool.{ltb-false, ltb-true}
+use Rattle.ubifs_base.specs.Areas.{lpt_first, main_lebs, orph_first}
 use Rattle.ubifs_base.specs.Geometry.{IsGeometry}
 use Rattle.ubifs_base.specs.NodeLaws.{IsBytes}
-use Rattle.ubifs_base.specs.Properties.{level_nodes, pnode_count, quarter, tree_height}
+use Rattle.ubifs_base.specs.Properties.{level_nodes, quarter}
 use Rattle.ubifs_base.specs.declared.raw_geometry.RawGeometry.{RawGeometry}
 use Rattle.media_lpt.specs.declared.lprop.Lprop.{Lprop}
 use Rattle.media_lpt.specs.declared.nnode.LptPlace.{LptPlace}

@@ -1,4 +1,4 @@
-use Rattle.std.proofs.Common.{◌<◌, arith, sym, ◌∙◌}
+use Rattle.std.proofs.Common.{arith, sym, ◌∙◌}
 use Rattle.ubifs_base.specs.RawOf.{raw_of}
 use Rattle.small_areas.specs.Masters.{HasNoMaster, IsLatest}
 use Rattle.image_check.proofs.Latest.{misplaced_breach}

@@ -1,4 +1,4 @@
-use Rattle.std.proofs.Common.{arith, rules, sym, ◌∙◌}
+use Rattle.std.proofs.Common.{arith, rules, ◌∙◌}
 use Rattle.ubifs_base.specs.RawOf.{raw_of}
 use Rattle.image_check.proofs.Kept.{kept_next, kept_start, sure_of_one}
 use Rattle.image_check.proofs.OrphanArea.{area_broken, lists_next, lists_start}

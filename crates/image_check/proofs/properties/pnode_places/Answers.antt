@@ -1,6 +1,5 @@
 use Rattle.std.proofs.Common.{List, [], ◌∷◌, ◌++◌, ◌-◌, ◌∙◌, ap, arith, subst}
 use Rattle.ubifs_base.specs.RawOf.{raw_of}
-use Rattle.media_lpt.specs.declared.lprop.Lprop.{Lprop}
 use Rattle.media_lpt.specs.declared.nnode.LptPlace.{LptPlace}
 use Rattle.sound_image.specs.Properties.{lpt_root}
 use Rattle.image_check.specs.PropertyWalk.{IsWalked, nnodes}

@@ -1,4 +1,4 @@
-use Rattle.std.proofs.Common.{arith, refl, rules}
+use Rattle.std.proofs.Common.{refl, rules}
 use Rattle.ubifs_base.specs.RawOf.{raw_of}
 use Rattle.image_check.specs.PropertyWalk.{pnodes}
 use Rattle.image_check.proofs.WalkedRows.{row_end, row_next, row_start}
