@@ -5,6 +5,7 @@ pub mod Clean
 pub mod Counts
 pub mod Covers
 pub mod Dropping
+pub mod Encoding
 pub mod Ending
 pub mod Ends
 pub mod Filing
@@ -14,6 +15,7 @@ pub mod Inserts
 pub mod MakingRoom
 pub mod Nodes
 pub mod Overlays
+pub mod PagePuts
 pub mod Putting
 pub mod Reading
 pub mod Throughs

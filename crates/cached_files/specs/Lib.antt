@@ -1,5 +1,6 @@
 pub mod Alike
 pub mod Calls
 pub mod Follow
+pub mod PagePut
 pub mod Present
 pub mod CallLaws

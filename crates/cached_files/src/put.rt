@@ -8,6 +8,7 @@ ghost use Rattle.page_cache.specs.Pages.{dirty_at, is_current, pages_of, without
 ghost use Rattle.fs_model.specs.Backing.{Goes, HasCause};
 ghost use Rattle.cached_files.specs.Alike.{IsAlike};
 ghost use Rattle.cached_files.specs.Calls.{SureGoes, TellsMode};
+ghost use Rattle.cached_files.specs.PagePut.{IsPutOrKept, page_at};
 ghost use Rattle.cached_files.specs.Present.{IsKept, dirty_of_others, has_dirty, present, page_of, filled};
 
 use crate::kept::Kept;
@@ -36,6 +37,7 @@ pub fn put_ticket<B: Backing>(
     ensures inodes { kept.new.inodes ≡ kept.old.inodes }
     ensures handles { kept.new.handles ≡ kept.old.handles }
     ensures err { OnErr result (kept.new ≡ kept.old) }
+    ensures placed { is_current kept.old.pages ticket.now ≡ true → (page : _) → page_at kept.old ticket.now.ino ticket.now.block ≡ Some page → IsPutOrKept (B.state backing.old) (B.state backing.new) page result }
     ensures goes { Goes 2 (B.state backing.old) (B.state backing.new) }
     ensures closed { (B.state backing.new).closed ≤ (B.state backing.old).closed }
     ensures cause { HasCause (B.state backing.old) (B.state backing.new) result }
@@ -162,7 +164,7 @@ fn page_node(alloc: Global, kept: &Kept, ticket: &Ticket) -> Result<PageNode, Me
 }
 
 // Bytes with zeros up to this length.
-fn filled(alloc: Global, bytes: &Bytes, len: usize) -> Result<Bytes, Memory>
+pub(crate) fn filled(alloc: Global, bytes: &Bytes, len: usize) -> Result<Bytes, Memory>
     ensures { IfOk result (λ new. new ≡ filled bytes.now len) }
 {
     let old = bytes.as_slice();

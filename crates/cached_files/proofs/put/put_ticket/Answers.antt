@@ -1,6 +1,7 @@
-use Rattle.std.proofs.Common.{is_some, ap, sym, ◌∙◌}
+use Rattle.std.proofs.Common.{Bool, rules, is_some, ap, sym, ◌∙◌}
 use Rattle.fs_model.specs.Backing.{page_group}
 use Rattle.cached_files.specs.CallLaws.{Goes-put}
+use Rattle.cached_files.proofs.PagePuts.{put_done, put_failed, put_none, same_node}
 use Rattle.cached_files.proofs.Putting.{at_ticket, putting_of, cleaned, AfterPut, after_put, is_file_page}
 use Rattle.cached_files.proofs.put.put_ticket.Given.{Over}
 use Rattle.cached_files.proofs.put.put_ticket.Goals as goal
@@ -52,3 +53,21 @@ returns-clause-same g c = (made g c).same
 
 pub returns-clause-issued : goal.returns-clause-issued
 returns-clause-issued g c = (made g c).issued
+
+pub returns-in_err-page-clause-placed : goal.returns-in_err-page-clause-placed
+returns-in_err-page-clause-placed g c current page at =
+    let f = put_none Bool (g.B.Backing.state c.args.backing.now) page in
+    search (rules, f)
+
+pub returns-in_err-put_page-clause-placed : goal.returns-in_err-put_page-clause-placed
+returns-in_err-put_page-clause-placed g c current page at =
+    let f = put_failed (Unit {0}) Bool (g.B.Backing.state c.args.backing.now) (g.B.Backing.state c.put_page.new.self) page c.in_err-put_page.field-0.0 c.in_err-put_page.ensures.err c.in_err-put_page.ensures.mode in
+    search (rules, f)
+
+pub returns-clause-placed : goal.returns-clause-placed
+returns-clause-placed g c current page at =
+    let old = g.B.Backing.state c.args.backing.now in
+    let o = at_ticket c.args.kept.now.pages c.args.ticket.now current in
+    let p = putting_of old.tree c.args.kept.now c.args.ticket.now o c.requires.kept in
+    let shown = c.in_ok-page.ensures p.inode o.page p.found o.found in
+    put_done (Unit {0}) Bool old (g.B.Backing.state c.put_page.new.self) c.in_ok-page.page page tt _ (shown ∙ same_node c.args.kept.now c.args.ticket.now o p.inode p.found page at) c.in_ok-put_page.ensures.ok c.in_ok-put_page.ensures.mode
