@@ -1,7 +1,7 @@
 -- What is true of every volume in memory.
-use Rattle.std.specs.Prelude.{◌≡◌, ◌⊎◌, IsTrue, ℕ, ◌-◌, ◌<◌, List, Option, Some, None, slice_get, length, drop, replicate, All}
-use Rattle.std.proofs.Common.{inl, inr, arith, subst, sym}
-use Rattle.std.proofs.lemmas.Option.{slice_get_cases}
+use Rattle.std.specs.Prelude.{◌≡◌, ◌⊎◌, IsTrue, ℕ, ◌-◌, ◌<◌, ◌≤◌, List, [], Option, Some, None, slice_get, length, drop, replicate, All}
+use Rattle.std.proofs.Common.{inl, inr, ap, arith, subst, sym}
+use Rattle.std.proofs.lemmas.Option.{slice_get_cases, slice_get_past}
 use Rattle.ubifs_base.specs.NodeLaws.{IsBytes}
 use Rattle.ubi_volume.specs.Volume.{IsLebBytes}
 use Rattle.ubi_volume.specs.Lebs.{bytes_in, written_in, IsLeft, IsLeb}
@@ -63,6 +63,9 @@ leb_bytes_of v n inside = bytes-bytes_in v.shape.leb_size v.lebs.items n (omega 
 
 pub left_bytes_of : (v : MemVolume) (n : ℕ) (c : List ℕ) → n < (state_of v).leb_cnt → (state_of v).left_now n c → IsLebBytes (state_of v).leb_size c
 left_bytes_of v n c inside left = IsLeft-bytes v.shape.leb_size v.lebs.items n c (omega (arith, inside, v.all)) v.sizes left
+
+pub none_of : (v : MemVolume) (n : ℕ) → (state_of v).leb_cnt ≤ n → (state_of v).holds n ≡ []
+none_of v n past = ap bytes_in (slice_get_past v.lebs.items n (omega (arith, past, v.all)))
 
 pub blank_of : (v : MemVolume) (n : ℕ) → n < (state_of v).leb_cnt → drop ((state_of v).written n) ((state_of v).holds n) ≡ replicate ((state_of v).leb_size - (state_of v).written n) 255
 blank_of v n inside = drop-bytes_in v.shape.leb_size v.lebs.items n (omega (arith, inside, v.all)) v.sizes

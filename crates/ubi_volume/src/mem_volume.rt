@@ -146,7 +146,7 @@ impl Volume for MemVolume {
     ghost use Rattle.ubi_volume.specs.Faults.{HasAnswer};
     ghost use Rattle.ubi_volume.specs.Effects.{HasEffect, IsArmed, write_effect, change_effect, unmap_effect, map_effect, no_effect};
     ghost use Rattle.ubi_volume.specs.MemVolume.{state_of, mem_of};
-    ghost use Rattle.ubi_volume.specs.MemVolumeLaws.{left_now, leb_len_of, leb_bytes_of, left_bytes_of, blank_of};
+    ghost use Rattle.ubi_volume.specs.MemVolumeLaws.{left_now, leb_len_of, leb_bytes_of, left_bytes_of, none_of, blank_of};
 
     ghost state = { state_of };
 
@@ -157,6 +157,8 @@ impl Volume for MemVolume {
     ghost left_bytes = { left_bytes_of };
 
     ghost since_bytes = { λ v t n c early inside each. left_bytes_of v n (c n) inside (each n) };
+
+    ghost none = { none_of };
 
     ghost blank = { blank_of };
 

@@ -106,6 +106,9 @@ pub trait Volume {
     ghost since_bytes: { (volume : Self) (t lnum : ℕ) (c : ℕ → List ℕ) → t ≤ (state volume).moment → lnum < (state volume).leb_cnt → (state volume).left_since t c
         → IsLebBytes (state volume).leb_size (c lnum) };
 
+    /// Behind the last LEB nothing is held.
+    ghost none: { (volume : Self) (lnum : ℕ) → (state volume).leb_cnt ≤ lnum → (state volume).holds lnum ≡ [] };
+
     /// What isn't written is 255.
     ghost blank: { (volume : Self) (lnum : ℕ) → lnum < (state volume).leb_cnt
         → drop ((state volume).written lnum) ((state volume).holds lnum) ≡ replicate ((state volume).leb_size - (state volume).written lnum) 255 };
