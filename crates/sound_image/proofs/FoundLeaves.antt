@@ -1,6 +1,6 @@
 -- The leaves that are found are those of an index, where no two show the same.
 use Rattle.std.proofs.Common.{◌≡◌, ℕ, ◌+◌, ◌*◌, ◌^◌, ◌<◌, ◌≤◌, ◌%◌, nat_le, Bool, true, false, cond, not, List, [], ◌∷◌, ◌++◌, map, filter, Option, Some, None, refl, ap, sym, ◌∙◌, subst, arith}
-use Rattle.std.specs.Prelude.{◌==◌, ◌&&◌, if◌then◌else◌, MatchOption}
+use Rattle.std.specs.Prelude.{◌==◌, ◌&&◌, if◌then◌else◌}
 use Rattle.std.specs.List.{AllByRecursion, find, list_any}
 use Rattle.std.specs.Option.{option_map}
 use Rattle.std.proofs.lemmas.Bool.{eqb-true, le-leb, leb-true}
@@ -22,16 +22,9 @@ use Rattle.leaf_map.specs.Kept.{Kept, Placed, kept_at, node_key, shown}
 use Rattle.leaf_map.specs.LeafMap.{HasKeyOf, IsKeyed, IsLeafMap, are_apart, shows_same}
 use Rattle.leaf_map.specs.Parts.{Committed, Named, Parts, in_bud, is_own, is_shown, own_node}
 use Rattle.leaf_map.specs.Recovered.{copies_left, copy_of_key, found_leaves, is_original, leaf_at, leaves_found, spare_copies, stand_in}
+use Rattle.log_replay.specs.Settling.{HasGrammar}
+use Rattle.log_replay.specs.Told.{IsSetting}
 use Rattle.sound_image.proofs.Lists.{two_true}
-
--- what stands at a leaf's place is a node of the grammar, if anything does
-abbrev pub HasGrammar : Committed → Type 0
-HasGrammar c = MatchOption c.found (Unit {0}) (λ (node : Placed). IsLeaf node.node)
-
--- a node of the grammar sets an inode, a block or a name
-pub record IsSetting (node : LeafNode) : Type 0 where
-  pub leaf : IsLeaf node
-  pub shown : is_shown (shown node) ≡ true
 
 -- ---- what is shown, and its place in the order
 r5_small : (name : List ℕ) → r5_of name < 2 ^ 29

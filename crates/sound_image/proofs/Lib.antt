@@ -22,6 +22,7 @@ pub mod PlainBuds
 pub mod Readable
 pub mod FoundLeaves
 pub mod Replaying
+pub mod OfJournal
 pub mod ProperNodes
 pub mod ProperTree
 pub mod ProperImage

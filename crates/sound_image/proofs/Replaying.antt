@@ -27,12 +27,13 @@ use Rattle.leaf_map.specs.Kept.{Placed, kept_at, shown}
 use Rattle.leaf_map.specs.LeafMap.{IsLeafMap}
 use Rattle.leaf_map.specs.Parts.{Committed, Named, Parts, in_bud, is_named, is_shown, own_node}
 use Rattle.leaf_map.specs.Recovered.{leaves_found}
+use Rattle.log_replay.specs.Settling.{HasGrammar}
 use Rattle.sound_image.specs.Buds.{bud_text}
 use Rattle.sound_image.specs.Image.{Image, parts_of}
 use Rattle.sound_image.specs.Leaves.{AreCommitted, IsFoundAt}
 use Rattle.sound_image.specs.Sound.{SoundImage}
 use Rattle.sound_image.specs.Tree.{IsCopy}
-use Rattle.sound_image.proofs.FoundLeaves.{AreSetting, HasGrammar, found_of_index, own_of}
+use Rattle.sound_image.proofs.FoundLeaves.{AreSetting, found_of_index, own_of}
 use Rattle.sound_image.proofs.Lists.{two_true}
 use Rattle.sound_image.proofs.OneJournal.{all_read}
 use Rattle.sound_image.proofs.References.{same_lebs, same_places}

@@ -12,6 +12,7 @@ pub mod OrphanLists
 pub mod Tree
 pub mod Sound
 pub mod Summary
+pub mod Mount
 pub mod Rules
 pub mod Wrong
 pub mod LogBreaches

@@ -1,6 +1,6 @@
 // Laws: what the rules promise, and that what is written meets them.
 
-ghost use Rattle.std.specs.Prelude.{◌≡◌, ◌⊎◌, ◌<◌, ◌≤◌, ◌^◌, ℕ, All, IsFalse, IsTrue, List, None, Some, [], ◌∷◌, drop, length, map};
+ghost use Rattle.std.specs.Prelude.{◌≡◌, ◌⊎◌, ◌<◌, ◌≤◌, ◌^◌, ℕ, All, IsFalse, IsTrue, List, None, Some, [], ◌∷◌, drop, length, map, max};
 ghost use Rattle.std.specs.List.{AllByRecursion, list_all};
 ghost use Rattle.std.specs.Map.{values_of};
 ghost use Rattle.ubifs_base.specs.Geometry.{IsGeometry};
@@ -24,6 +24,9 @@ ghost use Rattle.bud_log.specs.Buds.{buds_of};
 ghost use Rattle.bud_log.specs.Log.{IsLog, IsLogLeb, Log, references_of};
 ghost use Rattle.bud_log.specs.LogText.{LogText, begins_with, start_of};
 ghost use Rattle.bud_log.specs.Writing.{IsAmong, IsOlder};
+ghost use Rattle.index_tree.specs.Shape.{contents as leaves_in};
+ghost use Rattle.index_tree.specs.Tree.{shape};
+ghost use Rattle.index_tree.specs.declared.index.Index.{Index};
 ghost use Rattle.index_tree.specs.declared.leaf.Leaf.{Leaf};
 ghost use Rattle.index_media.specs.PlacedRow.{PlacedRow};
 ghost use Rattle.fs_model.specs.Proper.{IsProper, has_kind, is_sound_entry, is_sound_inode};
@@ -33,7 +36,11 @@ ghost use Rattle.journal_scan.specs.Places.{HavePlaces, named_by};
 ghost use Rattle.leaf_map.specs.Kept.{Placed, shown};
 ghost use Rattle.leaf_map.specs.LeafMap.{IsLeafMap};
 ghost use Rattle.leaf_map.specs.Parts.{Parts, in_bud, is_named, is_shown};
-ghost use Rattle.leaf_map.specs.Recovered.{leaves_found, tree_found};
+ghost use Rattle.leaf_map.specs.Recovered.{leaves_found, recovered_of, tree_found};
+ghost use Rattle.log_replay.specs.Replay.{AreParts, told_committed};
+ghost use Rattle.log_replay.specs.Standing.{leaves};
+ghost use Rattle.log_replay.specs.Told.{IsOfJournal};
+ghost use Rattle.log_replay.specs.declared.replayed.Replayed.{Replayed};
 ghost use Rattle.sound_image.specs.Breaches.{IsBroken, IsFirstBreach, IsWrongLink, IsWrongSum};
 ghost use Rattle.sound_image.specs.Buds.{IsSoundBud, MayStandInBud, bud_text};
 ghost use Rattle.sound_image.specs.Frames.{IsKnownAt};
@@ -43,6 +50,7 @@ ghost use Rattle.sound_image.specs.Laid.{IsFreshLog, IsPlainLeaf};
 ghost use Rattle.sound_image.specs.Leaves.{IsPlacedIn};
 ghost use Rattle.sound_image.specs.Log.{EndWhole, HasLog, NamesMain, ends_in_start};
 ghost use Rattle.sound_image.specs.Masters.{HasMasters};
+ghost use Rattle.sound_image.specs.Mount.{IsCommittedIndex, IsReplayOf};
 ghost use Rattle.sound_image.specs.OrphanLists.{HasOrphanLists, HasOrphanNodes};
 ghost use Rattle.sound_image.specs.Properties.{HasProperties};
 ghost use Rattle.sound_image.specs.Rules.{Meets};
@@ -63,6 +71,7 @@ use leaf_map::{
     the_last_change_wins,
 };
 use leb_scan::one_text;
+use log_replay::what_was_read_has_the_numbers;
 use lpt_area::{one_list, still_there};
 use media_leaf::one_node as one_leaf;
 use media_lpt::one_node as one_nnode;
@@ -187,6 +196,26 @@ pub fn what_a_sound_image_says_can_be_replayed()
     ensures lebs { (contents : ℕ → List ℕ) (image : Image) (lnum : ℕ) → SoundImage contents image → is_named (parts_of image).named lnum ≡ is_named (map (λ x. named_by x.bud) image.buds) lnum }
 {
     a_stored_index_is_an_index();
+}
+
+/// What a sound image says is that of a journal. So, given its committed index in memory, its parts are what was read of it. What is
+/// replayed of it has the recovered leaves, the highest number and the count of nodes.
+pub fn what_a_sound_image_says_is_of_a_journal()
+    ensures journal { (contents : ℕ → List ℕ) (image : Image) → SoundImage contents image → IsOfJournal (parts_of image) }
+    ensures parts { (contents : ℕ → List ℕ) (image : Image) (index : Index) → SoundImage contents image → IsCommittedIndex image index
+        → AreParts (parts_of image) image.buds index (map told_committed image.committed) image.listed }
+    ensures leaves { (contents : ℕ → List ℕ) (image : Image) (index : Index) (made : Replayed) → ((k : ℕ) → IsBytes (contents k)) → SoundImage contents image
+        → IsReplayOf contents image index made → leaves_in (shape made.index.root) ≡ leaves (recovered_of (parts_of image)).kept }
+    ensures highest { (contents : ℕ → List ℕ) (image : Image) (index : Index) (made : Replayed) → ((k : ℕ) → IsBytes (contents k)) → SoundImage contents image
+        → IsReplayOf contents image index made → max image.latest.master.highest_inum made.highest ≡ (recovered_of (parts_of image)).highest }
+    ensures nodes { (contents : ℕ → List ℕ) (image : Image) (index : Index) (made : Replayed) → ((k : ℕ) → IsBytes (contents k)) → SoundImage contents image
+        → IsReplayOf contents image index made → made.nodes ≡ (recovered_of (parts_of image)).nodes }
+{
+    nodes_have_places();
+    a_stored_index_is_an_index();
+    what_was_read_has_the_numbers();
+    one_leaf();
+    one_text();
 }
 
 /// The tree of which a mount makes its files is proper: the recovered one, where each directory has a link.
