@@ -8,6 +8,8 @@ mod op_plans_tests;
 #[cfg(test)]
 mod plain_backing_cut_tests;
 #[cfg(test)]
+mod vfs_ops_event_tests;
+#[cfg(test)]
 mod vfs_ops_fs_tests;
 #[cfg(test)]
 mod vfs_ops_page_tests;

@@ -146,6 +146,7 @@ pub(crate) fn answered(
     };
     match fs.step(&event) {
         Outcome::Replied { reply, left: _ } => Ok(number(&reply)),
+        _ => Ok(1),
     }
 }
 

@@ -25,7 +25,7 @@ use Rattle.plain_backing.specs.Spending.{is_spent}
 use Rattle.vfs_ops.specs.declared.event.Event.TheVariants.{Call}
 use Rattle.vfs_ops.specs.declared.event.Outcome.{Outcome}
 use Rattle.vfs_ops.specs.declared.event.Outcome.TheVariants.{Replied}
-use Rattle.vfs_ops.specs.Events.{IsAnswer as IsAnswerOf, left_of}
+use Rattle.vfs_ops.specs.Events.{IsAnswer as IsAnswerOf, IsReply, left_of}
 use Rattle.vfs_plans.specs.Answers.{IsFault}
 use Rattle.vfs_ops.specs.Steps.{IsAnswered, IsDone, IsLast, IsRefusedFor, IsTurnedDown, IsUnsynced, allowed, allowed_on, asked, read_only_cause}
 use Rattle.ubifs_tools.specs.Replies.{is_memory}
@@ -149,6 +149,11 @@ steady_next geo old new before after n left steady goes sure issued none = by (s
       orphans = goes.orphan_limit ∙ steady.orphans;
       credits = let covered = steady.credits in omega (arith, issued, none, covered);
     }
+
+-- a call is answered by a reply
+pub reply_of : (old new : BackingState) (before after : Kept) (first last : List NoSpace) (caller now : ℕ) (op : Op) (outcome : Outcome) → IsAnswerOf old new before after first last (Call caller now 0 op) outcome → IsReply outcome
+reply_of old new before after first last caller now op (Replied reply left) h = tt
+reply_of old new before after first last caller now op outcome h = absurd h
 
 -- what a step that was made says of its reply
 pub told_of : (old new : BackingState) (before after : Kept) (first last : List NoSpace) (caller now : ℕ) (op : Op) (outcome : Outcome) (reply : Reply) (left : ℕ) → outcome ≡ Replied reply left

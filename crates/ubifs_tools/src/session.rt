@@ -10,7 +10,7 @@ ghost use Rattle.plain_backing.specs.PlainBacking.{state_of};
 ghost use Rattle.script_text.specs.declared.part.Part.TheVariants.{Line, Mount, Unmount};
 ghost use Rattle.script_text.specs.Script.{MayStand};
 ghost use Rattle.vfs_ops.specs.declared.event.Outcome.TheVariants.{Replied};
-ghost use Rattle.vfs_ops.specs.Events.{HasSynced};
+ghost use Rattle.vfs_ops.specs.Events.{HasSynced, IsReply};
 ghost use Rattle.ubifs_tools.specs.Replies.{IsCalled, is_memory};
 ghost use Rattle.ubifs_tools.specs.Run.{IsAnswer, IsPart, opening};
 ghost use Rattle.ubifs_tools.specs.Sessions.{IsBare, IsSession, IsSteady, running_of, state_in};
@@ -194,11 +194,13 @@ fn replied(fs: &mut Fs<PlainBacking>, caller: u16, now: u64, op: Op) -> Result<R
 
 // The reply that an outcome has, and what is left of the grant.
 fn parts_of(outcome: Outcome) -> (Reply, u64)
+    requires { IsReply outcome }
     ensures { outcome ≡ Replied result.0 result.1 }
 {
-    match outcome {
-        Outcome::Replied { reply, left } => (reply, left),
-    }
+    let Outcome::Replied { reply, left } = outcome else {
+        unreachable!()
+    };
+    (reply, left)
 }
 
 // Whether an operation was refused for want of memory.

@@ -1,5 +1,6 @@
 pub mod Admitted
 pub mod Buffering
+pub mod Chores
 pub mod Closing
 pub mod Flushing
 pub mod Gone
@@ -8,6 +9,8 @@ pub mod Looking
 pub mod Named
 pub mod Nameless
 pub mod Orphans
+pub mod Picking
+pub mod Placing
 pub mod Plans
 pub mod Serving
 pub mod States

@@ -1,5 +1,5 @@
 -- What comes of an event.
-use Rattle.std.specs.Prelude.{◌≡◌, ℕ, ◌≤◌, false, Some, List, []}
+use Rattle.std.specs.Prelude.{◌≡◌, ℕ, ◌^◌, ◌<◌, ◌≤◌, false, Some, List, []}
 use Rattle.std.specs.BTreeMap.{is_at}
 use Rattle.std.specs.Map.{lookup}
 use Rattle.fs_model.specs.declared.backing_answers.Mode.{Mode}
@@ -18,36 +18,49 @@ use Rattle.cached_files.specs.declared.kept.Kept.{Kept}
 use Rattle.cached_files.specs.Present.{has_dirty, present}
 use Rattle.vfs_plans.specs.Operations.{is_truncate}
 use Rattle.vfs_ops.specs.declared.event.Event.{Event}
-use Rattle.vfs_ops.specs.declared.event.Event.TheVariants.{Call}
+use Rattle.vfs_ops.specs.declared.event.Event.TheVariants.{Call, Drain, Refill}
 use Rattle.vfs_ops.specs.declared.event.Outcome.{Outcome}
 use Rattle.vfs_ops.specs.declared.event.Outcome.TheVariants.{Replied}
 use Rattle.vfs_ops.specs.Steps.{IsAdmittedReply, IsAnswered, IsAtOnceReply, IsExact, Passage}
 use Rattle.vfs_ops.specs.Writing.{BuffersReply}
 
--- any operation but a truncation, that gives bytes
+-- any operation but a truncation, that gives bytes; any event of the background, that asks for fewer than 2^32 credits
 abbrev pub IsCalled : Event → Type 0
 IsCalled (Call caller now grant op) = IsCall op × (is_truncate op ≡ false)
+IsCalled (Refill n) = n < 2 ^ 32
+IsCalled event = Unit {0}
 
--- the credits that its caller brings
+-- the issued credits that it takes: those that a caller brings, or that are given back
 abbrev pub grant_of : Event → ℕ
 grant_of (Call caller now grant op) = grant
+grant_of (Drain n) = n
+grant_of event = 0
 
 -- the group that its operation puts
 abbrev pub group_in : Files → Event → List Change
 group_in files (Call caller now grant op) = group_of files caller now op
+group_in files event = []
 
 -- A call is answered as its operation says, and no more of its grant is left than there was.
 abbrev pub IsAnswer : BackingState → BackingState → Kept → Kept → List NoSpace → List NoSpace → Event → Outcome → Type 0
 IsAnswer old new before after refused_before refused_after (Call caller now grant op) (Replied reply left) =
     IsAnswered old new after (present old.tree before) caller now grant op reply refused_before refused_after × (left ≤ grant)
+IsAnswer old new before after refused_before refused_after event outcome = ⊥
 
 -- how much of the grant a call leaves, and whether it only looks
 abbrev pub IsExactCall : Passage → Event → Outcome → Type 0
 IsExactCall p (Call caller now grant op) (Replied reply left) = IsExact p caller now grant op reply left
+IsExactCall p event outcome = ⊥
+
+-- the outcome is a reply
+abbrev pub IsReply : Outcome → Type 0
+IsReply (Replied reply left) = Unit {0}
+IsReply outcome = ⊥
 
 -- what is left of the grant
 abbrev pub left_of : Outcome → ℕ
 left_of (Replied reply left) = left
+left_of outcome = 0
 
 -- After a sync that is done on a store that could be written all that was put is synced, and no page is dirty: of any file after a flush, and of the slot's file after a sync of that one.
 abbrev pub HasSynced : Mode → BackingState → Kept → Kept → ℕ → Op → Reply → Type 0
@@ -58,15 +71,19 @@ HasSynced mode new before after caller op reply = Unit {0}
 
 abbrev pub IsWrittenBack : Mode → BackingState → Kept → Kept → Event → Outcome → Type 0
 IsWrittenBack mode new before after (Call caller now grant op) (Replied reply left) = HasSynced mode new before after caller op reply
+IsWrittenBack mode new before after event outcome = ⊥
 
 -- what a call asks for that is done was admitted
 abbrev pub IsAdmittedCall : BackingState → BackingState → Kept → Event → Outcome → Type 0
 IsAdmittedCall old new before (Call caller now grant op) (Replied reply left) = IsAdmittedReply old new before caller now grant op reply
+IsAdmittedCall old new before event outcome = ⊥
 
 -- where there is room at once nothing is refused for want of it
 abbrev pub IsAtOnceCall : BackingState → Kept → List NoSpace → List NoSpace → Event → Type 0
 IsAtOnceCall old before first last (Call caller now grant op) = IsAtOnceReply old before caller now op first last
+IsAtOnceCall old before first last event = ⊥
 
 -- a write that its grant or the first test covers is buffered
 abbrev pub IsBufferedCall : BackingState → BackingState → Kept → Kept → List NoSpace → List NoSpace → Event → Outcome → Type 0
 IsBufferedCall old new before after first last (Call caller now grant op) (Replied reply left) = BuffersReply old new before after first last caller grant op reply
+IsBufferedCall old new before after first last event outcome = ⊥

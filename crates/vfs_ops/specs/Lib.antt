@@ -1,3 +1,4 @@
+pub mod Background
 pub mod Events
 pub mod FilesState
 pub mod Fs

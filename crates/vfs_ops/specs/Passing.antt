@@ -11,13 +11,15 @@ use Rattle.cached_files.specs.Alike.{IsAlike}
 use Rattle.cached_files.specs.Calls.{IsWithoutRoom, WasCovered}
 use Rattle.cached_files.specs.Follow.{AreOfNames}
 use Rattle.vfs_ops.specs.declared.event.Event.{Event}
+use Rattle.vfs_ops.specs.declared.event.Event.TheVariants.{Call}
 use Rattle.vfs_ops.specs.declared.event.Outcome.{Outcome}
+use Rattle.vfs_ops.specs.Background.{IsBackgroundStep}
 use Rattle.vfs_ops.specs.Events.{IsAdmittedCall, IsAnswer, IsAtOnceCall, IsBufferedCall, IsExactCall, IsWrittenBack, grant_of, group_in, left_of}
 use Rattle.vfs_ops.specs.FilesState.{FilesState, present_in}
 use Rattle.vfs_ops.specs.Steps.{HasOpen, no_space_from}
 
--- What an event does to the files, and what comes of it.
-pub record IsStep (old new : FilesState) (event : Event) (outcome : Outcome) : Type 0 where
+-- What a caller's event does to the files, and what comes of it.
+pub record IsCallStep (old new : FilesState) (event : Event) (outcome : Outcome) : Type 0 where
   -- The reply and the files are the plain operation's, or it is refused for a cause that is told and the files are as before; no more of the grant is left than there was.
   pub answered : IsAnswer old.backing new.backing old.kept new.kept old.refused new.refused event outcome
   -- What is left is the grant less the pages that became dirty; a question only looks, and so does a refusal that comes before anything is put.
@@ -34,6 +36,11 @@ pub record IsStep (old new : FilesState) (event : Event) (outcome : Outcome) : T
   pub buffered : IsBufferedCall old.backing new.backing old.kept new.kept old.refused new.refused event outcome
   -- What the backing may have done meanwhile: at most two nodes for each dirty page, and the group.
   pub goes : Goes (2 * length old.kept.pages.dirty + length (group_in (present_in old) event)) old.backing new.backing
+
+-- What an event does to the files, and what comes of it: of a caller's, or of one of the background.
+abbrev pub IsStep : FilesState → FilesState → Event → Outcome → Type 0
+IsStep old new (Call caller now grant op) outcome = IsCallStep old new (Call caller now grant op) outcome
+IsStep old new event outcome = IsBackgroundStep old new event outcome
 
 -- the files with a group of changes made
 abbrev pub with_group : FilesState → List Change → Files

@@ -8,11 +8,15 @@ ghost use Rattle.vfs_ops.specs.Steps.{IsReady, no_space_in};
 
 use crate::answers::call;
 use crate::apply::apply_over;
+use crate::background::{chore, is_chore};
+use crate::done::Done;
 use crate::event::{Event, Outcome};
+use crate::pages::{picked, put};
 use cached_files::{Kept, inode, present_files_are_sound};
 use fs_model::{Backing, Entry, Group, Inode, Mode, Need, NoSpace, Op, Refusal, Reply, StoreFault};
 use std::alloc::Global;
-use ubifs_base::{Memory, Name};
+use std::marker::PhantomData;
+use ubifs_base::{Arm, Memory, Name};
 use vfs_plans::walked;
 
 /// Files over a backing, with dirty pages in memory in front of it. The present files are the backing's tree under the
@@ -67,15 +71,19 @@ impl<B: Backing> Fs<B> {
         }
     }
 
-    /// Does a caller's operation. It answers and leaves what the operation's definition says, but for zeros at the ends of blocks,
+    /// Makes an event. A caller's operation answers and leaves what its definition says, but for zeros at the ends of blocks,
     /// which nobody sees; or it is refused, for a cause that is told, and callers see the files as before. After a refusal for
-    /// want of room, a fault or want of memory, some dirty pages may have been put.
+    /// want of room, a fault or want of memory, some dirty pages may have been put. Over an event of the background callers see
+    /// the same files. A `Drain` takes no memory.
     pub fn step(&mut self, event: &Event) -> Outcome
         requires call { IsCalled event.now }
         requires grant { length self.old.kept.pages.dirty + grant_of event.now ≤ (B.state self.old.backing).space.credits }
         ensures step { IsStep (files_state self.old) (files_state self.new) event.now result }
         ensures sure { SureGoes (B.outlook self.old.backing) (B.outlook self.new.backing) (B.state self.old.backing) (B.state self.new.backing) }
     {
+        if is_chore(event) {
+            return chore(&mut self.backing, &self.kept, event);
+        }
         match event {
             Event::Call {
                 caller,
@@ -86,7 +94,40 @@ impl<B: Backing> Fs<B> {
                 let (reply, left) = self.answer(*caller, *now, *grant, op);
                 Outcome::Replied { reply, left }
             }
+            Event::Pick => picked(self.alloc, &self.kept),
+            Event::Put { page } => put(self.alloc, &mut self.backing, &mut self.kept, page),
+            Event::Sync
+            | Event::Collect
+            | Event::CommitStart
+            | Event::CommitStep
+            | Event::CommitEnd
+            | Event::Refill { .. }
+            | Event::Drain { .. } => unreachable!(),
         }
+    }
+
+    /// Makes an event as `step` does, and answers the event with its outcome.
+    pub fn act(&mut self, event: Event) -> Done<B>
+        requires call { IsCalled event }
+        requires grant { length self.old.kept.pages.dirty + grant_of event ≤ (B.state self.old.backing).space.credits }
+        ensures event { result.event ≡ event }
+        ensures step { IsStep (files_state self.old) (files_state self.new) event result.outcome }
+        ensures sure { SureGoes (B.outlook self.old.backing) (B.outlook self.new.backing) (B.state self.old.backing) (B.state self.new.backing) }
+    {
+        let outcome = self.step(&event);
+        Done {
+            event,
+            outcome,
+            of: PhantomData,
+        }
+    }
+
+    /// Arms the volume under the backing. Files, pages and what was refused stay. Takes no memory.
+    pub fn arm(&mut self, what: &Arm)
+        ensures same { files_state self.new ≡ files_state self.old }
+        ensures spent { (B.outlook self.old.backing).spent → (B.outlook self.new.backing).spent }
+    {
+        self.backing.arm(what);
     }
 
     // The reply to a caller's operation, and what is left of the grant.

@@ -6,15 +6,19 @@
 
 mod answers;
 mod apply;
+mod background;
 mod changes;
+mod done;
 mod event;
 mod fs;
 mod handles;
 mod needs;
+mod pages;
 mod reads;
 mod syncs;
 mod writes;
 
 pub use crate::changes::change;
-pub use crate::event::{Event, Outcome};
+pub use crate::done::Done;
+pub use crate::event::{Encoded, Event, Outcome};
 pub use crate::fs::Fs;

@@ -2,7 +2,7 @@ use Rattle.std.proofs.Common.{length, sym, ◌∙◌}
 use Rattle.ubifs_base.specs.RawOf.{raw_of}
 use Rattle.cached_files.specs.Present.{present}
 use Rattle.plain_backing.specs.PlainBacking.{state_of}
-use Rattle.ubifs_tools.proofs.Answering.{answer_of, issued_of, no_room, steady_next, told_of}
+use Rattle.ubifs_tools.proofs.Answering.{answer_of, issued_of, no_room, reply_of, steady_next, told_of}
 use Rattle.ubifs_tools.proofs.session.replied.Goals as goal
 
 pub returns-clause-steady : goal.returns-clause-steady
@@ -28,3 +28,7 @@ returns-clause-answer c =
     (record { was = c.requires.steady.mode; is = steady.mode; faults_were = c.requires.steady.faults; faults = steady.faults; orphans = c.requires.steady.orphans })
     (no_room geo old c.step-outcome.new.self.backing after steady c.step-outcome.new.self.ready.kept_fits (c.clean_files_are_those_of_the_backing.ensures new.tree after))
     (sym c.is_memory.ensures ∙ c.if-is_memory.false) told.0
+
+pub parts_of-told-requires : goal.parts_of-told-requires
+parts_of-told-requires c =
+    reply_of (state_of c.args.fs.now.backing) (state_of c.step-outcome.new.self.backing) c.args.fs.now.kept c.step-outcome.new.self.kept _ _ c.args.caller c.args.now c.args.op c.step-outcome.result c.step-outcome.ensures.step.answered

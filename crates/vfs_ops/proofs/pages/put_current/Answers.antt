@@ -1,0 +1,42 @@
+use Rattle.cached_files.specs.Present.{present}
+use Rattle.vfs_ops.specs.Steps.{Passage}
+use Rattle.vfs_ops.proofs.Picking.{there}
+use Rattle.vfs_ops.proofs.Placing.{placed, unplaced}
+use Rattle.vfs_ops.proofs.Takes.{alike_sound}
+use Rattle.vfs_ops.proofs.pages.put_current.Goals as goal
+
+pub returns-in-Ok-clause-put : goal.returns-in-Ok-clause-put
+returns-in-Ok-clause-put g c =
+    let p : Passage = record { old = g.B.Backing.state c.args.backing.now; new = g.B.Backing.state c.put_ticket.new.backing; before = c.args.kept.now; after = c.put_ticket.new.kept } in
+    let t = there c.args.kept.now c.args.page.now c.requires.current in
+    let e = c.in-Ok.ensures in
+    placed p c.args.page.now t _ (e.placed t.current t.node t.found) c.requires.current e.put e.pages e.inodes e.handles
+
+pub returns-in-Err-clause-put : goal.returns-in-Err-clause-put
+returns-in-Err-clause-put g c =
+    let p : Passage = record { old = g.B.Backing.state c.args.backing.now; new = g.B.Backing.state c.put_ticket.new.backing; before = c.args.kept.now; after = c.put_ticket.new.kept } in
+    let t = there c.args.kept.now c.args.page.now c.requires.current in
+    let e = c.in-Err.ensures in
+    unplaced p c.args.page.now t.node c.in-Err.fault (e.placed t.current t.node t.found) c.requires.current e.err e.cause
+
+pub returns-in-Ok-clause-ready : goal.returns-in-Ok-clause-ready
+returns-in-Ok-clause-ready g c =
+    let tree = (g.B.Backing.state c.put_ticket.new.backing).tree in
+    let kept = c.put_ticket.new.kept in
+    let e = c.put_ticket.ensures in
+    record {
+      kept_fits = e.kept;
+      paid = e.paid;
+      sound = alike_sound (present (g.B.Backing.state c.args.backing.now).tree c.args.kept.now) (present tree kept) e.same (c.present_files_are_sound.ensures.proper tree kept e.kept) c.requires.ready.sound;
+    }
+
+pub returns-in-Err-clause-ready : goal.returns-in-Err-clause-ready
+returns-in-Err-clause-ready g c =
+    let tree = (g.B.Backing.state c.put_ticket.new.backing).tree in
+    let kept = c.put_ticket.new.kept in
+    let e = c.put_ticket.ensures in
+    record {
+      kept_fits = e.kept;
+      paid = e.paid;
+      sound = alike_sound (present (g.B.Backing.state c.args.backing.now).tree c.args.kept.now) (present tree kept) e.same (c.present_files_are_sound.ensures.proper tree kept e.kept) c.requires.ready.sound;
+    }

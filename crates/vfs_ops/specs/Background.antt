@@ -1,0 +1,144 @@
+-- What is done beside callers: pages are picked and put, all is synced, LEBs are collected, commits go on, and credits come and go.
+use Rattle.std.specs.Prelude.{◌≡◌, ◌≢◌, ℕ, ◌+◌, ◌<◌, ◌≤◌, Bool, true, false, Result, Ok, Err, Option, Some, List, [], length}
+use Rattle.std.specs.Option.{option_map, option_map_or}
+use Rattle.fs_model.specs.declared.backing_answers.Mode.TheVariants.{ReadWrite}
+use Rattle.fs_model.specs.declared.backing_answers.StoreFault.{StoreFault}
+use Rattle.fs_model.specs.declared.backing_answers.StoreFault.TheVariants.{Memory}
+use Rattle.fs_model.specs.declared.page_node.PageNode.{PageNode}
+use Rattle.fs_model.specs.Backing.{BackingState, Goes, HasCause, HasMode, IsCollected, IsEnded, IsPagePut, IsStarted, IsStepped, IsSynced, KeepsCommit, KeepsFiles, KeepsOrEnds, ended_of, given_back, granted, started_of}
+use Rattle.fs_model.specs.Cover.{needed, room_for}
+use Rattle.fs_model.specs.Journal.{Leaves}
+use Rattle.page_cache.specs.Pages.{dirty_at, oldest_of, without_dirty}
+use Rattle.cached_files.specs.declared.kept.Kept.{Kept}
+use Rattle.cached_files.specs.Alike.{IsAlike}
+use Rattle.cached_files.specs.PagePut.{page_at}
+use Rattle.vfs_ops.specs.declared.event.Encoded.{Encoded}
+use Rattle.vfs_ops.specs.declared.event.Event.{Event}
+use Rattle.vfs_ops.specs.declared.event.Event.TheVariants.{Call, Put, Pick, Sync, Collect, CommitStart, CommitStep, CommitEnd, Refill, Drain}
+use Rattle.vfs_ops.specs.declared.event.Outcome.{Outcome}
+use Rattle.vfs_ops.specs.declared.event.Outcome.TheVariants.{Page, NoPage, PutDone, Stale, Synced, Did, Began, Went, Closed, Granted, Refused, Drained, Fault}
+use Rattle.vfs_ops.specs.FilesState.{FilesState, LeavesKept, present_in}
+use Rattle.vfs_ops.specs.Steps.{Passage}
+use Rattle.vfs_ops.specs.Writing.{credits_need}
+
+-- the version of a block's dirty page, 0 where it isn't dirty
+abbrev pub version_at : Kept → ℕ → ℕ → ℕ
+version_at kept ino block = option_map_or (λ dirty. dirty.version) (dirty_at kept.pages ino block) 0
+
+-- a block's page as it is put, under this version
+abbrev pub encoded : ℕ → ℕ → ℕ → PageNode → Encoded
+encoded ino block version page = record { ino = ino; block = block; version = version; bytes = page.bytes }
+
+-- what a pick of a block's dirty page gives: its present version, and its bytes up to its file's end
+abbrev pub encoded_at : Kept → ℕ → ℕ → Option Encoded
+encoded_at kept ino block = option_map (encoded ino block (version_at kept ino block)) (page_at kept ino block)
+
+-- What a pick answers: the page that became dirty first, as it is now; nothing, if no page is dirty; or that there is no memory for its bytes.
+abbrev pub IsPicked : Kept → Outcome → Type 0
+IsPicked kept (Page shown) = (oldest_of kept.pages ≡ Some (record { ino = shown.ino; block = shown.block; version = shown.version })) × (encoded_at kept shown.ino shown.block ≡ Some shown)
+IsPicked kept NoPage = kept.pages.dirty ≡ []
+IsPicked kept (Fault Memory) = 0 < length kept.pages.dirty
+IsPicked kept outcome = ⊥
+
+-- A page that is still as it was picked was put with its file's inode as that is now. It is clean, and a credit is spent.
+pub record IsPlaced (p : Passage) (page : Encoded) : Type 0 where
+  pub node : PageNode
+  pub found : page_at p.before page.ino page.block ≡ Some node
+  pub current : encoded_at p.before page.ino page.block ≡ Some page
+  pub put : IsPagePut p.old p.new node
+  pub clean : p.after ≡ record p.before { pages = without_dirty p.before.pages page.ino page.block }
+  pub mode : p.old.mode ≡ ReadWrite
+
+-- A page that isn't as it was picked was left as it is, and so is all else. Its version then and now is told.
+pub record IsStale (p : Passage) (page : Encoded) (kept now : ℕ) : Type 0 where
+  pub changed : encoded_at p.before page.ino page.block ≢ Some page
+  pub kept_is : kept ≡ page.version
+  pub now_is : now ≡ version_at p.before page.ino page.block
+  pub backing : p.new ≡ p.old
+  pub pages : p.after ≡ p.before
+
+-- A page that is still as it was picked couldn't be put. It is dirty and paid as before.
+pub record IsUnplaced (p : Passage) (page : Encoded) (fault : StoreFault) : Type 0 where
+  pub current : encoded_at p.before page.ino page.block ≡ Some page
+  pub pages : p.after ≡ p.before
+  pub files : KeepsFiles p.old p.new
+  pub cause : HasCause {T = Unit {0}} p.old p.new (Err fault)
+  pub mode : HasMode {T = Unit {0}} p.old.mode (Err fault)
+
+-- what the put of a page answers and leaves
+abbrev pub IsPut : Passage → Encoded → Outcome → Type 0
+IsPut p shown PutDone = IsPlaced p shown
+IsPut p shown (Stale kept now) = IsStale p shown kept now
+IsPut p shown (Fault why) = IsUnplaced p shown why
+IsPut p shown outcome = ⊥
+
+-- What each call of the background of a backing keeps to: the files stay, nothing is put, and why it fails.
+pub record IsBackingCall {T : Type 0} (old new : BackingState) (result : Result T StoreFault) : Type 0 where
+  pub files : KeepsFiles old new
+  pub cut : Leaves old.journal new.journal []
+  pub goes : Goes 0 old new
+  pub cause : HasCause old new result
+  pub mode : HasMode old.mode result
+
+-- more credits are covered, since there is room for them
+abbrev pub IsGranted : BackingState → BackingState → ℕ → Type 0
+IsGranted old new n = (needed old.space (credits_need n) ≤ room_for old.geometry old.space (credits_need n)) × (new ≡ granted old (credits_need n))
+
+-- What the backing is asked for beside callers, and what it answers and leaves.
+abbrev pub IsChore : BackingState → BackingState → Event → Outcome → Type 0
+IsChore old new Sync Synced = IsBackingCall {T = Unit {0}} old new (Ok tt) × IsSynced new × KeepsOrEnds old new
+IsChore old new Sync (Fault why) = IsBackingCall {T = Unit {0}} old new (Err why) × KeepsOrEnds old new
+IsChore old new Collect (Did collected) = IsBackingCall old new (Ok collected) × IsCollected old new collected × KeepsOrEnds old new
+IsChore old new Collect (Fault why) = IsBackingCall {T = Unit {0}} old new (Err why) × KeepsOrEnds old new
+IsChore old new CommitStart (Began started) = IsBackingCall old new (Ok started) × (started ≡ started_of old.journal.running) × IsStarted old new started
+IsChore old new CommitStart (Fault why) = IsBackingCall {T = Unit {0}} old new (Err why) × KeepsCommit old.journal new.journal
+IsChore old new CommitStep (Went stepped) = IsBackingCall old new (Ok stepped) × IsStepped old new stepped
+IsChore old new CommitStep (Fault why) = IsBackingCall {T = Unit {0}} old new (Err why) × KeepsCommit old.journal new.journal
+IsChore old new CommitEnd (Closed ended) = IsBackingCall old new (Ok ended) × (ended ≡ ended_of old.journal.running old.journal.left) × IsEnded old new ended
+IsChore old new CommitEnd (Fault why) = IsBackingCall {T = Unit {0}} old new (Err why) × KeepsCommit old.journal new.journal
+IsChore old new (Refill n) (Granted m) = (m ≡ n) × IsGranted old new n
+IsChore old new (Refill n) (Refused space) =
+    (new ≡ old) × (space.need ≡ needed old.space (credits_need n)) × (space.room ≡ room_for old.geometry old.space (credits_need n)) × (space.room < space.need)
+IsChore old new (Drain n) (Drained m) = (m ≡ n) × (new ≡ given_back old n)
+IsChore old new event outcome = ⊥
+
+-- whether the backing alone is asked for something
+abbrev pub is_chore : Event → Bool
+is_chore (Call caller now grant op) = false
+is_chore Pick = false
+is_chore (Put shown) = false
+is_chore event = true
+
+-- what comes of an event of the background
+abbrev pub IsMade : FilesState → FilesState → Event → Outcome → Type 0
+IsMade old new Pick outcome = IsPicked old.kept outcome × (new ≡ old)
+IsMade old new (Put shown) outcome = IsPut (record { old = old.backing; new = new.backing; before = old.kept; after = new.kept }) shown outcome
+IsMade old new event outcome = IsChore old.backing new.backing event outcome × LeavesKept old new
+
+-- the credits that an outcome says were covered
+abbrev pub granted_in : Outcome → ℕ
+granted_in (Granted n) = n
+granted_in outcome = 0
+
+-- the credits that it says were given back
+abbrev pub drained_in : Outcome → ℕ
+drained_in (Drained n) = n
+drained_in outcome = 0
+
+-- the nodes that an event puts at most: a page's two
+abbrev pub nodes_in : Event → ℕ
+nodes_in (Put shown) = 2
+nodes_in event = 0
+
+-- What an event of the background does to the files, and what comes of it.
+pub record IsBackgroundStep (old new : FilesState) (event : Event) (outcome : Outcome) : Type 0 where
+  -- What was asked for is done, or why not is told.
+  pub made : IsMade old new event outcome
+  -- Callers see the same files.
+  pub same : IsAlike (present_in old) (present_in new)
+  -- No refusal is noted.
+  pub refused : new.refused ≡ old.refused
+  -- The credits beside those of dirty pages stay, but for those that were granted or drained.
+  pub issued : new.backing.space.credits + length old.kept.pages.dirty + drained_in outcome ≡ old.backing.space.credits + length new.kept.pages.dirty + granted_in outcome
+  -- What the backing may have done meanwhile: a put puts two nodes at most, and no other event puts any.
+  pub goes : Goes (nodes_in event) old.backing new.backing
