@@ -1,8 +1,9 @@
 -- What is seen of an index.
-use Rattle.std.specs.Prelude.{ℕ, List}
+use Rattle.std.specs.Prelude.{◌≡◌, ℕ, List}
 use Rattle.index_tree.specs.declared.leaf.Leaf.{Leaf}
 use Rattle.index_media.specs.KeyedRow.{KeyedRow}
 use Rattle.node_table.specs.NodeView.{tree_at, leaves_at}
+use Rattle.node_table.specs.Staging.{IsAdded}
 use Rattle.index_cache.specs.declared.paged.PagedIndex.{PagedIndex}
 
 -- its shape, with the keys of branches, and with places where nodes are clean
@@ -16,3 +17,8 @@ leaves_of index = leaves_at index.table.nodes.items index.root
 -- the most children that its nodes have
 abbrev pub fanout_of : PagedIndex → ℕ
 fanout_of index = index.table.fanout
+
+-- an index keeps its nodes, and the most children that they have; others may have come behind them
+pub record KeepsNodes (old new : PagedIndex) : Type 0 where
+  pub added : IsAdded old.table.nodes.items new.table.nodes.items
+  pub fanout : fanout_of new ≡ fanout_of old

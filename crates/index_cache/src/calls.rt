@@ -1,20 +1,25 @@
 // Look-ups and changes.
 
-ghost use Rattle.std.specs.Prelude.{◌≡◌, ◌≤◌, ◌==◌, IfOk, OnOk, OnErr, filter, slice_get};
+ghost use Rattle.std.specs.Prelude.{◌≡◌, ◌≤◌, ◌==◌, ◌-◌, ◌^◌, min, IfOk, OnOk, OnErr, filter, length, slice_get};
 ghost use Rattle.index_media.specs.Insertion.{with_leaf_by_keys};
+ghost use Rattle.index_media.specs.KeyedRange.{without_range_by_keys};
 ghost use Rattle.index_media.specs.KeyedRemoval.{replaced_by_keys};
-ghost use Rattle.index_media.specs.KeyedRow.{no_more};
+ghost use Rattle.index_media.specs.KeyedRow.{no_more, bare};
+ghost use Rattle.index_tree.specs.LastBlock.{last_block};
 ghost use Rattle.index_tree.specs.Order.{key_rank, leaf_rank, of_rank, first_after, placed};
+ghost use Rattle.index_tree.specs.RangeRemoval.{within_range, outside_range};
 ghost use Rattle.index_tree.specs.Removal.{holds, without};
 ghost use Rattle.index_tree.specs.Replacement.{swapped};
+ghost use Rattle.index_tree.specs.Shape.{node_count, shape_weight};
 ghost use Rattle.node_table.specs.Changing.{IsChange, AreChanges, changed, changed_by, leaves_after, leaves_after_all};
 ghost use Rattle.node_table.specs.Exchange.{tree_without};
 ghost use Rattle.node_table.specs.NodeView.{tree_at, leaves_at};
 ghost use Rattle.node_table.specs.Staging.{IsSoundRoot};
 ghost use Rattle.ubifs_base.specs.Key.{IsKey};
-ghost use Rattle.index_cache.specs.Paged.{tree_of, leaves_of, fanout_of};
+ghost use Rattle.index_cache.specs.Paged.{tree_of, leaves_of, fanout_of, KeepsNodes};
 
 use crate::paged::PagedIndex;
+use index_media::a_range_removal_leaves_the_keys_of_branches;
 use index_tree::Leaf;
 use node_table::{Change, NodeTable, Root, roots_stay};
 use std::alloc::Global;
@@ -54,6 +59,13 @@ impl PagedIndex {
         self.table.after(self.root, key)
     }
 
+    /// The greatest block leaf of this inode, the last one of equals; none where it has no block.
+    pub fn last_of(&self, ino: u32) -> Option<Leaf>
+        ensures { result ≡ last_block ino (leaves_of self.now) }
+    {
+        self.table.last_of(self.root, ino)
+    }
+
     /// Whether this leaf, with its key and its place, is there.
     pub fn holds(&self, leaf: &Leaf) -> bool
         ensures { result ≡ holds leaf.now (leaves_of self.now) }
@@ -68,6 +80,27 @@ impl PagedIndex {
         self.table.leaves_in(alloc, self.root, lnum)
     }
 
+    /// The leaves with keys from `from` to `to`, both included, in the order of the index.
+    pub fn leaves_between(&self, alloc: Global, from: &Key, to: &Key) -> Result<Vec<Leaf>, Memory>
+        ensures { IfOk result (λ leaves. leaves.items ≡ within_range (key_rank from.now) (key_rank to.now) (leaves_of self.now)) }
+    {
+        self.table.leaves_between(alloc, self.root, from, to)
+    }
+
+    /// The number of nodes.
+    pub fn nodes(&self) -> u64
+        ensures { result ≡ node_count (bare (tree_of self.now)) }
+    {
+        self.table.nodes(self.root)
+    }
+
+    /// The number of nodes plus the number of full ones.
+    pub fn weight(&self) -> u64
+        ensures { result ≡ shape_weight (fanout_of self.now) (bare (tree_of self.now)) }
+    {
+        self.table.weight(self.root)
+    }
+
     /// Puts the leaf after all leaves whose key isn't greater. Nodes on its way are dirty, and all others keep their places.
     ///
     /// After `Memory` the index is as before.
@@ -76,7 +109,7 @@ impl PagedIndex {
         ensures tree { OnOk result (tree_of self.new ≡ with_leaf_by_keys (fanout_of self.old) leaf (tree_of self.old)) }
         ensures leaves { OnOk result (leaves_of self.new ≡ placed leaf (leaves_of self.old)) }
         ensures err { OnErr result (tree_of self.new ≡ tree_of self.old) }
-        ensures fanout { fanout_of self.new ≡ fanout_of self.old }
+        ensures kept { KeepsNodes self.old self.new }
     {
         self.make(alloc, Change::Insert(leaf))
     }
@@ -90,7 +123,7 @@ impl PagedIndex {
         ensures tree { OnOk result (tree_of self.new ≡ tree_without leaf.now (tree_of self.old)) }
         ensures leaves { OnOk result (leaves_of self.new ≡ without leaf.now (leaves_of self.old)) }
         ensures err { OnErr result (tree_of self.new ≡ tree_of self.old) }
-        ensures fanout { fanout_of self.new ≡ fanout_of self.old }
+        ensures kept { KeepsNodes self.old self.new }
     {
         let found = self.holds(leaf);
         self.make(alloc, Change::Remove(*leaf))?;
@@ -108,7 +141,7 @@ impl PagedIndex {
         ensures tree { OnOk result (tree_of self.new ≡ replaced_by_keys old.now new (tree_of self.old)) }
         ensures leaves { OnOk result (leaves_of self.new ≡ swapped old.now new (leaves_of self.old)) }
         ensures err { OnErr result (tree_of self.new ≡ tree_of self.old) }
-        ensures fanout { fanout_of self.new ≡ fanout_of self.old }
+        ensures kept { KeepsNodes self.old self.new }
     {
         let found = self.holds(old);
         let change = Change::Replace {
@@ -117,6 +150,25 @@ impl PagedIndex {
         };
         self.make(alloc, change)?;
         Ok(found)
+    }
+
+    /// Takes out the leaves with keys from `from` to `to`, both included, with the nodes that this empties, and answers how
+    /// many leaves went: `u64::MAX` stands for more as well. Nodes on the ways to them are dirty, and all others keep their
+    /// places. A root with one child gives way to it, even if no leaf went.
+    ///
+    /// After `Memory` the index is as before.
+    pub fn remove_range(&mut self, alloc: Global, from: &Key, to: &Key) -> Result<u64, Memory>
+        ensures number { IfOk result (λ number. number ≡ min (length (within_range (key_rank from.now) (key_rank to.now) (leaves_of self.old))) (2 ^ 64 - 1)) }
+        ensures tree { OnOk result (tree_of self.new ≡ without_range_by_keys (key_rank from.now) (key_rank to.now) (tree_of self.old)) }
+        ensures leaves { OnOk result (leaves_of self.new ≡ outside_range (key_rank from.now) (key_rank to.now) (leaves_of self.old)) }
+        ensures err { OnErr result (tree_of self.new ≡ tree_of self.old) }
+        ensures kept { KeepsNodes self.old self.new }
+    {
+        roots_stay();
+        a_range_removal_leaves_the_keys_of_branches();
+        let left = self.table.remove_range(alloc, self.root, from, to)?;
+        self.root = left.root;
+        Ok(left.number)
     }
 
     /// Makes changes beside the index, each over what the ones before it make. The index is as before until they are adopted.
@@ -128,7 +180,7 @@ impl PagedIndex {
         ensures leaves { IfOk result (λ staged. leaves_at self.new.table.nodes.items staged.root ≡ leaves_after_all changes.now (leaves_of self.old)) }
         ensures root { IfOk result (λ staged. IsSoundRoot self.new.table.nodes.items staged.root) }
         ensures tree { tree_of self.new ≡ tree_of self.old }
-        ensures fanout { fanout_of self.new ≡ fanout_of self.old }
+        ensures kept { KeepsNodes self.old self.new }
         ensures err { OnErr result (self.new.table.nodes.items ≡ self.old.table.nodes.items) }
     {
         roots_stay();
@@ -142,7 +194,7 @@ impl PagedIndex {
         ensures tree { OnOk result (tree_of self.new ≡ changed (fanout_of self.old) change (tree_of self.old)) }
         ensures leaves { OnOk result (leaves_of self.new ≡ leaves_after change (leaves_of self.old)) }
         ensures err { OnErr result (tree_of self.new ≡ tree_of self.old) }
-        ensures fanout { fanout_of self.new ≡ fanout_of self.old }
+        ensures kept { KeepsNodes self.old self.new }
     {
         let changes: &[Change] = &[change];
         let staged = self.stage(alloc, changes)?;
@@ -154,6 +206,7 @@ impl PagedIndex {
     pub fn adopt(&mut self, staged: Staged)
         requires root { IsSoundRoot self.old.table.nodes.items staged.root }
         ensures tree { tree_of self.new ≡ tree_at self.old.table.nodes.items staged.root }
+        ensures nodes { self.new.table.nodes.items ≡ self.old.table.nodes.items }
         ensures fanout { fanout_of self.new ≡ fanout_of self.old }
         ensures root { self.new.root ≡ staged.root }
     {
