@@ -1,9 +1,9 @@
 //! Is what a volume holds a sound image, rule by rule, and what is wrong with it first?
 //!
 //! The rules, and what breaks them, are those of sound_image: definitions over contents. Each call here reads what its rule
-//! speaks of and answers Ok where the contents meet it; else it tells the breach of that rule that is the first. LEBs are tested
-//! one after another, so the invariant is that all LEBs so far meet the rule. The properties tree is gone over level by level,
-//! and what is wrong first of all its nodes is kept on the way (`specs/PropertyWalk.antt`).
+//! speaks of. It answers Ok only if the contents meet it, and a breach only if they don't: that of the rule that is the first. LEBs
+//! are tested one after another, so the invariant is that all LEBs so far meet the rule. The properties tree is gone over level by
+//! level, and what is wrong first of all its nodes is kept on the way (`specs/PropertyWalk.antt`).
 #![tactic(auto)]
 
 mod fault;
@@ -21,5 +21,6 @@ pub use crate::fault::CheckFault;
 pub use crate::laws::a_breach_is_first;
 pub use crate::masters::check_masters;
 pub use crate::orphan_lists::check_orphans;
+pub use crate::places::type_byte;
 pub use crate::properties::check_properties;
 pub use crate::superblock::check_superblock;

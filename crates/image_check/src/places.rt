@@ -48,8 +48,9 @@ pub(crate) fn byte_at(leb: &[u8], offs: usize) -> u8
     255
 }
 
-// The byte that stands for a node's type at a place; 255 where nothing is written.
-pub(crate) fn type_byte(leb: &[u8], place: u32) -> u8
+/// The byte that stands for the type of a node at an offset of a LEB; 255 if the LEB is too short (`struct ubifs_ch` of
+/// ubifs-media.h).
+pub fn type_byte(leb: &[u8], place: u32) -> u8
     ensures { result ≡ type_byte leb.now place }
 {
     byte_at(leb, place as usize + 20)

@@ -1,3 +1,2 @@
 pub mod Differences
 pub mod LogChecks
-pub mod JournalAnswers

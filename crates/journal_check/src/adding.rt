@@ -7,9 +7,10 @@ ghost use Rattle.journal_check.specs.LogChecks.{IsAddedTo, IsSeenLeb, torn_behin
 use crate::differing::Differing;
 use crate::read_lebs::ReadLebs;
 use crate::references::take_references;
-use crate::seeing::{start_of, type_byte};
+use crate::seeing::start_of;
 use crate::seen_leb::SeenLeb;
 use crate::sooner::sooner;
+use image_check::type_byte;
 use leb_scan::{Tail, one_text};
 use std::alloc::{AllocError, Global};
 use ubifs_base::Geometry;
@@ -53,7 +54,7 @@ fn torn_behind(tail: Tail, lnum: u32, leb: &[u8], start: Option<u64>) -> Option<
                 lnum,
                 offs: 0,
                 wanted: 10,
-                found: type_byte(leb) as u64,
+                found: type_byte(leb, 0) as u64,
             }),
         },
     }

@@ -8,7 +8,8 @@ ghost use Rattle.bud_log.specs.Seen.{HasBeginning};
 ghost use Rattle.journal_check.specs.LogChecks.{IsOtherStart};
 
 use crate::differing::Differing;
-use crate::seeing::{start_of, type_byte};
+use crate::seeing::start_of;
+use image_check::type_byte;
 use leb_scan::Found;
 use media_sys::{CommitStart, one_node};
 use std::alloc::Global;
@@ -31,7 +32,7 @@ pub(crate) fn number_of_start(
             lnum,
             offs: 0,
             wanted: 10,
-            found: type_byte(leb) as u64,
+            found: type_byte(leb, 0) as u64,
         });
     };
     let Some(found) = commit_of(alloc, leb, begins) else {
@@ -39,7 +40,7 @@ pub(crate) fn number_of_start(
             lnum,
             offs: 0,
             wanted: 10,
-            found: type_byte(leb) as u64,
+            found: type_byte(leb, 0) as u64,
         });
     };
     if found != cmt_no {

@@ -9,7 +9,6 @@
 mod adding;
 mod commits;
 mod differing;
-mod journal_fault;
 mod log_check;
 mod log_found;
 mod log_verdict;
@@ -21,6 +20,5 @@ mod seeing;
 mod seen_leb;
 mod sooner;
 
-pub use crate::journal_fault::JournalFault;
 pub use crate::log_check::check_log;
 pub use crate::log_found::LogFound;

@@ -1,6 +1,6 @@
 // The check of the log.
 
-ghost use Rattle.std.specs.Prelude.{◌≡◌, ◌<◌, ◌≤◌, ◌^◌, List, length, IfOk};
+ghost use Rattle.std.specs.Prelude.{◌≡◌, ◌<◌, ◌≤◌, ◌^◌, List, length, IfOk, IfErr};
 ghost use Rattle.ubifs_base.specs.Areas.{lpt_first};
 ghost use Rattle.ubifs_base.specs.RawOf.{raw_of};
 ghost use Rattle.ubi_volume.specs.Volume.{Keeps, SameShape};
@@ -8,19 +8,20 @@ ghost use Rattle.ubi_volume.specs.Faults.{HasAreaCause, StaysSureArea};
 ghost use Rattle.bud_log.specs.Log.{IsLogLeb, references_of};
 ghost use Rattle.bud_log.specs.LogText.{LogText as AText};
 ghost use Rattle.sound_image.specs.Log.{HasLog};
-ghost use Rattle.journal_check.specs.JournalAnswers.{HasJournalCause, IfBroken, IsLogBreach, StaysSureJournal};
+ghost use Rattle.sound_image.specs.LogBreaches.{IsBrokenLog};
 ghost use Rattle.sound_image.specs.declared.breach.Breach.TheVariants.{Damaged};
-ghost use Rattle.sound_image.specs.declared.rule.Rule.TheVariants.{Log};
+ghost use Rattle.sound_image.specs.declared.rule.Rule.TheVariants as rules;
+ghost use Rattle.image_check.specs.Told.{HasCheckCause, IsBreachOf, StaysSureCheck, TellsBreach};
 ghost use Rattle.journal_check.specs.LogChecks.{IsJudgedLog, none_spare as is_none_spare, verdict_of};
 
 use crate::commits::number_of_start;
 use crate::differing::Differing;
-use crate::journal_fault::JournalFault;
 use crate::log_found::LogFound;
 use crate::log_verdict::LogVerdict;
 use crate::newer::first_newer;
 use crate::read_lebs::ReadLebs;
 use crate::reading::{nothing_read, read_first, read_on};
+use image_check::CheckFault;
 use leb_scan::one_text;
 use media_sys::{Master, one_node};
 use sound_image::{Breach, Rule};
@@ -29,7 +30,7 @@ use ubi_volume::{AreaFault, Volume};
 use ubifs_base::Geometry;
 
 /// Checks the rule on the log (`HasLog` of crate sound_image) of the log that a master names (`ubifs_replay_journal` of Linux
-/// fs/ubifs). `Ok` tells the references of the log: the rule holds. `Broken` tells what is wrong first: by the first of the
+/// fs/ubifs). `Ok` tells the references of the log: the rule holds. `Unsound` tells what is wrong first: by the first of the
 /// rule's five parts by which something is wrong, at its first LEB and offset, with the value that is wanted there and the one
 /// that was found.
 pub fn check_log<V: Volume>(
@@ -37,29 +38,29 @@ pub fn check_log<V: Volume>(
     volume: &mut V,
     geometry: &Geometry,
     master: &Master,
-) -> Result<LogFound, JournalFault>
+) -> Result<LogFound, CheckFault>
     requires ring { IsLogLeb (raw_of geometry.now) master.now.log_lnum }
     requires lebs { lpt_first (raw_of geometry.now) ≤ (V.state volume.old).leb_cnt }
     ensures sound { IfOk result (λ log. (texts : List AText) × HasLog (V.state volume.old).holds (raw_of geometry.now) master.now texts × (log.references.items ≡ references_of texts)) }
-    ensures broken { IfBroken result (IsLogBreach (V.state volume.old).holds (raw_of geometry.now) master.now) }
+    ensures broken { IfErr result (TellsBreach (IsBreachOf rules.Log (IsBrokenLog (V.state volume.old).holds (raw_of geometry.now) master.now))) }
     ensures keeps { Keeps (V.state volume.old) (V.state volume.new) }
     ensures shape { SameShape (V.state volume.old) (V.state volume.new) }
-    ensures cause { HasJournalCause (V.state volume.old).faults (V.state volume.new).faults result }
-    ensures sure { StaysSureJournal (V.state volume.old) (V.state volume.new) result }
+    ensures cause { HasCheckCause (V.state volume.old).faults (V.state volume.new).faults result }
+    ensures sure { StaysSureCheck (V.state volume.old) (V.state volume.new) result }
 {
     match judge(alloc, volume, geometry, master) {
         Ok(LogVerdict::Sound { log }) => Ok(log),
-        Ok(LogVerdict::Broken { at }) => Err(JournalFault::Broken {
+        Ok(LogVerdict::Broken { at }) => Err(CheckFault::Unsound {
             breach: log_breach(at),
         }),
-        Err(AreaFault::Memory) => Err(JournalFault::Memory),
-        Err(AreaFault::Volume { count }) => Err(JournalFault::Volume { count }),
+        Err(AreaFault::Memory) => Err(CheckFault::Memory),
+        Err(AreaFault::Volume { count }) => Err(CheckFault::Volume { count }),
     }
 }
 
 // What is told of a log that is broken here.
 fn log_breach(at: Differing) -> Breach
-    ensures { result ≡ Damaged Log at.lnum at.offs at.wanted at.found }
+    ensures { result ≡ Damaged rules.Log at.lnum at.offs at.wanted at.found }
 {
     Breach::Damaged {
         rule: Rule::Log,

@@ -4,7 +4,6 @@ ghost use Rattle.std.specs.Prelude.{◌≡◌, ◌==◌, ◌^◌, ◌<◌, lengt
 ghost use Rattle.ubifs_base.specs.NodeType.{type_number};
 ghost use Rattle.bud_log.specs.LogText.{at_start as at_the_start, start_of as start_number, is_later as is_later_than};
 ghost use Rattle.bud_log.specs.Seen.{earlier_of};
-ghost use Rattle.sound_image.specs.Wrong.{type_byte as type_byte_at};
 ghost use Rattle.journal_check.specs.LogChecks.{IsSeenLeb};
 
 use crate::seen_leb::SeenLeb;
@@ -81,14 +80,4 @@ pub(crate) fn is_later(number: u64, begins: Option<Found>) -> bool
         return false;
     };
     number < found.sqnum
-}
-
-/// The byte that stands for the type of a node at the start of a LEB; 255 if the LEB is too short.
-pub(crate) fn type_byte(leb: &[u8]) -> u8
-    ensures { result ≡ type_byte_at leb.now 0 }
-{
-    if leb.len() <= 20 {
-        return 255;
-    }
-    leb[20]
 }
