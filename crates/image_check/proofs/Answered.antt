@@ -44,3 +44,8 @@ told_cause {T = T} before now a r e h = let Q : Result T CheckFault → Type 0 =
 
 pub told_sure : {T : Type 0} (old new : VolumeState) (a : Result (Result T Breach) AreaFault) (r : Result T CheckFault) → r ≡ told_answer a → StaysSureArea old new a → StaysSureCheck old new r
 told_sure {T = T} old new a r e h = let Q : Result T CheckFault → Type 0 = λ x. StaysSureCheck old new x in subst Q (sym e) (sure_of_answer old new a h)
+
+-- what holds of all that is told so
+pub met_then : {T : Type 0} (P Q : T → Type 0) (r : Result T CheckFault) → ((x : T) → P x → Q x) → IfOk r P → IfOk r Q
+met_then P Q (Ok x) f h = f x h
+met_then P Q (Err fault) f h = tt

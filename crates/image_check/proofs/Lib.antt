@@ -6,6 +6,7 @@ pub mod Latest
 pub mod OrphanArea
 pub mod Order
 pub mod Supers
+pub mod TreeCounts
 pub mod Misfits
 pub mod PropertyWalks
 pub mod WalkedRows

@@ -1,6 +1,7 @@
 // The rule on the tree of LEB properties.
 
 ghost use Rattle.std.specs.Prelude.{◌≡◌, None, IfOk, IfErr, length};
+ghost use Rattle.ubifs_base.specs.Areas.{main_lebs};
 ghost use Rattle.ubifs_base.specs.RawOf.{raw_of};
 ghost use Rattle.ubi_volume.specs.Geometry.{IsGeometryOf};
 ghost use Rattle.ubi_volume.specs.Volume.{Keeps, SameShape};
@@ -37,6 +38,7 @@ pub fn check_properties<V: Volume>(
     requires geometry { IsGeometryOf (raw_of geometry.now) (V.state volume.old) }
     requires placed { first_past (addresses_of (raw_of geometry.now) master.now) ≡ None }
     ensures met { IfOk result (λ props. HasProperties (V.state volume.old).holds (raw_of geometry.now) master.now props.items) }
+    ensures count { IfOk result (λ props. length props.items ≡ main_lebs (raw_of geometry.now)) }
     ensures broken { IfErr result (TellsBreach (IsBreachOf rules.Properties (IsFirstWrong (IsWrongProperty (V.state volume.old).holds (raw_of geometry.now) master.now)))) }
     ensures keeps { Keeps (V.state volume.old) (V.state volume.new) × SameShape (V.state volume.old) (V.state volume.new) }
     ensures cause { HasCheckCause (V.state volume.old).faults (V.state volume.new).faults result }
