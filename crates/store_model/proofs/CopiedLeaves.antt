@@ -1,11 +1,10 @@
 -- A leaf that is copied is a committed one of both views: its LEB is the victim, so none of the journal's.
-use Rattle.std.proofs.Common.{◌≡◌, ◌⊎◌, ℕ, true, List, [], ◌∷◌, map, refl, sym, ap, subst, ◌∙◌, inl, inr, Option, Some, None}
+use Rattle.std.proofs.Common.{◌≡◌, ◌⊎◌, ℕ, true, List, [], ◌∷◌, map, refl, sym, subst, ◌∙◌, inl, inr, Option, Some, None}
 use Rattle.std.specs.Prelude.{◌==◌, ◌&&◌, nat_le}
 use Rattle.std.specs.List.{AllByRecursion, list_all}
 use Rattle.std.proofs.lemmas.Bool.{and_parts, eq-eqb, eqb-true, false≢true}
 use Rattle.media_lpt.specs.declared.leb_kind.LebKind.TheVariants as kind
 use Rattle.index_tree.specs.declared.leaf.Leaf.{Leaf}
-use Rattle.leaf_map.specs.Allowed.{IsNodeOf}
 use Rattle.leaf_map.specs.Kept.{Kept}
 use Rattle.leaf_map.specs.Parts.{in_bud}
 use Rattle.store_model.specs.Events.{Copying}
@@ -23,11 +22,6 @@ each_of P [] x h i = absurd i
 each_of P (y ∷ xs) x h (inl e) = subst P e h.0
 each_of P (y ∷ xs) x h (inr i) = each_of P xs x h.1 i
 
-node_of : (kept : List Kept) (x : Kept) → IsLeafOf kept x → IsNodeOf kept x.node
-node_of [] x i = absurd i
-node_of (y ∷ kept) x (inl e) = inl (sym (ap (λ (z : Kept). z.node) e))
-node_of (y ∷ kept) x (inr i) = inr (node_of kept x i)
-
 -- a leaf in a bud stands in a LEB that is one
 bud_row : (rs : List Row) (buds : List Bud) (leaf : Leaf) → list_all (λ bud. has_row kind.Bud rs bud.lnum) buds ≡ true → in_bud (map named_by buds) leaf ≡ true → has_row kind.Bud rs leaf.lnum ≡ true
 bud_row rs [] leaf h i = absurd (false≢true i)
@@ -40,14 +34,14 @@ bud_row rs (bud ∷ buds) leaf h i =
     by first rest (inl e) = subst (λ (n : ℕ). has_row kind.Bud rs n ≡ true) (eqb-true bud.lnum leaf.lnum (and_parts (bud.lnum == leaf.lnum) (nat_le bud.from leaf.offs) e).0) first
     by first rest (inr e) = rest e
 
-of_view : (m : Store) (view : View) (x : Kept) → AreApart m → list_all (λ bud. has_row kind.Bud (rows m.lebs) bud.lnum) view.buds ≡ true → has_row kind.Leaf (rows m.lebs) x.leaf.lnum ≡ true → IsOfView view x → IsNodeOf view.kept x.node
+of_view : (m : Store) (view : View) (x : Kept) → AreApart m → list_all (λ bud. has_row kind.Bud (rows m.lebs) bud.lnum) view.buds ≡ true → has_row kind.Leaf (rows m.lebs) x.leaf.lnum ≡ true → IsOfView view x → IsLeafOf view.kept x
 of_view m view x a buds leaf (inl in_it) =
     let bud = bud_row (rows m.lebs) view.buds x.leaf buds in_it in
     let other = other_leb (rows m.lebs) x.leaf.lnum x.leaf.lnum kind.Bud kind.Leaf (to_rows m a).numbers bud leaf refl in
     absurd (false≢true (sym other ∙ eq-eqb x.leaf.lnum x.leaf.lnum refl))
-of_view m view x a buds leaf (inr i) = node_of view.kept x i
+of_view m view x a buds leaf (inr i) = i
 
-pub copied_of : (m : Store) (c : Copying) → CanMove m c → AreApart m → IsTaking m m.next → AreOfViews m → OfBoth m (λ f. IsNodeOf f.view.kept c.leaf.node)
+pub copied_of : (m : Store) (c : Copying) → CanMove m c → AreApart m → IsTaking m m.next → AreOfViews m → OfBoth m (λ f. IsLeafOf f.view.kept c.leaf)
 copied_of m c can a t v = (of_view m m.now c.leaf a (to_rows m a).buds leaf of.0, by m.next t of.1)
   where
     of : IsOfView m.now c.leaf × IsOfNext m.next c.leaf
@@ -62,6 +56,6 @@ copied_of m c can a t v = (of_view m m.now c.leaf a (to_rows m a).buds leaf of.0
             let is : c.leaf.leaf.lnum ≡ moving.victim = rw e at at in
             subst (λ (n : ℕ). has_row kind.Leaf (rows m.lebs) n ≡ true) (sym is) (subst (λ (o : Option Moving). victim_row (rows m.lebs) o ≡ true) e row)
 
-    by : (next : Option Next) → IsTaking m next → IsOfNext next c.leaf → OfNext m next (λ f. IsNodeOf f.view.kept c.leaf.node)
+    by : (next : Option Next) → IsTaking m next → IsOfNext next c.leaf → OfNext m next (λ f. IsLeafOf f.view.kept c.leaf)
     by None t h = tt
     by (Some next) t h = of_view m next.view c.leaf a (next_role m next t) leaf h

@@ -20,7 +20,7 @@ use Rattle.leaf_map.specs.Recovered.{committed_highest}
 use Rattle.leaf_map.specs.Shown.{tree_of}
 use Rattle.store_model.specs.Fits.{AreCommitted, AreLeft, AreOfListed, AreOwn, Faced, FitsFaced, HasOwn, IsLeft, IsOfNameless, IsOneOf, is_of_listed}
 use Rattle.store_model.specs.Heads.{copies_of, heads_of}
-use Rattle.store_model.specs.Invariant.{HasCommitted}
+use Rattle.store_model.specs.Invariant.{HasCommitted, IsCopyOf}
 use Rattle.store_model.specs.Lebs.{is_among}
 use Rattle.store_model.specs.Recovery.{read_changes}
 use Rattle.store_model.proofs.RecoveryCopies.{all_taken, copied, either_of, keyed_shown, number_turned}
@@ -42,12 +42,22 @@ read_leaves parts (c ∷ committed) (x ∷ kept) h = (record { leaf = h.0; own =
     by (inl (own, is, node, number)) found e = ap (node_or x.node) (sym e ∙ is) ∙ node
     by (inr none) found e = absurd (false≢true (ap is_some (sym none ∙ e)))
 
+-- a copy is the node of a leaf
+node_among : (kept : List Kept) (d : Placed) → IsCopyOf kept d → IsNodeOf kept d.node
+node_among [] d i = absurd i
+node_among (x ∷ kept) d (inl same) = inl same.0
+node_among (x ∷ kept) d (inr i) = inr (node_among kept d i)
+
+copied_nodes : (kept : List Kept) (ds : List Placed) → AllByRecursion (λ d. IsLeaf d.node × IsCopyOf kept d) ds → AllByRecursion (λ d. IsLeaf d.node × IsNodeOf kept d.node) ds
+copied_nodes kept [] h = tt
+copied_nodes kept (d ∷ ds) h = ((h.0.0, node_among kept d h.0.1), copied_nodes kept ds h.1)
+
 pub fits_leaves : (f : Faced) (parts : Parts) → HasCommitted f.view → FitsFaced f parts → FitsLeaves parts f.view.kept
 fits_leaves f parts has fits = record {
   leaves = has.leaves;
   read = read_leaves parts parts.committed f.view.kept fits.committed;
   copies = subst (AllByRecursion (λ d. IsLeaf d.node × IsNodeOf f.view.kept d.node)) (sym fits.copies_are)
-      (all_taken (λ d. IsLeaf d.node × IsNodeOf f.view.kept d.node) fits.copies (copies_of f.view.buds) has.copies);
+      (all_taken (λ d. IsLeaf d.node × IsNodeOf f.view.kept d.node) fits.copies (copies_of f.view.buds) (copied_nodes f.view.kept (copies_of f.view.buds) has.copies));
 }
 
 -- ---- leaves that are left
@@ -103,7 +113,7 @@ left_safe : SortedLaw → TouchesLaw → (f : Faced) (parts : Parts) (fits : Fit
     → IsLeft f x → Safe f parts fits x
 left_safe sorted touches f parts fits has x keyed inode of (inl copy) =
     inl (inr (subst (λ (ds : List Placed). IsCopied ds x.node) (sym fits.copies_are)
-    (copied f.view.kept x (get_or f.synced 0 0) fits.copies (copies_of f.view.buds) fits.synced_copies has.leaves.keyed has.leaves.apart of has.copies copy)))
+    (copied f.view.kept x (get_or f.synced 0 0) fits.copies (copies_of f.view.buds) fits.synced_copies has.leaves.keyed has.leaves.apart of (copied_nodes f.view.kept (copies_of f.view.buds) has.copies) copy)))
 left_safe sorted touches f parts fits has x keyed inode of (inr (inl touched)) =
     let any = any_in_turn (λ c. is_gone c x) (read_changes f parts fits) (touched (0 ∷ fits.base ∷ fits.data_groups ∷ []) fits.keeps) in
     inr (inl (touches (in_turn (read_changes f parts fits)) (shown_tree f parts) x (sorted f.view.kept (committed_highest parts) has.leaves)

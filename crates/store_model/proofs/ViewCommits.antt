@@ -1,15 +1,14 @@
 -- What was committed stays whole through a commit's own events and those of a collection.
-use Rattle.std.proofs.Common.{◌≡◌, ℕ, suc, Bool, true, false, cond, List, [], ◌∷◌, ◌++◌, map, refl, sym, ap, subst, inl, inr, Option, Some, None}
+use Rattle.std.proofs.Common.{◌≡◌, ℕ, suc, Bool, true, false, cond, List, [], ◌∷◌, ◌++◌, map, refl, sym, ap, subst, ◌∙◌, inl, inr, Option, Some, None}
 use Rattle.std.specs.Prelude.{◌==◌, ◌&&◌, not}
 use Rattle.std.specs.List.{AllByRecursion, flat_map}
 use Rattle.std.specs.Option.{option_map}
 use Rattle.media_leaf.specs.LeafNode.{IsLeaf}
 use Rattle.index_tree.specs.Distinct.{AreDistinct}
-use Rattle.leaf_map.specs.Allowed.{IsNodeOf}
 use Rattle.leaf_map.specs.Kept.{Kept, Placed}
 use Rattle.store_model.specs.Events.{begin, Copying, end_commit, free_victim, in_next, move, offer, offered, open_buds, start, with_buds, write_index}
 use Rattle.store_model.specs.Heads.{buds_of, copies_of, has_bud, with_copy}
-use Rattle.store_model.specs.Invariant.{AreCarried, AreOwned, HasCommitted, HasFiles, HasViews, OfBoth, OfNext, all_carried}
+use Rattle.store_model.specs.Invariant.{AreCarried, AreOwned, HasCommitted, HasFiles, HasViews, IsCopyOf, OfBoth, OfNext, all_carried}
 use Rattle.store_model.specs.Legal.{CanMove, IsCarried, IsLeafOf}
 use Rattle.store_model.specs.Store.{At, Bud, Carried, Moving, Next, Store, View}
 use Rattle.store_model.proofs.Owned.{highest_is}
@@ -90,29 +89,35 @@ leaf_node [] x h i = absurd i
 leaf_node (y ∷ live) x h (inl e) = subst (λ (z : Kept). IsLeaf z.node) e h.0
 leaf_node (y ∷ live) x h (inr i) = leaf_node live x h.1 i
 
-copied_view : (c : Copying) (view : View) → IsLeaf c.copy.node → IsNodeOf view.kept c.copy.node → HasCommitted view → HasCommitted (with_buds (with_copy c.copy) 0 view)
+-- a copy of a leaf is one of the leaves that this is among
+copy_among : (kept : List Kept) (c : Copying) → c.copy.node ≡ c.leaf.node → c.copy.sqnum ≡ c.leaf.sqnum → IsLeafOf kept c.leaf → IsCopyOf kept c.copy
+copy_among [] c node number i = absurd i
+copy_among (x ∷ kept) c node number (inl e) = inl (node ∙ ap (λ (z : Kept). z.node) (sym e), number ∙ ap (λ (z : Kept). z.sqnum) (sym e))
+copy_among (x ∷ kept) c node number (inr i) = inr (copy_among kept c node number i)
+
+copied_view : (c : Copying) (view : View) → IsLeaf c.copy.node → IsCopyOf view.kept c.copy → HasCommitted view → HasCommitted (with_buds (with_copy c.copy) 0 view)
 copied_view c view leaf among has = record {
   leaves = has.leaves;
   distinct = has.distinct;
   tree = has.tree;
   inodes = has.inodes;
   highest = has.highest;
-  copies = copied_copies (λ d. IsLeaf d.node × IsNodeOf view.kept d.node) c.copy view.buds (leaf, among) has.copies;
+  copies = copied_copies (λ d. IsLeaf d.node × IsCopyOf view.kept d) c.copy view.buds (leaf, among) has.copies;
 }
 
--- what is copied is a committed leaf's node
-pub move_views : (m : Store) (c : Copying) → CanMove m c → AreOwned m → OfBoth m (λ f. IsNodeOf f.view.kept c.leaf.node) → HasViews m → HasViews (move c m)
+-- what is copied is a committed leaf
+pub move_views : (m : Store) (c : Copying) → CanMove m c → AreOwned m → OfBoth m (λ f. IsLeafOf f.view.kept c.leaf) → HasViews m → HasViews (move c m)
 move_views m c can owned among v = record {
-  committed = (copied_view c m.now leaf (subst (IsNodeOf m.now.kept) (sym can.node_is) among.0) v.committed.0, of m.next among.1 v.committed.1);
+  committed = (copied_view c m.now leaf (copy_among m.now.kept c can.node_is can.sqnum among.0) v.committed.0, of m.next among.1 v.committed.1);
   carried = (subst (AllByRecursion IsCarried) (sym (carried_copied c.copy m.now.buds)) v.carried.0, too m.next v.carried.1);
 }
   where
     leaf : IsLeaf c.copy.node
     leaf = subst IsLeaf (sym can.node_is) (leaf_node m.live c.leaf owned.nodes can.live)
 
-    of : (next : Option Next) → OfNext m next (λ f. IsNodeOf f.view.kept c.leaf.node) → OfNext m next (λ f. HasCommitted f.view) → OfNext (move c m) (option_map (in_next (with_copy c.copy) 0) next) (λ f. HasCommitted f.view)
+    of : (next : Option Next) → OfNext m next (λ f. IsLeafOf f.view.kept c.leaf) → OfNext m next (λ f. HasCommitted f.view) → OfNext (move c m) (option_map (in_next (with_copy c.copy) 0) next) (λ f. HasCommitted f.view)
     of None a h = tt
-    of (Some next) a h = copied_view c next.view leaf (subst (IsNodeOf next.view.kept) (sym can.node_is) a) h
+    of (Some next) a h = copied_view c next.view leaf (copy_among next.view.kept c can.node_is can.sqnum a) h
 
     too : (next : Option Next) → OfNext m next (λ f. AreCarried f.view) → OfNext (move c m) (option_map (in_next (with_copy c.copy) 0) next) (λ f. AreCarried f.view)
     too None h = tt

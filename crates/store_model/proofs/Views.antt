@@ -4,10 +4,9 @@ use Rattle.std.specs.Prelude.{not, ◌==◌, ◌&&◌, fold}
 use Rattle.std.specs.List.{AllByRecursion, flat_map}
 use Rattle.std.specs.Option.{option_map}
 use Rattle.media_leaf.specs.LeafNode.{IsLeaf}
-use Rattle.leaf_map.specs.Allowed.{IsNodeOf}
 use Rattle.store_model.specs.Events.{after_part, credit, granted, in_next, new_bud, open_leb, paid, Part, Payment, Putting, with_buds}
 use Rattle.store_model.specs.Heads.{copies_of, has_bud, with_group}
-use Rattle.store_model.specs.Invariant.{AreCarried, HasCommitted, HasViews, OfNext, all_carried}
+use Rattle.store_model.specs.Invariant.{AreCarried, HasCommitted, HasViews, IsCopyOf, OfNext, all_carried}
 use Rattle.store_model.specs.Legal.{AreParts, IsCarried}
 use Rattle.store_model.specs.Store.{Bud, Carried, Next, Store, View}
 use Rattle.store_model.proofs.Opens.{copies_open}
@@ -25,7 +24,7 @@ committed_with change n view keeps has = record {
   tree = has.tree;
   inodes = has.inodes;
   highest = has.highest;
-  copies = subst (AllByRecursion (λ d. IsLeaf d.node × IsNodeOf view.kept d.node)) (sym (keeps view.buds)) has.copies;
+  copies = subst (AllByRecursion (λ d. IsLeaf d.node × IsCopyOf view.kept d)) (sym (keeps view.buds)) has.copies;
 }
 
 abbrev KeepsCarried : (List Bud → List Bud) → Type 0

@@ -40,7 +40,7 @@ committed = record {
   tree = refl;
   inodes = (tt, (tt, (tt, tt)));
   highest = refl;
-  copies = ((record { numbered = omega arith; most = omega arith; plain = λ _. refl }, inl refl), tt);
+  copies = ((record { numbered = omega arith; most = omega arith; plain = λ _. refl }, inl (refl, refl)), tt);
 }
 
 proper : AreProper (faced_now half)

@@ -18,8 +18,8 @@ use Rattle.fs_model.specs.Files.{Tree}
 use Rattle.fs_model.specs.Orphan.{is_nameless, nameless, without_nameless}
 use Rattle.fs_model.specs.Proper.{IsProper, ascends}
 use Rattle.fs_model.specs.Recovery.{IsRecovered, Numbered, recovered, taken}
-use Rattle.leaf_map.specs.Allowed.{HasInode, IsNodeOf}
-use Rattle.leaf_map.specs.Kept.{Kept, kept_at, shown_by}
+use Rattle.leaf_map.specs.Allowed.{HasInode}
+use Rattle.leaf_map.specs.Kept.{Kept, kept_at, Placed, shown_by}
 use Rattle.leaf_map.specs.LeafMap.{IsLeafMap}
 use Rattle.leaf_map.specs.Parts.{in_bud}
 use Rattle.leaf_map.specs.Recovered.{highest_key}
@@ -113,14 +113,19 @@ are_within (n ∷ numbers) [] = false
 are_within (n ∷ numbers) (count ∷ counts) = nat_le n count && are_within numbers counts
 
 -- ---- what was committed
--- A view's leaves are those of an index, no two at one place, and show its tree, whose highest number is that of the master or of a key; each block has its inode, and what the collector copied are nodes of these leaves.
+-- a copy is the node of one of these leaves, with its number
+abbrev pub IsCopyOf : List Kept → Placed → Type 0
+IsCopyOf [] copy = ⊥
+IsCopyOf (x ∷ kept) copy = ((copy.node ≡ x.node) × (copy.sqnum ≡ x.sqnum)) ⊎ IsCopyOf kept copy
+
+-- A view's leaves are those of an index, no two at one place, and show its tree, whose highest number is that of the master or of a key; each block has its inode, and what the collector copied are nodes of these leaves, with their numbers.
 pub record HasCommitted (view : View) : Type 0 where
   pub leaves : IsLeafMap view.kept
   pub distinct : AreDistinct (map (λ x. x.leaf) view.kept)
   pub tree : tree_of view.kept view.tree.highest ≡ view.tree
   pub inodes : AllByRecursion (λ x. HasInode view.tree (shown_by x)) view.kept
   pub highest : highest_key view.highest (map (λ x. x.leaf.key) view.kept) ≡ view.tree.highest
-  pub copies : AllByRecursion (λ d. IsLeaf d.node × IsNodeOf view.kept d.node) (copies_of view.buds)
+  pub copies : AllByRecursion (λ d. IsLeaf d.node × IsCopyOf view.kept d) (copies_of view.buds)
 
 -- all nodes of the groups of some buds, with their changes
 abbrev pub all_carried : List Bud → List Carried

@@ -11,13 +11,12 @@ ghost use Rattle.fs_model.specs.Backing.{FitsGroup, FitsPage};
 ghost use Rattle.fs_model.specs.Change.{apply};
 ghost use Rattle.fs_model.specs.Files.{Tree};
 ghost use Rattle.fs_model.specs.Proper.{IsProper};
-ghost use Rattle.leaf_map.specs.Allowed.{IsNodeOf};
 ghost use Rattle.space_sums.specs.Spaces.{IsAfterGroup, IsAfterPage};
 ghost use Rattle.store_model.specs.Backing.{Outside, backing_of};
 ghost use Rattle.store_model.specs.Events.{after, Begin, Copying, credit, Drop, End, Event, Free, granted, Move, nodes_len, Offer, Open, Put, Putting, Start, Sync, Write};
 ghost use Rattle.store_model.specs.Invariant.{AreOwned, HasDataHead, HasFiles, HasNumbers, HasViews, OfBoth};
 ghost use Rattle.store_model.specs.Lebs.{IsStoreSettled, lent, space_of};
-ghost use Rattle.store_model.specs.Legal.{IsAllSynced, IsLegalEvent, KeepsProper, need_of, nodes_of};
+ghost use Rattle.store_model.specs.Legal.{IsAllSynced, IsLeafOf, IsLegalEvent, KeepsProper, need_of, nodes_of};
 ghost use Rattle.store_model.specs.LogRing.{HasLogLebs};
 ghost use Rattle.store_model.specs.Store.{Index as AnyIndex, Store as AnyStore};
 
@@ -94,7 +93,7 @@ pub fn each_event_keeps_blocks_with_their_inodes()
 
 /// A copy keeps what was committed, where the leaf that is copied is a committed one of both views.
 pub fn a_copy_keeps_what_was_committed()
-    ensures { (m : AnyStore) (c : Copying) → IsLegalEvent m (Move c) → AreOwned m → OfBoth m (λ f. IsNodeOf f.view.kept c.leaf.node) → HasViews m → HasViews (after (Move c) m) }
+    ensures { (m : AnyStore) (c : Copying) → IsLegalEvent m (Move c) → AreOwned m → OfBoth m (λ f. IsLeafOf f.view.kept c.leaf) → HasViews m → HasViews (after (Move c) m) }
 {}
 
 /// A commit keeps what was committed: it starts on the files as they are, and its view is the one at its end. So does a collection's
