@@ -1,19 +1,19 @@
 -- What a commit's end makes of LEBs: those that it took are the index's, those without a node of it are empty, and those that the log names no longer hold leaves.
 use Rattle.std.proofs.Common.{◌≡◌, ◌⊎◌, ℕ, ◌+◌, Bool, true, false, cond, not, List, [], ◌∷◌, map, refl, sym, ap, subst, ◌∙◌, inl, inr, Option, Some, None}
-use Rattle.std.specs.Prelude.{◌==◌, ◌&&◌, ◌||◌, get_or, is_some}
+use Rattle.std.specs.Prelude.{◌==◌, ◌&&◌, ◌||◌, get_or}
 use Rattle.std.specs.List.{flat_map, list_all, list_any}
 use Rattle.std.proofs.lemmas.Bool.{and_parts, and_from, eqb-true, eq-eqb, false≢true}
 use Rattle.media_lpt.specs.declared.leb_kind.LebKind.{LebKind}
 use Rattle.media_lpt.specs.declared.leb_kind.LebKind.TheVariants as kind
 use Rattle.leaf_map.specs.Kept.{Kept}
 use Rattle.store_model.specs.Events.{end_commit, node_items, offer, offered, role_after, role_then, view_branchings, write_index}
-use Rattle.store_model.specs.Invariant.{AreApart, HasSince, IsSince, IsTaking, is_used}
+use Rattle.store_model.specs.Invariant.{AreApart, HasSince, IsSince, IsTaking, is_used, lebs_taken}
 use Rattle.store_model.specs.Heads.{synced_since}
 use Rattle.store_model.specs.Legal.{are_distinct}
 use Rattle.store_model.specs.Lebs.{changed_leb, has_leaf, has_node, has_role, is_among, is_role}
 use Rattle.store_model.specs.Store.{Bud, Item, Leb, Moving, Next, Place, Store, View}
 use Rattle.store_model.proofs.LebFrees.{AreNearly, both_all, tidied_from}
-use Rattle.store_model.proofs.LebPuts.{some_map}
+use Rattle.store_model.proofs.LebPuts.{same_taken}
 use Rattle.store_model.proofs.LebRows.{AreRows, Row, Uses, all_in, all_weaker, from_rows, has_row, numbers_kept, role_row, rows, to_rows, used_follows, used_stays, victim_row}
 use Rattle.store_model.proofs.RecoveryCopies.{either_of}
 use Rattle.store_model.proofs.RecoveryOrder.{or_left, or_right}
@@ -156,7 +156,7 @@ ended_store m next = record m {
 end_use : (m : Store) (next : Next) (r : Row) → is_used m r.0 r.1 ≡ true → (is_used (ended_store m next) (after_row next.view r).0 (after_row next.view r).1 || is_role kind.Leaf (after_row next.view r).1) ≡ true
 end_use m next (n, kind.Free) h = or_left (not (has_leaf m n)) false h
 end_use m next (n, kind.Leaf) h = or_right (is_used (ended_store m next) n kind.Leaf) true refl
-end_use m next (n, kind.Taken) h = or_left (not (has_leaf m n)) false (and_parts (not (has_leaf m n)) (is_some m.next) h).0
+end_use m next (n, kind.Taken) h = or_left (not (has_leaf m n)) false (and_parts (not (has_leaf m n)) (is_among (lebs_taken m.next) n) h).0
 end_use m next (n, kind.Index) h = by (has_node next.view.places n)
   where
     by : (b : Bool) → (is_used (ended_store m next) (cond {A = Row} b (n, kind.Index) (n, kind.Free)).0 (cond {A = Row} b (n, kind.Index) (n, kind.Free)).1 || is_role kind.Leaf (cond {A = Row} b (n, kind.Index) (n, kind.Free)).1) ≡ true
@@ -237,7 +237,7 @@ set_rows n text (leb ∷ lebs) = by (leb.lnum == n) (set_rows n text lebs)
     by false rest = ap (λ (z : List Row). (leb.lnum, leb.role) ∷ z) rest
 
 -- the same leaves, buds and roles
-same_apart : (m k : Store) → rows k.lebs ≡ rows m.lebs → k.live ≡ m.live → k.held ≡ m.held → k.moving ≡ m.moving → k.now ≡ m.now → k.ends ≡ m.ends → is_some k.next ≡ is_some m.next → AreApart m → AreApart k
+same_apart : (m k : Store) → rows k.lebs ≡ rows m.lebs → k.live ≡ m.live → k.held ≡ m.held → k.moving ≡ m.moving → k.now ≡ m.now → k.ends ≡ m.ends → lebs_taken k.next ≡ lebs_taken m.next → AreApart m → AreApart k
 same_apart m k same live held moving now ends next a = from_rows k (subst (AreRows k) (sym same) (record {
   numbers = r.numbers;
   used = used_stays m k (rows m.lebs) (λ row there h. used_follows m k row.0 row.1 (uses row.0 row.1) h) (rows m.lebs) (all_in (rows m.lebs)) r.used;
@@ -257,7 +257,7 @@ pub write_apart : (m : Store) (next : Option Next) → m.next ≡ next → AreAp
 write_apart m None e a = a
 write_apart m (Some next) e a =
     let lnum : ℕ = get_or next.taken next.written 0 in
-    same_apart m (write_index m (Some next)) (set_rows lnum (flat_map (node_items m.geo) (view_branchings next.view lnum m.sqnum)) m.lebs) refl refl refl refl refl (sym (ap is_some e)) a
+    same_apart m (write_index m (Some next)) (set_rows lnum (flat_map (node_items m.geo) (view_branchings next.view lnum m.sqnum)) m.lebs) refl refl refl refl refl (sym (ap lebs_taken e)) a
 
 pub offer_apart : (m : Store) → AreApart m → AreApart (offer m)
-offer_apart m a = same_apart m (offer m) refl refl refl refl refl refl (some_map offered m.next) a
+offer_apart m a = same_apart m (offer m) refl refl refl refl refl refl (same_taken offered m.next (λ next. refl)) a

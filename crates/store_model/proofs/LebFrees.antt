@@ -1,6 +1,6 @@
 -- What a sync and an inode that is dropped make of LEBs: leaf LEBs without a leaf are empty, and all others are for what they were for.
 use Rattle.std.proofs.Common.{◌≡◌, ◌⊎◌, ℕ, ◌+◌, Bool, true, false, cond, not, List, [], ◌∷◌, map, refl, sym, ap, subst, ◌∙◌, inl, inr, Option, Some, None}
-use Rattle.std.specs.Prelude.{◌==◌, ◌&&◌, ◌||◌, fold, is_some}
+use Rattle.std.specs.Prelude.{◌==◌, ◌&&◌, ◌||◌, fold}
 use Rattle.std.specs.List.{list_all, list_any}
 use Rattle.std.specs.Option.{option_map}
 use Rattle.std.proofs.lemmas.Bool.{and_parts, and_from, eqb-true, eq-eqb, false≢true}
@@ -9,9 +9,9 @@ use Rattle.ubifs_base.specs.declared.raw_geometry.RawGeometry.{RawGeometry}
 use Rattle.leaf_map.specs.Kept.{Kept}
 use Rattle.store_model.specs.Events.{filled_up, last_gap, padded, sync, synced_orphan}
 use Rattle.store_model.specs.Heads.{counts_of}
-use Rattle.store_model.specs.Invariant.{AreApart, AreAtBuds, is_used}
+use Rattle.store_model.specs.Invariant.{AreApart, AreAtBuds, is_used, lebs_taken}
 use Rattle.store_model.specs.Legal.{are_distinct}
-use Rattle.store_model.specs.Lebs.{freed, has_leaf, is_role, is_victim_of, stands_in, tidied}
+use Rattle.store_model.specs.Lebs.{freed, has_leaf, is_among, is_role, is_victim_of, stands_in, tidied}
 use Rattle.store_model.specs.Store.{At, Bud, Leb, Moving, Place, Store}
 use Rattle.store_model.proofs.LebLeaves.{or_none}
 use Rattle.store_model.proofs.LebPuts.{text_rows}
@@ -119,7 +119,7 @@ pub record HasFewer (m k : Store) : Type 0 where
   pub live : (test : ℕ → Bool) → list_all (λ x. test x.leaf.lnum) m.live ≡ true → list_all (λ x. test x.leaf.lnum) k.live ≡ true
   pub buds : k.now.buds ≡ m.now.buds
   pub places : k.now.places ≡ m.now.places
-  pub next : is_some k.next ≡ is_some m.next
+  pub next : lebs_taken k.next ≡ lebs_taken m.next
   pub moving : k.moving ≡ m.moving
 
 -- rows that are as an invariant wants them, but for leaf LEBs without a leaf
@@ -139,7 +139,7 @@ freed_use : (k : Store) (r : Row) → (is_used k r.0 r.1 || is_role kind.Leaf r.
 freed_use k (n, kind.Free) h = or_nothing (not (has_leaf k n)) h
 freed_use k (n, kind.Index) h = or_nothing (not (has_leaf k n)) h
 freed_use k (n, kind.Bud) h = or_nothing (list_any (λ bud. bud.lnum == n) k.now.buds) h
-freed_use k (n, kind.Taken) h = or_nothing (not (has_leaf k n) && is_some k.next) h
+freed_use k (n, kind.Taken) h = or_nothing (not (has_leaf k n) && is_among (lebs_taken k.next) n) h
 freed_use k (n, kind.Leaf) h = by (has_leaf k n) (is_victim_of k.moving n) refl refl
   where
     by : (a v : Bool) → has_leaf k n ≡ a → is_victim_of k.moving n ≡ v
@@ -188,8 +188,9 @@ fewer_use m k f (n, kind.Index) h = or_left (not (has_leaf k n)) false (not_more
 fewer_use m k f (n, kind.Bud) h =
     or_left (list_any (λ bud. bud.lnum == n) k.now.buds) false (subst (λ (buds : List Bud). list_any (λ bud. bud.lnum == n) buds ≡ true) (sym f.buds) h)
 fewer_use m k f (n, kind.Taken) h =
-    let p = and_parts (not (has_leaf m n)) (is_some m.next) h in
-    or_left (not (has_leaf k n) && is_some k.next) false (and_from (not (has_leaf k n)) (is_some k.next) (not_more (has_leaf m n) (has_leaf k n) (f.none n) p.0) (f.next ∙ p.1))
+    let p = and_parts (not (has_leaf m n)) (is_among (lebs_taken m.next) n) h in
+    or_left (not (has_leaf k n) && is_among (lebs_taken k.next) n) false
+    (and_from (not (has_leaf k n)) (is_among (lebs_taken k.next) n) (not_more (has_leaf m n) (has_leaf k n) (f.none n) p.0) (ap (λ (taken : List ℕ). is_among taken n) f.next ∙ p.1))
 fewer_use m k f (n, kind.Leaf) h = or_right (has_leaf k n || is_victim_of k.moving n) true refl
 
 pub tidied_apart : (m k : Store) → AreApart m → HasFewer m k → AreAtBuds k.now.buds 0 k.ends → AreApart (tidied k)

@@ -1,6 +1,6 @@
 -- What a copy makes of LEBs: it stands in the LEB of the collector's head, and the victim may lose its last leaf.
 use Rattle.std.proofs.Common.{◌≡◌, ◌⊎◌, ℕ, Bool, true, false, cond, not, List, [], ◌∷◌, ◌++◌, map, refl, sym, ap, subst, ◌∙◌, inl, inr, Option, Some, None}
-use Rattle.std.specs.Prelude.{◌==◌, ◌&&◌, ◌||◌, is_some}
+use Rattle.std.specs.Prelude.{◌==◌, ◌&&◌, ◌||◌}
 use Rattle.std.specs.List.{list_all, list_any}
 use Rattle.std.specs.Option.{option_or}
 use Rattle.std.proofs.lemmas.Bool.{and_parts, and_from, eqb-true, false≢true}
@@ -12,12 +12,12 @@ use Rattle.media_lpt.specs.declared.leb_kind.LebKind.TheVariants as kind
 use Rattle.leaf_map.specs.Kept.{Kept, kept_at}
 use Rattle.store_model.specs.Events.{at_copy, Copying, end_at, in_next, move, moved_on, nodes_len}
 use Rattle.store_model.specs.Heads.{changed_last, has_bud, with_copy}
-use Rattle.store_model.specs.Invariant.{AreApart, is_used, last_bud}
-use Rattle.store_model.specs.Lebs.{has_leaf, is_victim_of, stands_in}
+use Rattle.store_model.specs.Invariant.{AreApart, is_used, last_bud, lebs_taken}
+use Rattle.store_model.specs.Lebs.{has_leaf, is_among, is_victim_of, stands_in}
 use Rattle.store_model.specs.Legal.{CanMove, FitHead, IfMoving}
 use Rattle.store_model.specs.Store.{At, Bud, leaf, Moving, Store}
 use Rattle.store_model.proofs.LebLeaves.{or_none}
-use Rattle.store_model.proofs.LebPuts.{ends_go_on, head_role, other_leb, some_map, text_rows}
+use Rattle.store_model.proofs.LebPuts.{ends_go_on, head_role, other_leb, same_taken, text_rows}
 use Rattle.store_model.proofs.LebRows.{AreRows, Row, all_in, from_rows, has_row, not_more, rows, to_rows, used_stays}
 use Rattle.store_model.proofs.RecoveryCopies.{either_of}
 use Rattle.store_model.proofs.RecoveryOrder.{or_left, or_right}
@@ -148,9 +148,9 @@ move_apart m c can a = by (end_at m.ends 0) refl can.fits
     use_of bud n kind.Leaf there h = leaf_use n (is_victim_of m.moving n) refl h
     use_of bud n kind.Bud there h = changed_any (λ b. b.lnum == n) (λ b. record b { copies = b.copies ++ c.copy ∷ [] }) (λ b. refl) 0 m.now.buds ∙ h
     use_of bud n kind.Taken there h =
-        let p = and_parts (not (has_leaf m n)) (is_some m.next) h in
-        and_from (not (has_leaf k n)) (is_some k.next)
-        (not_more (has_leaf m n) (has_leaf k n) (none n kind.Taken bud there (other_leb rs c.copy.lnum n kind.Bud kind.Taken r.numbers bud there refl)) p.0) (some_map (in_next (with_copy c.copy) 0) m.next ∙ p.1)
+        let p = and_parts (not (has_leaf m n)) (is_among (lebs_taken m.next) n) h in
+        and_from (not (has_leaf k n)) (is_among (lebs_taken k.next) n)
+        (not_more (has_leaf m n) (has_leaf k n) (none n kind.Taken bud there (other_leb rs c.copy.lnum n kind.Bud kind.Taken r.numbers bud there refl)) p.0) (ap (λ (taken : List ℕ). is_among taken n) (same_taken (in_next (with_copy c.copy) 0) m.next (λ next. refl)) ∙ p.1)
 
     by : (o : Option At) → end_at m.ends 0 ≡ o → FitHead m o (c.copy ∷ []) → AreApart k
     by None e fits = absurd fits

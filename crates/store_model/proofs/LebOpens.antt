@@ -14,7 +14,7 @@ use Rattle.store_model.specs.Lebs.{changed_leb, has_role, is_role, is_victim_of}
 use Rattle.store_model.specs.Legal.{are_distinct}
 use Rattle.store_model.specs.Store.{At, Bud, Leb, Moving, Place, Store}
 use Rattle.store_model.proofs.LebFrees.{padded_rows}
-use Rattle.store_model.proofs.LebPuts.{other_leb, some_map}
+use Rattle.store_model.proofs.LebPuts.{other_leb, same_taken}
 use Rattle.store_model.proofs.LebRows.{AreRows, Row, Uses, all_in, all_weaker, from_rows, has_row, numbers_kept, numbers_of, role_row, rows, to_rows, used_follows, used_kept, victim_row}
 use Rattle.store_model.proofs.RecoveryCopies.{either_of}
 use Rattle.store_model.proofs.RecoveryOrder.{or_left, or_right}
@@ -159,7 +159,7 @@ open_apart m head lnum empty a = from_rows k (subst (AreRows k) (sym (open_lebs 
       none = λ away h. h;
       victim = same_victim head n m.moving;
       buds = λ h. list_any-append (λ (bud : Bud). bud.lnum == n) m.now.buds (new_bud head lnum 0 ∷ []) ∙ or_left (list_any (λ (bud : Bud). bud.lnum == n) m.now.buds) ((lnum == n) || false) h;
-      next = some_map (in_next (λ buds. buds ++ new_bud head lnum 0 ∷ []) 0) m.next;
+      next = same_taken (in_next (λ buds. buds ++ new_bud head lnum 0 ∷ []) 0) m.next (λ next. refl);
     }
 
     use_of : (row : Row) → is_used m row.0 row.1 ≡ true → (b : Bool) → (row.0 == lnum) ≡ b → is_used k (cond {A = Row} b (row.0, kind.Bud) row).0 (cond {A = Row} b (row.0, kind.Bud) row).1 ≡ true

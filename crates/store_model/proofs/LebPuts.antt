@@ -1,6 +1,6 @@
 -- What a put makes of LEBs: each is for what it was for, and the group's leaves stand in its head's.
 use Rattle.std.proofs.Common.{◌≡◌, ℕ, zero, suc, ◌+◌, arith, Bool, true, false, cond, not, List, [], ◌∷◌, ◌++◌, length, map, refl, sym, ap, subst, ◌∙◌, Option, Some, None}
-use Rattle.std.specs.Prelude.{◌==◌, ◌&&◌, ◌||◌, fold, is_some}
+use Rattle.std.specs.Prelude.{◌==◌, ◌&&◌, ◌||◌, fold}
 use Rattle.std.specs.List.{list_all, list_any}
 use Rattle.std.specs.Option.{option_map, option_or}
 use Rattle.std.proofs.lemmas.Bool.{and_parts, eqb-true, false≢true}
@@ -8,10 +8,10 @@ use Rattle.media_lpt.specs.declared.leb_kind.LebKind.{LebKind}
 use Rattle.media_lpt.specs.declared.leb_kind.LebKind.TheVariants as kind
 use Rattle.store_model.specs.Events.{after_part, changed_end, credit, end_at, granted, Held, in_next, moved_on, nodes_len, paid, Part, Payment, Putting, with_items}
 use Rattle.store_model.specs.Heads.{has_bud, with_group}
-use Rattle.store_model.specs.Invariant.{AreApart, AreAtBuds, last_bud}
+use Rattle.store_model.specs.Invariant.{AreApart, AreAtBuds, last_bud, lebs_taken}
 use Rattle.store_model.specs.Lebs.{is_role}
 use Rattle.store_model.specs.Legal.{are_distinct, AreParts, FitHead, IsPart, StandFrom}
-use Rattle.store_model.specs.Store.{At, Bud, Carried, Item, leaf, Leb, Store}
+use Rattle.store_model.specs.Store.{At, Bud, Carried, Item, leaf, Leb, Next, Store}
 use Rattle.store_model.proofs.LebLeaves.{AreIn, group_all, group_none, group_stays}
 use Rattle.store_model.proofs.LebRows.{AreRows, Row, Uses, all_in, from_rows, has_row, numbers_of, one_role, rows, self_role, to_rows, used_follows, used_stays}
 use Rattle.store_model.proofs.RecoveryOrder.{or_right}
@@ -106,9 +106,10 @@ other_leb rs at lnum a role d here in_rows away = by (at == lnum) refl
         absurd (false≢true (sym away ∙ subst (λ (r : LebKind). is_role a r ≡ true) same (self_role a)))
     by false e = refl
 
-pub some_map : {X : Type 0} (f : X → X) (o : Option X) → is_some (option_map f o) ≡ is_some o
-some_map f None = refl
-some_map f (Some x) = refl
+-- a running commit took what it took
+pub same_taken : (f : Next → Next) (o : Option Next) → ((next : Next) → (f next).taken ≡ next.taken) → lebs_taken (option_map f o) ≡ lebs_taken o
+same_taken f None same = refl
+same_taken f (Some next) same = same next
 
 -- a head's LEB is a bud
 pub head_role : (m : Store) (head : ℕ) (at : At) → AreApart m → end_at m.ends head ≡ Some at → has_row kind.Bud (rows m.lebs) at.lnum ≡ true
@@ -139,7 +140,7 @@ part_apart m part is a = by (end_at m.ends part.head) refl is.fits
       none = λ away h. group_none lnum at.lnum part.group held in_leb (other_leb rs at.lnum lnum kind.Bud role r.numbers bud there away) h;
       victim = refl;
       buds = λ h. buds_have (λ bud. bud.lnum == lnum) (λ bud groups. refl) part.head part.group m.now.buds ∙ h;
-      next = some_map (in_next (with_group part.head part.group) (length part.group)) m.next;
+      next = same_taken (in_next (with_group part.head part.group) (length part.group)) m.next (λ next. refl);
     }
 
     by : (o : Option At) → end_at m.ends part.head ≡ o → FitHead m o (map (λ c. c.placed) part.group) → AreApart k

@@ -1,12 +1,12 @@
 -- What LEBs are for is a matter of their numbers and roles alone.
 use Rattle.std.proofs.Common.{Option, Some, None, ◌≡◌, ℕ, Bool, true, false, not, List, [], ◌∷◌, map, refl, sym, ap, subst, ◌∙◌, inl, inr, ◌⊎◌}
-use Rattle.std.specs.Prelude.{◌==◌, ◌&&◌, ◌||◌, is_some}
+use Rattle.std.specs.Prelude.{◌==◌, ◌&&◌, ◌||◌}
 use Rattle.std.specs.List.{AllByRecursion, list_all, list_any}
 use Rattle.std.proofs.lemmas.Bool.{and_parts, and_from, eqb-true, eq-eqb, false≢true}
 use Rattle.media_lpt.specs.declared.leb_kind.LebKind.{LebKind}
 use Rattle.media_lpt.specs.declared.leb_kind.LebKind.TheVariants as kind
-use Rattle.store_model.specs.Invariant.{AreApart, AreAtBuds, has_victim, is_used}
-use Rattle.store_model.specs.Lebs.{has_leaf, has_role, is_role, is_victim_of}
+use Rattle.store_model.specs.Invariant.{AreApart, AreAtBuds, has_victim, is_used, lebs_taken}
+use Rattle.store_model.specs.Lebs.{has_leaf, has_role, is_among, is_role, is_victim_of}
 use Rattle.store_model.specs.Legal.{are_distinct}
 use Rattle.store_model.specs.Store.{Leb, Moving, Store}
 use Rattle.store_model.proofs.RecoveryCopies.{either_of, not_true}
@@ -178,7 +178,7 @@ pub record Uses (m k : Store) (lnum : ℕ) (role : LebKind) : Type 0 where
   pub none : is_role kind.Bud role ≡ false → has_leaf m lnum ≡ false → has_leaf k lnum ≡ false
   pub victim : is_victim_of k.moving lnum ≡ is_victim_of m.moving lnum
   pub buds : list_any (λ bud. bud.lnum == lnum) m.now.buds ≡ true → list_any (λ bud. bud.lnum == lnum) k.now.buds ≡ true
-  pub next : is_some k.next ≡ is_some m.next
+  pub next : lebs_taken k.next ≡ lebs_taken m.next
 
 pub not_more : (a b : Bool) → (a ≡ false → b ≡ false) → not a ≡ true → not b ≡ true
 not_more false b more h = ap not (more refl)
@@ -195,5 +195,5 @@ used_follows m k lnum kind.Leaf u h =
 used_follows m k lnum kind.Index u h = not_more (has_leaf m lnum) (has_leaf k lnum) (u.none refl) h
 used_follows m k lnum kind.Bud u h = u.buds h
 used_follows m k lnum kind.Taken u h =
-    let p = and_parts (not (has_leaf m lnum)) (is_some m.next) h in
-    and_from (not (has_leaf k lnum)) (is_some k.next) (not_more (has_leaf m lnum) (has_leaf k lnum) (u.none refl) p.0) (u.next ∙ p.1)
+    let p = and_parts (not (has_leaf m lnum)) (is_among (lebs_taken m.next) lnum) h in
+    and_from (not (has_leaf k lnum)) (is_among (lebs_taken k.next) lnum) (not_more (has_leaf m lnum) (has_leaf k lnum) (u.none refl) p.0) (ap (λ (taken : List ℕ). is_among taken lnum) u.next ∙ p.1)

@@ -1,16 +1,16 @@
 -- What a commit's start makes of LEBs: empty ones are taken.
 use Rattle.std.proofs.Common.{◌≡◌, ◌⊎◌, ℕ, Bool, true, false, cond, not, List, [], ◌∷◌, map, refl, sym, ap, subst, ◌∙◌, inl, inr, Option, Some, None}
-use Rattle.std.specs.Prelude.{◌==◌, ◌&&◌, ◌||◌, is_some}
+use Rattle.std.specs.Prelude.{◌==◌, ◌&&◌, ◌||◌}
 use Rattle.std.specs.List.{list_all}
 use Rattle.std.proofs.lemmas.Bool.{and_parts, and_from, eqb-true, false≢true}
 use Rattle.media_lpt.specs.declared.leb_kind.LebKind.{LebKind}
 use Rattle.media_lpt.specs.declared.leb_kind.LebKind.TheVariants as kind
 use Rattle.leaf_map.specs.Kept.{Kept}
 use Rattle.store_model.specs.Events.{start, take_leb}
-use Rattle.store_model.specs.Invariant.{AreApart, is_used}
+use Rattle.store_model.specs.Invariant.{AreApart, is_used, lebs_taken}
 use Rattle.store_model.specs.Lebs.{has_leaf, has_role, is_among, is_role}
 use Rattle.store_model.specs.Legal.{are_distinct, CanStart}
-use Rattle.store_model.specs.Store.{Bud, Leb, Moving, Place, Store}
+use Rattle.store_model.specs.Store.{Bud, Leb, Moving, Next, Place, Store}
 use Rattle.store_model.proofs.LebRows.{AreRows, IsRowIn, Row, all_in, all_weaker, from_rows, has_row, numbers_kept, numbers_of, one_role, role_row, rows, to_rows, used_kept, victim_row}
 use Rattle.store_model.proofs.RecoveryCopies.{either_of}
 use Rattle.store_model.proofs.RecoveryOrder.{or_left, or_right}
@@ -76,7 +76,7 @@ start_use m taken n kind.Free e h = h
 start_use m taken n kind.Leaf e h = h
 start_use m taken n kind.Index e h = h
 start_use m taken n kind.Bud e h = h
-start_use m taken n kind.Taken e h = absurd (false≢true (sym (ap is_some e) ∙ (and_parts (not (has_leaf m n)) (is_some m.next) h).1))
+start_use m taken n kind.Taken e h = absurd (false≢true (sym (ap (λ (o : Option Next). is_among (lebs_taken o) n) e) ∙ (and_parts (not (has_leaf m n)) (is_among (lebs_taken m.next) n) h).1))
 
 pub start_apart : (m : Store) (taken : List ℕ) → CanStart m taken → AreApart m → AreApart (start taken m)
 start_apart m taken can a = from_rows k (subst (AreRows k) (sym (take_rows taken m.lebs)) (record {
@@ -106,7 +106,7 @@ start_apart m taken can a = from_rows k (subst (AreRows k) (sym (take_rows taken
     use_of : (row : Row) → IsRowIn rs row → is_used m row.0 row.1 ≡ true → (b : Bool) → is_among taken row.0 ≡ b → is_used k (cond {A = Row} b (row.0, kind.Taken) row).0 (cond {A = Row} b (row.0, kind.Taken) row).1 ≡ true
     use_of row there h true e =
         let same : kind.Free ≡ row.1 = one_role kind.Free row.1 rs row.0 r.numbers (taken_free rs taken row.0 free e) there in
-        and_from (not (has_leaf m row.0)) true (subst (λ (role : LebKind). is_used m row.0 role ≡ true) (sym same) h) refl
+        and_from (not (has_leaf m row.0)) (is_among taken row.0) (subst (λ (role : LebKind). is_used m row.0 role ≡ true) (sym same) h) e
     use_of row there h false e = start_use m taken row.0 row.1 can.idle h
 
     leaf : (x : Kept) → (has_row kind.Leaf rs x.leaf.lnum || has_row kind.Bud rs x.leaf.lnum) ≡ true → (has_row kind.Leaf new x.leaf.lnum || has_row kind.Bud new x.leaf.lnum) ≡ true

@@ -45,6 +45,7 @@ taking_buds change n m k (Some next) taken index buds t = (
   t.2,
   buds next.view.buds t.3,
   t.4,
+  t.5,
 )
 
 pub taking_same : (m k : Store) (next : Option Next) → Keeps kind.Taken m k → Keeps kind.Index m k → Keeps kind.Bud m k → IsTaking m next → IsTaking k next
@@ -56,6 +57,7 @@ taking_same m k (Some next) taken index buds t = (
   t.2,
   all_weaker (λ (bud : Bud). has_role kind.Bud m.lebs bud.lnum) (λ bud. has_role kind.Bud k.lebs bud.lnum) (λ bud h. buds bud.lnum h) next.view.buds t.3,
   t.4,
+  t.5,
 )
 
 -- what the rows of LEBs say

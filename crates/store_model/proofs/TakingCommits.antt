@@ -52,14 +52,14 @@ write_taking m (Some next) e left t =
     let old : IsTaking m (Some next) = subst (λ (o : Option Next). IsTaking m o) e t in
     let some : next.written < length next.taken = rw e at left in
     let now = taking_same m k (Some next) (of_same kind.Taken m k same) (of_same kind.Index m k same) (of_same kind.Bud m k same) old in
-    (now.0, now.1, omega (arith, some), now.3, λ done. let all = old.4 done in absurd (omega (arith, all, some)))
+    (now.0, now.1, omega (arith, some), now.3, λ done. let all = old.4 done in absurd (omega (arith, all, some)), now.5)
 
 pub offer_taking : (m : Store) → IfRunning m (λ next. (next.written ≡ length next.taken) × (next.offered ≡ false)) → IsTaking m m.next → IsTaking (offer m) (offer m).next
 offer_taking m can t = by m.next refl can t
   where
     by : (next : Option Next) → m.next ≡ next → IfRunning m (λ next. (next.written ≡ length next.taken) × (next.offered ≡ false)) → IsTaking m next → IsTaking (offer m) (option_map offered next)
     by None e can t = tt
-    by (Some next) e can t = let all = rw e at can in (t.0, t.1, t.2, t.3, λ done. all.0)
+    by (Some next) e can t = let all = rw e at can in (t.0, t.1, t.2, t.3, λ done. all.0, t.5)
 
 pub end_taking : (m : Store) (next : Option Next) → IsTaking m m.next → IsTaking (end_commit m next) (end_commit m next).next
 end_taking m None t = t

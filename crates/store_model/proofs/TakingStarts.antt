@@ -111,6 +111,7 @@ start_taking m taken some can a count there = (
   all_weaker (λ (bud : Bud). has_role kind.Bud m.lebs bud.lnum) (λ bud. has_role kind.Bud k.lebs bud.lnum) (λ bud h. kept kind.Bud refl bud.lnum h) (open_buds 0 m.ends)
       (ends_pass (has_role kind.Bud m.lebs) m.now.buds 0 0 m.ends a.buds a.ends),
   λ done. absurd (false≢true done),
+  can.distinct,
 )
   where
     k : Store

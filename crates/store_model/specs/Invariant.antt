@@ -1,5 +1,5 @@
 -- What is always so of a store.
-use Rattle.std.specs.Prelude.{◌≡◌, ◌⊎◌, ℕ, ◌+◌, ◌≤◌, ◌==◌, ◌&&◌, ◌||◌, nat_le, IsTrue, not, Bool, true, false, if◌then◌else◌, List, [], ◌∷◌, ◌++◌, length, map, get_or, Option, Some, None, is_some}
+use Rattle.std.specs.Prelude.{◌≡◌, ◌⊎◌, ℕ, ◌+◌, ◌≤◌, ◌==◌, ◌&&◌, ◌||◌, nat_le, IsTrue, not, Bool, true, false, if◌then◌else◌, List, [], ◌∷◌, ◌++◌, length, map, get_or, Option, Some, None}
 use Rattle.std.specs.List.{flat_map, list_all, list_any, range_with_len, AllByRecursion}
 use Rattle.std.specs.Option.{option_or}
 use Rattle.std.specs.Ordering.{nat_cmp}
@@ -173,13 +173,18 @@ pub record HasOrphans (m : Store) : Type 0 where
   pub later : KeepOrphans m m.next
 
 -- ---- what LEBs are for
--- a leaf LEB has a leaf or is a victim; an empty one, one of the index and one that a commit took have none
+-- the LEBs that a running commit took
+abbrev pub lebs_taken : Option Next → List ℕ
+lebs_taken None = []
+lebs_taken (Some next) = next.taken
+
+-- A leaf LEB has a leaf or is a victim; an empty one and one of the index have none. A taken one has none and is one of those that a running commit took.
 abbrev pub is_used : Store → ℕ → LebKind → Bool
 is_used m lnum kind.Free = not (has_leaf m lnum)
 is_used m lnum kind.Leaf = has_leaf m lnum || is_victim_of m.moving lnum
 is_used m lnum kind.Index = not (has_leaf m lnum)
 is_used m lnum kind.Bud = list_any (λ bud. bud.lnum == lnum) m.now.buds
-is_used m lnum kind.Taken = not (has_leaf m lnum) && is_some m.next
+is_used m lnum kind.Taken = not (has_leaf m lnum) && is_among (lebs_taken m.next) lnum
 
 -- the victim of a collection is a leaf LEB
 abbrev pub has_victim : List Leb → Option Moving → Bool
@@ -207,7 +212,7 @@ pub record AreApart (m : Store) : Type 0 where
   pub leaves : IsTrue (list_all (λ x. has_role kind.Leaf m.lebs x.leaf.lnum || has_role kind.Bud m.lebs x.leaf.lnum) m.live)
   pub victim : IsTrue (has_victim m.lebs m.moving)
 
--- The LEBs that a running commit took, where its index is to stand, and its view's buds. All these LEBs are written once its master is offered.
+-- The LEBs that a running commit took, no two of them one; where its index is to stand; and its view's buds. All that it took are written once its master is offered.
 abbrev pub IsTaking : Store → Option Next → Type 0
 IsTaking m None = Unit {0}
 IsTaking m (Some next) =
@@ -216,6 +221,7 @@ IsTaking m (Some next) =
     × (next.written ≤ length next.taken)
     × IsTrue (list_all (λ bud. has_role kind.Bud m.lebs bud.lnum) next.view.buds)
     × (next.offered ≡ true → next.written ≡ length next.taken)
+    × IsTrue (are_distinct next.taken)
 
 -- ---- what came since a commit began
 -- of all that a head got these came last, and all before them is synced
