@@ -28,7 +28,7 @@ take_rows taken (leb ∷ lebs) = by (is_among taken leb.lnum) (take_rows taken l
     by true rest = ap (λ (z : List Row). (leb.lnum, kind.Taken) ∷ z) rest
     by false rest = ap (λ (z : List Row). (leb.lnum, leb.role) ∷ z) rest
 
-take_number : (taken : List ℕ) (r : Row) → (take_row taken r).0 ≡ r.0
+pub take_number : (taken : List ℕ) (r : Row) → (take_row taken r).0 ≡ r.0
 take_number taken r = by (is_among taken r.0)
   where
     by : (b : Bool) → (cond b (r.0, kind.Taken) r).0 ≡ r.0

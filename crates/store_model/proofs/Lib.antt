@@ -40,6 +40,7 @@ mod LogSteps
 mod MainArea
 mod Moves
 mod Nameless
+mod NextIndexes
 mod NodePlaces
 mod Numbers
 mod OfViews

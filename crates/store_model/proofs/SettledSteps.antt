@@ -27,11 +27,11 @@ use Rattle.store_model.proofs.LebRows.{Row, has_row, numbers_kept, numbers_of, r
 use Rattle.store_model.proofs.RecoveryCopies.{either_of}
 
 -- ---- what a running commit comes to
-abbrev num_count : (ℕ → Bool) → List ℕ → ℕ
+abbrev pub num_count : (ℕ → Bool) → List ℕ → ℕ
 num_count test [] = 0
 num_count test (n ∷ numbers) = cond (test n) (1 + num_count test numbers) (num_count test numbers)
 
-count_numbers : (test : ℕ → Bool) (lebs : List Leb) → count_by (λ leb. test leb.lnum) lebs ≡ num_count test (numbers_of (rows lebs))
+pub count_numbers : (test : ℕ → Bool) (lebs : List Leb) → count_by (λ leb. test leb.lnum) lebs ≡ num_count test (numbers_of (rows lebs))
 count_numbers test lebs = sym (is_count_by (λ (ls : List Leb). num_count test (numbers_of (rows ls))) (λ leb. test leb.lnum) refl (λ leb ls. refl) lebs)
 
 -- What a step leaves: as many LEBs are empty, or lent, or more; the index has the LEBs that it had, and no weight grows.

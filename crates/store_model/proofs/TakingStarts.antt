@@ -71,7 +71,7 @@ place_in n most per some low = by (nat_le ((most + per - 1) / per) (n / per)) re
         absurd (omega (arith, less, below, whole, rest, low, some))
     by false e = let above = leb-false ((most + per - 1) / per) (n / per) e in omega (arith, above)
 
-places_taken : (geo : RawGeometry) (taken : List ℕ) (test : ℕ → Bool) (most n : ℕ) (places : List (Option Place)) → 0 < index_nodes_per_leb geo → length taken ≡ index_lebs geo most → n + dirty_count places ≤ most
+pub places_taken : (geo : RawGeometry) (taken : List ℕ) (test : ℕ → Bool) (most n : ℕ) (places : List (Option Place)) → 0 < index_nodes_per_leb geo → length taken ≡ index_lebs geo most → n + dirty_count places ≤ most
     → list_all (λ o. option_map_or (λ place. test place.lnum) o true) places ≡ true → list_all (λ place. test place.lnum || is_among taken place.lnum) (all_places geo taken n places) ≡ true
 places_taken geo taken test most n [] some count few h = refl
 places_taken geo taken test most n (None ∷ places) some count few h =
@@ -85,11 +85,11 @@ places_taken geo taken test most n (Some place ∷ places) some count few h =
     and_from (test place.lnum || is_among taken place.lnum) (list_all (λ place. test place.lnum || is_among taken place.lnum) (all_places geo taken n places))
     (or_left (test place.lnum) (is_among taken place.lnum) p.0) (places_taken geo taken test most n places some count few p.1)
 
-all_dirty : (places : List (Option Place)) → dirty_count (map (λ place. None) places) ≡ length places
+pub all_dirty : (places : List (Option Place)) → dirty_count (map (λ place. None) places) ≡ length places
 all_dirty [] = refl
 all_dirty (place ∷ places) = ap (λ n. suc n) (all_dirty places)
 
-none_placed : (test : ℕ → Bool) (places : List (Option Place)) → list_all (λ o. option_map_or (λ (place : Place). test place.lnum) o true) (map (λ place. None) places) ≡ true
+pub none_placed : (test : ℕ → Bool) (places : List (Option Place)) → list_all (λ o. option_map_or (λ (place : Place). test place.lnum) o true) (map (λ place. None) places) ≡ true
 none_placed test [] = refl
 none_placed test (place ∷ places) = none_placed test places
 

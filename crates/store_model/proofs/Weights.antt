@@ -14,11 +14,12 @@ use Rattle.store_model.specs.Store.{Bud, Carried, Moving, Next, Store, View}
 use Rattle.store_model.proofs.BackingCalls.{length_map}
 
 -- a view as it was, to which so many nodes more were put
-record IsPutTo (n : ℕ) (a b : View) : Type 0 where
-  shape : b.shape ≡ a.shape
-  put : b.put ≡ a.put + n
+pub record IsPutTo (n : ℕ) (a b : View) : Type 0 where
+  pub shape : b.shape ≡ a.shape
+  pub places : b.places ≡ a.places
+  pub put : b.put ≡ a.put + n
 
-abbrev ArePutTo : ℕ → Option Next → Option Next → Type 0
+abbrev pub ArePutTo : ℕ → Option Next → Option Next → Type 0
 ArePutTo n None None = Unit {0}
 ArePutTo n (Some a) (Some b) = IsPutTo n a.view b.view
 ArePutTo n a b = ⊥
@@ -47,20 +48,20 @@ light_both m k n g w = (of m.now k.now g.now w.0, by m.next k.next g.next w.1)
     by (Some a) None are h = absurd are
     by (Some a) (Some b) are h = of a.view b.view are h
 
-self : (view : View) → IsPutTo 0 view view
-self view = record { shape = refl; put = omega arith }
+pub self : (view : View) → IsPutTo 0 view view
+self view = record { shape = refl; places = refl; put = omega arith }
 
-selves : (next : Option Next) → ArePutTo 0 next next
+pub selves : (next : Option Next) → ArePutTo 0 next next
 selves None = tt
 selves (Some next) = self next.view
 
-changed : (change : List Bud → List Bud) (n : ℕ) (next : Option Next) → ArePutTo n next (option_map (in_next change n) next)
+pub changed : (change : List Bud → List Bud) (n : ℕ) (next : Option Next) → ArePutTo n next (option_map (in_next change n) next)
 changed change n None = tt
-changed change n (Some next) = record { shape = refl; put = refl }
+changed change n (Some next) = record { shape = refl; places = refl; put = refl }
 
 -- ---- a put
 put_then : (n k : ℕ) (a b c : View) → IsPutTo n a b → IsPutTo k b c → IsPutTo (n + k) a c
-put_then n k a b c h g = record { shape = g.shape ∙ h.shape; put = let x = h.put in let y = g.put in omega (arith, x, y) }
+put_then n k a b c h g = record { shape = g.shape ∙ h.shape; places = g.places ∙ h.places; put = let x = h.put in let y = g.put in omega (arith, x, y) }
 
 all_then : (n k : ℕ) (a b c : Option Next) → ArePutTo n a b → ArePutTo k b c → ArePutTo (n + k) a c
 all_then n k None None None h g = tt
@@ -70,12 +71,12 @@ all_then n k (Some a) None c h g = absurd h
 all_then n k None None (Some c) h g = absurd g
 all_then n k (Some a) (Some b) None h g = absurd g
 
-record ArePut (m k : Store) (n : ℕ) : Type 0 where
-  geo : k.geo ≡ m.geo
-  now : IsPutTo n m.now k.now
-  next : ArePutTo n m.next k.next
+pub record ArePut (m k : Store) (n : ℕ) : Type 0 where
+  pub geo : k.geo ≡ m.geo
+  pub now : IsPutTo n m.now k.now
+  pub next : ArePutTo n m.next k.next
 
-parts_put : (parts : List Part) (m : Store) → ArePut m (fold after_part m parts) (length (nodes_of parts))
+pub parts_put : (parts : List Part) (m : Store) → ArePut m (fold after_part m parts) (length (nodes_of parts))
 parts_put [] m = record { geo = refl; now = self m.now; next = selves m.next }
 parts_put (part ∷ parts) m =
     let k : Store = after_part m part in
@@ -85,7 +86,7 @@ parts_put (part ∷ parts) m =
     let count : length part.group + length (nodes_of parts) ≡ length (nodes_of (part ∷ parts)) = let a = length-append group (nodes_of parts) in let b = length_map (λ (c : Carried). c.placed) part.group in omega (arith, a, b) in
     record {
       geo = rest.geo;
-      now = subst (λ (n : ℕ). IsPutTo n m.now last.now) count (put_then (length part.group) (length (nodes_of parts)) m.now k.now last.now (record { shape = refl; put = refl }) rest.now);
+      now = subst (λ (n : ℕ). IsPutTo n m.now last.now) count (put_then (length part.group) (length (nodes_of parts)) m.now k.now last.now (record { shape = refl; places = refl; put = refl }) rest.now);
       next = subst (λ (n : ℕ). ArePutTo n m.next last.next) count (all_then (length part.group) (length (nodes_of parts)) m.next k.next last.next (changed (with_group part.head part.group) (length part.group) m.next) rest.next);
     }
 
@@ -114,7 +115,7 @@ write_light : (m : Store) (next : Option Next) → m.next ≡ next → OfBoth m 
 write_light m None e w = w
 write_light m (Some next) e w = (w.0, subst (λ (o : Option Next). OfNext m o (IsLight m)) e w.1)
 
-offer_next : (next : Option Next) → ArePutTo 0 next (option_map offered next)
+pub offer_next : (next : Option Next) → ArePutTo 0 next (option_map offered next)
 offer_next None = tt
 offer_next (Some next) = self next.view
 
@@ -124,10 +125,10 @@ end_light m (Some next) e w = (subst (λ (o : Option Next). OfNext m o (IsLight 
 
 pub each_light : (m : Store) (event : Event) → IsLegalEvent m event → IsStore m → OfBoth (after event m) (IsLight (after event m))
 each_light m (Put p) can s = put_light m p can.index.weight s.weight
-each_light m (Open head lnum) can s = same_light m (after (Open head lnum) m) refl (omega arith) (record { shape = refl; put = refl }) (changed _ 0 m.next) s.weight
+each_light m (Open head lnum) can s = same_light m (after (Open head lnum) m) refl (omega arith) (record { shape = refl; places = refl; put = refl }) (changed _ 0 m.next) s.weight
 each_light m Sync can s = same_light m (after Sync m) refl (omega arith) (self m.now) (selves m.next) s.weight
 each_light m (Begin victim) can s = same_light m (after (Begin victim) m) refl (omega arith) (self m.now) (selves m.next) s.weight
-each_light m (Move c) can s = let more = can.index.weight in same_light m (after (Move c) m) refl (omega (arith, more)) (record { shape = refl; put = refl }) (changed _ 0 m.next) s.weight
+each_light m (Move c) can s = let more = can.index.weight in same_light m (after (Move c) m) refl (omega (arith, more)) (record { shape = refl; places = refl; put = refl }) (changed _ 0 m.next) s.weight
 each_light m Free can s = free_light m m.moving s.weight
 each_light m (Start taken) can s = (s.weight.0, omega arith)
 each_light m Write can s = write_light m m.next refl s.weight

@@ -87,6 +87,7 @@ half_is_store = record {
   begun = tt;
   standing = half_stands;
   weight = (omega arith, tt);
+  next_index = tt;
   log = log_lebs;
   covered = record { room = record { fits = omega arith } };
   settled = record { empty = omega arith; index = omega arith };

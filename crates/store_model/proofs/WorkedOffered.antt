@@ -158,6 +158,7 @@ offering_is_store = record {
   };
   standing = offered_stands;
   weight = (omega arith, omega arith);
+  next_index = record { lebs = omega arith; weight = omega arith };
   log = log_lebs;
   covered = record { room = record { fits = omega arith } };
   settled = record { cut = record { empty = omega arith; index = omega arith }; end = record { empty = omega arith; index = omega arith } };

@@ -155,6 +155,7 @@ root_is_store = record {
   begun = tt;
   standing = record { texts = texts; indexed = indexed; of_views = of_views };
   weight = (omega arith, tt);
+  next_index = tt;
   log = log_lebs;
   covered = record { room = record { fits = omega arith } };
   settled = record { empty = omega arith; index = omega arith };
@@ -233,6 +234,7 @@ file_is_store = record {
   begun = tt;
   standing = record { texts = file_texts; indexed = file_indexed; of_views = file_of_views };
   weight = (omega arith, tt);
+  next_index = tt;
   log = file_log_lebs;
   covered = record { room = record { fits = omega arith } };
   settled = record { empty = omega arith; index = omega arith };

@@ -25,13 +25,14 @@ use Rattle.leaf_map.specs.Parts.{in_bud}
 use Rattle.leaf_map.specs.Recovered.{highest_key}
 use Rattle.leaf_map.specs.Shown.{tree_of}
 use Rattle.space_budget.specs.Books.{AreGrantsCovered}
+use Rattle.space_sums.specs.Spaces.{IsNextIndex}
 use Rattle.store_model.specs.Backing.{book_of}
 use Rattle.store_model.specs.Begun.{HasBegun, JournalLeads}
 use Rattle.store_model.specs.Fits.{AreLeft, Faced, faced_now, named_by}
 use Rattle.store_model.specs.Heads.{copies_of, counts_of, groups_of, heads_of, numbered, synced_since}
 use Rattle.store_model.specs.Indexed.{IsIndexed}
 use Rattle.store_model.specs.Legal.{are_distinct, is_block, IsCarried, IsLeafOf}
-use Rattle.store_model.specs.Lebs.{has_leaf, has_role, is_among, is_victim_of, IsStoreSettled, weight_of}
+use Rattle.store_model.specs.Lebs.{has_leaf, has_role, is_among, is_victim_of, IsStoreSettled, running_of, space_of, weight_of}
 use Rattle.store_model.specs.LogRing.{HasLogLebs}
 use Rattle.store_model.specs.Store.{At, Bud, Carried, Item, leaf, branching, gap, Leb, Moving, Next, Store, View}
 use Rattle.store_model.specs.Texts.{AreTexts, leaf_nodes}
@@ -245,6 +246,11 @@ HasSince m (Some next) = IsSince m next.view
 abbrev pub IsLight : Store → Faced → Type 0
 IsLight m f = shape_weight m.geo.fanout m.index.shape ≤ weight_of m.geo f.view
 
+-- A running commit's index has no more LEBs than twice what the store's weight asks for, and weighs no more than the store does.
+abbrev pub HasNextIndex : Store → Option Next → Type 0
+HasNextIndex m None = Unit {0}
+HasNextIndex m (Some next) = IsNextIndex m.geo (running_of m next) (space_of m)
+
 -- ---- what the lists of a state have to do with one another
 -- one row for each LEB of the main area, in order
 abbrev pub main_lnums : RawGeometry → List ℕ
@@ -348,8 +354,9 @@ pub record IsStore (m : Store) : Type 0 where
   pub begun : HasBegun m m.next
   -- nodes, buds, heads and the nodes of the index stand in the texts of LEBs, and leaves are of the views
   pub standing : IsStanding m
-  -- the index weighs no more than the views allow
+  -- the index weighs no more than the views allow, and a running commit's has no more LEBs than the store's weight does
   pub weight : OfBoth m (IsLight m)
+  pub next_index : HasNextIndex m m.next
   -- the log has a LEB for the next section
   pub log : HasLogLebs m
   -- what was granted is covered, and a commit has LEBs

@@ -3,8 +3,8 @@
 ghost use Rattle.std.specs.Prelude.{ℕ, List};
 ghost use Rattle.space_budget.specs.Books.{AreGrantsCovered};
 ghost use Rattle.store_model.specs.Backing.{book_of};
-ghost use Rattle.store_model.specs.Events.{after, Begin, Copying, Drop, Free, Move, Open, Put, Putting, Start, Sync, Write};
-ghost use Rattle.store_model.specs.Invariant.{AreApart, HasFiles};
+ghost use Rattle.store_model.specs.Events.{after, Begin, Copying, Drop, Event, Free, Move, Open, Put, Putting, Start, Sync, Write};
+ghost use Rattle.store_model.specs.Invariant.{AreApart, HasFiles, HasNextIndex, IsStore};
 ghost use Rattle.store_model.specs.Lebs.{IsStoreSettled};
 ghost use Rattle.store_model.specs.Legal.{IsLegalEvent};
 ghost use Rattle.store_model.specs.Store.{Index as AnyIndex, Store as AnyStore};
@@ -46,3 +46,9 @@ pub fn a_commits_writing_changes_no_number()
 {
     what_takes_no_more_keeps_what_was_granted();
 }
+
+/// Each event keeps it that a running commit's index has no more LEBs than twice what the store's weight asks for, and weighs no more
+/// than the store does. At its start that is so because it writes all nodes anew where the changed ones would take more.
+pub fn each_event_keeps_a_running_commits_index_small()
+    ensures { (m : AnyStore) (event : Event) → IsLegalEvent m event → IsStore m → HasNextIndex (after event m) (after event m).next }
+{}

@@ -9,7 +9,10 @@ ghost use Rattle.store_model.specs.Store.{Store as AnyStore};
 use crate::backing::{
     each_event_keeps_what_a_commit_began_on, each_event_keeps_what_the_journal_leads_to,
 };
-use crate::grants::{a_store_stays_settled, what_was_granted_stays_covered};
+use crate::grants::{
+    a_store_stays_settled, each_event_keeps_a_running_commits_index_small,
+    what_was_granted_stays_covered,
+};
 use crate::invariant::{
     an_offered_list_has_what_may_be_empty, each_event_but_a_put_keeps_cut_trees_proper,
     each_event_keeps_a_place_for_each_node, each_event_keeps_a_proper_tree,
@@ -57,6 +60,7 @@ pub fn each_event_keeps_a_store()
     each_event_keeps_what_a_commit_began_on();
     leaves_are_of_the_views();
     each_event_keeps_the_weight();
+    each_event_keeps_a_running_commits_index_small();
     each_event_keeps_the_log();
 }
 

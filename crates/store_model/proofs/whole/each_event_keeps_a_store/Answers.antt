@@ -32,6 +32,7 @@ returns c = λ m event can s rest.
       begun = c.each_event_keeps_what_a_commit_began_on.ensures m event can s.apart s.since s.numbers s.leads s.begun;
       standing = record { texts = rest.texts; indexed = rest.indexed; of_views = c.leaves_are_of_the_views.ensures m event can s };
       weight = c.each_event_keeps_the_weight.ensures m event can s;
+      next_index = c.each_event_keeps_a_running_commits_index_small.ensures m event can s;
       log = c.each_event_keeps_the_log.ensures m event can s.geometry s.log;
       covered = rest.covered;
       settled = rest.settled;
