@@ -41,6 +41,7 @@ mod MainArea
 mod Moves
 mod Nameless
 mod NextIndexes
+mod NextPlaces
 mod NodePlaces
 mod Numbers
 mod OfViews

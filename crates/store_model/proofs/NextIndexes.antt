@@ -178,6 +178,11 @@ both_small m k n (Some a) None y are h = absurd are
 both_small m k n (Some a) (Some b) y are h = stays_small m k n a b y are h
 
 -- ---- a commit starts
+-- nodes that have a place stand in LEBs of the committed index
+pub nodes_there : (m : Store) → m.next ≡ None → IsStore m → list_all (λ o. option_map_or (λ (place : Place). has_role kind.Index m.lebs place.lnum) o true) m.index.places ≡ true
+nodes_there m idle s = kept_pass (has_role kind.Index m.lebs) m.now.shape m.now.places (rows_of m.index.shape) m.index.places
+    (subst (λ (o : Option Next). KeepPlaces (committed_index (option_map_or (λ next. next.view) o m.now)) (rows_of m.index.shape) m.index.places) idle s.standing.indexed.last) s.apart.index
+
 start_small : (m : Store) (taken : List ℕ) → 0 < index_nodes_per_leb m.geo → CanStart m taken → IsStore m → HasNextIndex (start taken m) (start taken m).next
 start_small m taken some can s = record {
   lebs = counted (all_places m.geo taken 0 (clean_places m)) (by (nat_le ((space_of m).index + index_lebs m.geo (dirty_count m.index.places)) (2 * index_lebs m.geo (space_of m).weight)) refl can.count);
@@ -186,11 +191,6 @@ start_small m taken some can s = record {
   where
     distinct : are_distinct (numbers_of (rows m.lebs)) ≡ true
     distinct = (to_rows m s.apart).numbers
-
-    -- nodes that have a place stand in LEBs of the committed index
-    there : list_all (λ o. option_map_or (λ (place : Place). has_role kind.Index m.lebs place.lnum) o true) m.index.places ≡ true
-    there = kept_pass (has_role kind.Index m.lebs) m.now.shape m.now.places (rows_of m.index.shape) m.index.places
-        (subst (λ (o : Option Next). KeepPlaces (committed_index (option_map_or (λ next. next.view) o m.now)) (rows_of m.index.shape) m.index.places) can.idle s.standing.indexed.last) s.apart.index
 
     counted : (places : List Place) → num_count (has_node places) (numbers_of (rows m.lebs)) ≤ 2 * index_lebs m.geo (space_of m).weight → count_by (λ leb. has_node places leb.lnum) (start taken m).lebs ≤ 2 * index_lebs m.geo (space_of m).weight
     counted places small =
@@ -201,7 +201,7 @@ start_small m taken some can s = record {
         → length taken ≡ cond b (index_lebs m.geo (dirty_count m.index.places)) (index_lebs m.geo (node_count m.index.shape))
         → num_count (has_node (all_places m.geo taken 0 (cond (not b) (map (λ place. None) m.index.places) m.index.places))) (numbers_of (rows m.lebs)) ≤ 2 * index_lebs m.geo (space_of m).weight
     by true e long =
-        let all = places_taken m.geo taken (has_role kind.Index m.lebs) (dirty_count m.index.places) 0 m.index.places some long (omega arith) there in
+        let all = places_taken m.geo taken (has_role kind.Index m.lebs) (dirty_count m.index.places) 0 m.index.places some long (omega arith) (nodes_there m can.idle s) in
         let most = num_places (has_role kind.Index m.lebs) taken (all_places m.geo taken 0 m.index.places) (numbers_of (rows m.lebs)) distinct all in
         let index = num_index m distinct in
         let fits = leb-true ((space_of m).index + index_lebs m.geo (dirty_count m.index.places)) (2 * index_lebs m.geo (space_of m).weight) e in

@@ -83,6 +83,7 @@ half_is_store = record {
   nameless_are = refl;
   apart = record { numbers = refl; used = refl; buds = refl; ends = (refl, tt); index = refl; leaves = refl; victim = refl };
   taking = tt;
+  allotted = tt;
   since = tt;
   begun = tt;
   standing = half_stands;

@@ -143,6 +143,7 @@ offering_is_store = record {
   nameless_are = refl;
   apart = record { numbers = refl; used = refl; buds = refl; ends = (refl, tt); index = refl; leaves = refl; victim = refl };
   taking = (refl, refl, omega arith, refl, λ _. refl, refl);
+  allotted = record { clean = None ∷ []; places = refl; lebs = refl; apart = refl };
   since = record {
     copies = record { before = []; is = refl; all_synced = omega arith };
     base = record { before = (am_entry ∷ am_inode ∷ []) ∷ []; is = refl; all_synced = omega arith };

@@ -151,6 +151,7 @@ root_is_store = record {
   nameless_are = refl;
   apart = record { numbers = refl; used = refl; buds = refl; ends = tt; index = refl; leaves = refl; victim = refl };
   taking = tt;
+  allotted = tt;
   since = tt;
   begun = tt;
   standing = record { texts = texts; indexed = indexed; of_views = of_views };
@@ -230,6 +231,7 @@ file_is_store = record {
   nameless_are = refl;
   apart = record { numbers = refl; used = refl; buds = refl; ends = tt; index = refl; leaves = refl; victim = refl };
   taking = tt;
+  allotted = tt;
   since = tt;
   begun = tt;
   standing = record { texts = file_texts; indexed = file_indexed; of_views = file_of_views };

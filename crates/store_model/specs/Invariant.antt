@@ -1,7 +1,7 @@
 -- What is always so of a store.
 use Rattle.std.specs.Prelude.{◌≡◌, ◌⊎◌, ℕ, ◌+◌, ◌≤◌, ◌==◌, ◌&&◌, ◌||◌, nat_le, IsTrue, not, Bool, true, false, if◌then◌else◌, List, [], ◌∷◌, ◌++◌, length, map, get_or, Option, Some, None}
 use Rattle.std.specs.List.{flat_map, list_all, list_any, range_with_len, AllByRecursion}
-use Rattle.std.specs.Option.{option_or}
+use Rattle.std.specs.Option.{option_map_or, option_or}
 use Rattle.std.specs.Ordering.{nat_cmp}
 use Rattle.ubifs_base.specs.declared.raw_geometry.RawGeometry.{RawGeometry}
 use Rattle.ubifs_base.specs.Areas.{main_first, main_lebs}
@@ -14,6 +14,7 @@ use Rattle.index_tree.specs.Distinct.{AreDistinct}
 use Rattle.index_tree.specs.Shape.{contents, node_count, shape_weight}
 use Rattle.fs_model.specs.declared.change.Change.{Change}
 use Rattle.fs_model.specs.declared.change.Change.TheVariants.{SetInode}
+use Rattle.fs_model.specs.Cover.{index_lebs}
 use Rattle.fs_model.specs.Files.{Tree}
 use Rattle.fs_model.specs.Orphan.{is_nameless, nameless, without_nameless}
 use Rattle.fs_model.specs.Proper.{IsProper, ascends}
@@ -28,13 +29,14 @@ use Rattle.space_budget.specs.Books.{AreGrantsCovered}
 use Rattle.space_sums.specs.Spaces.{IsNextIndex}
 use Rattle.store_model.specs.Backing.{book_of}
 use Rattle.store_model.specs.Begun.{HasBegun, JournalLeads}
+use Rattle.store_model.specs.Events.{all_places, dirty_count}
 use Rattle.store_model.specs.Fits.{AreLeft, Faced, faced_now, named_by}
 use Rattle.store_model.specs.Heads.{copies_of, counts_of, groups_of, heads_of, numbered, synced_since}
 use Rattle.store_model.specs.Indexed.{IsIndexed}
 use Rattle.store_model.specs.Legal.{are_distinct, is_block, IsCarried, IsLeafOf}
 use Rattle.store_model.specs.Lebs.{has_leaf, has_role, is_among, is_victim_of, IsStoreSettled, running_of, space_of, weight_of}
 use Rattle.store_model.specs.LogRing.{HasLogLebs}
-use Rattle.store_model.specs.Store.{At, Bud, Carried, Item, leaf, branching, gap, Leb, Moving, Next, Store, View}
+use Rattle.store_model.specs.Store.{At, Bud, Carried, Item, leaf, branching, gap, Leb, Moving, Next, Place, Store, View}
 use Rattle.store_model.specs.Texts.{AreTexts, leaf_nodes}
 
 -- ---- both views
@@ -224,6 +226,18 @@ IsTaking m (Some next) =
     × (next.offered ≡ true → next.written ≡ length next.taken)
     × IsTrue (are_distinct next.taken)
 
+-- Where the nodes of a running commit's index are to stand: those that it writes one behind another in the LEBs that it took, which are as many as they fill; all others in none of these.
+pub record IsAllotted (geo : RawGeometry) (next : Next) : Type 0 where
+  -- of each node the place that it had, or none if the commit writes it
+  pub clean : List (Option Place)
+  pub places : next.view.places ≡ all_places geo next.taken 0 clean
+  pub lebs : length next.taken ≡ index_lebs geo (dirty_count clean)
+  pub apart : IsTrue (list_all (λ o. option_map_or (λ place. not (is_among next.taken place.lnum)) o true) clean)
+
+abbrev pub HasAllotted : RawGeometry → Option Next → Type 0
+HasAllotted geo None = Unit {0}
+HasAllotted geo (Some next) = IsAllotted geo next
+
 -- ---- what came since a commit began
 -- of all that a head got these came last, and all before them is synced
 pub record CameSince {X : Type 0} (all last : List X) (synced : ℕ) : Type 0 where
@@ -349,6 +363,8 @@ pub record IsStore (m : Store) : Type 0 where
   -- what each LEB is for
   pub apart : AreApart m
   pub taking : IsTaking m m.next
+  -- a running commit writes its nodes one behind another
+  pub allotted : HasAllotted m.geo m.next
   -- what came since a running commit began, and what it began on
   pub since : HasSince m m.next
   pub begun : HasBegun m m.next

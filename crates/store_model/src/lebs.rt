@@ -6,7 +6,7 @@ ghost use Rattle.ubifs_base.specs.Geometry.{IsGeometry};
 ghost use Rattle.index_tree.specs.Shape.{node_count};
 ghost use Rattle.store_model.specs.Events.{after, Begin, Copying, Drop, End, Event, Free, Move, Offer, Open, Put, Putting, Start, Sync, Write};
 ghost use Rattle.store_model.specs.Indexed.{HasLastPlaces};
-ghost use Rattle.store_model.specs.Invariant.{AreApart, HasSince, IsBare, IsTaking};
+ghost use Rattle.store_model.specs.Invariant.{AreApart, HasAllotted, HasSince, IsBare, IsStore, IsTaking};
 ghost use Rattle.store_model.specs.Lebs.{space_of};
 ghost use Rattle.store_model.specs.Legal.{IsLegalEvent};
 ghost use Rattle.store_model.specs.Store.{Index as AnyIndex, Store as AnyStore};
@@ -78,6 +78,12 @@ pub fn each_event_keeps_what_a_commit_took()
     a_running_commit_keeps_its_lebs();
 }
 
+/// Each event keeps where a running commit's nodes are to stand: those that it writes one behind another in the LEBs that it took, which
+/// are as many as they fill, and all others in none of these. So each LEB that it took gets a node, and no LEB more than fit.
+pub fn each_event_keeps_what_places_a_commit_allotted()
+    ensures { (m : AnyStore) (event : Event) → IsLegalEvent m event → IsStore m → HasAllotted (after event m).geo (after event m).next }
+{}
+
 /// Each event keeps it that leaf nodes stand in leaf LEBs and buds alone: an empty LEB, one of the index and one that a commit took have
 /// none.
 pub fn each_event_keeps_other_lebs_bare()
@@ -92,8 +98,8 @@ pub fn each_event_keeps_what_came_since()
     a_running_commit_gets_what_is_put();
 }
 
-/// The numbers of admission count roles. A put opens no LEB, a LEB that is opened was empty, a sync empties some, and none of
-/// them changes how many LEBs the index has.
+/// The numbers of admission count roles. A put opens no LEB, a LEB that is opened was empty, and a sync empties some. An opened LEB, a
+/// sync and a drop leave the index as many LEBs as it has; that a put does too is told of its numbers (`a_put_spends_what_was_granted`).
 pub fn lebs_are_counted()
     ensures put { (m : AnyStore) (p : Putting) → (space_of (after (Put p) m)).empty ≡ (space_of m).empty }
     ensures opened { (m : AnyStore) (head lnum : ℕ) → IsLegalEvent m (Open head lnum) → AreApart m → (space_of (after (Open head lnum) m)).empty + 1 ≡ (space_of m).empty }

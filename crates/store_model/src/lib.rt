@@ -44,8 +44,8 @@ pub use crate::lebs::{
     a_collection_keeps_what_lebs_are_for, a_commit_keeps_what_lebs_are_for,
     a_running_commit_gets_what_is_put, a_running_commit_keeps_its_lebs,
     each_event_keeps_other_lebs_bare, each_event_keeps_what_a_commit_took,
-    each_event_keeps_what_came_since, each_event_keeps_what_lebs_are_for, lebs_are_counted,
-    lebs_keep_what_they_are_for,
+    each_event_keeps_what_came_since, each_event_keeps_what_lebs_are_for,
+    each_event_keeps_what_places_a_commit_allotted, lebs_are_counted, lebs_keep_what_they_are_for,
 };
 pub use crate::recovery::{a_store_is_recovered, what_fits_is_recovered, what_fits_loses_no_leaf};
 pub use crate::texts::{

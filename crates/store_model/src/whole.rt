@@ -27,7 +27,7 @@ use crate::law::{
 use crate::lebs::{
     each_event_keeps_other_lebs_bare, each_event_keeps_the_main_area,
     each_event_keeps_what_a_commit_took, each_event_keeps_what_came_since,
-    each_event_keeps_what_lebs_are_for,
+    each_event_keeps_what_lebs_are_for, each_event_keeps_what_places_a_commit_allotted,
 };
 use crate::texts::{
     leaves_are_of_the_views, live_leaves_stand, nodes_of_the_index_are_written_first,
@@ -56,6 +56,7 @@ pub fn each_event_keeps_a_store()
     each_event_keeps_who_has_no_name();
     each_event_keeps_what_lebs_are_for();
     each_event_keeps_what_a_commit_took();
+    each_event_keeps_what_places_a_commit_allotted();
     each_event_keeps_what_came_since();
     each_event_keeps_what_a_commit_began_on();
     leaves_are_of_the_views();

@@ -28,6 +28,7 @@ returns c = λ m event can s rest.
       nameless_are = c.each_event_keeps_who_has_no_name.ensures m event can s;
       apart = c.each_event_keeps_what_lebs_are_for.ensures m event can s.taking s.since s.apart;
       taking = c.each_event_keeps_what_a_commit_took.ensures m event can s.geometry s.apart s.places s.standing.indexed.last s.taking;
+      allotted = c.each_event_keeps_what_places_a_commit_allotted.ensures m event can s;
       since = c.each_event_keeps_what_came_since.ensures m event can s.apart s.since;
       begun = c.each_event_keeps_what_a_commit_began_on.ensures m event can s.apart s.since s.numbers s.leads s.begun;
       standing = record { texts = rest.texts; indexed = rest.indexed; of_views = c.leaves_are_of_the_views.ensures m event can s };
