@@ -1,8 +1,8 @@
 -- A running commit's index has no more LEBs than twice what the store's weight asks for, and weighs no more than the store does.
 use Rattle.std.proofs.Common.{◌≡◌, ◌≤◌, ◌<◌, ◌+◌, ◌-◌, ◌*◌, ◌/◌, ◌∙◌, ℕ, arith, Bool, true, false, cond, not, List, [], ◌∷◌, length, map, refl, sym, ap, subst, leb-true, Option, Some, None, inl, inr, ◌⊎◌}
-use Rattle.std.specs.Prelude.{◌==◌, ◌&&◌, ◌||◌, count_by, fold, nat_le}
+use Rattle.std.specs.Prelude.{◌==◌, ◌||◌, count_by, fold, nat_le}
 use Rattle.std.specs.List.{AllByRecursion, list_all, list_any}
-use Rattle.std.specs.Option.{option_map, option_map_or}
+use Rattle.std.specs.Option.{option_map_or}
 use Rattle.std.proofs.Math.Nat.{div-mul-le_self}
 use Rattle.std.proofs.lemmas.Bool.{and_parts, eqb-true, false≢true}
 use Rattle.std.proofs.lemmas.Bool.Decides.{nat_tests}
@@ -14,7 +14,7 @@ use Rattle.index_tree.specs.Shape.{done, leaf, node, node_count, Shape, shape_we
 use Rattle.fs_model.specs.Cover.{index_lebs}
 use Rattle.space_budget.specs.BookLaws.{index_nodes-positive}
 use Rattle.space_sums.specs.Spaces.{IsNextIndex}
-use Rattle.store_model.specs.Events.{after, after_part, all_places, Begin, clean_places, credit, dirty_count, Drop, End, end_commit, Event, Free, free_victim, granted, Move, Offer, Open, paid, Part, Payment, Put, put, Putting, start, Start, Sync, Write, write_index}
+use Rattle.store_model.specs.Events.{after, after_part, all_places, Begin, clean_places, credit, dirty_count, Drop, End, end_commit, Event, Free, free_victim, granted, Move, Offer, Open, paid, Payment, Put, put, Putting, start, Start, Sync, Write, write_index}
 use Rattle.store_model.specs.Indexed.{committed_index}
 use Rattle.store_model.specs.Invariant.{HasNextIndex, IsStore}
 use Rattle.store_model.specs.Lebs.{has_node, has_role, is_among, is_role, running_of, space_of, weight_of}
@@ -25,7 +25,6 @@ use Rattle.store_model.proofs.LebRows.{all_in, has_row, IsRowIn, numbers_kept, n
 use Rattle.store_model.proofs.LebStarts.{take_number, take_row, take_rows}
 use Rattle.store_model.proofs.MainArea.{each_geo, each_main}
 use Rattle.store_model.proofs.RecoveryCopies.{either_of}
-use Rattle.store_model.proofs.RecoveryOrder.{or_left, or_right}
 use Rattle.store_model.proofs.SettledSteps.{count_numbers, num_count}
 use Rattle.store_model.proofs.TakingStarts.{all_dirty, kept_pass, none_placed, places_taken}
 use Rattle.store_model.proofs.Weights.{ArePut, ArePutTo, changed, IsPutTo, offer_next, parts_put, self, selves}

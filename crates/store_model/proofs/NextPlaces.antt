@@ -9,7 +9,7 @@ use Rattle.media_lpt.specs.declared.leb_kind.LebKind.{LebKind}
 use Rattle.media_lpt.specs.declared.leb_kind.LebKind.TheVariants as kind
 use Rattle.index_tree.specs.Shape.{node_count}
 use Rattle.fs_model.specs.Cover.{index_lebs}
-use Rattle.store_model.specs.Events.{after, after_part, all_places, Begin, clean_places, credit, dirty_count, Drop, End, end_commit, Event, Free, free_victim, granted, in_next, Move, Offer, offered, Open, paid, Part, Payment, Put, put, Putting, start, Start, Sync, Write, write_index}
+use Rattle.store_model.specs.Events.{after, after_part, Begin, clean_places, credit, dirty_count, Drop, End, end_commit, Event, Free, free_victim, granted, in_next, Move, Offer, offered, Open, paid, Part, Payment, Put, put, Putting, start, Start, Sync, Write, write_index}
 use Rattle.store_model.specs.Heads.{with_group}
 use Rattle.store_model.specs.Invariant.{HasAllotted, IsAllotted, IsStore}
 use Rattle.store_model.specs.Lebs.{has_role, is_among, is_role, space_of}
