@@ -44,7 +44,7 @@ put_empty m p =
     count_rows kind.Free (put p m).lebs ∙ ap (row_count kind.Free) (paid_rows p.payment (fold after_part m p.parts) ∙ parts_rows p.parts m) ∙ sym (count_rows kind.Free m.lebs)
 
 -- ---- LEBs that are freed
-freed_index : (m : Store) (rs : List Row) → row_count kind.Index (map (freed_row m) rs) ≡ row_count kind.Index rs
+pub freed_index : (m : Store) (rs : List Row) → row_count kind.Index (map (freed_row m) rs) ≡ row_count kind.Index rs
 freed_index m [] = refl
 freed_index m ((n, kind.Index) ∷ rs) = ap (λ k. 1 + k) (freed_index m rs)
 freed_index m ((n, kind.Free) ∷ rs) = freed_index m rs

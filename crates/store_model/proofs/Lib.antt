@@ -14,6 +14,7 @@ mod CutTrees
 mod DataHeads
 mod DistinctLeaves
 mod Drops
+mod EndNumbers
 mod EventFiles
 mod EventNumbers
 mod Further

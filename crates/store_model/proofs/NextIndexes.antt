@@ -30,7 +30,7 @@ use Rattle.store_model.proofs.TakingStarts.{all_dirty, kept_pass, none_placed, p
 use Rattle.store_model.proofs.Weights.{ArePut, ArePutTo, changed, IsPutTo, offer_next, parts_put, self, selves}
 
 -- ---- how many numbers pass a test
-num_less : (p q : ℕ → Bool) → ((n : ℕ) → p n ≡ true → q n ≡ true) → (numbers : List ℕ) → num_count p numbers ≤ num_count q numbers
+pub num_less : (p q : ℕ → Bool) → ((n : ℕ) → p n ≡ true → q n ≡ true) → (numbers : List ℕ) → num_count p numbers ≤ num_count q numbers
 num_less p q more [] = omega arith
 num_less p q more (n ∷ numbers) = by (num_less p q more numbers) (p n) (q n) refl refl
   where
@@ -40,7 +40,7 @@ num_less p q more (n ∷ numbers) = by (num_less p q more numbers) (p n) (q n) r
     by rest false true e g = omega (arith, rest)
     by rest false false e g = rest
 
-num_either : (p q : ℕ → Bool) (numbers : List ℕ) → num_count (λ n. p n || q n) numbers ≤ num_count p numbers + num_count q numbers
+pub num_either : (p q : ℕ → Bool) (numbers : List ℕ) → num_count (λ n. p n || q n) numbers ≤ num_count p numbers + num_count q numbers
 num_either p q [] = omega arith
 num_either p q (n ∷ numbers) = by (num_either p q numbers) (p n) (q n)
   where
@@ -55,10 +55,10 @@ num_nothing : (numbers : List ℕ) → num_count (λ n. false) numbers ≡ 0
 num_nothing [] = refl
 num_nothing (n ∷ numbers) = num_nothing numbers
 
-turned : (m n : ℕ) → (m == n) ≡ (n == m)
+pub turned : (m n : ℕ) → (m == n) ≡ (n == m)
 turned m n = grind (arith, nat_tests)
 
-num_none : (k : ℕ) (numbers : List ℕ) → list_any (λ j. j == k) numbers ≡ false → num_count (λ n. k == n) numbers ≡ 0
+pub num_none : (k : ℕ) (numbers : List ℕ) → list_any (λ j. j == k) numbers ≡ false → num_count (λ n. k == n) numbers ≡ 0
 num_none k [] h = refl
 num_none k (n ∷ numbers) h = by (num_none k numbers) (n == k) refl h
   where
@@ -66,7 +66,7 @@ num_none k (n ∷ numbers) h = by (num_none k numbers) (n == k) refl h
     by rest true e h = absurd (false≢true (sym h))
     by rest false e h = ap (λ (b : Bool). cond b (1 + num_count (λ n. k == n) numbers) (num_count (λ n. k == n) numbers)) (turned k n ∙ e) ∙ rest h
 
-not_false : (a : Bool) → not a ≡ true → a ≡ false
+pub not_false : (a : Bool) → not a ≡ true → a ≡ false
 not_false true h = absurd (false≢true h)
 not_false false h = refl
 
@@ -81,7 +81,7 @@ num_one k (n ∷ numbers) d = let p = and_parts (not (list_any (λ j. j == n) nu
         omega (arith, zero)
     by rest none false e = rest
 
-num_among : (taken numbers : List ℕ) → are_distinct numbers ≡ true → num_count (is_among taken) numbers ≤ length taken
+pub num_among : (taken numbers : List ℕ) → are_distinct numbers ≡ true → num_count (is_among taken) numbers ≤ length taken
 num_among [] numbers d = let zero = num_nothing numbers in omega (arith, zero)
 num_among (k ∷ taken) numbers d =
     let both = num_either (λ n. k == n) (is_among taken) numbers in

@@ -3,14 +3,17 @@
 ghost use Rattle.std.specs.Prelude.{ℕ, List};
 ghost use Rattle.space_budget.specs.Books.{AreGrantsCovered};
 ghost use Rattle.store_model.specs.Backing.{book_of};
-ghost use Rattle.store_model.specs.Events.{after, Begin, Copying, Drop, Event, Free, Move, Open, Put, Putting, Start, Sync, Write};
+ghost use Rattle.store_model.specs.Events.{after, Begin, Copying, Drop, End, Event, Free, Move, Open, Put, Putting, Start, Sync, Write};
 ghost use Rattle.store_model.specs.Invariant.{AreApart, HasFiles, HasNextIndex, IsStore};
 ghost use Rattle.store_model.specs.Lebs.{IsStoreSettled};
 ghost use Rattle.store_model.specs.Legal.{IsLegalEvent};
 ghost use Rattle.store_model.specs.Store.{Index as AnyIndex, Store as AnyStore};
 
 use crate::law::{a_put_spends_what_was_granted, bytes_follow_the_leaves};
-use space_sums::{what_takes_no_more_keeps_what_was_granted, what_was_admitted_can_be_put};
+use space_sums::{
+    a_commit_keeps_what_was_granted, what_takes_no_more_keeps_what_was_granted,
+    what_was_admitted_can_be_put,
+};
 
 /// What was granted stays covered, the credits and the next group's bytes and nodes: a put takes no more than what pays for it, and
 /// neither bytes nor weight grow where a LEB is opened, all is synced, an inode goes, a victim is freed or a commit starts.
@@ -52,3 +55,12 @@ pub fn a_commits_writing_changes_no_number()
 pub fn each_event_keeps_a_running_commits_index_small()
     ensures { (m : AnyStore) (event : Event) → IsLegalEvent m event → IsStore m → HasNextIndex (after event m) (after event m).next }
 {}
+
+/// A commit's end leaves a store settled, and what was granted covered: the index has no more LEBs than was reckoned with, since each LEB
+/// that the commit took has a node of its index, and all that it had beside are empty.
+pub fn a_commits_end_keeps_what_was_granted()
+    ensures covered { (m : AnyStore) → IsLegalEvent m End → IsStore m → AreGrantsCovered (book_of (after End m)) }
+    ensures settled { (m : AnyStore) → IsLegalEvent m End → IsStore m → IsStoreSettled (after End m) }
+{
+    a_commit_keeps_what_was_granted();
+}
