@@ -50,7 +50,7 @@ same_roles role g all same (r ∷ rs) at =
 role_same : (role : LebKind) (g : Row → Row) (a b : List Leb) → rows a ≡ map g (rows b) → ((r : Row) → IsRowIn (rows b) r → is_role role (g r).1 ≡ is_role role r.1) → row_count role (rows a) ≡ row_count role (rows b)
 role_same role g a b e same = ap (row_count role) e ∙ same_roles role g (rows b) same (rows b) (all_in (rows b))
 
-start_index : (m : Store) (taken : List ℕ) → CanStart m taken → AreApart m → (space_of (start taken m)).index ≡ (space_of m).index
+pub start_index : (m : Store) (taken : List ℕ) → CanStart m taken → AreApart m → (space_of (start taken m)).index ≡ (space_of m).index
 start_index m taken can a =
     count_rows kind.Index (start taken m).lebs ∙ role_same kind.Index (take_row taken) (start taken m).lebs m.lebs (take_rows taken m.lebs) (λ r there. by r there (is_among taken r.0) refl) ∙ sym (count_rows kind.Index m.lebs)
   where

@@ -68,6 +68,7 @@ mod Since
 mod SinceCommits
 mod Sorting
 mod StandEvents
+mod StartNumbers
 mod Syncs
 mod TakingCommits
 mod TakingStarts

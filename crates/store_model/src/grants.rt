@@ -11,8 +11,8 @@ ghost use Rattle.store_model.specs.Store.{Index as AnyIndex, Store as AnyStore};
 
 use crate::law::{a_put_spends_what_was_granted, bytes_follow_the_leaves};
 use space_sums::{
-    a_commit_keeps_what_was_granted, what_takes_no_more_keeps_what_was_granted,
-    what_was_admitted_can_be_put,
+    a_commit_keeps_what_was_granted, a_settled_store_can_commit,
+    what_takes_no_more_keeps_what_was_granted, what_was_admitted_can_be_put,
 };
 
 /// What was granted stays covered, the credits and the next group's bytes and nodes: a put takes no more than what pays for it, and
@@ -63,4 +63,12 @@ pub fn a_commits_end_keeps_what_was_granted()
     ensures settled { (m : AnyStore) → IsLegalEvent m End → IsStore m → IsStoreSettled (after End m) }
 {
     a_commit_keeps_what_was_granted();
+}
+
+/// A commit's start leaves a store settled, also as the commit's end leaves it: as a cut leaves the store, what was taken is empty again.
+pub fn a_commits_start_keeps_a_store_settled()
+    ensures { (m : AnyStore) (taken : List ℕ) → IsLegalEvent m (Start taken) → IsStore m → IsStoreSettled (after (Start taken) m) }
+{
+    each_event_keeps_a_running_commits_index_small();
+    a_settled_store_can_commit();
 }
