@@ -330,7 +330,6 @@ pub record HasRest (m : Store) : Type 0 where
   pub texts : AreTexts m
   pub indexed : IsIndexed m
   pub covered : AreGrantsCovered (book_of m)
-  pub settled : IsStoreSettled m
 
 pub record IsStore (m : Store) : Type 0 where
   -- its numbers are a volume's, and each LEB of the main area has a row

@@ -72,3 +72,14 @@ pub fn a_commits_start_keeps_a_store_settled()
     each_event_keeps_a_running_commits_index_small();
     a_settled_store_can_commit();
 }
+
+/// Each event keeps a store settled, also as the end of a running commit leaves it. A put and a LEB that is opened ask for it, and no
+/// other event takes a LEB away for good.
+pub fn each_event_keeps_a_store_settled()
+    ensures { (m : AnyStore) (event : Event) → IsLegalEvent m event → IsStore m → IsStoreSettled (after event m) }
+{
+    a_store_stays_settled();
+    a_commits_writing_changes_no_number();
+    a_commits_start_keeps_a_store_settled();
+    a_commits_end_keeps_what_was_granted();
+}

@@ -24,7 +24,8 @@ pub use crate::backing::{
 pub use crate::grants::{
     a_commits_end_keeps_what_was_granted, a_commits_start_keeps_a_store_settled,
     a_commits_writing_changes_no_number, a_store_stays_settled,
-    each_event_keeps_a_running_commits_index_small, what_was_granted_stays_covered,
+    each_event_keeps_a_running_commits_index_small, each_event_keeps_a_store_settled,
+    what_was_granted_stays_covered,
 };
 pub use crate::invariant::{
     a_commit_starts_with_whole_lebs, an_offered_list_has_what_may_be_empty,

@@ -10,7 +10,7 @@ use crate::backing::{
     each_event_keeps_what_a_commit_began_on, each_event_keeps_what_the_journal_leads_to,
 };
 use crate::grants::{
-    a_store_stays_settled, each_event_keeps_a_running_commits_index_small,
+    each_event_keeps_a_running_commits_index_small, each_event_keeps_a_store_settled,
     what_was_granted_stays_covered,
 };
 use crate::invariant::{
@@ -34,8 +34,8 @@ use crate::texts::{
     nodes_of_the_index_stay, texts_have_what_was_put,
 };
 
-/// After each event a store is a store again, if six things are so of it: the trees that a cut may leave, whole or left LEBs, texts, the
-/// nodes of the indexes, cover, and settledness. All else is kept by each event.
+/// After each event a store is a store again, if five things are so of it: the trees that a cut may leave, whole or left LEBs, texts, the
+/// nodes of the indexes, and cover. All else is kept by each event.
 pub fn each_event_keeps_a_store()
     ensures { (m : AnyStore) (event : Event) → IsLegalEvent m event → IsStore m → HasRest (after event m) → IsStore (after event m) }
 {
@@ -62,6 +62,7 @@ pub fn each_event_keeps_a_store()
     leaves_are_of_the_views();
     each_event_keeps_the_weight();
     each_event_keeps_a_running_commits_index_small();
+    each_event_keeps_a_store_settled();
     each_event_keeps_the_log();
 }
 
@@ -85,6 +86,5 @@ pub fn a_begin_and_an_offer_keep_a_store()
     each_event_keeps_a_store();
     each_event_but_a_put_keeps_cut_trees_proper();
     nodes_of_the_index_are_written_first();
-    a_store_stays_settled();
     an_offered_list_has_what_may_be_empty();
 }

@@ -1,5 +1,5 @@
 use Rattle.store_model.specs.Events.{Begin, Offer}
-use Rattle.store_model.proofs.WholeEvents.{begin_texts, begin_whole, is_no_begin, is_no_offer, offer_settled, offer_texts}
+use Rattle.store_model.proofs.WholeEvents.{begin_texts, begin_whole, is_no_begin, is_no_offer, offer_texts}
 use Rattle.store_model.proofs.whole.a_begin_and_an_offer_keep_a_store.Goals as goal
 
 pub returns-clause-begun : goal.returns-clause-begun
@@ -9,7 +9,6 @@ returns-clause-begun c = λ m victim can s. c.each_event_keeps_a_store.ensures m
   texts = begin_texts m victim s.standing.texts;
   indexed = c.nodes_of_the_index_are_written_first.ensures.begun m victim s;
   covered = s.covered;
-  settled = c.a_store_stays_settled.ensures.begun m victim can s.settled;
 })
 
 pub returns-clause-offered : goal.returns-clause-offered
@@ -19,5 +18,4 @@ returns-clause-offered c = λ m can s. c.each_event_keeps_a_store.ensures m Offe
   texts = offer_texts m s.standing.texts;
   indexed = c.nodes_of_the_index_are_written_first.ensures.offered m s;
   covered = s.covered;
-  settled = offer_settled m s.settled;
 })

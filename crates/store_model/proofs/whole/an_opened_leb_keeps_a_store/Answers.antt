@@ -10,5 +10,4 @@ returns c = λ m head lnum can s. c.each_event_keeps_a_store.ensures m (Open hea
   texts = c.texts_have_what_was_put.ensures.open m head lnum can s;
   indexed = c.nodes_of_the_index_stay.ensures.open m head lnum can s;
   covered = c.what_was_granted_stays_covered.ensures.opened m head lnum can s.apart s.covered;
-  settled = can.settled;
 })

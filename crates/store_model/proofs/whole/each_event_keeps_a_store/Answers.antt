@@ -36,5 +36,5 @@ returns c = λ m event can s rest.
       next_index = c.each_event_keeps_a_running_commits_index_small.ensures m event can s;
       log = c.each_event_keeps_the_log.ensures m event can s.geometry s.log;
       covered = rest.covered;
-      settled = rest.settled;
+      settled = c.each_event_keeps_a_store_settled.ensures m event can s;
     }
