@@ -12,11 +12,10 @@ use Rattle.index_media.specs.PlacedRow.{PlacedRow}
 use Rattle.journal_scan.specs.Journal.{BudRead, copies_in, nodes_in}
 use Rattle.leaf_map.specs.Parts.{Committed, Named, Parts}
 
--- Contents as a volume has them: each LEB has its bytes, as many as the geometry says, and behind the last LEB there is none.
+-- Contents as a volume has them: bytes in each LEB, and in those of the geometry as many as it says. The volume may have more LEBs: no rule looks at them.
 pub record AreOfVolume (contents : ℕ → List ℕ) (geo : RawGeometry) : Type 0 where
   pub bytes : (lnum : ℕ) → IsBytes (contents lnum)
   pub full : (lnum : ℕ) → lnum < geo.leb_cnt → length (contents lnum) ≡ geo.leb_size
-  pub none : (lnum : ℕ) → geo.leb_cnt ≤ lnum → contents lnum ≡ []
 
 -- The geometry, the latest master, the properties of the main LEBs, the committed index, the texts of the log that are read,
 -- what was read of each bud, the committed leaves with what stands at their places, and the list of orphans.
