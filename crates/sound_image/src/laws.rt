@@ -77,14 +77,16 @@ use media_leaf::one_node as one_leaf;
 use media_lpt::one_node as one_nnode;
 use media_sys::one_node;
 
-/// Contents say one geometry, one latest master, one list of properties and one index. Sound ones say one image, but for where its latest
-/// master stands, if both copies are it.
+/// Contents say one geometry, one latest master, one list of properties, one index and one log: the texts that are read of it. Sound ones
+/// say one image, but for where its latest master stands, if both copies are it.
 pub fn contents_say_one_thing()
     ensures geometry { (contents : ℕ → List ℕ) (a b : RawGeometry) → IsBytes (contents 0) → HasSuperblock contents a → HasSuperblock contents b → a ≡ b }
     ensures master { (contents : ℕ → List ℕ) (geo other : RawGeometry) (a b : PlacedMaster) → ((k : ℕ) → IsBytes (contents k))
         → HasMasters contents geo a → HasMasters contents other b → a.master ≡ b.master }
     ensures properties { (contents : ℕ → List ℕ) (geo : RawGeometry) (master : Master) (a b : List Lprop) → ((k : ℕ) → IsBytes (contents k))
         → HasProperties contents geo master a → HasProperties contents geo master b → a ≡ b }
+    ensures log { (contents : ℕ → List ℕ) (geo : RawGeometry) (master : Master) (a b : List LogText) → ((k : ℕ) → IsBytes (contents k))
+        → HasLog contents geo master a → HasLog contents geo master b → a ≡ b }
     ensures image { (contents : ℕ → List ℕ) (a b : Image) → ((k : ℕ) → IsBytes (contents k)) → SoundImage contents a → SoundImage contents b
         → (a.latest.master ≡ b.latest.master) × (record b { latest = a.latest } ≡ a) }
     ensures index { (contents : ℕ → List ℕ) (geo : RawGeometry) (master : Master) (props : List Lprop) (a b : PlacedRow) → ((k : ℕ) → IsBytes (contents k))
