@@ -22,7 +22,7 @@ use Rattle.sound_image.specs.Superblock.{HasSuperblock}
 use Rattle.sound_image.specs.Wrong.{IsFirstWrong, Wrong, differs}
 use Rattle.sound_image.specs.declared.breach.Breach.TheVariants.{Damaged}
 use Rattle.sound_image.specs.declared.rule.Rule.TheVariants as rules
-use Rattle.image_check.proofs.Order.{not_before}
+use Rattle.image_check.specs.FirstLaws.{not_before}
 
 none_has : (before behind : List Found) (found : Found) → HasNone (before ++ found ∷ behind) → found.kind ≡ types.Master → ⊥
 none_has [] behind found none kind = let P : Found → Type 0 = λ f. f.kind ≢ types.Master in All-head P found behind none kind

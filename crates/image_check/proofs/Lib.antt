@@ -1,10 +1,10 @@
 pub mod Answered
+pub mod AreaLebs
 pub mod FirstOfAll
 pub mod ForeignNodes
 pub mod Kept
 pub mod Latest
 pub mod OrphanArea
-pub mod Order
 pub mod Supers
 pub mod TreeCounts
 pub mod Misfits

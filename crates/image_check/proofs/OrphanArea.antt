@@ -15,7 +15,7 @@ use Rattle.image_check.specs.Firsts.{IsFirstForeign, IsForeign}
 use Rattle.image_check.specs.Told.{IsBreachOf}
 use Rattle.image_check.proofs.ForeignNodes.{foreign_not}
 use Rattle.image_check.proofs.Kept.{IsKept}
-use Rattle.image_check.proofs.Order.{first_of_lebs}
+use Rattle.image_check.specs.FirstLaws.{first_of_lebs}
 
 -- the LEBs up to one meet the rule
 abbrev pub ListsTo : (ℕ → List ℕ) → RawGeometry → ℕ → Type 0

@@ -10,13 +10,14 @@ use Rattle.media_lpt.specs.declared.nnode.LptPlace.{LptPlace}
 use Rattle.media_lpt.specs.declared.nnode.Nnode.{Nnode}
 use Rattle.media_sys.specs.declared.master.Master.{Master}
 use Rattle.small_areas.specs.MasterLaws.{take_bytes}
-use Rattle.lpt_area.specs.Tree.{AtPlace, HasNnode, alone, no_place, row_len}
+use Rattle.lpt_area.specs.Tree.{AtPlace, HasNnode, no_place, row_len}
 use Rattle.sound_image.specs.Properties.{lpt_root}
-use Rattle.sound_image.specs.PropertyBreaches.{IsPlaceBelow, IsWrongProperty, LacksNode, lpt_misfit, pnode_depth}
+use Rattle.sound_image.specs.PropertyBreaches.{IsPlaceBelow, IsWrongProperty, LacksNode, StandsNode, lpt_misfit, pnode_depth}
 use Rattle.sound_image.specs.Wrong.{Misfit, Wrong, differs}
-use Rattle.image_check.specs.PropertyWalk.{IsFirstAbove, IsStep, IsWalked, IsWrongPlace, RowKind, nnodes, pnodes, wrong_at}
-use Rattle.image_check.specs.declared.wrong_node.WrongNode.{WrongNode}
-use Rattle.image_check.proofs.WalkedRows.{IsKeptBefore, IsRowKind, alone_here, alone_other, get_inside, get_taken, get_there, kept_is, new_kept, nnodes_are, older_kept, pnodes_are, said_at, some_same, taken_inside, walked_long}
+use Rattle.image_check.specs.PropertyWalk.{IsFirstAbove, IsNodeRead, IsRowRead, IsWrongPlace, RowKind, nnodes, pnodes}
+use Rattle.image_check.specs.WrongValues.{wrong_at}
+use Rattle.image_check.specs.declared.wrong_value.WrongValue.{WrongValue}
+use Rattle.image_check.proofs.WalkedRows.{IsKeptBefore, IsRowKind, get_inside, get_taken, get_there, kept_is, new_kept, nnodes_are, older_kept, pnodes_are, said_at, some_same, taken_inside, walked_long}
 
 -- bytes are at most one nnode
 abbrev pub OneNnode : Type 0
@@ -26,24 +27,30 @@ one_four : OneNnode → (geo : RawGeometry) (leb : List ℕ) (offs : ℕ) (a b :
 one_four one geo leb offs a b fits x y =
     x.says ∙ ap (λ (n : Nnode). n.places) (one geo (take (nnode_len geo) (drop offs leb)) x.node y.node (take_bytes (nnode_len geo) (drop offs leb) (λ i. rw get_or-drop (fits (offs + i)))) x.is y.is) ∙ sym y.says
 
--- what a kind of node lacks at a depth
-pub record IsKindAt {X : Type 0} (geo : RawGeometry) (leb : List ℕ) (kind : RowKind X) (depth : ℕ) : Type 0 where
+-- what a kind of node lacks at a depth, and what stands
+pub record IsKindAt {X : Type 0} (geo : RawGeometry) (kind : RowKind X) (depth : ℕ) : Type 0 where
   pub kinds : IsRowKind kind
-  pub lacks : (offs : ℕ) (misfit : Misfit) → ((four : List X) → kind.Stands leb offs four → ⊥) → misfit ≡ lpt_misfit kind.type (take kind.len (drop offs leb)) → LacksNode geo leb depth offs misfit
-  pub lacked : (offs : ℕ) (misfit : Misfit) → LacksNode geo leb depth offs misfit → ((four : List X) → kind.Stands leb offs four → ⊥) × (misfit ≡ lpt_misfit kind.type (take kind.len (drop offs leb)))
+  pub lacks : (leb : List ℕ) (offs : ℕ) (misfit : Misfit) → ((four : List X) → kind.Stands leb offs four → ⊥) → misfit ≡ lpt_misfit kind.type (take kind.len (drop offs leb)) → LacksNode geo leb depth offs misfit
+  pub lacked : (leb : List ℕ) (offs : ℕ) (misfit : Misfit) → LacksNode geo leb depth offs misfit → ((four : List X) → kind.Stands leb offs four → ⊥) × (misfit ≡ lpt_misfit kind.type (take kind.len (drop offs leb)))
+  pub stands : (leb : List ℕ) (offs : ℕ) → (four : List X) × kind.Stands leb offs four → StandsNode geo leb depth offs
+  pub stood : (leb : List ℕ) (offs : ℕ) → StandsNode geo leb depth offs → (four : List X) × kind.Stands leb offs four
 
-pub nnodes_at : (geo : RawGeometry) (leb : List ℕ) (depth : ℕ) → depth < pnode_depth geo → IsKindAt geo leb (nnodes geo) depth
-nnodes_at geo leb depth high = record {
+pub nnodes_at : (geo : RawGeometry) (depth : ℕ) → depth < pnode_depth geo → IsKindAt geo (nnodes geo) depth
+nnodes_at geo depth high = record {
   kinds = nnodes_are geo;
-  lacks = λ offs misfit none values. inr (high, none, values);
-  lacked = λ offs misfit h. elim h [ inl (deep, none, values) ↦ absurd (omega (arith, high, deep)) | inr (less, none, values) ↦ (none, values) ];
+  lacks = λ leb offs misfit none values. inr (high, none, values);
+  lacked = λ leb offs misfit h. elim h [ inl (deep, none, values) ↦ absurd (omega (arith, high, deep)) | inr (less, none, values) ↦ (none, values) ];
+  stands = λ leb offs h. inr (high, h.0, h.1);
+  stood = λ leb offs h. elim h [ inl (deep, four, own) ↦ absurd (omega (arith, high, deep)) | inr (less, four, own) ↦ (four, own) ];
 }
 
-pub pnodes_at : (geo : RawGeometry) (leb : List ℕ) (depth : ℕ) → depth ≡ pnode_depth geo → IsKindAt geo leb (pnodes geo) depth
-pnodes_at geo leb depth deep = record {
+pub pnodes_at : (geo : RawGeometry) (depth : ℕ) → depth ≡ pnode_depth geo → IsKindAt geo (pnodes geo) depth
+pnodes_at geo depth deep = record {
   kinds = pnodes_are geo;
-  lacks = λ offs misfit none values. inl (deep, none, values);
-  lacked = λ offs misfit h. elim h [ inl (same, none, values) ↦ (none, values) | inr (less, none, values) ↦ absurd (omega (arith, less, deep)) ];
+  lacks = λ leb offs misfit none values. inl (deep, none, values);
+  lacked = λ leb offs misfit h. elim h [ inl (same, none, values) ↦ (none, values) | inr (less, none, values) ↦ absurd (omega (arith, less, deep)) ];
+  stands = λ leb offs h. inl (deep, h.0, h.1);
+  stood = λ leb offs h. elim h [ inl (same, four, own) ↦ (four, own) | inr (less, four, own) ↦ absurd (omega (arith, less, deep)) ];
 }
 
 wrong_same : (a b : Wrong) → a.lnum ≡ b.lnum → a.offs ≡ b.offs → a.misfit ≡ b.misfit → a ≡ b
@@ -56,56 +63,58 @@ wrong_same a b e f g =
 differs_same : (a b c d : ℕ) → a ≡ c → b ≡ d → differs a b ≡ differs c d
 differs_same a b c d e f = ap (λ (n : ℕ). differs n b) e ∙ ap (differs c) f
 
-module _ (geo : RawGeometry) (master : Master) (leb : List ℕ) where
+module _ (geo : RawGeometry) (master : Master) (holds : ℕ → List ℕ) where
+  abbrev leb : List ℕ
+  leb = holds master.lpt_lnum
+
   abbrev root : LptPlace
   root = lpt_root master
 
   abbrev IsWrongHere : Wrong → Type 0
-  IsWrongHere = IsWrongProperty (λ (k : ℕ). leb) geo master
+  IsWrongHere = IsWrongProperty holds geo master
 
   -- what is wrong first of all nodes of the rows above one, and of the first ones of this row
-  record FirstTo (depth number : ℕ) (first : Option WrongNode) : Type 0 where
-    is : (node : WrongNode) → first ≡ Some node → IsWrongHere (wrong_at node)
+  record FirstTo (depth number : ℕ) (first : Option WrongValue) : Type 0 where
+    is : (node : WrongValue) → first ≡ Some node → IsWrongHere (wrong_at node)
     least : (other : Wrong) (h : IsWrongHere other) → ((h.depth < depth) ⊎ ((h.depth ≡ depth) × (h.number < number))) → IsKeptBefore other first
 
+  -- no node of a kind stands at a place, and one does
+  not_both : {X : Type 0} (kind : RowKind X) (own place : LptPlace) → own ≡ place → ((four : List X) → kind.Stands (holds own.lnum) own.offs four → ⊥) → (four : List X) → kind.Stands (holds place.lnum) place.offs four → ⊥
+  not_both {X = X} kind own place same none = let N : LptPlace → Type 0 = λ p. (all : List X) → kind.Stands (holds p.lnum) p.offs all → ⊥ in subst N same none
+
+  lacks_at : {X : Type 0} (kind : RowKind X) (depth : ℕ) → IsKindAt geo kind depth → (other : Wrong) (h : IsWrongHere other) → h.depth ≡ depth → LacksNode geo (holds h.place.lnum) h.depth h.place.offs other.misfit
+      → ((four : List X) → kind.Stands (holds h.place.lnum) h.place.offs four → ⊥) × (other.misfit ≡ lpt_misfit kind.type (take kind.len (drop h.place.offs (holds h.place.lnum))))
+  lacks_at kind depth k other h deep lacks = let D : ℕ → Type 0 = λ d. LacksNode geo (holds h.place.lnum) d h.place.offs other.misfit in k.lacked (holds h.place.lnum) h.place.offs other.misfit (subst D deep lacks)
+
   -- at a place that is said, nothing is wrong
-  nothing_wrong : {X : Type 0} (kind : RowKind X) (depth : ℕ) → IsKindAt geo leb kind depth → (place : LptPlace) (four : List X) (other : Wrong) (h : IsWrongHere other) → h.depth ≡ depth → h.place ≡ place
-      → AtPlace kind.Stands kind.none (alone master.lpt_lnum leb place.lnum) place four → ⊥
-  nothing_wrong kind depth k place four other h deep same (inl (none, e)) = h.some (ap (λ (p : LptPlace). p.lnum) same ∙ none)
-  nothing_wrong {X = X} kind depth k place four other h deep same (inr (some, stands)) = elim h.wrong [
-    | inl (elsewhere, values) ↦
-        let P : List ℕ → Type 0 = λ b. kind.Stands b place.offs four in
-        let out : place.lnum ≢ master.lpt_lnum = λ e. elsewhere (ap (λ (p : LptPlace). p.lnum) same ∙ e) in
-        k.kinds.never place.offs four (subst P (alone_other master.lpt_lnum place.lnum leb out) stands)
-    | inr (here, lacks) ↦
-        let P : List ℕ → Type 0 = λ b. kind.Stands b place.offs four in
-        let in_leb = sym (ap (λ (p : LptPlace). p.lnum) same) ∙ here in
-        let D : ℕ → Type 0 = λ d. LacksNode geo leb d h.place.offs other.misfit in
-        let none = (k.lacked h.place.offs other.misfit (subst D deep lacks)).0 in
-        let N : LptPlace → Type 0 = λ p. (all : List X) → kind.Stands leb p.offs all → ⊥ in
-        subst N same none four (subst P (alone_here master.lpt_lnum place.lnum leb in_leb) stands)
+  nothing_wrong : {X : Type 0} (kind : RowKind X) (depth : ℕ) → IsKindAt geo kind depth → (place : LptPlace) (four : List X) (other : Wrong) (h : IsWrongHere other) → h.depth ≡ depth → h.place ≡ place
+      → AtPlace kind.Stands kind.none (holds place.lnum) place four → (place.lnum ≢ 0 → place.lnum ≡ master.lpt_lnum) → ⊥
+  nothing_wrong kind depth k place four other h deep same (inl (none, e)) own = h.some (ap (λ (p : LptPlace). p.lnum) same ∙ none)
+  nothing_wrong kind depth k place four other h deep same (inr (some, stands)) own = elim h.wrong [
+    | inl lacks ↦ not_both kind h.place place same (lacks_at kind depth k other h deep lacks).0 four stands
+    | inr (elsewhere, there, values) ↦ elsewhere (ap (λ (p : LptPlace). p.lnum) same ∙ own some)
   ]
 
   -- at a place that is wrong, this is
-  same_wrong : {X : Type 0} (kind : RowKind X) (depth : ℕ) → IsKindAt geo leb kind depth → (place : LptPlace) (node : WrongNode) (other : Wrong) (h : IsWrongHere other) → h.depth ≡ depth → h.place ≡ place → IsWrongPlace kind master.lpt_lnum leb place node → other ≡ wrong_at node
+  same_wrong : {X : Type 0} (kind : RowKind X) (depth : ℕ) → IsKindAt geo kind depth → (place : LptPlace) (node : WrongValue) (other : Wrong) (h : IsWrongHere other) → h.depth ≡ depth → h.place ≡ place → IsWrongPlace kind master.lpt_lnum holds place node → other ≡ wrong_at node
   same_wrong kind depth k place node other h deep same w =
       let l = ap (λ (p : LptPlace). p.lnum) same in
       let o = ap (λ (p : LptPlace). p.offs) same in
-      let D : ℕ → Type 0 = λ d. LacksNode geo leb d h.place.offs other.misfit in
+      let S : ℕ → Type 0 = λ d. StandsNode geo (holds h.place.lnum) d h.place.offs in
       wrong_same other (wrong_at node) (h.lnum ∙ l ∙ sym w.in_leb) (h.offs ∙ o ∙ sym w.at) (elim h.wrong [
-        | inl (elsewhere, values) ↦ elim w.wrong [
-          | inl (out, wanted, found) ↦ values ∙ differs_same master.lpt_lnum h.place.lnum node.wanted node.found (sym wanted) (l ∙ sym found)
-          | inr (in_leb, none, misfit) ↦ absurd (elsewhere (l ∙ in_leb))
+        | inl lacks ↦ elim w.wrong [
+          | inl (none, misfit) ↦ (lacks_at kind depth k other h deep lacks).1 ∙ ap (λ (p : LptPlace). lpt_misfit kind.type (take kind.len (drop p.offs (holds p.lnum)))) same ∙ sym misfit
+          | inr (out, there, wanted, found) ↦ absurd (not_both kind h.place place same (lacks_at kind depth k other h deep lacks).0 there.0 there.1)
         ]
-        | inr (here, lacks) ↦ elim w.wrong [
-          | inl (out, wanted, found) ↦ absurd (out (sym l ∙ here))
-          | inr (in_leb, none, misfit) ↦ (k.lacked h.place.offs other.misfit (subst D deep lacks)).1 ∙ ap (λ (n : ℕ). lpt_misfit kind.type (take kind.len (drop n leb))) o ∙ sym misfit
+        | inr (elsewhere, there, values) ↦ elim w.wrong [
+          | inl (none, misfit) ↦ let own = k.stood (holds h.place.lnum) h.place.offs (subst S deep there) in absurd (not_both kind place h.place (sym same) none own.0 own.1)
+          | inr (out, stands, wanted, found) ↦ values ∙ differs_same master.lpt_lnum h.place.lnum node.wanted node.found (sym wanted) (l ∙ sym found)
         ]
       ])
 
   -- what is wrong at a place to which nodes lead is wrong in the tree
-  is_wrong : {X : Type 0} (kind : RowKind X) (depth level number : ℕ) → IsKindAt geo leb kind depth → depth + level ≡ pnode_depth geo → (place : LptPlace) (node : WrongNode) → number < row_len geo level → IsPlaceBelow geo leb root depth number place
-      → IsWrongPlace kind master.lpt_lnum leb place node → IsWrongHere (wrong_at node)
+  is_wrong : {X : Type 0} (kind : RowKind X) (depth level number : ℕ) → IsKindAt geo kind depth → depth + level ≡ pnode_depth geo → (place : LptPlace) (node : WrongValue) → number < row_len geo level → IsPlaceBelow geo leb root depth number place
+      → IsWrongPlace kind master.lpt_lnum holds place node → IsWrongHere (wrong_at node)
   is_wrong kind depth level number k deep place node main leads w =
       let under : level ≡ pnode_depth geo - depth = omega (arith, deep) in
       let L : ℕ → Type 0 = λ n. number < row_len geo n in
@@ -120,8 +129,8 @@ module _ (geo : RawGeometry) (master : Master) (leb : List ℕ) where
         lnum = w.in_leb;
         offs = w.at;
         wrong = elim w.wrong [
-          | inl (out, wanted, found) ↦ inl (out, differs_same node.wanted node.found master.lpt_lnum place.lnum wanted found)
-          | inr (in_leb, none, misfit) ↦ inr (in_leb, k.lacks place.offs (differs node.wanted node.found) none misfit)
+          | inl (none, misfit) ↦ inl (k.lacks (holds place.lnum) place.offs (differs node.wanted node.found) none misfit)
+          | inr (out, there, wanted, found) ↦ inr (out, k.stands (holds place.lnum) place.offs there, differs_same node.wanted node.found master.lpt_lnum place.lnum wanted found)
         ];
       }
 
@@ -141,12 +150,12 @@ module _ (geo : RawGeometry) (master : Master) (leb : List ℕ) where
       r.complete h.number h.place (subst L under h.over_main) (subst D deep h.leads)
 
   -- one place of a row more
-  first_next : {X : Type 0} (kind : RowKind X) (depth level : ℕ) (row : List LptPlace) → IsKindAt geo leb kind depth → IsRowAt depth level row → (number : ℕ) (place : LptPlace) (first : Option WrongNode) (four : List X) (next : Option WrongNode) → slice_get row number ≡ Some place
-      → IsStep kind master.lpt_lnum leb place first four next → FirstTo depth number first → FirstTo depth (suc number) next
-  first_next kind depth level row k r number place first four next there (inl (says, same)) before = record {
+  first_next : {X : Type 0} (kind : RowKind X) (depth level : ℕ) (row : List LptPlace) → IsKindAt geo kind depth → IsRowAt depth level row → (number : ℕ) (place : LptPlace) (first : Option WrongValue) (four : List X) (next : Option WrongValue) → slice_get row number ≡ Some place
+      → IsNodeRead kind master.lpt_lnum holds place first four next → FirstTo depth number first → FirstTo depth (suc number) next
+  first_next kind depth level row k r number place first four next there (inl (says, alike, same)) before = record {
     is = λ node e. before.is node (sym same ∙ e);
     least = λ other h at.
-        let K : Option WrongNode → Type 0 = λ o. IsKeptBefore other o in
+        let K : Option WrongValue → Type 0 = λ o. IsKeptBefore other o in
         subst K (sym same) (elim at [
           | inl above ↦ before.least other h (inl above)
           | inr (deep, less) ↦ elim (cases_lt h.number number) [
@@ -155,7 +164,7 @@ module _ (geo : RawGeometry) (master : Master) (leb : List ℕ) where
                 let here : h.number ≡ number = omega (arith, less, high) in
                 let P : ℕ → Type 0 = λ n. slice_get row n ≡ Some h.place in
                 let own = some_same h.place place (sym (subst P here (in_row depth level row r other h deep)) ∙ there) in
-                absurd (nothing_wrong kind depth k place four other h deep own says)
+                absurd (nothing_wrong kind depth k place four other h deep own says alike)
           ]
         ]);
   }
@@ -164,7 +173,7 @@ module _ (geo : RawGeometry) (master : Master) (leb : List ℕ) where
         let reached = r.sound number place there wrong.some in
         kept_is (λ n. IsWrongHere (wrong_at n)) first node kept before.is (is_wrong kind depth level number k r.is_depth place node reached.0 reached.1 wrong) (sym same ∙ e);
     least = λ other h at.
-        let K : Option WrongNode → Type 0 = λ o. IsKeptBefore other o in
+        let K : Option WrongValue → Type 0 = λ o. IsKeptBefore other o in
         subst K (sym same) (elim at [
           | inl above ↦ older_kept other first node (before.least other h (inl above))
           | inr (deep, less) ↦ elim (cases_lt h.number number) [
@@ -179,10 +188,10 @@ module _ (geo : RawGeometry) (master : Master) (leb : List ℕ) where
   }
 
   -- and all of it
-  first_all : {X : Type 0} (kind : RowKind X) (depth level : ℕ) (row : List LptPlace) → IsKindAt geo leb kind depth → IsRowAt depth level row → (rest : List LptPlace) (number : ℕ) (first : Option WrongNode) (all : List X) (last : Option WrongNode)
-      → ((i : ℕ) (place : LptPlace) → slice_get rest i ≡ Some place → slice_get row (number + i) ≡ Some place) → IsWalked kind master.lpt_lnum leb rest first all last → FirstTo depth number first → FirstTo depth (number + length rest) last
+  first_all : {X : Type 0} (kind : RowKind X) (depth level : ℕ) (row : List LptPlace) → IsKindAt geo kind depth → IsRowAt depth level row → (rest : List LptPlace) (number : ℕ) (first : Option WrongValue) (all : List X) (last : Option WrongValue)
+      → ((i : ℕ) (place : LptPlace) → slice_get rest i ≡ Some place → slice_get row (number + i) ≡ Some place) → IsRowRead kind master.lpt_lnum holds rest first all last → FirstTo depth number first → FirstTo depth (number + length rest) last
   first_all kind depth level row k r [] number first all last part (e, same) before =
-      let P : Option WrongNode → Type 0 = λ o. FirstTo depth (number + 0) o in
+      let P : Option WrongValue → Type 0 = λ o. FirstTo depth (number + 0) o in
       let Q : ℕ → Type 0 = λ n. FirstTo depth n first in
       let n : number ≡ number + 0 = omega arith in
       subst P (sym same) (subst Q n before)
@@ -195,8 +204,8 @@ module _ (geo : RawGeometry) (master : Master) (leb : List ℕ) where
       subst Q end (first_all kind depth level row k r rest (suc number) next more last (λ i place e. let T : ℕ → Type 0 = λ n. slice_get row n ≡ Some place in let at : number + suc i ≡ suc number + i = omega arith in subst T at (part (suc i) place e)) walked one)
 
   -- so nodes down to the next row are told
-  pub first_row : {X : Type 0} (kind : RowKind X) (depth level : ℕ) (row : List LptPlace) → IsKindAt geo leb kind depth → IsRowAt depth level row → (first : Option WrongNode) (all : List X) (last : Option WrongNode) → IsWalked kind master.lpt_lnum leb row first all last
-      → IsFirstAbove geo master leb depth first → IsFirstAbove geo master leb (suc depth) last
+  pub first_row : {X : Type 0} (kind : RowKind X) (depth level : ℕ) (row : List LptPlace) → IsKindAt geo kind depth → IsRowAt depth level row → (first : Option WrongValue) (all : List X) (last : Option WrongValue) → IsRowRead kind master.lpt_lnum holds row first all last
+      → IsFirstAbove geo master holds depth first → IsFirstAbove geo master holds (suc depth) last
   first_row kind depth level row k r first all last walked before =
       let none : FirstTo depth 0 first = record { is = before.is; least = λ other h at. elim at [ inl above ↦ before.least other h above | inr (deep, less) ↦ absurd (omega (arith, less)) ] } in
       let whole = first_all kind depth level row k r row 0 first all last (λ i place e. let T : ℕ → Type 0 = λ n. slice_get row n ≡ Some place in let at : i ≡ 0 + i = omega arith in subst T at e) walked none in
@@ -211,7 +220,7 @@ module _ (geo : RawGeometry) (master : Master) (leb : List ℕ) where
       }
 
   -- the row below one
-  pub row_below : OneNnode → IsBytes leb → (0 < master.lpt_lnum) → (depth level : ℕ) (row : List LptPlace) → IsRowAt depth (suc level) row → (first : Option WrongNode) (all : List LptPlace) (last : Option WrongNode) → IsWalked (nnodes geo) master.lpt_lnum leb row first all last
+  pub row_below : OneNnode → IsBytes leb → (0 < master.lpt_lnum) → (depth level : ℕ) (row : List LptPlace) → IsRowAt depth (suc level) row → (first : Option WrongValue) (all : List LptPlace) (last : Option WrongValue) → IsRowRead (nnodes geo) master.lpt_lnum holds row first all last
       → IsRowAt (suc depth) level (take (row_len geo level) all)
   row_below one fits inside depth level row r first all last walked =
       let at = r.is_depth in
@@ -220,10 +229,10 @@ module _ (geo : RawGeometry) (master : Master) (leb : List ℕ) where
         sound = λ number place e some.
             let cut = taken_inside (row_len geo level) number all place e in
             let low : number % 4 < 4 = omega arith in
-            let long = walked_long (nnodes geo) (nnodes_are geo) master.lpt_lnum leb row first all last walked in
+            let long = walked_long (nnodes geo) (nnodes_are geo) master.lpt_lnum holds row first all last walked in
             let inside_all = get_inside all number place cut.1 in
             let above = get_there row (number / 4) (omega (arith, long, inside_all)) in
-            let said = said_at (nnodes geo) (nnodes_are geo) master.lpt_lnum leb row first all last (number / 4) above.0 walked above.1 in
+            let said = said_at (nnodes geo) (nnodes_are geo) master.lpt_lnum holds row first all last (number / 4) above.0 walked above.1 in
             let spot : 4 * (number / 4) + number % 4 ≡ number = omega arith in
             let get : slice_get said.four (number % 4) ≡ Some place = sym (said.among (number % 4) low) ∙ ap (slice_get all) spot ∙ cut.1 in
             let four = said_node above.0 said.four said.before said.after (number % 4) place said.step low get some in
@@ -232,7 +241,7 @@ module _ (geo : RawGeometry) (master : Master) (leb : List ℕ) where
         complete = λ number place less leads.
             let parent : number / 4 < row_len geo (suc level) = omega (arith, less) in
             let there = r.complete (number / 4) leads.0 parent leads.2 in
-            let said = said_at (nnodes geo) (nnodes_are geo) master.lpt_lnum leb row first all last (number / 4) leads.0 walked there in
+            let said = said_at (nnodes geo) (nnodes_are geo) master.lpt_lnum holds row first all last (number / 4) leads.0 walked there in
             let low : number % 4 < 4 = omega arith in
             let spot : 4 * (number / 4) + number % 4 ≡ number = omega arith in
             let fours = same_four leads.0 leads.1 said.four said.before said.after leads.3 leads.4 said.step in
@@ -246,18 +255,20 @@ module _ (geo : RawGeometry) (master : Master) (leb : List ℕ) where
       nones (suc (suc (suc zero))) place less e = ap (λ (p : LptPlace). p.lnum) (sym (some_same no_place place e))
       nones (suc (suc (suc (suc n)))) place less e = absurd (omega (arith, less))
 
-      said_node : (above : LptPlace) (four : List LptPlace) (before after : Option WrongNode) (n : ℕ) (place : LptPlace) → IsStep (nnodes geo) master.lpt_lnum leb above before four after → n < 4 → slice_get four n ≡ Some place → place.lnum ≢ 0
+      said_node : (above : LptPlace) (four : List LptPlace) (before after : Option WrongValue) (n : ℕ) (place : LptPlace) → IsNodeRead (nnodes geo) master.lpt_lnum holds above before four after → n < 4 → slice_get four n ≡ Some place → place.lnum ≢ 0
           → (above.lnum ≡ master.lpt_lnum) × HasNnode geo leb above.offs four
-      said_node above four before after n place (inl (inl (none, e), same)) less get some = absurd (some (nones n place less (ap (λ (xs : List LptPlace). slice_get xs n) (sym e) ∙ get)))
+      said_node above four before after n place (inl (inl (none, e), own, same)) less get some = absurd (some (nones n place less (ap (λ (xs : List LptPlace). slice_get xs n) (sym e) ∙ get)))
       said_node above four before after n place (inr (node, wrong, e, same)) less get some = absurd (some (nones n place less (ap (λ (xs : List LptPlace). slice_get xs n) (sym e) ∙ get)))
-      said_node above four before after n place (inl (inr (there, h), same)) less get some = elim (cases_eq above.lnum master.lpt_lnum) [
-        | inl here ↦ let P : List ℕ → Type 0 = λ b. HasNnode geo b above.offs four in (here, subst P (alone_here master.lpt_lnum above.lnum leb here) h)
-        | inr other ↦ let P : List ℕ → Type 0 = λ b. HasNnode geo b above.offs four in absurd ((nnodes_are geo).never above.offs four (subst P (alone_other master.lpt_lnum above.lnum leb other) h))
-      ]
+      said_node above four before after n place (inl (inr (there, h), own, same)) less get some =
+          let P : ℕ → Type 0 = λ k. HasNnode geo (holds k) above.offs four in
+          (own there, subst P (own there) h)
 
-      same_four : (above : LptPlace) (four own : List LptPlace) (before after : Option WrongNode) → above.lnum ≡ master.lpt_lnum → HasNnode geo leb above.offs four → IsStep (nnodes geo) master.lpt_lnum leb above before own after → four ≡ own
-      same_four above four own before after here h (inl (inl (none, e), same)) = absurd (omega (arith, none, here, inside))
-      same_four above four own before after here h (inl (inr (some, there), same)) =
-          let P : List ℕ → Type 0 = λ b. HasNnode geo b above.offs own in
-          one_four one geo leb above.offs four own fits h (subst P (alone_here master.lpt_lnum above.lnum leb here) there)
-      same_four above four own before after here h (inr (node, wrong, e, same)) = elim wrong.wrong [ inl (out, wanted, found) ↦ absurd (out here) | inr (in_leb, none, values) ↦ absurd (none four h) ]
+      same_four : (above : LptPlace) (four own : List LptPlace) (before after : Option WrongValue) → above.lnum ≡ master.lpt_lnum → HasNnode geo leb above.offs four → IsNodeRead (nnodes geo) master.lpt_lnum holds above before own after → four ≡ own
+      same_four above four own before after here h (inl (inl (none, e), alike, same)) = absurd (omega (arith, none, here, inside))
+      same_four above four own before after here h (inl (inr (some, there), alike, same)) =
+          let P : ℕ → Type 0 = λ k. HasNnode geo (holds k) above.offs own in
+          one_four one geo leb above.offs four own fits h (subst P here there)
+      same_four above four own before after here h (inr (node, wrong, e, same)) = elim wrong.wrong [
+        | inl (none, misfit) ↦ let P : ℕ → Type 0 = λ k. HasNnode geo (holds k) above.offs four in absurd (none four (subst P (sym here) h))
+        | inr (out, there, wanted, found) ↦ absurd (out here)
+      ]

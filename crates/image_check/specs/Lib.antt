@@ -1,3 +1,5 @@
 pub mod Told
 pub mod Firsts
+pub mod WrongValues
+pub mod FirstLaws
 pub mod PropertyWalk

@@ -1,13 +1,14 @@
 -- What a check tells.
-use Rattle.std.specs.Prelude.{◌≡◌, ◌⊎◌, ℕ, ◌≤◌, Result, Ok, Err}
+use Rattle.std.specs.Prelude.{◌≡◌, ◌⊎◌, ℕ, ◌≤◌, IsTrue, Bool, true, false, Result, Ok, Err}
 use Rattle.ubifs_base.specs.Faults.{IsCause}
 use Rattle.ubi_volume.specs.Volume.{VolumeState}
 use Rattle.ubi_volume.specs.declared.fault.AreaFault.{AreaFault}
 use Rattle.ubi_volume.specs.declared.fault.AreaFault.TheVariants as area
-use Rattle.sound_image.specs.Wrong.{Wrong, differs}
+use Rattle.sound_image.specs.Wrong.{Wrong, differs, needs}
 use Rattle.sound_image.specs.declared.breach.Breach.{Breach}
 use Rattle.sound_image.specs.declared.breach.Breach.TheVariants.{Super as InSuper, Feature as NeedsOne, NoMaster, Damaged}
 use Rattle.sound_image.specs.declared.rule.Rule.{Rule}
+use Rattle.sound_image.specs.declared.rule.Rule.TheVariants.{Buds, Leaves}
 use Rattle.image_check.specs.declared.fault.CheckFault.{CheckFault}
 use Rattle.image_check.specs.declared.fault.CheckFault.TheVariants.{Memory, Volume, Unsound}
 
@@ -28,11 +29,17 @@ TellsBreach Is (Unsound breach) = Is breach
 TellsBreach Is Memory = Unit {0}
 TellsBreach Is (Volume count) = Unit {0}
 
--- what is told is wrong by this rule, at this place and with these values
+-- whether a rule tells a feature that is needed at a place of a LEB: that on buds does, and that on leaves
+abbrev pub tells_features : Rule → Bool
+tells_features Buds = true
+tells_features Leaves = true
+tells_features other = false
+
+-- what is told is wrong by this rule, at this place: with these values, or with this feature that is needed there, if the rule tells one
 abbrev pub IsBreachOf : Rule → (Wrong → Type 0) → Breach → Type 0
 IsBreachOf rule IsWrong (Damaged broken lnum offs wanted found) = (broken ≡ rule) × IsWrong (record { lnum = lnum; offs = offs; misfit = differs wanted found })
 IsBreachOf rule IsWrong (InSuper field) = ⊥
-IsBreachOf rule IsWrong (NeedsOne what lnum offs) = ⊥
+IsBreachOf rule IsWrong (NeedsOne what lnum offs) = IsTrue (tells_features rule) × IsWrong (record { lnum = lnum; offs = offs; misfit = needs what })
 IsBreachOf rule IsWrong NoMaster = ⊥
 
 -- the volume is told to have failed only where its count of faults rose, and the count is told; it never falls

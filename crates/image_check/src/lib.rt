@@ -15,12 +15,13 @@ mod properties;
 mod property_rows;
 mod superblock;
 mod told;
-mod wrong_node;
+mod wrong_value;
 
 pub use crate::fault::CheckFault;
-pub use crate::laws::a_breach_is_first;
+pub use crate::laws::{a_breach_is_first, the_sooner_of_both_is_first};
 pub use crate::masters::check_masters;
 pub use crate::orphan_lists::check_orphans;
 pub use crate::places::type_byte;
 pub use crate::properties::check_properties;
 pub use crate::superblock::check_superblock;
+pub use crate::wrong_value::{WrongValue, sooner};

@@ -12,13 +12,13 @@ ghost use Rattle.sound_image.specs.Properties.{HasProperties};
 ghost use Rattle.sound_image.specs.PropertyBreaches.{IsWrongProperty};
 ghost use Rattle.sound_image.specs.Wrong.{IsFirstWrong};
 ghost use Rattle.sound_image.specs.declared.rule.Rule.TheVariants as rules;
-ghost use Rattle.image_check.specs.PropertyWalk.{IsWalkedTo, breach_at};
+ghost use Rattle.image_check.specs.PropertyWalk.{IsAreaOf, IsWalkedTo, breach_at, lpt_leb_in};
 ghost use Rattle.image_check.specs.Told.{HasCheckCause, IsBreachOf, StaysSureCheck, TellsBreach};
 
 use crate::fault::CheckFault;
 use crate::property_rows::{PlacesRead, nnode_row, pnode_row};
 use crate::told::told;
-use crate::wrong_node::WrongNode;
+use crate::wrong_value::WrongValue;
 use media_lpt::{Lprop, LptPlace, one_node};
 use media_sys::Master;
 use sound_image::{Breach, Rule};
@@ -27,8 +27,8 @@ use ubi_volume::{AreaFault, Volume, read_leb};
 use ubifs_base::Geometry;
 
 /// The rule on the tree of LEB properties: from the root on, where the master says that it stands, each node over main LEBs is in
-/// its grammar and stands in the root's LEB (Hunter 2008, "LEB properties"). Answers the properties of all main LEBs, in order.
-/// Takes memory for a LEB, and for a row of the tree.
+/// its grammar, in whichever LEB it is named, and stands in the root's LEB (Hunter 2008, "LEB properties"). Answers the properties of
+/// all main LEBs, in order. Takes memory for the properties area, a LEB, and a row of the tree.
 pub fn check_properties<V: Volume>(
     alloc: Global,
     volume: &mut V,
@@ -64,46 +64,48 @@ fn read_properties<V: Volume>(
     ensures sure { StaysSureArea (V.state volume.old) (V.state volume.new) result }
 {
     let mut leb = vec![in alloc; 0; volume.leb_size() as usize]?;
-    read_root(alloc, volume, geometry, master, &mut leb)
+    let area = read_area(alloc, volume, geometry, &mut leb)?;
+    let answer = tree_in(alloc, geometry, master, &area)?;
+    Ok(answer)
 }
 
-// Reads the LEB in which the root stands into the buffer.
-fn read_root<V: Volume>(
+// The bytes of all LEBs of the properties area, one behind another. The buffer has the size of a LEB.
+fn read_area<V: Volume>(
     alloc: Global,
     volume: &mut V,
     geometry: &Geometry,
-    master: &Master,
     leb: &mut [u8],
-) -> Result<Result<Vec<Lprop>, Breach>, AreaFault>
+) -> Result<Vec<u8>, AreaFault>
     requires geometry { IsGeometryOf (raw_of geometry.now) (V.state volume.old) }
-    requires placed { first_past (addresses_of (raw_of geometry.now) master.now) ≡ None }
     requires whole { length leb.old ≡ (V.state volume.old).leb_size }
-    ensures met { IfOk result (λ found. IfOk found (λ props. HasProperties (V.state volume.old).holds (raw_of geometry.now) master.now props.items)) }
-    ensures broken { IfOk result (λ found. IfErr found (IsBreachOf rules.Properties (IsFirstWrong (IsWrongProperty (V.state volume.old).holds (raw_of geometry.now) master.now)))) }
+    ensures area { IfOk result (λ area. IsAreaOf (raw_of geometry.now) (V.state volume.old).holds area.items) }
     ensures keeps { Keeps (V.state volume.old) (V.state volume.new) }
     ensures shape { SameShape (V.state volume.old) (V.state volume.new) }
     ensures cause { HasAreaCause (V.state volume.old).faults (V.state volume.new).faults result }
     ensures sure { StaysSureArea (V.state volume.old) (V.state volume.new) result }
 {
-    read_leb(volume, master.lpt_lnum, leb)?;
-    let answer = tree_in(alloc, geometry, master, leb)?;
-    Ok(answer)
+    let mut area = Vec::new(alloc);
+    for lnum in geometry.lpt_first()..geometry.orph_first() {
+        read_leb(volume, lnum, leb)?;
+        area.extend_from_slice(leb)?;
+    }
+    Ok(area)
 }
 
-// What the tree says from its root down in the bytes of the root's LEB.
+// What the tree says from its root down in the bytes of the properties area.
 fn tree_in(
     alloc: Global,
     geo: &Geometry,
     master: &Master,
-    leb: &[u8],
+    area: &[u8],
 ) -> Result<Result<Vec<Lprop>, Breach>, AllocError>
     requires { first_past (addresses_of (raw_of geo.now) master.now) ≡ None }
-    ensures met { IfOk result (λ found. IfOk found (λ props. HasProperties (λ _. leb.now) (raw_of geo.now) master.now props.items)) }
-    ensures broken { IfOk result (λ found. IfErr found (IsBreachOf rules.Properties (IsFirstWrong (IsWrongProperty (λ _. leb.now) (raw_of geo.now) master.now)))) }
+    ensures met { IfOk result (λ found. IfOk found (λ props. HasProperties (lpt_leb_in (raw_of geo.now) area.now) (raw_of geo.now) master.now props.items)) }
+    ensures broken { IfOk result (λ found. IfErr found (IsBreachOf rules.Properties (IsFirstWrong (IsWrongProperty (lpt_leb_in (raw_of geo.now) area.now) (raw_of geo.now) master.now)))) }
 {
     one_node();
-    let row = pnode_places(alloc, geo, master, leb)?;
-    let read = pnode_row(alloc, geo, master.lpt_lnum, leb, &row.all, row.first)?;
+    let row = pnode_places(alloc, geo, master, area)?;
+    let read = pnode_row(alloc, geo, master.lpt_lnum, area, &row.all, row.first)?;
     if let Some(node) = read.first {
         return Ok(Err(breach_of(node)));
     }
@@ -113,15 +115,15 @@ fn tree_in(
 }
 
 // What is wrong at a node breaks the rule on properties.
-fn breach_of(node: WrongNode) -> Breach
+fn breach_of(node: WrongValue) -> Breach
     ensures { result ≡ breach_at node }
 {
     Breach::Damaged {
         rule: Rule::Properties,
         lnum: node.lnum,
         offs: node.offs,
-        wanted: node.wanted as u64,
-        found: node.found as u64,
+        wanted: node.wanted,
+        found: node.found,
     }
 }
 
@@ -130,10 +132,10 @@ fn pnode_places(
     alloc: Global,
     geo: &Geometry,
     master: &Master,
-    leb: &[u8],
+    area: &[u8],
 ) -> Result<PlacesRead, AllocError>
     requires { first_past (addresses_of (raw_of geo.now) master.now) ≡ None }
-    ensures { IfOk result (λ read. IsWalkedTo (raw_of geo.now) master.now leb.now 0 read.all.items read.first) }
+    ensures { IfOk result (λ read. IsWalkedTo (raw_of geo.now) master.now (lpt_leb_in (raw_of geo.now) area.now) 0 read.all.items read.first) }
 {
     one_node();
     let mut row = Vec::new(alloc);
@@ -147,7 +149,7 @@ fn pnode_places(
     };
     let mut level = geo.tree_height();
     while level > 0 {
-        let mut below = nnode_row(alloc, geo, master.lpt_lnum, leb, &read.all, read.first)?;
+        let mut below = nnode_row(alloc, geo, master.lpt_lnum, area, &read.all, read.first)?;
         level -= 1;
         below.all.truncate(row_len(geo, level) as usize);
         read = below;

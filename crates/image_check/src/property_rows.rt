@@ -7,9 +7,9 @@ ghost use Rattle.ubifs_base.specs.RawOf.{raw_of};
 ghost use Rattle.lpt_area.specs.Tree.{empty_leb as empty_leb_of};
 ghost use Rattle.sound_image.specs.PropertyBreaches.{lpt_misfit};
 ghost use Rattle.sound_image.specs.Wrong.{differs};
-ghost use Rattle.image_check.specs.PropertyWalk.{IsStep, IsWalked, nnodes, pnodes};
+ghost use Rattle.image_check.specs.PropertyWalk.{IsNodeRead, IsRowRead, lpt_leb_in, nnodes, pnodes};
 
-use crate::wrong_node::{WrongNode, lesser};
+use crate::wrong_value::{WrongValue, sooner};
 use media_lpt::{Lprop, LptPlace, Nnode, Pnode};
 use std::alloc::{AllocError, Global};
 use ubifs_base::{Geometry, crc16};
@@ -20,32 +20,32 @@ const NO_PLACE: LptPlace = LptPlace { lnum: 0, offs: 0 };
 #[derive(Drop)]
 pub(crate) struct PlacesRead {
     pub all: Vec<LptPlace>,
-    pub first: Option<WrongNode>,
+    pub first: Option<WrongValue>,
 }
 
 // The same of a row of pnodes, which say properties.
 #[derive(Drop)]
 pub(crate) struct PropsRead {
     pub all: Vec<Lprop>,
-    pub first: Option<WrongNode>,
+    pub first: Option<WrongValue>,
 }
 
 // Reads the nnodes at the places of a row.
 pub(crate) fn nnode_row(
     alloc: Global,
     geo: &Geometry,
-    lnum: u32,
-    leb: &[u8],
+    root: u32,
+    area: &[u8],
     row: &[LptPlace],
-    first: Option<WrongNode>,
+    first: Option<WrongValue>,
 ) -> Result<PlacesRead, AllocError>
-    ensures { IfOk result (λ read. IsWalked (nnodes (raw_of geo.now)) lnum leb.now row.now first read.all.items read.first) }
+    ensures { IfOk result (λ read. IsRowRead (nnodes (raw_of geo.now)) root (lpt_leb_in (raw_of geo.now) area.now) row.now first read.all.items read.first) }
 {
     let mut all = Vec::new(alloc);
     let mut now = first;
     let mut left = row;
     'reading: while let Some((place, rest)) = left.split_first() {
-        let (four, next) = nnode_at(geo, lnum, leb, *place, now);
+        let (four, next) = nnode_at(geo, root, area, *place, now);
         all.extend_from_slice(&four)?;
         now = next;
         left = rest;
@@ -57,18 +57,18 @@ pub(crate) fn nnode_row(
 pub(crate) fn pnode_row(
     alloc: Global,
     geo: &Geometry,
-    lnum: u32,
-    leb: &[u8],
+    root: u32,
+    area: &[u8],
     row: &[LptPlace],
-    first: Option<WrongNode>,
+    first: Option<WrongValue>,
 ) -> Result<PropsRead, AllocError>
-    ensures { IfOk result (λ read. IsWalked (pnodes (raw_of geo.now)) lnum leb.now row.now first read.all.items read.first) }
+    ensures { IfOk result (λ read. IsRowRead (pnodes (raw_of geo.now)) root (lpt_leb_in (raw_of geo.now) area.now) row.now first read.all.items read.first) }
 {
     let mut all = Vec::new(alloc);
     let mut now = first;
     let mut left = row;
     'reading: while let Some((place, rest)) = left.split_first() {
-        let (four, next) = pnode_at(geo, lnum, leb, *place, now);
+        let (four, next) = pnode_at(geo, root, area, *place, now);
         all.extend_from_slice(&four)?;
         now = next;
         left = rest;
@@ -79,23 +79,23 @@ pub(crate) fn pnode_row(
 // What the nnode at a place names, or what is wrong there.
 fn nnode_at(
     geo: &Geometry,
-    lnum: u32,
-    leb: &[u8],
+    root: u32,
+    area: &[u8],
     place: LptPlace,
-    first: Option<WrongNode>,
-) -> ([LptPlace; 4], Option<WrongNode>)
-    ensures { IsStep (nnodes (raw_of geo.now)) lnum leb.now place first result.0 result.1 }
+    first: Option<WrongValue>,
+) -> ([LptPlace; 4], Option<WrongValue>)
+    ensures { IsNodeRead (nnodes (raw_of geo.now)) root (lpt_leb_in (raw_of geo.now) area.now) place first result.0 result.1 }
 {
     if place.lnum == 0 {
         return ([NO_PLACE; 4], first);
     }
-    if place.lnum != lnum {
-        return ([NO_PLACE; 4], lesser(first, elsewhere(place, lnum)));
-    }
-    let bytes = part(leb, place.offs, geo.nnode_len());
+    let bytes = part(leb_at(geo, area, place.lnum), place.offs, geo.nnode_len());
     let Some(node) = whole_nnode(geo, bytes) else {
-        return ([NO_PLACE; 4], lesser(first, misfit(place, 1, bytes)));
+        return ([NO_PLACE; 4], sooner(first, Some(misfit(place, 1, bytes))));
     };
+    if place.lnum != root {
+        return ([NO_PLACE; 4], sooner(first, Some(elsewhere(place, root))));
+    }
     let places = node.places;
     (places, first)
 }
@@ -103,23 +103,29 @@ fn nnode_at(
 // What the pnode at a place says, or what is wrong there.
 fn pnode_at(
     geo: &Geometry,
-    lnum: u32,
-    leb: &[u8],
+    root: u32,
+    area: &[u8],
     place: LptPlace,
-    first: Option<WrongNode>,
-) -> ([Lprop; 4], Option<WrongNode>)
-    ensures { IsStep (pnodes (raw_of geo.now)) lnum leb.now place first result.0 result.1 }
+    first: Option<WrongValue>,
+) -> ([Lprop; 4], Option<WrongValue>)
+    ensures { IsNodeRead (pnodes (raw_of geo.now)) root (lpt_leb_in (raw_of geo.now) area.now) place first result.0 result.1 }
 {
     if place.lnum == 0 {
         return ([empty_leb(geo); 4], first);
     }
-    if place.lnum != lnum {
-        return ([empty_leb(geo); 4], lesser(first, elsewhere(place, lnum)));
-    }
-    let bytes = part(leb, place.offs, geo.pnode_len());
+    let bytes = part(leb_at(geo, area, place.lnum), place.offs, geo.pnode_len());
     let Some(node) = whole_pnode(geo, bytes) else {
-        return ([empty_leb(geo); 4], lesser(first, misfit(place, 0, bytes)));
+        return (
+            [empty_leb(geo); 4],
+            sooner(first, Some(misfit(place, 0, bytes))),
+        );
     };
+    if place.lnum != root {
+        return (
+            [empty_leb(geo); 4],
+            sooner(first, Some(elsewhere(place, root))),
+        );
+    }
     let props = node.props;
     (props, first)
 }
@@ -158,22 +164,22 @@ fn empty_leb(geo: &Geometry) -> Lprop
 }
 
 // A node that stands in another LEB than the root's.
-fn elsewhere(place: LptPlace, lnum: u32) -> WrongNode
+fn elsewhere(place: LptPlace, root: u32) -> WrongValue
     ensures lnum { result.lnum ≡ place.lnum }
     ensures offs { result.offs ≡ place.offs }
-    ensures wanted { result.wanted ≡ lnum }
+    ensures wanted { result.wanted ≡ root }
     ensures found { result.found ≡ place.lnum }
 {
-    WrongNode {
+    WrongValue {
         lnum: place.lnum,
         offs: place.offs,
-        wanted: lnum,
-        found: place.lnum,
+        wanted: root as u64,
+        found: place.lnum as u64,
     }
 }
 
 // A node that isn't in its grammar: its checksum and the one that is right, or else its type and the one that is wanted.
-fn misfit(place: LptPlace, kind: u32, bytes: &[u8]) -> WrongNode
+fn misfit(place: LptPlace, kind: u32, bytes: &[u8]) -> WrongValue
     ensures lnum { result.lnum ≡ place.lnum }
     ensures offs { result.offs ≡ place.offs }
     ensures values { differs result.wanted result.found ≡ lpt_misfit kind bytes.now }
@@ -181,19 +187,30 @@ fn misfit(place: LptPlace, kind: u32, bytes: &[u8]) -> WrongNode
     let stored = byte_or_0(bytes, 0) as u32 + 256 * byte_or_0(bytes, 1) as u32;
     let right = crc16(behind_two(bytes)) as u32;
     if stored == right {
-        return WrongNode {
+        return WrongValue {
             lnum: place.lnum,
             offs: place.offs,
-            wanted: kind,
-            found: byte_or_0(bytes, 2) as u32 % 16,
+            wanted: kind as u64,
+            found: byte_or_0(bytes, 2) as u64 % 16,
         };
     }
-    WrongNode {
+    WrongValue {
         lnum: place.lnum,
         offs: place.offs,
-        wanted: right,
-        found: stored,
+        wanted: right as u64,
+        found: stored as u64,
     }
+}
+
+// The bytes of a LEB of the area, of whose LEBs these are the bytes, one behind another.
+fn leb_at<'a>(geo: &Geometry, area: &'a [u8], lnum: u32) -> &'a [u8]
+    ensures { result.now ≡ lpt_leb_in (raw_of geo.now) area.now lnum }
+{
+    let mut rest = area;
+    for _before in geo.lpt_first()..lnum {
+        rest = part_from(rest, geo.leb_size as usize);
+    }
+    part(rest, 0, geo.leb_size)
 }
 
 // The byte at this offset; 0 behind the end.

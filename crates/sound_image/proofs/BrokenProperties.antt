@@ -151,10 +151,11 @@ properties_wrong one contents geo master props at fits inside wrong zero depth p
     let found = known wrong.number wrong.place (subst L level wrong.over_main) (subst D here wrong.leads) in
     let own = said_at (HasPnode geo) (empty_leb geo) (alone master.lpt_lnum leb) places all wrong.number wrong.place (pnodes_long geo) row found in
     let right = pnode_right one geo leb root fits inside wrong.place own.four wrong.some own.says in
+    let P : ℕ → Type 0 = λ n. HasPnode geo (contents n) wrong.place.offs own.four in
     elim wrong.wrong [
-      | inl (other, values) ↦ other right.0
-      | inr (same, inl (deep, none, values)) ↦ none own.four right.1
-      | inr (same, inr (high, none, values)) ↦ omega (arith, high, here, end)
+      | inl (inl (deep, none, values)) ↦ none own.four (subst P (sym right.0) right.1)
+      | inl (inr (high, none, values)) ↦ omega (arith, high, here, end)
+      | inr (other, stands, values) ↦ other right.0
     ]
 properties_wrong one contents geo master props at fits inside wrong (suc level) depth places end before known (all, row, is) =
     let root = lpt_root master in
@@ -167,10 +168,11 @@ properties_wrong one contents geo master props at fits inside wrong (suc level) 
           let found = known wrong.number wrong.place (subst L under wrong.over_main) (subst D here wrong.leads) in
           let own = said_at (HasNnode geo) no_place (alone master.lpt_lnum leb) places all wrong.number wrong.place (nnodes_long geo) row found in
           let right = nnode_right one geo leb root fits inside wrong.place own.four wrong.some own.says in
+          let P : ℕ → Type 0 = λ n. HasNnode geo (contents n) wrong.place.offs own.four in
           elim wrong.wrong [
-            | inl (other, values) ↦ other right.0
-            | inr (same, inl (deep, none, values)) ↦ omega (arith, deep, here, end)
-            | inr (same, inr (high, none, values)) ↦ none own.four right.1
+            | inl (inl (deep, none, values)) ↦ omega (arith, deep, here, end)
+            | inl (inr (high, none, values)) ↦ none own.four (subst P (sym right.0) right.1)
+            | inr (other, stands, values) ↦ other right.0
           ]
       | inr deeper ↦
           properties_wrong one contents geo master props at fits inside wrong level (suc depth) (take (row_len geo level) all) (omega (arith, end)) (omega (arith, before, deeper)) (row_below one geo leb root fits inside depth level places all row known) is

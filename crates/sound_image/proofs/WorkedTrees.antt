@@ -82,7 +82,7 @@ erased_tree_row contents h =
           some = λ e. absurd cc;
           lnum = refl;
           offs = refl;
-          wrong = inr (refl, inr (omega (arith, depth), λ four node. no_root contents four h node, told));
+          wrong = inl (inr (omega (arith, depth), λ four node. no_root contents four h node, told));
         };
         least = λ other wrong.
             let own = root_alone contents wrong.depth wrong.number wrong.place h wrong.leads in
@@ -90,9 +90,9 @@ erased_tree_row contents h =
             let lnum : other.lnum ≡ 7 = wrong.lnum ∙ ap (λ (p : LptPlace). p.lnum) own.1 in
             let offs : other.offs ≡ 15 = wrong.offs ∙ ap (λ (p : LptPlace). p.offs) own.1 in
             let misfit : other.misfit ≡ differs 32782 65535 = elim wrong.wrong [
-              | inl (elsewhere, values) ↦ absurd (elsewhere (ap (λ (p : LptPlace). p.lnum) own.1))
-              | inr (same, inl (bottom, no_pnode, values)) ↦ absurd (omega (arith, bottom, none, depth))
-              | inr (same, inr (high, no_nnode, values)) ↦ values ∙ ap (λ (p : LptPlace). lpt_misfit 1 (take (nnode_len least_geometry) (drop p.offs (contents 7)))) own.1 ∙ sym told
+              | inl (inl (bottom, no_pnode, values)) ↦ absurd (omega (arith, bottom, none, depth))
+              | inl (inr (high, no_nnode, values)) ↦ values ∙ ap (λ (p : LptPlace). lpt_misfit 1 (take (nnode_len least_geometry) (drop p.offs (contents p.lnum)))) own.1 ∙ sym told
+              | inr (elsewhere, stands, values) ↦ absurd (elsewhere (ap (λ (p : LptPlace). p.lnum) own.1))
             ] in
             not_before other at (omega (arith, lnum)) (λ e. omega (arith, offs)) (λ e f. misfit);
       },

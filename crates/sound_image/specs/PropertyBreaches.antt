@@ -28,13 +28,20 @@ lpt_misfit type bytes =
     if bytes_number bytes % 2 ^ 16 == crc16_of (drop 2 bytes) then differs type (bytes_number bytes / 2 ^ 16 % 2 ^ 4)
     else differs (crc16_of (drop 2 bytes)) (bytes_number bytes % 2 ^ 16)
 
--- at this offset of the root's LEB, so far below the root, no node of the grammar stands
+-- at this offset of a LEB stands the node of the grammar that is wanted so far below the root: a pnode, or an nnode above them
+abbrev pub StandsNode : RawGeometry → List ℕ → ℕ → ℕ → Type 0
+StandsNode geo leb depth offs =
+    ((depth ≡ pnode_depth geo) × (four : List Lprop) × HasPnode geo leb offs four)
+    ⊎ ((depth < pnode_depth geo) × (four : List LptPlace) × HasNnode geo leb offs four)
+
+-- and here none stands
 abbrev pub LacksNode : RawGeometry → List ℕ → ℕ → ℕ → Misfit → Type 0
 LacksNode geo leb depth offs misfit =
     ((depth ≡ pnode_depth geo) × ((four : List Lprop) → HasPnode geo leb offs four → ⊥) × (misfit ≡ lpt_misfit 0 (take (pnode_len geo) (drop offs leb))))
     ⊎ ((depth < pnode_depth geo) × ((four : List LptPlace) → HasNnode geo leb offs four → ⊥) × (misfit ≡ lpt_misfit 1 (take (nnode_len geo) (drop offs leb))))
 
--- A node over main LEBs, to which intact nodes lead, stands in another LEB than the root, or isn't in its grammar.
+-- A node over main LEBs, to which intact nodes of the root's LEB lead, isn't in its grammar in the LEB that is named, whichever that is; or it is, and stands in
+-- another LEB than the root.
 pub record IsWrongProperty (contents : ℕ → List ℕ) (geo : RawGeometry) (master : Master) (at : Wrong) : Type 0 where
   pub depth : ℕ
   pub number : ℕ
@@ -45,5 +52,5 @@ pub record IsWrongProperty (contents : ℕ → List ℕ) (geo : RawGeometry) (ma
   pub some : place.lnum ≢ 0
   pub lnum : at.lnum ≡ place.lnum
   pub offs : at.offs ≡ place.offs
-  pub wrong : ((place.lnum ≢ master.lpt_lnum) × (at.misfit ≡ differs master.lpt_lnum place.lnum))
-      ⊎ ((place.lnum ≡ master.lpt_lnum) × LacksNode geo (contents master.lpt_lnum) depth place.offs at.misfit)
+  pub wrong : LacksNode geo (contents place.lnum) depth place.offs at.misfit
+      ⊎ ((place.lnum ≢ master.lpt_lnum) × StandsNode geo (contents place.lnum) depth place.offs × (at.misfit ≡ differs master.lpt_lnum place.lnum))

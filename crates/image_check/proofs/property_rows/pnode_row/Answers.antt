@@ -1,16 +1,16 @@
 use Rattle.std.proofs.Common.{refl, rules}
 use Rattle.ubifs_base.specs.RawOf.{raw_of}
-use Rattle.image_check.specs.PropertyWalk.{pnodes}
+use Rattle.image_check.specs.PropertyWalk.{lpt_leb_in, pnodes}
 use Rattle.image_check.proofs.WalkedRows.{row_end, row_next, row_start}
 use Rattle.image_check.proofs.property_rows.pnode_row.Goals as goal
 
 pub reading-init : goal.reading-init
-reading-init c = row_start (pnodes (raw_of c.args.geo.now)) c.args.lnum c.args.leb.now c.args.row.now c.args.row.now c.args.first _ c.new-all.ensures.items refl
+reading-init c = row_start (pnodes (raw_of c.args.geo.now)) c.args.root (lpt_leb_in (raw_of c.args.geo.now) c.args.area.now) c.args.row.now c.args.row.now c.args.first _ c.new-all.ensures.items refl
 
 pub reading-preserved : goal.reading-preserved
 reading-preserved c =
-    row_next (pnodes (raw_of c.args.geo.now)) c.args.lnum c.args.leb.now c.args.row.now c.reading.left.now c.in-Some.rest.now c.in-Some.place.now c.args.first c.reading.now c.pnode_at-next.result.1 c.reading.all.items c.pnode_at-next.result.0 c.extend_from_slice.new.self.items c.reading.invariant c.in-Some.ensures.cases.0
+    row_next (pnodes (raw_of c.args.geo.now)) c.args.root (lpt_leb_in (raw_of c.args.geo.now) c.args.area.now) c.args.row.now c.reading.left.now c.in-Some.rest.now c.in-Some.place.now c.args.first c.reading.now c.pnode_at-next.result.1 c.reading.all.items c.pnode_at-next.result.0 c.extend_from_slice.new.self.items c.reading.invariant c.in-Some.ensures.cases.0
     c.pnode_at-next.ensures (search (rules, c.in_ok-extend_from_slice.ensures.items))
 
 pub returns : goal.returns
-returns c = row_end (pnodes (raw_of c.args.geo.now)) c.args.lnum c.args.leb.now c.args.row.now c.reading.left.now c.args.first c.reading.now c.reading.all.items c.reading.invariant c.in_default.ensures.cases
+returns c = row_end (pnodes (raw_of c.args.geo.now)) c.args.root (lpt_leb_in (raw_of c.args.geo.now) c.args.area.now) c.args.row.now c.reading.left.now c.args.first c.reading.now c.reading.all.items c.reading.invariant c.in_default.ensures.cases

@@ -1,0 +1,16 @@
+use Rattle.std.proofs.Common.{ℕ, List, ap, drop, take, ◌∙◌}
+use Rattle.ubifs_base.specs.Properties.{nnode_len}
+use Rattle.ubifs_base.specs.RawOf.{raw_of}
+use Rattle.image_check.specs.PropertyWalk.{lpt_leb_in, nnodes}
+use Rattle.image_check.proofs.WalkedRows.{elsewhere_read, stands_nnode}
+use Rattle.image_check.proofs.property_rows.nnode_at.Goals as goal
+
+pub returns-then-place-root : goal.returns-then-place-root
+returns-then-place-root c =
+    let geo = raw_of c.args.geo.now in
+    let holds = lpt_leb_in geo c.args.area.now in
+    let offs = c.args.place.offs in
+    let bytes = c.part-bytes.ensures ∙ ap (λ (n : ℕ). take n (drop offs c.leb_at.result.now)) c.nnode_len.ensures ∙ ap (λ (leb : List ℕ). take (nnode_len geo) (drop offs leb)) c.leb_at.ensures in
+    elsewhere_read (nnodes geo) c.args.root holds c.args.place c.args.first c.elsewhere.result c.in-Some.node.places c.sooner-then-place-root.result c.if-place-eq0.false c.if-place-root.true
+    (stands_nnode geo (holds c.args.place.lnum) offs c.part-bytes.result.now c.in-Some.node bytes c.in-Some.ensures.found.0 c.in-Some.ensures.found.1)
+    c.elsewhere.ensures.lnum c.elsewhere.ensures.offs c.elsewhere.ensures.wanted c.elsewhere.ensures.found c.sooner-then-place-root.ensures
