@@ -11,15 +11,15 @@ use Rattle.bud_log.specs.References.{text_begins}
 use Rattle.bud_log.specs.RingRuns.{OneText}
 use Rattle.bud_log.specs.Seen.{HasBeginning}
 use Rattle.bud_log.specs.Writing.{IsOlder}
-use Rattle.journal_check.specs.Differences.{IsFirstOf, sooner_of}
+use Rattle.image_check.specs.WrongValues.{IsFirstOf, sooner_of}
 use Rattle.journal_check.specs.LogChecks.{AreTaken, IsAddedTo, IsMisnamedAmong, IsSeenLeb, torn_behind}
-use Rattle.journal_check.specs.declared.differing.Differing.{Differing}
+use Rattle.image_check.specs.declared.wrong_value.WrongValue.{WrongValue}
 use Rattle.journal_check.specs.declared.read_lebs.ReadLebs.{ReadLebs}
 use Rattle.journal_check.specs.declared.seen_leb.SeenLeb.{SeenLeb}
 use Rattle.journal_check.proofs.OneText.{text_seen}
 
 -- it was added to what was read
-pub added : OneText → (geo : RawGeometry) (leb : List ℕ) (lnum : ℕ) (seen : SeenLeb) (old new : ReadLebs) (references : List RefNode) (misnamed torn : Option Differing) → IsBytes leb → IsSeenLeb leb seen → AreTaken geo leb lnum old.references.items references misnamed
+pub added : OneText → (geo : RawGeometry) (leb : List ℕ) (lnum : ℕ) (seen : SeenLeb) (old new : ReadLebs) (references : List RefNode) (misnamed torn : Option WrongValue) → IsBytes leb → IsSeenLeb leb seen → AreTaken geo leb lnum old.references.items references misnamed
     → new.lnums.items ≡ old.lnums.items ++ lnum ∷ [] → new.references.items ≡ references → new.misnamed ≡ sooner_of old.misnamed misnamed → torn ≡ torn_behind old.tail lnum leb (start_of seen.begins) → new.torn ≡ sooner_of old.torn torn
     → new.last ≡ lnum → new.tail ≡ seen.tail → new.alone ≡ seen.alone → IsAddedTo geo leb lnum seen old new
 added one geo leb lnum seen old new references misnamed torn fits s t lnums refs misnamed_is torn_is new_torn last tail alone =

@@ -22,13 +22,13 @@ use Rattle.bud_log.specs.Writing.{IsAmong, IsOlder}
 use Rattle.sound_image.specs.Log.{EndWhole, NamesMain, ends_in_start}
 use Rattle.sound_image.specs.LogBreaches.{HasNoneSpare, IsBrokenIn, IsTornWithin, LacksItsStart, LooksNewer, NamesNoMain, misnamed, uneven}
 use Rattle.sound_image.specs.Wrong.{IsFirstWrong, IsOneOf, Misfit, Wrong, differs, type_byte}
-use Rattle.journal_check.specs.Differences.{IsFirstOf, wrong_at}
+use Rattle.image_check.specs.WrongValues.{IsFirstOf, wrong_at}
 use Rattle.journal_check.specs.LogChecks.{IsFirstNewer, IsJudgedLog, IsOtherStart, IsReadWhole, IsSeenLeb, first_broken, last_lnum, none_spare, verdict_by, verdict_of}
-use Rattle.journal_check.specs.declared.differing.Differing.{Differing}
+use Rattle.image_check.specs.declared.wrong_value.WrongValue.{WrongValue}
 use Rattle.journal_check.specs.declared.log_verdict.LogVerdict.TheVariants.{Broken}
 use Rattle.journal_check.specs.declared.read_lebs.ReadLebs.{ReadLebs}
 use Rattle.journal_check.specs.declared.seen_leb.SeenLeb.{SeenLeb}
-use Rattle.journal_check.proofs.Firsts.{first_alone}
+use Rattle.image_check.specs.FirstLaws.{first_alone}
 use Rattle.journal_check.proofs.LogTexts.{last_of_some, lnum_then}
 use Rattle.journal_check.proofs.Members.{one_behind}
 use Rattle.journal_check.proofs.NewerLebs.{among_any, lnums_of}
@@ -48,7 +48,7 @@ differs_same : (a b c d : ℕ) → a ≡ c → b ≡ d → differs a b ≡ diffe
 differs_same a b c d e f = ap (λ (n : ℕ). differs n b) e ∙ ap (differs c) f
 
 -- the start is missing, or another commit's
-pub start_wrong : OneNode → OneText → (contents : ℕ → List ℕ) (geo : RawGeometry) (master : Master) (text : LogText) (begins : Option Found) (at : Differing) → IsBytes (contents master.log_lnum) → IsTextOf (contents master.log_lnum) master.log_lnum text
+pub start_wrong : OneNode → OneText → (contents : ℕ → List ℕ) (geo : RawGeometry) (master : Master) (text : LogText) (begins : Option Found) (at : WrongValue) → IsBytes (contents master.log_lnum) → IsTextOf (contents master.log_lnum) master.log_lnum text
     → begins ≡ begins_with text.nodes → IsOtherStart (contents master.log_lnum) master.log_lnum begins master.cmt_no at → IsJudgedLog contents geo master (Broken at)
 start_wrong one unique contents geo master text begins at fits is_text begins_is h = inl (by h.wrong)
   where
@@ -244,12 +244,12 @@ all_older contents geo number texts none seen lnum in_log other =
 
 -- ---- all together
 -- what is wrong first by the second to the fifth part, if anything is
-abbrev Told : (ℕ → List ℕ) → RawGeometry → ℕ → List LogText → Option Differing → Type 0
+abbrev Told : (ℕ → List ℕ) → RawGeometry → ℕ → List LogText → Option WrongValue → Type 0
 Told contents geo number texts None =
     ((at : Wrong) → NamesNoMain contents geo texts at → ⊥) × ((at : Wrong) → IsTornWithin contents texts at → ⊥) × ((at : Wrong) → HasNoneSpare geo texts at → ⊥) × ((at : Wrong) → LooksNewer contents geo number texts at → ⊥)
 Told contents geo number texts (Some at) = IsBrokenIn contents geo number texts (wrong_at at)
 
-told_by : (contents : ℕ → List ℕ) (geo : RawGeometry) (number : ℕ) (texts : List LogText) (named torn spare newer : Option Differing) → IsFirstOf (NamesNoMain contents geo texts) named → IsFirstOf (IsTornWithin contents texts) torn → IsFirstOf (HasNoneSpare geo texts) spare
+told_by : (contents : ℕ → List ℕ) (geo : RawGeometry) (number : ℕ) (texts : List LogText) (named torn spare newer : Option WrongValue) → IsFirstOf (NamesNoMain contents geo texts) named → IsFirstOf (IsTornWithin contents texts) torn → IsFirstOf (HasNoneSpare geo texts) spare
     → IsFirstOf (LooksNewer contents geo number texts) newer → Told contents geo number texts (option_or named (option_or torn (option_or spare newer)))
 told_by contents geo number texts (Some a) torn spare newer h1 h2 h3 h4 = inl h1
 told_by contents geo number texts None (Some a) spare newer h1 h2 h3 h4 = inr (h1, inl h2)
@@ -257,7 +257,7 @@ told_by contents geo number texts None None (Some a) newer h1 h2 h3 h4 = inr (h1
 told_by contents geo number texts None None None (Some a) h1 h2 h3 h4 = inr (h1, inr (h2, inr (h3, h4)))
 told_by contents geo number texts None None None None h1 h2 h3 h4 = (h1, h2, h3, h4)
 
-pub judged : OneNode → OneText → (contents : ℕ → List ℕ) (geo : RawGeometry) (master : Master) (number : ℕ) (read : ReadLebs) (newer : Option Differing) (text : LogText) → IsBytes (contents master.log_lnum) → IsTextOf (contents master.log_lnum) master.log_lnum text
+pub judged : OneNode → OneText → (contents : ℕ → List ℕ) (geo : RawGeometry) (master : Master) (number : ℕ) (read : ReadLebs) (newer : Option WrongValue) (text : LogText) → IsBytes (contents master.log_lnum) → IsTextOf (contents master.log_lnum) master.log_lnum text
     → BeginsCommit (contents master.log_lnum) (begins_with text.nodes) (Some master.cmt_no) → IsReadWhole contents geo master.log_lnum number read → IsFirstNewer contents geo number read.lnums.items newer → IsJudgedLog contents geo master (verdict_of geo read newer)
 judged one unique contents geo master number read newer text fits is_text commit h newest = by (first_broken geo read newer) refl
   where
@@ -279,12 +279,12 @@ judged one unique contents geo master number read newer text fits is_text commit
     told : Told contents geo number texts (first_broken geo read newer)
     told = told_by contents geo number texts read.misnamed read.torn (none_spare geo read) newer h.are.misnamed h.are.torn (first_spare geo h.first h.more read.alone (length read.lnums.items) read.last h.alone (ap length h.are.lnums ∙ lnums_len texts) h.are.last) (newest.least texts h.are.lnums)
 
-    by : (o : Option Differing) → first_broken geo read newer ≡ o → IsJudgedLog contents geo master (verdict_by read o)
+    by : (o : Option WrongValue) → first_broken geo read newer ≡ o → IsJudgedLog contents geo master (verdict_by read o)
     by (Some at) e =
-        let P : Option Differing → Type 0 = λ o. Told contents geo number texts o in
+        let P : Option WrongValue → Type 0 = λ o. Told contents geo number texts o in
         inr (no_start, (number, texts, record { first = h.first; more = h.more; whole = refl; past = h.past; chain = h.chain; stops = h.stops }, subst P e told))
     by None e =
-        let P : Option Differing → Type 0 = λ o. Told contents geo number texts o in
+        let P : Option WrongValue → Type 0 = λ o. Told contents geo number texts o in
         let none = subst P e told in
         let seen : (lnum : ℕ) → IsLogLeb geo lnum → (IsAmong lnum texts → ⊥) → (s : SeenLeb) × IsSeenLeb (contents lnum) s = λ lnum in_log other.
         (newest.seen lnum in_log (elim (cases_Bool (list_any (λ k. k == lnum) read.lnums.items)) [

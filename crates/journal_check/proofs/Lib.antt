@@ -1,6 +1,5 @@
 pub mod Added
 pub mod Calls
-pub mod Firsts
 pub mod Judged
 pub mod LogTexts
 pub mod Members

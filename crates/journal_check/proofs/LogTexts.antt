@@ -12,12 +12,12 @@ use Rattle.bud_log.specs.RingRuns.{references_then, run_then}
 use Rattle.sound_image.specs.Log.{ends_in_start}
 use Rattle.sound_image.specs.LogBreaches.{IsTornWithin, NamesNoMain}
 use Rattle.sound_image.specs.Wrong.{IsOneOf, Wrong, differs, type_byte}
-use Rattle.journal_check.specs.Differences.{IsFirstOf, sooner_of}
+use Rattle.image_check.specs.WrongValues.{IsFirstOf, sooner_of}
 use Rattle.journal_check.specs.LogChecks.{IsAddedTo, IsFresh, IsMisnamedAmong, IsReadAs, IsReadUpTo, IsReadWhole, last_lnum, last_tail, torn_behind}
-use Rattle.journal_check.specs.declared.differing.Differing.{Differing}
+use Rattle.image_check.specs.declared.wrong_value.WrongValue.{WrongValue}
 use Rattle.journal_check.specs.declared.read_lebs.ReadLebs.{ReadLebs}
 use Rattle.journal_check.specs.declared.seen_leb.SeenLeb.{SeenLeb}
-use Rattle.journal_check.proofs.Firsts.{first_alone, first_of_both, first_same}
+use Rattle.image_check.specs.FirstLaws.{first_alone, first_of_both, first_same}
 use Rattle.journal_check.proofs.Members.{first_or_behind, head_of, in_back, in_either, in_front, one_of_none}
 
 -- the last text is the one that came last
@@ -150,8 +150,8 @@ read_added contents geo texts lnum seen old new h a =
     let text = a.text in
     let here = a.is_text.here in
     let lnum_of : LogText → ℕ = λ t. t.ends.lnum in
-    let F : Option Differing → Type 0 = λ o. IsFirstOf (NamesNoMain contents geo (texts ++ text ∷ [])) o in
-    let G : Option Differing → Type 0 = λ o. IsFirstOf (IsTornWithin contents (texts ++ text ∷ [])) o in
+    let F : Option WrongValue → Type 0 = λ o. IsFirstOf (NamesNoMain contents geo (texts ++ text ∷ [])) o in
+    let G : Option WrongValue → Type 0 = λ o. IsFirstOf (IsTornWithin contents (texts ++ text ∷ [])) o in
     let torn = torn_behind old.tail lnum (contents lnum) (start_of (begins_with text.nodes)) in
     record {
       lnums = a.lnums ∙ ap (λ (x : List ℕ). x ++ lnum ∷ []) h.lnums ∙ ap (λ (n : ℕ). map lnum_of texts ++ n ∷ []) (sym here) ∙ sym (map-append lnum_of texts (text ∷ []));
@@ -174,8 +174,8 @@ no_text x h = one_of_none x h
 -- nothing was read
 fresh_as : (contents : ℕ → List ℕ) (geo : RawGeometry) (read : ReadLebs) → IsFresh read → IsReadAs contents geo [] read
 fresh_as contents geo read h =
-    let F : Option Differing → Type 0 = λ o. IsFirstOf (NamesNoMain contents geo []) o in
-    let G : Option Differing → Type 0 = λ o. IsFirstOf (IsTornWithin contents []) o in
+    let F : Option WrongValue → Type 0 = λ o. IsFirstOf (NamesNoMain contents geo []) o in
+    let G : Option WrongValue → Type 0 = λ o. IsFirstOf (IsTornWithin contents []) o in
     record {
       lnums = h.lnums;
       references = h.references;

@@ -15,11 +15,11 @@ use Rattle.bud_log.specs.RingRuns.{OneText}
 use Rattle.bud_log.specs.Writing.{IsAmong}
 use Rattle.sound_image.specs.LogBreaches.{LooksNewer}
 use Rattle.sound_image.specs.Wrong.{Misfit, Wrong, differs}
-use Rattle.journal_check.specs.Differences.{IsFirstOf, sooner_of}
+use Rattle.image_check.specs.WrongValues.{IsFirstOf, sooner_of}
 use Rattle.journal_check.specs.LogChecks.{IsFirstNewer, IsSeenLeb, newer_at}
-use Rattle.journal_check.specs.declared.differing.Differing.{Differing}
+use Rattle.image_check.specs.declared.wrong_value.WrongValue.{WrongValue}
 use Rattle.journal_check.specs.declared.seen_leb.SeenLeb.{SeenLeb}
-use Rattle.journal_check.proofs.Firsts.{first_alone, first_of_both, first_same}
+use Rattle.image_check.specs.FirstLaws.{first_alone, first_of_both, first_same}
 use Rattle.journal_check.proofs.OneText.{one_log_text, text_seen}
 
 -- the numbers of the LEBs of texts
@@ -43,7 +43,7 @@ abbrev pub IsNewerBelow : (ℕ → List ℕ) → RawGeometry → ℕ → List Lo
 IsNewerBelow contents geo number texts lnum at = LooksNewer contents geo number texts at × (at.lnum < lnum)
 
 -- what is kept while the LEBs are gone over: those below this one were seen, or are among these, and this is the first
-pub record IsNewerSoFar (contents : ℕ → List ℕ) (geo : RawGeometry) (number : ℕ) (lnums : List ℕ) (lnum : ℕ) (first : Option Differing) : Type 0 where
+pub record IsNewerSoFar (contents : ℕ → List ℕ) (geo : RawGeometry) (number : ℕ) (lnums : List ℕ) (lnum : ℕ) (first : Option WrongValue) : Type 0 where
   pub least : (texts : List LogText) → lnums ≡ lnums_of texts → IsFirstOf (IsNewerBelow contents geo number texts lnum) first
   pub seen : (k : ℕ) → IsLogLeb geo k → k < lnum → IsFalse (list_any (λ j. j == k) lnums) → (seen : SeenLeb) × IsSeenLeb (contents k) seen
 
@@ -54,7 +54,7 @@ newer_none contents geo number lnums = record {
 }
 
 -- a LEB that was read
-pub newer_skip : (contents : ℕ → List ℕ) (geo : RawGeometry) (number : ℕ) (lnums : List ℕ) (lnum : ℕ) (first : Option Differing) → list_any (λ k. k == lnum) lnums ≡ true → IsNewerSoFar contents geo number lnums lnum first
+pub newer_skip : (contents : ℕ → List ℕ) (geo : RawGeometry) (number : ℕ) (lnums : List ℕ) (lnum : ℕ) (first : Option WrongValue) → list_any (λ k. k == lnum) lnums ≡ true → IsNewerSoFar contents geo number lnums lnum first
     → IsNewerSoFar contents geo number lnums (lnum + 1) first
 newer_skip contents geo number lnums lnum first is h = record {
   least = λ texts e.
@@ -103,8 +103,8 @@ one_newer one unique contents geo number texts lnum seen fits in_log not_among i
     by : (begins : Option Found) → seen.begins ≡ begins → IsFirstOf (λ at. LooksNewer contents geo number texts at × (at.lnum ≡ lnum)) (newer_at number lnum begins)
     by None e = λ at w. (let k = sym e ∙ same_begins at w.0 w.1 in absurd cc)
     by (Some found) e =
-        let F : Option Differing → Type 0 = λ o. IsFirstOf (λ at. LooksNewer contents geo number texts at × (at.lnum ≡ lnum)) o in
-        let d : Differing = record { lnum = lnum; offs = 0; wanted = number; found = found.sqnum } in
+        let F : Option WrongValue → Type 0 = λ o. IsFirstOf (λ at. LooksNewer contents geo number texts at × (at.lnum ≡ lnum)) o in
+        let d : WrongValue = record { lnum = lnum; offs = 0; wanted = number; found = found.sqnum } in
         elim (cases_Bool (nat_lt number found.sqnum)) [
           | inl newer ↦
               rw newer (first_alone (λ at. LooksNewer contents geo number texts at × (at.lnum ≡ lnum)) d
@@ -122,15 +122,15 @@ one_newer one unique contents geo number texts lnum seen fits in_log not_among i
         ]
 
 -- a LEB that wasn't read
-pub newer_next : OneNode → OneText → (contents : ℕ → List ℕ) (geo : RawGeometry) (number : ℕ) (lnums : List ℕ) (lnum : ℕ) (first newer next : Option Differing) (seen : SeenLeb) → IsBytes (contents lnum) → IsLogLeb geo lnum → list_any (λ k. k == lnum) lnums ≡ false
+pub newer_next : OneNode → OneText → (contents : ℕ → List ℕ) (geo : RawGeometry) (number : ℕ) (lnums : List ℕ) (lnum : ℕ) (first newer next : Option WrongValue) (seen : SeenLeb) → IsBytes (contents lnum) → IsLogLeb geo lnum → list_any (λ k. k == lnum) lnums ≡ false
     → IsSeenLeb (contents lnum) seen → newer ≡ newer_at number lnum seen.begins → next ≡ sooner_of first newer → IsNewerSoFar contents geo number lnums lnum first → IsNewerSoFar contents geo number lnums (lnum + 1) next
 newer_next one unique contents geo number lnums lnum first newer next seen fits in_log not is newer_is next_is h = record {
   least = λ texts e.
       (let Q : List ℕ → Type 0 = λ xs. list_any (λ k. k == lnum) xs ≡ false in
       let not_among : IsAmong lnum texts → ⊥ = λ among. (let k = sym (any_among lnum texts among) ∙ subst Q e not in absurd cc) in
       let own = one_newer one unique contents geo number texts lnum seen fits in_log not_among is in
-      let F : Option Differing → Type 0 = λ o. IsFirstOf (λ at. LooksNewer contents geo number texts at × (at.lnum ≡ lnum)) o in
-      let G : Option Differing → Type 0 = λ o. IsFirstOf (IsNewerBelow contents geo number texts (lnum + 1)) o in
+      let F : Option WrongValue → Type 0 = λ o. IsFirstOf (λ at. LooksNewer contents geo number texts at × (at.lnum ≡ lnum)) o in
+      let G : Option WrongValue → Type 0 = λ o. IsFirstOf (IsNewerBelow contents geo number texts (lnum + 1)) o in
       subst G (sym next_is)
       (first_same (λ at. IsNewerBelow contents geo number texts lnum at ⊎ (LooksNewer contents geo number texts at × (at.lnum ≡ lnum))) (IsNewerBelow contents geo number texts (lnum + 1)) (sooner_of first newer)
       (λ at w. elim w [ inl low ↦ (low.0, (let less = low.1 in omega (arith, less))) | inr here ↦ (here.0, (let same = here.1 in omega (arith, same))) ])
@@ -143,7 +143,7 @@ newer_next one unique contents geo number lnums lnum first newer next seen fits 
     below_or_here k less = elim (cases_Bool (nat_lt k lnum)) [ inl more ↦ inl (ltb-true k lnum more) | inr not ↦ inr (let l = ltb-false k lnum not in omega (arith, less, l)) ]
 
 -- at the end of the ring
-pub newer_all : (contents : ℕ → List ℕ) (geo : RawGeometry) (number : ℕ) (lnums : List ℕ) (lnum : ℕ) (first : Option Differing) → lpt_first geo ≤ lnum → IsNewerSoFar contents geo number lnums lnum first → IsFirstNewer contents geo number lnums first
+pub newer_all : (contents : ℕ → List ℕ) (geo : RawGeometry) (number : ℕ) (lnums : List ℕ) (lnum : ℕ) (first : Option WrongValue) → lpt_first geo ≤ lnum → IsNewerSoFar contents geo number lnums lnum first → IsFirstNewer contents geo number lnums first
 newer_all contents geo number lnums lnum first past h = record {
   least = λ texts e.
       (first_same (IsNewerBelow contents geo number texts lnum) (LooksNewer contents geo number texts) first (λ at w. w.0) (λ at w. (w, (let high = w.in_log.high in omega (arith, high, past)))) (h.least texts e));

@@ -13,10 +13,10 @@ use Rattle.bud_log.specs.LogText.{IsReferenceAt, Refer}
 use Rattle.bud_log.specs.References.{OneNode, refer_then}
 use Rattle.sound_image.specs.LogBreaches.{misnamed}
 use Rattle.sound_image.specs.Wrong.{Wrong, differs}
-use Rattle.journal_check.specs.Differences.{IsFirstOf, sooner_of}
+use Rattle.image_check.specs.WrongValues.{IsFirstOf, sooner_of}
 use Rattle.journal_check.specs.LogChecks.{AreTaken, IsMisnamedAmong, differing_at}
-use Rattle.journal_check.specs.declared.differing.Differing.{Differing}
-use Rattle.journal_check.proofs.Firsts.{first_alone, first_of_both, first_same}
+use Rattle.image_check.specs.declared.wrong_value.WrongValue.{WrongValue}
+use Rattle.image_check.specs.FirstLaws.{first_alone, first_of_both, first_same}
 use Rattle.journal_check.proofs.Members.{first_or_behind, in_back, in_either, in_front, one_of_none}
 use Rattle.journal_check.proofs.OneText.{one_reference}
 
@@ -59,7 +59,7 @@ one_misnamed one geo leb lnum found node fits kind is = by (misnamed geo node) r
         w.at_is ∙ ap place (the_one geo leb lnum found at w) ∙ ap told (placed_same (record { wanted = w.wanted; found = w.there }) m (sym (same_node at w) ∙ e)))
 
 -- what the loop over a text keeps
-pub record AreTakenSoFar (geo : RawGeometry) (leb : List ℕ) (lnum : ℕ) (nodes : List Found) (old new : List RefNode) (first : Option Differing) : Type 0 where
+pub record AreTakenSoFar (geo : RawGeometry) (leb : List ℕ) (lnum : ℕ) (nodes : List Found) (old new : List RefNode) (first : Option WrongValue) : Type 0 where
   pub references : List RefNode
   pub refer : Refer leb nodes references
   pub are : new ≡ old ++ references
@@ -68,7 +68,7 @@ pub record AreTakenSoFar (geo : RawGeometry) (leb : List ℕ) (lnum : ℕ) (node
 pub taken_none : (geo : RawGeometry) (leb : List ℕ) (lnum : ℕ) (old : List RefNode) → AreTakenSoFar geo leb lnum [] old old None
 taken_none geo leb lnum old = record { references = []; refer = refl; are = sym (append-nil old); is_first = λ at w. one_of_none w.found w.stands }
 
-pub taken_other : (geo : RawGeometry) (leb : List ℕ) (lnum : ℕ) (nodes : List Found) (old new : List RefNode) (first : Option Differing) (found : Found) → found.kind ≢ types.Reference → AreTakenSoFar geo leb lnum nodes old new first
+pub taken_other : (geo : RawGeometry) (leb : List ℕ) (lnum : ℕ) (nodes : List Found) (old new : List RefNode) (first : Option WrongValue) (found : Found) → found.kind ≢ types.Reference → AreTakenSoFar geo leb lnum nodes old new first
     → AreTakenSoFar geo leb lnum (nodes ++ found ∷ []) old new first
 taken_other geo leb lnum nodes old new first found other h =
     let P : List RefNode → Type 0 = λ x. Refer leb (nodes ++ found ∷ []) x in
@@ -81,12 +81,12 @@ taken_other geo leb lnum nodes old new first found other h =
           h.is_first;
     }
 
-pub taken_more : OneNode → (geo : RawGeometry) (leb : List ℕ) (lnum : ℕ) (nodes : List Found) (old now new : List RefNode) (first next misplaced : Option Differing) (found : Found) (node : RefNode) → IsBytes leb → found.kind ≡ types.Reference → IsReferenceAt leb found node
+pub taken_more : OneNode → (geo : RawGeometry) (leb : List ℕ) (lnum : ℕ) (nodes : List Found) (old now new : List RefNode) (first next misplaced : Option WrongValue) (found : Found) (node : RefNode) → IsBytes leb → found.kind ≡ types.Reference → IsReferenceAt leb found node
     → AreTakenSoFar geo leb lnum nodes old now first → misplaced ≡ differing_at lnum found.offs (misnamed geo node) → next ≡ sooner_of first misplaced → new ≡ now ++ node ∷ [] → AreTakenSoFar geo leb lnum (nodes ++ found ∷ []) old new next
 taken_more one geo leb lnum nodes old now new first next misplaced found node fits kind is h misplaced_is next_is new_is =
     let own = one_misnamed one geo leb lnum found node fits kind is in
-    let F : Option Differing → Type 0 = λ o. IsFirstOf (IsMisnamedAmong geo leb lnum (nodes ++ found ∷ [])) o in
-    let G : Option Differing → Type 0 = λ o. IsFirstOf (IsMisnamedAmong geo leb lnum (found ∷ [])) o in
+    let F : Option WrongValue → Type 0 = λ o. IsFirstOf (IsMisnamedAmong geo leb lnum (nodes ++ found ∷ [])) o in
+    let G : Option WrongValue → Type 0 = λ o. IsFirstOf (IsMisnamedAmong geo leb lnum (found ∷ [])) o in
     let both = first_of_both (IsMisnamedAmong geo leb lnum nodes) (IsMisnamedAmong geo leb lnum (found ∷ [])) first misplaced h.is_first (subst G (sym misplaced_is) own) in
     record {
       references = h.references ++ node ∷ [];
@@ -97,7 +97,7 @@ taken_more one geo leb lnum nodes old now new first next misplaced found node fi
     }
 
 -- at the end of the text
-pub taken_all : (geo : RawGeometry) (leb : List ℕ) (lnum place end : ℕ) (nodes : List Found) (old new : List RefNode) (first : Option Differing) → IsGathered leb 0 place nodes → AreTakenSoFar geo leb lnum nodes old new first → IsLast leb place end (tail_at leb end)
+pub taken_all : (geo : RawGeometry) (leb : List ℕ) (lnum place end : ℕ) (nodes : List Found) (old new : List RefNode) (first : Option WrongValue) → IsGathered leb 0 place nodes → AreTakenSoFar geo leb lnum nodes old new first → IsLast leb place end (tail_at leb end)
     → AreTaken geo leb lnum old new first
 taken_all geo leb lnum place end nodes old new first gathered h last =
     let text = gathered_end leb 0 place end end nodes (tail_at leb end) gathered last refl refl in

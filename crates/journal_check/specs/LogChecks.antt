@@ -18,8 +18,8 @@ use Rattle.bud_log.specs.Writing.{IsChain}
 use Rattle.sound_image.specs.Log.{HasLog, ends_in_start}
 use Rattle.sound_image.specs.LogBreaches.{IsBrokenLog, IsTornWithin, LooksNewer, NamesNoMain, misnamed}
 use Rattle.sound_image.specs.Wrong.{IsOneOf, Wrong, differs, type_byte}
-use Rattle.journal_check.specs.Differences.{IsFirstOf, sooner_of, wrong_at}
-use Rattle.journal_check.specs.declared.differing.Differing.{Differing}
+use Rattle.image_check.specs.WrongValues.{IsFirstOf, sooner_of, wrong_at}
+use Rattle.image_check.specs.declared.wrong_value.WrongValue.{WrongValue}
 use Rattle.journal_check.specs.declared.log_verdict.LogVerdict.{LogVerdict}
 use Rattle.journal_check.specs.declared.log_verdict.LogVerdict.TheVariants.{Broken, Sound}
 use Rattle.journal_check.specs.declared.read_lebs.ReadLebs.{ReadLebs}
@@ -67,13 +67,13 @@ pub record IsReadAs (contents : ℕ → List ℕ) (geo : RawGeometry) (texts : L
   pub tail : read.tail ≡ last_tail texts
 
 -- what is wrong with a LEB that was read behind this tail, if it begins with no commit start: the type of a commit start is wanted
-abbrev pub torn_behind : Tail → ℕ → List ℕ → Option ℕ → Option Differing
+abbrev pub torn_behind : Tail → ℕ → List ℕ → Option ℕ → Option WrongValue
 torn_behind Clean lnum leb start = None
 torn_behind Torn lnum leb (Some number) = None
 torn_behind Torn lnum leb None = Some (record { lnum = lnum; offs = 0; wanted = 10; found = type_byte leb 0 })
 
 -- the references of a text were added to others, and of those that name no place of a main LEB this is the first
-pub record AreTaken (geo : RawGeometry) (leb : List ℕ) (lnum : ℕ) (old new : List RefNode) (first : Option Differing) : Type 0 where
+pub record AreTaken (geo : RawGeometry) (leb : List ℕ) (lnum : ℕ) (old new : List RefNode) (first : Option WrongValue) : Type 0 where
   pub items : List Item
   pub end : ℕ
   pub tail : Tail
@@ -90,7 +90,7 @@ pub record IsAddedTo (geo : RawGeometry) (leb : List ℕ) (lnum : ℕ) (seen : S
   pub begins : seen.begins ≡ begins_with text.nodes
   pub lnums : new.lnums.items ≡ old.lnums.items ++ lnum ∷ []
   pub references : new.references.items ≡ old.references.items ++ text.references
-  pub misnamed : Option Differing
+  pub misnamed : Option WrongValue
   pub is_misnamed : IsFirstOf (IsMisnamedAmong geo leb lnum text.nodes) misnamed
   pub misnamed_is : new.misnamed ≡ sooner_of old.misnamed misnamed
   pub torn_is : new.torn ≡ sooner_of old.torn (torn_behind old.tail lnum leb (start_of (begins_with text.nodes)))
@@ -117,29 +117,29 @@ pub record IsReadWhole (contents : ℕ → List ℕ) (geo : RawGeometry) (from n
   pub alone : read.alone ≡ ends_in_start more
 
 -- a log begins with no commit start, or with that of another commit than this
-pub record IsOtherStart (leb : List ℕ) (lnum : ℕ) (begins : Option Found) (cmt_no : ℕ) (at : Differing) : Type 0 where
+pub record IsOtherStart (leb : List ℕ) (lnum : ℕ) (begins : Option Found) (cmt_no : ℕ) (at : WrongValue) : Type 0 where
   pub lnum_is : at.lnum ≡ lnum
   pub offs_is : at.offs ≡ 0
   pub wrong : ((start_of begins ≡ None) × (at.wanted ≡ 10) × (at.found ≡ type_byte leb 0))
       ⊎ ((other : ℕ) × BeginsCommit leb begins (Some other) × (other ≢ cmt_no) × (at.wanted ≡ cmt_no) × (at.found ≡ other))
 
 -- what is wrong with a value, at this place
-abbrev pub differing_at : ℕ → ℕ → Option Misplaced → Option Differing
+abbrev pub differing_at : ℕ → ℕ → Option Misplaced → Option WrongValue
 differing_at lnum offs None = None
 differing_at lnum offs (Some found) = Some (record { lnum = lnum; offs = offs; wanted = found.wanted; found = found.found })
 
 -- what is wrong with a LEB that isn't read and begins with this node: its number is above this one
-abbrev pub newer_at : ℕ → ℕ → Option Found → Option Differing
+abbrev pub newer_at : ℕ → ℕ → Option Found → Option WrongValue
 newer_at number lnum None = None
 newer_at number lnum (Some found) = if nat_lt number found.sqnum then Some (record { lnum = lnum; offs = 0; wanted = number; found = found.sqnum }) else None
 
 -- Of the LEBs of the log whose numbers aren't among these, each was seen; and of those that begin with a number above this one, this is the first.
-pub record IsFirstNewer (contents : ℕ → List ℕ) (geo : RawGeometry) (number : ℕ) (lnums : List ℕ) (first : Option Differing) : Type 0 where
+pub record IsFirstNewer (contents : ℕ → List ℕ) (geo : RawGeometry) (number : ℕ) (lnums : List ℕ) (first : Option WrongValue) : Type 0 where
   pub least : (texts : List LogText) → lnums ≡ map (λ (text : LogText). text.ends.lnum) texts → IsFirstOf (LooksNewer contents geo number texts) first
   pub seen : (lnum : ℕ) → IsLogLeb geo lnum → IsFalse (list_any (λ k. k == lnum) lnums) → (seen : SeenLeb) × IsSeenLeb (contents lnum) seen
 
 -- what is wrong if all LEBs of the ring were read, and the last is no further commit start alone
-abbrev pub none_spare : RawGeometry → ReadLebs → Option Differing
+abbrev pub none_spare : RawGeometry → ReadLebs → Option WrongValue
 none_spare geo read = if read.alone || nat_lt (length read.lnums.items) geo.log_lebs then None else Some (record { lnum = read.last; offs = 0; wanted = geo.log_lebs - 1; found = geo.log_lebs })
 
 -- nothing was read
@@ -152,15 +152,15 @@ pub record IsFresh (read : ReadLebs) : Type 0 where
   pub tail : read.tail ≡ Clean
 
 -- what is wrong first by the second to the fifth part of the rule; the fifth is told by itself
-abbrev pub first_broken : RawGeometry → ReadLebs → Option Differing → Option Differing
+abbrev pub first_broken : RawGeometry → ReadLebs → Option WrongValue → Option WrongValue
 first_broken geo read newer = option_or read.misnamed (option_or read.torn (option_or (none_spare geo read) newer))
 
-abbrev pub verdict_by : ReadLebs → Option Differing → LogVerdict
+abbrev pub verdict_by : ReadLebs → Option WrongValue → LogVerdict
 verdict_by read None = Sound (record { references = read.references })
 verdict_by read (Some at) = Broken at
 
 -- the answer, once all was read
-abbrev pub verdict_of : RawGeometry → ReadLebs → Option Differing → LogVerdict
+abbrev pub verdict_of : RawGeometry → ReadLebs → Option WrongValue → LogVerdict
 verdict_of geo read newer = verdict_by read (first_broken geo read newer)
 
 -- a check's answer: the rule on the log holds, and these are its references; or it is broken here

@@ -4,13 +4,11 @@ ghost use Rattle.std.specs.Prelude.{◌≡◌, ◌<◌, ◌^◌, length, OnOk};
 ghost use Rattle.ubifs_base.specs.RawOf.{raw_of};
 ghost use Rattle.journal_check.specs.LogChecks.{IsAddedTo, IsSeenLeb, torn_behind as torn_at};
 
-use crate::differing::Differing;
 use crate::read_lebs::ReadLebs;
 use crate::references::take_references;
 use crate::seeing::start_of;
 use crate::seen_leb::SeenLeb;
-use crate::sooner::sooner;
-use image_check::type_byte;
+use image_check::{WrongValue, sooner, type_byte};
 use leb_scan::{Tail, one_text};
 use std::alloc::{AllocError, Global};
 use ubifs_base::Geometry;
@@ -43,14 +41,14 @@ pub(crate) fn add(
 }
 
 // What is wrong with a LEB behind this tail, which begins with a commit start of this number, or with none.
-fn torn_behind(tail: Tail, lnum: u32, leb: &[u8], start: Option<u64>) -> Option<Differing>
+fn torn_behind(tail: Tail, lnum: u32, leb: &[u8], start: Option<u64>) -> Option<WrongValue>
     ensures { result ≡ torn_at tail lnum leb.now start }
 {
     match tail {
         Tail::Clean => None,
         Tail::Torn => match start {
             Some(_) => None,
-            None => Some(Differing {
+            None => Some(WrongValue {
                 lnum,
                 offs: 0,
                 wanted: 10,

@@ -7,9 +7,8 @@ ghost use Rattle.bud_log.specs.LogText.{BeginsCommit, IsStartAt, start_of as sta
 ghost use Rattle.bud_log.specs.Seen.{HasBeginning};
 ghost use Rattle.journal_check.specs.LogChecks.{IsOtherStart};
 
-use crate::differing::Differing;
 use crate::seeing::start_of;
-use image_check::type_byte;
+use image_check::{WrongValue, type_byte};
 use leb_scan::Found;
 use media_sys::{CommitStart, one_node};
 use std::alloc::Global;
@@ -22,13 +21,13 @@ pub(crate) fn number_of_start(
     lnum: u32,
     begins: Option<Found>,
     cmt_no: u64,
-) -> Result<u64, Differing>
+) -> Result<u64, WrongValue>
     requires { HasBeginning leb.now begins }
     ensures ok { IfOk result (λ number. (start_number begins ≡ Some number) × BeginsCommit leb.now begins (Some cmt_no)) }
     ensures err { IfErr result (IsOtherStart leb.now lnum begins cmt_no) }
 {
     let Some(number) = start_of(begins) else {
-        return Err(Differing {
+        return Err(WrongValue {
             lnum,
             offs: 0,
             wanted: 10,
@@ -36,7 +35,7 @@ pub(crate) fn number_of_start(
         });
     };
     let Some(found) = commit_of(alloc, leb, begins) else {
-        return Err(Differing {
+        return Err(WrongValue {
             lnum,
             offs: 0,
             wanted: 10,
@@ -44,7 +43,7 @@ pub(crate) fn number_of_start(
         });
     };
     if found != cmt_no {
-        return Err(Differing {
+        return Err(WrongValue {
             lnum,
             offs: 0,
             wanted: cmt_no,

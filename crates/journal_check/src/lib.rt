@@ -8,7 +8,6 @@
 
 mod adding;
 mod commits;
-mod differing;
 mod log_check;
 mod log_found;
 mod log_verdict;
@@ -18,7 +17,6 @@ mod reading;
 mod references;
 mod seeing;
 mod seen_leb;
-mod sooner;
 
 pub use crate::log_check::check_log;
 pub use crate::log_found::LogFound;

@@ -15,13 +15,12 @@ ghost use Rattle.image_check.specs.Told.{HasCheckCause, IsBreachOf, StaysSureChe
 ghost use Rattle.journal_check.specs.LogChecks.{IsJudgedLog, none_spare as is_none_spare, verdict_of};
 
 use crate::commits::number_of_start;
-use crate::differing::Differing;
 use crate::log_found::LogFound;
 use crate::log_verdict::LogVerdict;
 use crate::newer::first_newer;
 use crate::read_lebs::ReadLebs;
 use crate::reading::{nothing_read, read_first, read_on};
-use image_check::CheckFault;
+use image_check::{CheckFault, WrongValue};
 use leb_scan::one_text;
 use media_sys::{Master, one_node};
 use sound_image::{Breach, Rule};
@@ -59,7 +58,7 @@ pub fn check_log<V: Volume>(
 }
 
 // What is told of a log that is broken here.
-fn log_breach(at: Differing) -> Breach
+fn log_breach(at: WrongValue) -> Breach
     ensures { result ≡ Damaged rules.Log at.lnum at.offs at.wanted at.found }
 {
     Breach::Damaged {
@@ -124,7 +123,7 @@ fn judge_in<V: Volume>(
 }
 
 // The answer, once all is read: by the second to the fifth part.
-fn verdict(geometry: &Geometry, read: ReadLebs, newer: Option<Differing>) -> LogVerdict
+fn verdict(geometry: &Geometry, read: ReadLebs, newer: Option<WrongValue>) -> LogVerdict
     ensures { result ≡ verdict_of (raw_of geometry.now) read newer }
 {
     let first = read
@@ -143,13 +142,13 @@ fn verdict(geometry: &Geometry, read: ReadLebs, newer: Option<Differing>) -> Log
 }
 
 // What is wrong if no LEB of the ring is left to be read, and the last that was read is no further commit start alone.
-fn none_spare(geometry: &Geometry, read: &ReadLebs) -> Option<Differing>
+fn none_spare(geometry: &Geometry, read: &ReadLebs) -> Option<WrongValue>
     ensures { result ≡ is_none_spare (raw_of geometry.now) read.now }
 {
     if read.alone || read.lnums.len() < geometry.log_lebs as usize {
         return None;
     }
-    Some(Differing {
+    Some(WrongValue {
         lnum: read.last,
         offs: 0,
         wanted: geometry.log_lebs as u64 - 1,

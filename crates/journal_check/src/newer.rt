@@ -8,10 +8,9 @@ ghost use Rattle.ubi_volume.specs.Volume.{Keeps, SameShape};
 ghost use Rattle.ubi_volume.specs.Faults.{HasCause, StaysSure};
 ghost use Rattle.journal_check.specs.LogChecks.{IsFirstNewer, IsSeenLeb, newer_at as is_newer_at};
 
-use crate::differing::Differing;
 use crate::seeing::see;
 use crate::seen_leb::SeenLeb;
-use crate::sooner::sooner;
+use image_check::{WrongValue, sooner};
 use leb_scan::{Found, one_text};
 use media_sys::one_node;
 use ubi_volume::{VolFault, Volume, read_leb};
@@ -24,7 +23,7 @@ pub(crate) fn first_newer<V: Volume>(
     number: u64,
     lnums: &[u32],
     leb: &mut [u8],
-) -> Result<Option<Differing>, VolFault>
+) -> Result<Option<WrongValue>, VolFault>
     requires lebs { lpt_first (raw_of geometry.now) ≤ (V.state volume.old).leb_cnt }
     requires whole { length leb.old ≡ (V.state volume.old).leb_size }
     requires size { length leb.old < 2 ^ 32 }
@@ -54,14 +53,14 @@ fn is_among(lnums: &[u32], lnum: u32) -> bool
 }
 
 // What is wrong with a LEB that begins with this node, if its number is above this one.
-fn newer_at(number: u64, lnum: u32, begins: Option<Found>) -> Option<Differing>
+fn newer_at(number: u64, lnum: u32, begins: Option<Found>) -> Option<WrongValue>
     ensures { result ≡ is_newer_at number lnum begins }
 {
     let found = begins?;
     if found.sqnum <= number {
         return None;
     }
-    Some(Differing {
+    Some(WrongValue {
         lnum,
         offs: 0,
         wanted: number,

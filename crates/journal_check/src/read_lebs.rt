@@ -1,6 +1,6 @@
 // What was read of a log so far.
 
-use crate::differing::Differing;
+use image_check::WrongValue;
 use leb_scan::Tail;
 use media_sys::RefNode;
 
@@ -11,8 +11,8 @@ use media_sys::RefNode;
 pub(crate) struct ReadLebs {
     pub lnums: Vec<u32>,
     pub references: Vec<RefNode>,
-    pub misnamed: Option<Differing>,
-    pub torn: Option<Differing>,
+    pub misnamed: Option<WrongValue>,
+    pub torn: Option<WrongValue>,
     pub last: u32,
     pub tail: Tail,
     pub alone: bool,

@@ -9,8 +9,7 @@ ghost use Rattle.bud_log.specs.LogText.{IsReferenceAt};
 ghost use Rattle.sound_image.specs.LogBreaches.{misnamed};
 ghost use Rattle.journal_check.specs.LogChecks.{AreTaken, differing_at};
 
-use crate::differing::Differing;
-use crate::sooner::sooner;
+use image_check::{WrongValue, sooner};
 use leb_scan::{Found, Scanner};
 use media_sys::{RefNode, one_node};
 use std::alloc::{AllocError, Global};
@@ -23,7 +22,7 @@ pub(crate) fn take_references(
     lnum: u32,
     leb: &[u8],
     references: &mut Vec<RefNode>,
-) -> Result<Option<Differing>, AllocError>
+) -> Result<Option<WrongValue>, AllocError>
     requires { length leb.now < 2 ^ 32 }
     ensures { IfOk result (AreTaken (raw_of geometry.now) leb.now lnum references.old.items references.new.items) }
 {
@@ -42,7 +41,7 @@ pub(crate) fn take_references(
 }
 
 // What is wrong with the place that a reference names, first, at the place at which the reference stands.
-fn misnamed_at(geometry: &Geometry, lnum: u32, offs: u32, node: RefNode) -> Option<Differing>
+fn misnamed_at(geometry: &Geometry, lnum: u32, offs: u32, node: RefNode) -> Option<WrongValue>
     ensures { result ≡ differing_at lnum offs (misnamed (raw_of geometry.now) node) }
 {
     let low = geometry.main_first();
@@ -61,10 +60,10 @@ fn misnamed_at(geometry: &Geometry, lnum: u32, offs: u32, node: RefNode) -> Opti
     None
 }
 
-fn differing(lnum: u32, offs: u32, wanted: u32, found: u32) -> Option<Differing>
+fn differing(lnum: u32, offs: u32, wanted: u32, found: u32) -> Option<WrongValue>
     ensures { result ≡ Some (record { lnum = lnum; offs = offs; wanted = wanted; found = found }) }
 {
-    Some(Differing {
+    Some(WrongValue {
         lnum,
         offs,
         wanted: wanted as u64,

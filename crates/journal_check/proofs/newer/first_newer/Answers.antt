@@ -3,9 +3,9 @@ use Rattle.std.specs.Prelude.{◌==◌, IsOk}
 use Rattle.std.specs.List.{list_any}
 use Rattle.ubifs_base.specs.Areas.{lpt_first}
 use Rattle.ubifs_base.specs.RawOf.{raw_of}
-use Rattle.journal_check.specs.Differences.{sooner_of}
+use Rattle.image_check.specs.WrongValues.{sooner_of}
 use Rattle.journal_check.specs.LogChecks.{IsSeenLeb}
-use Rattle.journal_check.specs.declared.differing.Differing.{Differing}
+use Rattle.image_check.specs.declared.wrong_value.WrongValue.{WrongValue}
 use Rattle.journal_check.proofs.Calls.{KeepsOn, keeps_on_then}
 use Rattle.journal_check.proofs.NewerLebs.{IsNewerSoFar, newer_all, newer_next, newer_skip}
 use Rattle.journal_check.proofs.newer.first_newer.Goals.{then-not-is_among+in_ok-seen, else-not-is_among}
@@ -47,7 +47,7 @@ loop-lnum-preserved g c =
           let first : c.loop-lnum.first ≡ c.if-not-is_among.first = (let x = w.first-is in cc) in
           let vol : c.loop-lnum.volume ≡ c.if-not-is_among.volume = (let x = w.volume-is in cc) in
           let len : c.if-not-is_among.leb ≡ c.loop-lnum.leb = (let x = w.leb-is in cc) in
-          let P : Option Differing → Type 0 = λ o. IsNewerSoFar a.holds geo c.args.number lnums (lnum + 1) o in
+          let P : Option WrongValue → Type 0 = λ o. IsNewerSoFar a.holds geo c.args.number lnums (lnum + 1) o in
           let Q : _ → Type 0 = λ v. KeepsOn a (g.V.Volume.state v) in
           (subst P first (newer_skip a.holds geo c.args.number lnums lnum c.loop-lnum.first is inv.0), next, end, subst Q vol kept, ap length len ∙ inv.4)
     ]
