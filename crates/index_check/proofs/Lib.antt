@@ -1,0 +1,8 @@
+pub mod StandingNodes
+pub mod Levels
+pub mod Contents
+pub mod Kept
+pub mod FirstBroken
+pub mod Reached
+pub mod Rows
+pub mod Walks

@@ -1,0 +1,2 @@
+pub mod FoundIndex
+pub mod IndexWalk

@@ -1,0 +1,121 @@
+// An index node is read from a volume, or what stands in its place.
+
+ghost use Rattle.std.specs.Prelude.{◌≡◌, ◌^◌, ◌<◌, ℕ, IfOk, IfSome, IfNone, length};
+ghost use Rattle.ubifs_base.specs.NodeLaws.{IsBytes};
+ghost use Rattle.media_sys.specs.Index.{Index as AnIndexNode, index_of};
+ghost use Rattle.index_media.specs.Stored.{IsIndexNodeAt};
+ghost use Rattle.sound_image.specs.IndexBreaches.{LacksIndexNode};
+ghost use Rattle.index_check.specs.IndexWalk.{IsIndexNodeIn, OnlyReads, told_misfit};
+
+use crate::broken_node::NodeMisfit;
+use image_check::type_byte;
+use media_sys::{Branch, IdxNode};
+use node_fields::u32_at;
+use std::alloc::Global;
+use ubi_volume::{AreaFault, Volume, read_leb};
+use ubifs_base::Memory;
+
+/// The index node to which a branch leads; none where no intact one of its length stands there.
+pub(crate) fn read_node<V: Volume>(
+    alloc: Global,
+    volume: &mut V,
+    branch: &Branch,
+) -> Result<Option<IdxNode>, AreaFault>
+    ensures found { IfOk result (λ read. IfSome read (λ node. IsIndexNodeAt (V.state volume.old).holds branch.now (index_of node))) }
+    ensures none { IfOk result (λ read. IfNone read ((said : AnIndexNode) → IsIndexNodeAt (V.state volume.old).holds branch.now said → ⊥)) }
+    ensures reads { OnlyReads (V.state volume.old) (V.state volume.new) result }
+{
+    let size = volume.leb_size();
+    if branch.lnum >= volume.leb_cnt() {
+        return Ok(None);
+    }
+    if branch.offs > size {
+        return Ok(None);
+    }
+    if branch.len > size - branch.offs {
+        return Ok(None);
+    }
+    let mut bytes = vec![in alloc; 0; branch.len as usize]?;
+    volume.read(branch.lnum, branch.offs, &mut bytes)?;
+    let read = IdxNode::decode(alloc, &bytes)?;
+    Ok(read)
+}
+
+// The length of the intact index node that stands at an offset of a LEB; none where none does.
+fn node_len_at(alloc: Global, leb: &[u8], offs: u32) -> Result<Option<u32>, Memory>
+    ensures found { IfOk result (λ read. IfSome read (IsIndexNodeIn leb.now offs)) }
+    ensures none { IfOk result (λ read. IfNone read ((len : ℕ) → IsIndexNodeIn leb.now offs len → ⊥)) }
+{
+    if offs as usize > leb.len() {
+        return Ok(None);
+    }
+    let rest = leb.split_at(offs as usize).1;
+    if rest.len() < 24 {
+        return Ok(None);
+    }
+    let len = u32_at(rest, 16);
+    if len as usize > rest.len() {
+        return Ok(None);
+    }
+    let read = IdxNode::decode(alloc, rest.split_at(len as usize).0)?;
+    let Some(_) = read else {
+        return Ok(None);
+    };
+    Ok(Some(len))
+}
+
+// What is wrong where a branch leads, in the bytes of the LEB.
+fn lack_in(alloc: Global, leb: &[u8], branch: &Branch) -> Result<NodeMisfit, Memory>
+    requires { IsIndexNodeIn leb.now branch.now.offs branch.now.len → ⊥ }
+    ensures { IfOk result (λ misfit. LacksIndexNode (λ _. leb.now) branch.now (told_misfit misfit)) }
+{
+    let there = node_len_at(alloc, leb, branch.offs)?;
+    match there {
+        None => Ok(NodeMisfit {
+            wanted: 9,
+            found: type_byte(leb, branch.offs) as u64,
+        }),
+        Some(len) => Ok(NodeMisfit {
+            wanted: branch.len as u64,
+            found: len as u64,
+        }),
+    }
+}
+
+// The same, of the LEB of a volume that is read into the room that a LEB takes.
+fn lack_read<V: Volume>(
+    alloc: Global,
+    volume: &mut V,
+    branch: &Branch,
+    leb: &mut [u8],
+) -> Result<NodeMisfit, AreaFault>
+    requires lnum { branch.now.lnum < (V.state volume.old).leb_cnt }
+    requires whole { length leb.old ≡ (V.state volume.old).leb_size }
+    requires none { (said : AnIndexNode) → IsIndexNodeAt (V.state volume.old).holds branch.now said → ⊥ }
+    ensures lack { IfOk result (λ misfit. LacksIndexNode (V.state volume.old).holds branch.now (told_misfit misfit)) }
+    ensures reads { OnlyReads (V.state volume.old) (V.state volume.new) result }
+{
+    read_leb(volume, branch.lnum, leb)?;
+    let misfit = lack_in(alloc, leb, branch)?;
+    Ok(misfit)
+}
+
+/// What is wrong where a branch leads to no intact index node of its length.
+pub(crate) fn read_lack<V: Volume>(
+    alloc: Global,
+    volume: &mut V,
+    branch: &Branch,
+) -> Result<NodeMisfit, AreaFault>
+    requires none { (said : AnIndexNode) → IsIndexNodeAt (V.state volume.old).holds branch.now said → ⊥ }
+    ensures lack { IfOk result (λ misfit. LacksIndexNode (V.state volume.old).holds branch.now (told_misfit misfit)) }
+    ensures reads { OnlyReads (V.state volume.old) (V.state volume.new) result }
+{
+    if branch.lnum >= volume.leb_cnt() {
+        return Ok(NodeMisfit {
+            wanted: 9,
+            found: 255,
+        });
+    }
+    let mut leb = vec![in alloc; 0; volume.leb_size() as usize]?;
+    lack_read(alloc, volume, branch, &mut leb)
+}
