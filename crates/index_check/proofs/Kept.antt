@@ -1,9 +1,9 @@
 -- A volume that is only read.
-use Rattle.std.proofs.Common.{◌≡◌, ◌⊎◌, ℕ, ◌≤◌, ◌∙◌, Result, Ok, Err, inl, inr, arith, refl}
+use Rattle.std.proofs.Common.{◌≡◌, ◌⊎◌, ℕ, ◌≤◌, ◌∙◌, Ok, Err, inl, inr, arith, refl}
 use Rattle.ubifs_base.specs.Faults.{IsCause-before}
 use Rattle.ubi_volume.specs.Volume.{VolumeState, Keeps, SameShape}
 use Rattle.ubi_volume.specs.VolumeLaws.{Keeps-then, SameShape-then, Keeps-none}
-use Rattle.ubi_volume.specs.Faults.{HasAreaCause, IsNotVolume, StaysSureArea}
+use Rattle.ubi_volume.specs.Faults.{HasAreaCause, IsNotVolume}
 use Rattle.ubi_volume.specs.declared.fault.AreaFault.{AreaFault}
 use Rattle.ubi_volume.specs.declared.fault.AreaFault.TheVariants as area
 use Rattle.index_check.specs.IndexWalk.{OnlyReads}

@@ -1,6 +1,6 @@
 -- At most one index node stands at a place, and at most one thing is wrong where a node is wanted.
-use Rattle.std.proofs.Common.{◌≡◌, ℕ, zero, suc, ◌+◌, ◌<◌, ◌≤◌, List, [], ◌∷◌, ◌++◌, Option, Some, None, IfNone, length, take, drop, refl, ap, sym, ◌∙◌, subst, inl, inr, arith, length-drop, take-append-drop, get_or-drop}
-use Rattle.std.proofs.lemmas.List.{drop-append-le, length-take-le, get_or-take}
+use Rattle.std.proofs.Common.{◌≡◌, ℕ, zero, suc, ◌+◌, ◌<◌, ◌≤◌, List, [], ◌∷◌, Option, Some, None, IfNone, length, take, drop, refl, ap, sym, ◌∙◌, subst, inl, inr, arith, length-drop, take-append-drop, get_or-drop}
+use Rattle.std.proofs.lemmas.List.{drop-append-le, length-take-le}
 use Rattle.std.specs.Prelude.{get_or}
 use Rattle.byteorder.specs.Endian.{little_number}
 use Rattle.byteorder.specs.Numbers.{little_from-append}

@@ -1,5 +1,4 @@
-use Rattle.std.proofs.Common.{Ok, Err, inl, subst, sym}
-use Rattle.media_sys.specs.Index.{Index}
+use Rattle.std.proofs.Common.{Err, inl, subst, sym}
 use Rattle.index_check.specs.IndexWalk.{told_misfit}
 use Rattle.index_check.specs.declared.broken_node.NodeMisfit.{NodeMisfit}
 use Rattle.sound_image.specs.IndexBreaches.{LacksIndexNode}
