@@ -1,5 +1,5 @@
-use Rattle.std.proofs.Common.{ℕ, ◌-◌, ◌≡◌, ◌∙◌, arith, rules, inl, inr, sym}
-use Rattle.ubifs_base.specs.Areas.{lpt_first, orph_first}
+use Rattle.std.proofs.Common.{◌-◌, ◌∙◌, arith, rules, sym}
+use Rattle.ubifs_base.specs.Areas.{lpt_first}
 use Rattle.ubifs_base.specs.RawOf.{raw_of}
 use Rattle.image_check.proofs.AreaLebs.{area_is, area_next, area_start}
 use Rattle.image_check.proofs.Kept.{kept_next, kept_start, sure_of_one}
