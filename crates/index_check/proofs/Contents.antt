@@ -12,7 +12,8 @@ use Rattle.media_sys.specs.declared.branch.Branch.{Branch}
 use Rattle.index_media.specs.Stored.{IsIndexNodeAt}
 use Rattle.sound_image.specs.IndexBreaches.{HasIndexNodeOf, LacksIndexNode, NodeWanted}
 use Rattle.sound_image.specs.Wrong.{Misfit, Wrong, differs, type_byte}
-use Rattle.index_check.specs.IndexWalk.{IsIndexStep, IsWrongWanted, wrong_of}
+use Rattle.index_check.specs.IndexWalk.{IsIndexStep, IsWrongWanted}
+use Rattle.image_check.specs.WrongValues.{wrong_at}
 use Rattle.index_check.specs.declared.index_walk.IndexWalk.{IndexWalk}
 
 -- a volume's contents are bytes
@@ -50,7 +51,7 @@ wrong_moved a b geo props node at e h = record {
 
 pub step_moved : (a b : ℕ → List ℕ) (geo : RawGeometry) (props : List Lprop) (wanted : NodeWanted) (old new : IndexWalk) → ((k : ℕ) → b k ≡ a k) → IsIndexStep b geo props wanted old new → IsIndexStep a geo props wanted old new
 step_moved a b geo props wanted old new e (inl (said, stands, right, taken)) = inl (said, node_moved a b wanted.branch said (e wanted.branch.lnum) stands, right, taken)
-step_moved a b geo props wanted old new e (inr (node, wrong, passed)) = inr (node, wrong_moved a b geo props wanted (wrong_of node) (e wanted.branch.lnum) wrong, passed)
+step_moved a b geo props wanted old new e (inr (node, wrong, passed)) = inr (node, wrong_moved a b geo props wanted (wrong_at node) (e wanted.branch.lnum) wrong, passed)
 
 -- the bytes that are read
 pub read_bytes : (leb : List ℕ) (offs n len : ℕ) → n ≡ len → take (offs + n - offs) (drop offs leb) ≡ take len (drop offs leb)

@@ -175,3 +175,6 @@ none_in contents branch leb e none h =
 pub none_of : {X : Type 0} (o : Option X) {P : Type 0} → o ≡ None → IfNone o P → P
 none_of None e h = h
 none_of (Some x) e h = absurd cc
+
+pub same_values : (a b c d : ℕ) → c ≡ a → d ≡ b → differs a b ≡ differs c d
+same_values a b c d e f = rw (e, f) refl

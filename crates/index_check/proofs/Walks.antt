@@ -20,26 +20,27 @@ use Rattle.sound_image.specs.Index.{HasIndex}
 use Rattle.sound_image.specs.IndexBreaches.{IsWanted, IsWrongIndex, NodeWanted, index_misfit, is_off_level, root_wanted}
 use Rattle.sound_image.specs.Wrong.{IsFirstWrong, Wrong, comes_before}
 use Rattle.index_check.specs.FoundIndex.{IsFoundIndex}
-use Rattle.index_check.specs.IndexWalk.{HasKeys, HasPassed, HasTaken, BeginsAtRoot, IsIndexStep, IsWrongWanted, sooner_broken_of, leaves_below, nodes_below, told_branch, waiting_in, wanted_below, wanted_of, wrong_of}
-use Rattle.index_check.specs.declared.broken_node.BrokenNode.{BrokenNode}
+use Rattle.index_check.specs.IndexWalk.{HasKeys, HasPassed, HasTaken, BeginsAtRoot, IsIndexStep, IsWrongWanted, leaves_below, nodes_below, told_branch, waiting_in, wanted_below, wanted_of}
+use Rattle.image_check.specs.WrongValues.{sooner_of, wrong_at}
+use Rattle.image_check.specs.declared.wrong_value.WrongValue.{WrongValue}
 use Rattle.index_check.specs.declared.index_found.IndexFound.{IndexFound}
 use Rattle.index_check.specs.declared.index_walk.IndexWalk.{IndexWalk}
 use Rattle.index_check.specs.declared.wanted.Wanted.{Wanted}
-use Rattle.index_check.proofs.FirstBroken.{IsKeptBefore, IsLater, IsOneWay, kept_is, never_none, new_kept, older_kept}
+use Rattle.index_check.proofs.SoonerKept.{IsKeptBefore, kept_is, never_none, new_kept, older_kept}
 use Rattle.index_check.proofs.Levels.{nodes_above, nodes_none, pushed}
 use Rattle.index_check.proofs.Reached.{IsLeft, IsSomeWanted, from_root, left_passed, left_taken, wanted_keys, wanted_taken}
 use Rattle.index_check.proofs.Rows.{AreBelow, join_row, right_parts, whole_index}
 use Rattle.index_check.proofs.StandingNodes.{IsOneNode, none_wrong_there, one_wrong_there}
 
 -- whatever is wrong where this node is wanted, something is kept before which it doesn't come
-abbrev pub IsTold : (ℕ → List ℕ) → RawGeometry → List Lprop → Option BrokenNode → NodeWanted → Type 0
+abbrev pub IsTold : (ℕ → List ℕ) → RawGeometry → List Lprop → Option WrongValue → NodeWanted → Type 0
 IsTold contents geo props first node = (at : Wrong) → IsWrongWanted contents geo props node at → IsKeptBefore at first
 
 -- While nodes wait: they are wanted; what is kept is wrong; each node that is wanted was told, or waits, or is below one that waits;
 -- and if nothing is wrong so far, whatever those that wait say, the root says it behind what was taken.
 pub record IsUnderWay (contents : ℕ → List ℕ) (geo : RawGeometry) (master : Master) (props : List Lprop) (waiting : List NodeWanted) (walk : IndexWalk) : Type 0 where
   pub wanted : AllByRecursion (IsSomeWanted contents geo master props) waiting
-  pub wrong : (node : BrokenNode) → walk.first ≡ Some node → IsWrongIndex contents geo master props (wrong_of node)
+  pub wrong : (node : WrongValue) → walk.first ≡ Some node → IsWrongIndex contents geo master props (wrong_at node)
   pub seen : (depth : ℕ) (node : NodeWanted) → IsWanted contents geo master props depth node → IsTold contents geo props walk.first node ⊎ IsLeft contents geo props waiting node
   pub tree : walk.first ≡ None → (row : PlacedRow) → AreBelow contents geo props waiting row
       → (placed : PlacedRow) × AreBelow contents geo props (root_wanted master ∷ []) placed × (leaves_in (plain placed) ≡ walk.leaves.items ++ leaves_in (plain row)) × (all_nodes placed ≡ walk.nodes.items ++ all_nodes row)
@@ -60,12 +61,12 @@ walk_start contents geo master props walk b =
       );
     })
   where
-    some_none : (n : BrokenNode) → Some n ≡ None → ⊥
+    some_none : (n : WrongValue) → Some n ≡ None → ⊥
     some_none n e = cc
 
 -- ---- a step
-told_on : IsLater → IsOneWay → (contents : ℕ → List ℕ) (geo : RawGeometry) (props : List Lprop) (first : Option BrokenNode) (broken : BrokenNode) (node : NodeWanted) → IsTold contents geo props first node → IsTold contents geo props (sooner_broken_of first broken) node
-told_on later way contents geo props first broken node h at wrong = older_kept later way at first broken (h at wrong)
+told_on : (contents : ℕ → List ℕ) (geo : RawGeometry) (props : List Lprop) (first : Option WrongValue) (broken : WrongValue) (node : NodeWanted) → IsTold contents geo props first node → IsTold contents geo props (sooner_of first (Some broken)) node
+told_on contents geo props first broken node h at wrong = older_kept at first broken (h at wrong)
 
 wrong_here : (contents : ℕ → List ℕ) (geo : RawGeometry) (master : Master) (props : List Lprop) (wanted : NodeWanted) (at : Wrong) → IsSomeWanted contents geo master props wanted → IsWrongWanted contents geo props wanted at → IsWrongIndex contents geo master props at
 wrong_here contents geo master props wanted at (depth, is) wrong = record { depth = depth; node = wanted; wanted = is; lnum = wrong.lnum; offs = wrong.offs; wrong = wrong.wrong }
@@ -78,12 +79,12 @@ step_taken one contents geo master props wanted rest said old new fits stands ri
     let none : (node : NodeWanted) → node ≡ wanted → IsTold contents geo props new.first node = λ node e at wrong.
     let W : NodeWanted → Type 0 = λ w. IsWrongWanted contents geo props w at in
     absurd (none_wrong_there one contents geo props wanted said at fits stands right (subst W e wrong)) in
-    let T : Option BrokenNode → NodeWanted → Type 0 = λ o node. IsTold contents geo props o node in
+    let T : Option WrongValue → NodeWanted → Type 0 = λ o node. IsTold contents geo props o node in
     subst P (sym (taken.waiting ∙ ap (λ (ws : List NodeWanted). nodes_below wanted said ++ ws) same)) (record {
       wanted = wanted_taken contents geo master props wanted said rest stands right h.wanted;
       wrong = λ node e. h.wrong node (sym taken.first ∙ e);
       seen = λ depth node is. elim (h.seen depth node is) [
-        | inl told ↦ inl (subst (λ (o : Option BrokenNode). T o node) (sym taken.first) told)
+        | inl told ↦ inl (subst (λ (o : Option WrongValue). T o node) (sym taken.first) told)
         | inr left ↦ elim (left_taken one contents geo props wanted said rest node fits stands left) [ inl here ↦ inl (none node here) | inr below ↦ inr below ]
       ];
       tree = λ clean row k.
@@ -96,20 +97,20 @@ step_taken one contents geo master props wanted rest said old new fits stands ri
           );
     })
 
-step_passed : IsOneNode → IsLater → IsOneWay → (contents : ℕ → List ℕ) (geo : RawGeometry) (master : Master) (props : List Lprop) (wanted : NodeWanted) (rest : List NodeWanted) (broken : BrokenNode) (old new : IndexWalk) → ((k : ℕ) → IsBytes (contents k))
-    → IsWrongWanted contents geo props wanted (wrong_of broken) → HasPassed broken old new → waiting_in old.waiting.items ≡ rest → IsUnderWay contents geo master props (wanted ∷ rest) old → IsUnderWay contents geo master props (waiting_in new.waiting.items) new
-step_passed one later way contents geo master props wanted rest broken old new fits wrong passed same h =
+step_passed : IsOneNode → (contents : ℕ → List ℕ) (geo : RawGeometry) (master : Master) (props : List Lprop) (wanted : NodeWanted) (rest : List NodeWanted) (broken : WrongValue) (old new : IndexWalk) → ((k : ℕ) → IsBytes (contents k))
+    → IsWrongWanted contents geo props wanted (wrong_at broken) → HasPassed broken old new → waiting_in old.waiting.items ≡ rest → IsUnderWay contents geo master props (wanted ∷ rest) old → IsUnderWay contents geo master props (waiting_in new.waiting.items) new
+step_passed one contents geo master props wanted rest broken old new fits wrong passed same h =
     let P : List NodeWanted → Type 0 = λ ws. IsUnderWay contents geo master props ws new in
-    let T : NodeWanted → Option BrokenNode → Type 0 = λ node o. IsTold contents geo props o node in
-    let here : (node : NodeWanted) → node ≡ wanted → IsTold contents geo props (sooner_broken_of old.first broken) node = λ node e at other.
+    let T : NodeWanted → Option WrongValue → Type 0 = λ node o. IsTold contents geo props o node in
+    let here : (node : NodeWanted) → node ≡ wanted → IsTold contents geo props (sooner_of old.first (Some broken)) node = λ node e at other.
     let W : NodeWanted → Type 0 = λ w. IsWrongWanted contents geo props w at in
-    new_kept way at old.first broken (one_wrong_there one contents geo props wanted at (wrong_of broken) fits (subst W e other) wrong) in
+    new_kept at old.first broken (one_wrong_there one contents geo props wanted at (wrong_at broken) fits (subst W e other) wrong) in
     subst P (sym (ap waiting_in passed.waiting ∙ same)) (record {
       wanted = h.wanted.1;
-      wrong = λ node e. kept_is (λ n. IsWrongIndex contents geo master props (wrong_of n)) old.first broken node h.wrong (wrong_here contents geo master props wanted (wrong_of broken) h.wanted.0 wrong) (sym passed.first ∙ e);
+      wrong = λ node e. kept_is (λ n. IsWrongIndex contents geo master props (wrong_at n)) old.first broken node h.wrong (wrong_here contents geo master props wanted (wrong_at broken) h.wanted.0 wrong) (sym passed.first ∙ e);
       seen = λ depth node is. elim (h.seen depth node is) [
-        | inl told ↦ inl (subst (T node) (sym passed.first) (told_on later way contents geo props old.first broken node told))
-        | inr left ↦ elim (left_passed one contents geo props wanted (wrong_of broken) rest node fits wrong left) [ inl own ↦ inl (subst (T node) (sym passed.first) (here node own)) | inr below ↦ inr below ]
+        | inl told ↦ inl (subst (T node) (sym passed.first) (told_on contents geo props old.first broken node told))
+        | inr left ↦ elim (left_passed one contents geo props wanted (wrong_at broken) rest node fits wrong left) [ inl own ↦ inl (subst (T node) (sym passed.first) (here node own)) | inr below ↦ inr below ]
       ];
       tree = λ clean. absurd (never_none old.first broken (sym passed.first ∙ clean));
     })
@@ -120,7 +121,7 @@ same_walk contents geo master props waiting before old nodes leaves first w = re
   wanted = w.wanted;
   wrong = λ node i. w.wrong node (sym first ∙ i);
   seen = λ depth node is. elim (w.seen depth node is) [
-    | inl told ↦ inl (subst (λ (o : Option BrokenNode). IsTold contents geo props o node) (sym first) told)
+    | inl told ↦ inl (subst (λ (o : Option WrongValue). IsTold contents geo props o node) (sym first) told)
     | inr left ↦ inr left
   ];
   tree = λ clean row i.
@@ -132,17 +133,17 @@ same_walk contents geo master props waiting before old nodes leaves first w = re
       );
 }
 
-pub walk_next : IsOneNode → IsLater → IsOneWay → (contents : ℕ → List ℕ) (geo : RawGeometry) (master : Master) (props : List Lprop) (wanted : Wanted) (before old new : IndexWalk) → ((k : ℕ) → IsBytes (contents k)) → before.waiting.items ≡ old.waiting.items ++ wanted ∷ []
+pub walk_next : IsOneNode → (contents : ℕ → List ℕ) (geo : RawGeometry) (master : Master) (props : List Lprop) (wanted : Wanted) (before old new : IndexWalk) → ((k : ℕ) → IsBytes (contents k)) → before.waiting.items ≡ old.waiting.items ++ wanted ∷ []
     → old.nodes.items ≡ before.nodes.items → old.leaves.items ≡ before.leaves.items → old.first ≡ before.first → IsIndexStep contents geo props (wanted_of wanted) old new → IsUnderWay contents geo master props (waiting_in before.waiting.items) before
     → IsUnderWay contents geo master props (waiting_in new.waiting.items) new
-walk_next one later way contents geo master props wanted before old new fits pop nodes leaves first step h =
+walk_next one contents geo master props wanted before old new fits pop nodes leaves first step h =
     let rest = waiting_in old.waiting.items in
     let P : List NodeWanted → Type 0 = λ ws. IsUnderWay contents geo master props ws before in
     let g = subst P (pushed old.waiting.items before.waiting.items wanted pop) h in
     let now : IsUnderWay contents geo master props (wanted_of wanted ∷ rest) old = same_walk contents geo master props (wanted_of wanted ∷ rest) before old nodes leaves first g in
     elim step [
       | inl (said, stands, right, taken) ↦ step_taken one contents geo master props (wanted_of wanted) rest said old new fits stands right taken refl now
-      | inr (broken, wrong, passed) ↦ step_passed one later way contents geo master props (wanted_of wanted) rest broken old new fits wrong passed refl now
+      | inr (broken, wrong, passed) ↦ step_passed one contents geo master props (wanted_of wanted) rest broken old new fits wrong passed refl now
     ]
 
 -- the keys of the next
@@ -168,8 +169,8 @@ walk_met contents geo master props walk found z none leaves nodes h =
       record { leaves = leaves ∙ sym (t.2 ∙ append-nil walk.leaves.items); nodes = nodes ∙ sym (t.3 ∙ append-nil walk.nodes.items) },
     )
 
-pub walk_broken : (contents : ℕ → List ℕ) (geo : RawGeometry) (master : Master) (props : List Lprop) (walk : IndexWalk) (node : BrokenNode) → length walk.waiting.items ≡ 0 → walk.first ≡ Some node
-    → IsUnderWay contents geo master props (waiting_in walk.waiting.items) walk → IsFirstWrong (IsWrongIndex contents geo master props) (wrong_of node)
+pub walk_broken : (contents : ℕ → List ℕ) (geo : RawGeometry) (master : Master) (props : List Lprop) (walk : IndexWalk) (node : WrongValue) → length walk.waiting.items ≡ 0 → walk.first ≡ Some node
+    → IsUnderWay contents geo master props (waiting_in walk.waiting.items) walk → IsFirstWrong (IsWrongIndex contents geo master props) (wrong_at node)
 walk_broken contents geo master props walk node z is h =
     let g = none_left contents geo master props walk walk.waiting.items z h in
     record {
@@ -177,13 +178,13 @@ walk_broken contents geo master props walk node z is h =
       least = λ other wrong. elim (g.seen wrong.depth wrong.node wrong.wanted) [
         | inl told ↦
             let k = told other (record { lnum = wrong.lnum; offs = wrong.offs; wrong = wrong.wrong }) in
-            let P : BrokenNode → Type 0 = λ n. comes_before other (wrong_of n) ≡ false in
+            let P : WrongValue → Type 0 = λ n. comes_before other (wrong_at n) ≡ false in
             subst P (some_broken k.0 node (sym k.1 ∙ is)) k.2
         | inr left ↦ absurd left
       ];
     }
   where
-    some_broken : (a b : BrokenNode) → Some a ≡ Some b → a ≡ b
+    some_broken : (a b : WrongValue) → Some a ≡ Some b → a ≡ b
     some_broken a b e = cc
 
 -- ---- how much is left: each node that waits as much as all that can be below it

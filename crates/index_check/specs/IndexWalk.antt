@@ -15,9 +15,10 @@ use Rattle.index_tree.specs.declared.leaf.Leaf.{Leaf}
 use Rattle.index_media.specs.PlacedRow.{leaf_of}
 use Rattle.index_media.specs.Stored.{IsIndexNodeAt}
 use Rattle.sound_image.specs.IndexBreaches.{LacksIndexNode, NodeWanted, index_misfit, most_below, root_wanted}
-use Rattle.sound_image.specs.Wrong.{Misfit, Wrong, comes_before, differs}
-use Rattle.index_check.specs.declared.broken_node.BrokenNode.{BrokenNode}
-use Rattle.index_check.specs.declared.broken_node.NodeMisfit.{NodeMisfit}
+use Rattle.sound_image.specs.Wrong.{Misfit, Wrong, differs}
+use Rattle.image_check.specs.WrongValues.{sooner_of, wrong_at}
+use Rattle.image_check.specs.declared.wrong_value.WrongValue.{WrongValue}
+use Rattle.index_check.specs.declared.value_misfit.ValueMisfit.{ValueMisfit}
 use Rattle.index_check.specs.declared.index_walk.IndexWalk.{IndexWalk}
 use Rattle.index_check.specs.declared.wanted.Wanted.{Wanted}
 
@@ -29,17 +30,8 @@ pub record OnlyReads {T : Type 0} (old new : VolumeState) (result : Result T Are
   pub sure : StaysSureArea old new result
 
 -- what is wrong with a node
-abbrev pub told_misfit : NodeMisfit → Misfit
+abbrev pub told_misfit : ValueMisfit → Misfit
 told_misfit misfit = differs misfit.wanted misfit.found
-
--- what is wrong, and where
-abbrev pub wrong_of : BrokenNode → Wrong
-wrong_of node = record { lnum = node.lnum; offs = node.offs; misfit = told_misfit node.misfit }
-
--- whichever comes first
-abbrev pub sooner_broken_of : Option BrokenNode → BrokenNode → Option BrokenNode
-sooner_broken_of None node = Some node
-sooner_broken_of (Some first) node = if comes_before (wrong_of node) (wrong_of first) then Some node else Some first
 
 -- a node that is wanted
 abbrev pub wanted_of : Wanted → NodeWanted
@@ -95,17 +87,17 @@ pub record HasTaken (wanted : NodeWanted) (said : Index) (old new : IndexWalk) :
   pub first : new.first ≡ old.first
 
 -- something is wrong at a node, which is kept if it comes first
-pub record HasPassed (node : BrokenNode) (old new : IndexWalk) : Type 0 where
+pub record HasPassed (node : WrongValue) (old new : IndexWalk) : Type 0 where
   pub nodes : new.nodes.items ≡ old.nodes.items
   pub leaves : new.leaves.items ≡ old.leaves.items
   pub waiting : new.waiting.items ≡ old.waiting.items
-  pub first : new.first ≡ sooner_broken_of old.first node
+  pub first : new.first ≡ sooner_of old.first (Some node)
 
 -- where a node is wanted one stands with which nothing is wrong, and it was taken; or something is wrong there
 abbrev pub IsIndexStep : (ℕ → List ℕ) → RawGeometry → List Lprop → NodeWanted → IndexWalk → IndexWalk → Type 0
 IsIndexStep contents geo props wanted old new =
     ((said : Index) × IsIndexNodeAt contents wanted.branch said × (index_misfit geo props wanted said ≡ None) × HasTaken wanted said old new)
-    ⊎ ((node : BrokenNode) × IsWrongWanted contents geo props wanted (wrong_of node) × HasPassed node old new)
+    ⊎ ((node : WrongValue) × IsWrongWanted contents geo props wanted (wrong_at node) × HasPassed node old new)
 
 -- nothing was seen, and the root waits
 pub record BeginsAtRoot (master : Master) (walk : IndexWalk) : Type 0 where

@@ -1,22 +1,23 @@
 // The rule on the index.
 
-ghost use Rattle.std.specs.Prelude.{IfOk, IfErr};
+ghost use Rattle.std.specs.Prelude.{◌≡◌, IfOk, IfErr};
 ghost use Rattle.ubifs_base.specs.RawOf.{raw_of};
 ghost use Rattle.ubi_volume.specs.Volume.{Keeps, SameShape};
 ghost use Rattle.index_media.specs.PlacedRow.{PlacedRow};
 ghost use Rattle.sound_image.specs.Index.{HasIndex};
 ghost use Rattle.sound_image.specs.IndexBreaches.{IsWrongIndex};
 ghost use Rattle.sound_image.specs.Wrong.{IsFirstWrong};
+ghost use Rattle.sound_image.specs.declared.breach.Breach.TheVariants.{Damaged};
 ghost use Rattle.sound_image.specs.declared.rule.Rule.TheVariants as rules;
 ghost use Rattle.image_check.specs.Told.{HasCheckCause, IsBreachOf, StaysSureCheck, TellsBreach};
 ghost use Rattle.index_check.specs.FoundIndex.{IsFoundIndex};
 
-use crate::broken_node::index_breach;
 use crate::going_over::go_over;
 use crate::index_found::IndexFound;
-use image_check::CheckFault;
+use image_check::{CheckFault, WrongValue};
 use media_lpt::Lprop;
 use media_sys::Master;
+use sound_image::{Breach, Rule};
 use std::alloc::Global;
 use ubi_volume::{AreaFault, Volume};
 use ubifs_base::Geometry;
@@ -45,5 +46,18 @@ pub fn check_index<V: Volume>(
         }),
         Err(AreaFault::Memory) => Err(CheckFault::Memory),
         Err(AreaFault::Volume { count }) => Err(CheckFault::Volume { count }),
+    }
+}
+
+// What is wrong at a node breaks the rule on the index.
+fn index_breach(node: WrongValue) -> Breach
+    ensures { result ≡ Damaged rules.Index node.lnum node.offs node.wanted node.found }
+{
+    Breach::Damaged {
+        rule: Rule::Index,
+        lnum: node.lnum,
+        offs: node.offs,
+        wanted: node.wanted,
+        found: node.found,
     }
 }

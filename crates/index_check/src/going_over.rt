@@ -6,16 +6,16 @@ ghost use Rattle.index_media.specs.PlacedRow.{PlacedRow};
 ghost use Rattle.sound_image.specs.Index.{HasIndex};
 ghost use Rattle.sound_image.specs.IndexBreaches.{IsWrongIndex};
 ghost use Rattle.sound_image.specs.Wrong.{IsFirstWrong};
-ghost use Rattle.index_check.specs.IndexWalk.{BeginsAtRoot, OnlyReads, wrong_of};
+ghost use Rattle.image_check.specs.WrongValues.{wrong_at};
+ghost use Rattle.index_check.specs.IndexWalk.{BeginsAtRoot, OnlyReads};
 ghost use Rattle.index_check.specs.FoundIndex.{IsFoundIndex};
 
-use crate::broken_node::BrokenNode;
 use crate::index_found::IndexFound;
 use crate::index_walk::{IndexWalk, walk_step};
 use crate::wanted::root_wanted;
+use image_check::WrongValue;
 use media_lpt::Lprop;
 use media_sys::{Master, one_node};
-use sound_image::of_some_places_one_is_first;
 use std::alloc::{AllocError, Global};
 use ubi_volume::{AreaFault, Volume};
 use ubifs_base::Geometry;
@@ -41,13 +41,12 @@ pub(crate) fn go_over<V: Volume>(
     geometry: &Geometry,
     master: &Master,
     props: &[Lprop],
-) -> Result<Result<IndexFound, BrokenNode>, AreaFault>
+) -> Result<Result<IndexFound, WrongValue>, AreaFault>
     ensures met { IfOk result (λ answer. IfOk answer (λ found. (placed : PlacedRow) × HasIndex (V.state volume.old).holds (raw_of geometry.now) master.now props.now placed × IsFoundIndex placed found)) }
-    ensures broken { IfOk result (λ answer. IfErr answer (λ node. IsFirstWrong (IsWrongIndex (V.state volume.old).holds (raw_of geometry.now) master.now props.now) (wrong_of node))) }
+    ensures broken { IfOk result (λ answer. IfErr answer (λ node. IsFirstWrong (IsWrongIndex (V.state volume.old).holds (raw_of geometry.now) master.now props.now) (wrong_at node))) }
     ensures reads { OnlyReads (V.state volume.old) (V.state volume.new) result }
 {
     one_node();
-    of_some_places_one_is_first();
     let mut walk = begin_walk(alloc, master)?;
     'walking: while let Some(wanted) = walk.waiting.pop() {
         walk_step(alloc, volume, geometry, props, &wanted, &mut walk)?;

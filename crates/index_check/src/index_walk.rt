@@ -6,9 +6,9 @@ ghost use Rattle.media_sys.specs.Index.{index_of};
 ghost use Rattle.index_media.specs.PlacedRow.{leaf_of as leaf_to};
 ghost use Rattle.index_check.specs.IndexWalk.{HasKeys, HasTaken, IsIndexStep, OnlyReads, wanted_of};
 
-use crate::broken_node::{BrokenNode, sooner_broken};
 use crate::judging::judge_node;
 use crate::wanted::{Wanted, push_children, told_branch};
+use image_check::{WrongValue, sooner};
 use index_tree::Leaf;
 use media_lpt::Lprop;
 use media_sys::{Branch, IdxNode};
@@ -22,7 +22,7 @@ pub(crate) struct IndexWalk {
     pub waiting: Vec<Wanted>,
     pub nodes: Vec<Branch>,
     pub leaves: Vec<Leaf>,
-    pub first: Option<BrokenNode>,
+    pub first: Option<WrongValue>,
 }
 
 // The leaf to which a branch leads.
@@ -80,7 +80,7 @@ pub(crate) fn walk_step<V: Volume>(
 {
     match judge_node(alloc, volume, geometry, props, wanted)? {
         Ok(node) => take_node(wanted, &node, walk)?,
-        Err(node) => walk.first = sooner_broken(walk.first, node),
+        Err(node) => walk.first = sooner(walk.first, Some(node)),
     }
     Ok(())
 }

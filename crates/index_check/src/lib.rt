@@ -7,7 +7,6 @@
 //! first is kept, and nothing below them is looked at. So whatever waits stands for all that is still to be seen, which is the invariant.
 #![tactic(auto)]
 
-mod broken_node;
 mod check;
 mod going_over;
 mod index_found;
@@ -16,6 +15,7 @@ mod judging;
 mod key_order;
 mod misfits;
 mod reading;
+mod value_misfit;
 mod wanted;
 
 pub use crate::check::check_index;

@@ -10,8 +10,8 @@ ghost use Rattle.sound_image.specs.IndexBreaches.{index_misfit as misfit_of, is_
 ghost use Rattle.sound_image.specs.Properties.{is_marked_index as is_marked};
 ghost use Rattle.index_check.specs.IndexWalk.{HasKeys, told_misfit, wanted_of};
 
-use crate::broken_node::NodeMisfit;
 use crate::key_order::{key_rank, key_value};
+use crate::value_misfit::ValueMisfit;
 use crate::wanted::Wanted;
 use media_lpt::Lprop;
 use media_sys::{Branch, IdxNode};
@@ -70,29 +70,29 @@ fn is_off_level(wanted: &Wanted, node: &IdxNode) -> bool
 }
 
 // The limit that a key passes, and the key.
-fn key_misfit(wanted: &Wanted, key: Key) -> NodeMisfit
+fn key_misfit(wanted: &Wanted, key: Key) -> ValueMisfit
     requires wanted { HasKeys wanted.now }
     requires key { IsKey key }
     ensures { told_misfit result ≡ misfit_of_key (wanted_of wanted.now) key }
 {
     let found = key_value(key);
     if is_below(wanted, key) {
-        return NodeMisfit {
+        return ValueMisfit {
             wanted: key_value(wanted.branch.key),
             found,
         };
     }
     let Some(most) = wanted.most else {
-        return NodeMisfit { wanted: 0, found };
+        return ValueMisfit { wanted: 0, found };
     };
-    NodeMisfit {
+    ValueMisfit {
         wanted: key_value(most),
         found,
     }
 }
 
 // What is wrong with the first of these branches that has a key out of bounds.
-fn first_out(wanted: &Wanted, branches: &[Branch]) -> Option<NodeMisfit>
+fn first_out(wanted: &Wanted, branches: &[Branch]) -> Option<ValueMisfit>
     requires wanted { HasKeys wanted.now }
     requires keys { AllByRecursion (λ branch. IsKey branch.key) branches.now }
     ensures { option_map told_misfit result ≡ option_map (λ branch. misfit_of_key (wanted_of wanted.now) branch.key) (find (is_out_of_bounds (wanted_of wanted.now)) branches.now) }
@@ -124,26 +124,26 @@ pub(crate) fn index_misfit(
     props: &[Lprop],
     wanted: &Wanted,
     node: &IdxNode,
-) -> Option<NodeMisfit>
+) -> Option<ValueMisfit>
     requires wanted { HasKeys wanted.now }
     requires keys { AllByRecursion (λ branch. IsKey branch.key) node.now.branches.items }
     ensures { option_map told_misfit result ≡ misfit_of (raw_of geo.now) props.now (wanted_of wanted.now) (index_of node.now) }
 {
     let count = node.branches.len();
     if count > geo.fanout as usize {
-        return Some(NodeMisfit {
+        return Some(ValueMisfit {
             wanted: geo.fanout as u64,
             found: count as u64,
         });
     }
     if !is_marked_index(geo, props, wanted.branch.lnum) {
-        return Some(NodeMisfit {
+        return Some(ValueMisfit {
             wanted: 1,
             found: 0,
         });
     }
     if is_off_level(wanted, node) {
-        return Some(NodeMisfit {
+        return Some(ValueMisfit {
             wanted: level_of(wanted) as u64,
             found: node.level as u64,
         });

@@ -7,7 +7,7 @@ ghost use Rattle.index_media.specs.Stored.{IsIndexNodeAt};
 ghost use Rattle.sound_image.specs.IndexBreaches.{LacksIndexNode};
 ghost use Rattle.index_check.specs.IndexWalk.{IsIndexNodeIn, OnlyReads, told_misfit};
 
-use crate::broken_node::NodeMisfit;
+use crate::value_misfit::ValueMisfit;
 use image_check::type_byte;
 use media_sys::{Branch, IdxNode};
 use node_fields::u32_at;
@@ -65,17 +65,17 @@ fn node_len_at(alloc: Global, leb: &[u8], offs: u32) -> Result<Option<u32>, Memo
 }
 
 // What is wrong where a branch leads, in the bytes of the LEB.
-fn lack_in(alloc: Global, leb: &[u8], branch: &Branch) -> Result<NodeMisfit, Memory>
+fn lack_in(alloc: Global, leb: &[u8], branch: &Branch) -> Result<ValueMisfit, Memory>
     requires { IsIndexNodeIn leb.now branch.now.offs branch.now.len → ⊥ }
     ensures { IfOk result (λ misfit. LacksIndexNode (λ _. leb.now) branch.now (told_misfit misfit)) }
 {
     let there = node_len_at(alloc, leb, branch.offs)?;
     match there {
-        None => Ok(NodeMisfit {
+        None => Ok(ValueMisfit {
             wanted: 9,
             found: type_byte(leb, branch.offs) as u64,
         }),
-        Some(len) => Ok(NodeMisfit {
+        Some(len) => Ok(ValueMisfit {
             wanted: branch.len as u64,
             found: len as u64,
         }),
@@ -88,7 +88,7 @@ fn lack_read<V: Volume>(
     volume: &mut V,
     branch: &Branch,
     leb: &mut [u8],
-) -> Result<NodeMisfit, AreaFault>
+) -> Result<ValueMisfit, AreaFault>
     requires lnum { branch.now.lnum < (V.state volume.old).leb_cnt }
     requires whole { length leb.old ≡ (V.state volume.old).leb_size }
     requires none { (said : AnIndexNode) → IsIndexNodeAt (V.state volume.old).holds branch.now said → ⊥ }
@@ -105,13 +105,13 @@ pub(crate) fn read_lack<V: Volume>(
     alloc: Global,
     volume: &mut V,
     branch: &Branch,
-) -> Result<NodeMisfit, AreaFault>
+) -> Result<ValueMisfit, AreaFault>
     requires none { (said : AnIndexNode) → IsIndexNodeAt (V.state volume.old).holds branch.now said → ⊥ }
     ensures lack { IfOk result (λ misfit. LacksIndexNode (V.state volume.old).holds branch.now (told_misfit misfit)) }
     ensures reads { OnlyReads (V.state volume.old) (V.state volume.new) result }
 {
     if branch.lnum >= volume.leb_cnt() {
-        return Ok(NodeMisfit {
+        return Ok(ValueMisfit {
             wanted: 9,
             found: 255,
         });

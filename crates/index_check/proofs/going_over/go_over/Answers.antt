@@ -27,7 +27,7 @@ walking-preserved g c =
     record {
       kept = kept_on old now new c.in_ok-walk_step.field-0 before.kept c.in_ok-walk_step.ensures.reads;
       walk =
-          walk_next c.one_node.ensures c.of_some_places_one_is_first.ensures.later c.of_some_places_one_is_first.ensures.one_way old.holds geo c.args.master.now c.args.props.now c.in-Some.wanted c.walking.walk popped c.walk_step.new.walk
+          walk_next c.one_node.ensures old.holds geo c.args.master.now c.args.props.now c.in-Some.wanted c.walking.walk popped c.walk_step.new.walk
           (contents_bytes old (λ k less. g.met.V.Volume.leb_bytes c.args.volume.now k less) (λ k past. g.met.V.Volume.none c.args.volume.now k past)) c.in-Some.ensures.items refl refl refl
           (step_moved old.holds now.holds geo c.args.props.now (wanted_of c.in-Some.wanted) popped c.walk_step.new.walk before.kept.keeps.holds c.in_ok-walk_step.ensures.step) before.walk;
     }

@@ -1,10 +1,10 @@
-use Rattle.std.proofs.Common.{Err, inl, subst, sym}
+use Rattle.std.proofs.Common.{Err, inl, subst}
+use Rattle.sound_image.specs.Wrong.{Misfit}
 use Rattle.index_check.specs.IndexWalk.{told_misfit}
-use Rattle.index_check.specs.declared.broken_node.NodeMisfit.{NodeMisfit}
 use Rattle.sound_image.specs.IndexBreaches.{LacksIndexNode}
 use Rattle.index_check.proofs.Contents.{lack_moved, node_moved}
 use Rattle.index_check.proofs.Kept.{kept_on, kept_start, reads_ok}
-use Rattle.index_check.proofs.StandingNodes.{none_of}
+use Rattle.index_check.proofs.StandingNodes.{none_of, same_values}
 use Rattle.index_check.proofs.judging.judge_node.Goals as goal
 
 pub read_lack-requires : goal.read_lack-requires
@@ -19,11 +19,14 @@ returns-in_default-clause-broken g c =
     let old = g.V.Volume.state c.args.volume.now in
     let mid = g.V.Volume.state c.read_node.new.volume in
     let branch = c.args.wanted.now.branch in
-    let P : NodeMisfit → Type 0 = λ m. LacksIndexNode old.holds branch (told_misfit m) in
+    let at = c.wrong_there.ensures in
+    let P : Misfit → Type 0 = λ m. LacksIndexNode old.holds branch m in
+    let misfit = c.in_ok-misfit.misfit in
+    let there = c.wrong_there.result in
     record {
-      lnum = c.broken_at.ensures.lnum;
-      offs = c.broken_at.ensures.offs;
-      wrong = inl (subst P (sym c.broken_at.ensures.misfit) (lack_moved old.holds mid.holds branch (told_misfit c.in_ok-misfit.misfit) (c.read_node.ensures.reads.keeps.holds branch.lnum) c.in_ok-misfit.ensures.lack));
+      lnum = at.lnum;
+      offs = at.offs;
+      wrong = inl (subst P (same_values misfit.wanted misfit.found there.wanted there.found at.wanted at.found) (lack_moved old.holds mid.holds branch (told_misfit misfit) (c.read_node.ensures.reads.keeps.holds branch.lnum) c.in_ok-misfit.ensures.lack));
     }
 
 pub returns-in_default-clause-reads : goal.returns-in_default-clause-reads
@@ -31,4 +34,4 @@ returns-in_default-clause-reads g c =
     let old = g.V.Volume.state c.args.volume.now in
     let mid = g.V.Volume.state c.read_node.new.volume in
     let new = g.V.Volume.state c.read_lack.new.volume in
-    reads_ok old new (Err c.broken_at.result) (kept_on old mid new c.in_ok-misfit.misfit (kept_on old old mid c.in_ok-read.read (kept_start old) c.in_ok-read.ensures.reads) c.in_ok-misfit.ensures.reads)
+    reads_ok old new (Err c.wrong_there.result) (kept_on old mid new c.in_ok-misfit.misfit (kept_on old old mid c.in_ok-read.read (kept_start old) c.in_ok-read.ensures.reads) c.in_ok-misfit.ensures.reads)
