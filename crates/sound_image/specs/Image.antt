@@ -12,7 +12,8 @@ use Rattle.index_media.specs.PlacedRow.{PlacedRow}
 use Rattle.journal_scan.specs.Journal.{BudRead, copies_in, nodes_in}
 use Rattle.leaf_map.specs.Parts.{Committed, Named, Parts}
 
--- Contents as a volume has them: bytes in each LEB, and in those of the geometry as many as it says. The volume may have more LEBs: no rule looks at them.
+-- Contents as a volume has them: bytes in each LEB, and in those of the geometry as many as it says. The volume may have more LEBs: no rule asks
+-- anything of them, but a branch that leads there is followed.
 pub record AreOfVolume (contents : ℕ → List ℕ) (geo : RawGeometry) : Type 0 where
   pub bytes : (lnum : ℕ) → IsBytes (contents lnum)
   pub full : (lnum : ℕ) → lnum < geo.leb_cnt → length (contents lnum) ≡ geo.leb_size

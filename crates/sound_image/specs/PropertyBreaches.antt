@@ -22,7 +22,8 @@ IsPlaceBelow geo leb root (suc depth) number place =
 abbrev pub pnode_depth : RawGeometry → ℕ
 pnode_depth geo = tree_height (pnode_count geo)
 
--- the bytes of these have another checksum than the one that they begin with, or else another type is told
+-- what is told of bytes that are no node of this type: both checksums, if theirs isn't the one with which they begin, and else both types, which
+-- may be equal where another field is out of its range
 abbrev pub lpt_misfit : ℕ → List ℕ → Misfit
 lpt_misfit type bytes =
     if bytes_number bytes % 2 ^ 16 == crc16_of (drop 2 bytes) then differs type (bytes_number bytes / 2 ^ 16 % 2 ^ 4)
