@@ -2,9 +2,11 @@
 use Rattle.std.proofs.Common.{◌≡◌, ℕ, List, [], ◌∷◌, ◌++◌, length, refl, ap, sym, ◌∙◌, subst, arith}
 use Rattle.std.specs.Prelude.{Option, None, Some, slice_get, Bool, true, false, if◌then◌else◌}
 use Rattle.std.proofs.lemmas.List.Elements.{All-push}
+use Rattle.std.proofs.lemmas.List.Folds.{list_all-append}
 use Rattle.std.proofs.lemmas.Option.{slice_get-get_or}
 use Rattle.ubifs_base.specs.declared.key.Key.{Key}
 use Rattle.index_media.specs.KeyedRow.{no_more, node_in}
+use Rattle.node_table.specs.Clean.{is_settled, are_settled}
 use Rattle.node_table.specs.NodeView.{node_before, row_of, view_of, stretch_at, views, tree_at, IsRootIn}
 use Rattle.node_table.specs.Sound.{IsSoundView, AreSoundViews}
 use Rattle.node_table.specs.declared.node.Root.{Root}
@@ -38,5 +40,14 @@ pub after_push : (fanout : ℕ) (nodes new : List TableNode) (n : TableNode) (b 
     → IsSoundView fanout (view_of (views nodes) n) → AreSoundViews fanout (views new)
 after_push fanout nodes new n true e s h = subst (λ v. AreSoundViews fanout (views v)) (sym e) (pushed_sound fanout nodes n s h)
 after_push fanout nodes new n false e s h = subst (λ v. AreSoundViews fanout (views v)) (sym e) s
+
+pub after_push_settled : (nodes new : List TableNode) (n : TableNode) (b : Bool) → new ≡ (if b then nodes ++ n ∷ [] else nodes) → are_settled (views nodes) ≡ true
+    → is_settled (view_of (views nodes) n) ≡ true → are_settled (views new) ≡ true
+after_push_settled nodes new n true e s h =
+    let seen = views nodes in
+    let v = view_of seen n in
+    let one : are_settled (v ∷ []) ≡ true = rw h refl in
+    ap (λ v. are_settled (views v)) e ∙ ap are_settled (views_push nodes n) ∙ list_all-append is_settled seen (v ∷ []) ∙ rw (s, one) refl
+after_push_settled nodes new n false e s h = ap (λ v. are_settled (views v)) e ∙ s
 
 pub ruleset adding = (pushed_sound, pushed_kept, pushed_made, views_push)

@@ -16,3 +16,8 @@ pub mod Ending
 pub mod LastBlocks
 pub mod Pruned
 pub mod PrunedRoot
+pub mod GivenPlaces
+pub mod DirtyLists
+pub mod Cleaning
+pub mod PlacedTable
+pub mod KeptPlaces

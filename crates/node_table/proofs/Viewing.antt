@@ -1,16 +1,17 @@
 -- What is seen of the nodes of a table, each over all of them.
-use Rattle.std.proofs.Common.{◌≡◌, ℕ, zero, suc, ◌+◌, ◌≤◌, true, List, [], ◌∷◌, ◌++◌, length, refl, ap, sym, ◌∙◌, subst, arith, append-nil, append_assoc, length-append}
+use Rattle.std.proofs.Common.{◌≡◌, ℕ, zero, suc, ◌+◌, ◌<◌, ◌≤◌, true, List, [], ◌∷◌, ◌++◌, length, refl, ap, sym, ◌∙◌, subst, arith, append-nil, append_assoc, length-append}
 use Rattle.std.specs.Prelude.{Option, None, Some, slice_get}
-use Rattle.std.proofs.lemmas.Option.{slice_get_past, slice_get_within, get_or_from_slice_get}
+use Rattle.std.proofs.lemmas.Option.{slice_get_past, slice_get_within, slice_get-get_or, get_or_from_slice_get}
 use Rattle.ubifs_base.specs.declared.key.Key.{Key}
 use Rattle.index_tree.specs.Shape.{done, fits}
 use Rattle.index_media.specs.InsertionSound.{fit_node}
 use Rattle.index_media.specs.KeyedKeys.{AreKeysBounded}
 use Rattle.index_media.specs.KeyedRow.{KeyedRow, no_more, leaf_in, bare}
-use Rattle.node_table.specs.NodeView.{NodeView, stretch_at, node_before, linked_before, row_of, view_of, views_behind, views, children_in}
+use Rattle.node_table.specs.NodeView.{NodeView, stretch_at, node_before, linked_before, row_of, view_of, views_behind, views, children_in, tree_at, IsRootIn}
 use Rattle.node_table.specs.Sound.{IsSoundView, AreSoundViews}
 use Rattle.node_table.specs.declared.link.Link.{Link}
 use Rattle.node_table.specs.declared.link.Link.TheVariants.{ToLeaf, ToNode}
+use Rattle.node_table.specs.declared.node.Root.{Root}
 use Rattle.node_table.specs.declared.node.TableNode.{TableNode}
 
 pub get_left : (xs ys : List NodeView) (i : ℕ) (v : NodeView) → slice_get xs i ≡ Some v → slice_get (xs ++ ys) i ≡ Some v
@@ -124,3 +125,15 @@ opened_node fanout nodes i n s h =
 -- where there is no node, none has children
 pub none_opened : (nodes : List TableNode) (i : ℕ) → length nodes ≤ i → children_in (slice_get (views nodes) i) ≡ no_more
 none_opened nodes i h = ap children_in (not_there nodes i h)
+
+-- each node below a root has children, and not too many
+view_fits : (fanout : ℕ) (seen : List NodeView) (key : Key) (i : ℕ) (o : Option NodeView) → AreSoundViews fanout seen → slice_get seen i ≡ o → i < length seen
+    → fits fanout (bare (node_before key o no_more)) ≡ true
+view_fits fanout seen key i None s e h = let v : NodeView = record { level = 0; place = None; children = no_more } in let there = sym e ∙ slice_get-get_or seen i v h in absurd cc
+view_fits fanout seen key i (Some v) s e h = (sound_at fanout seen i v s e).0
+
+pub root_fits : (fanout : ℕ) (nodes : List TableNode) (root : Option Root) → AreSoundViews fanout (views nodes) → IsRootIn nodes root → fits fanout (bare (tree_at nodes root)) ≡ true
+root_fits fanout nodes None s h = refl
+root_fits fanout nodes (Some root) s h =
+    let long = views_length nodes in
+    view_fits fanout (views nodes) root.key root.number (slice_get (views nodes) root.number) s refl (omega (arith, long, h))

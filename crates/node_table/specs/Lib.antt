@@ -6,3 +6,6 @@ pub mod Exchange
 pub mod Changing
 pub mod Counting
 pub mod Pruning
+pub mod Clean
+pub mod Dirty
+pub mod Placing

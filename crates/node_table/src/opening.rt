@@ -1,21 +1,38 @@
 // A node is opened by its number.
 
-ghost use Rattle.std.specs.Prelude.{◌≡◌, ◌≤◌, IfSome, IfNone, None, Some, length, slice_get};
+ghost use Rattle.std.specs.Prelude.{◌≡◌, ◌≤◌, IfSome, IfNone, Option, None, Some, true, length, slice_get};
 ghost use Rattle.index_media.specs.KeyedKeys.{AreKeysBounded};
-ghost use Rattle.index_media.specs.KeyedRow.{no_more};
-ghost use Rattle.node_table.specs.NodeView.{views, row_of, children_in};
+ghost use Rattle.index_media.specs.KeyedRow.{no_more, bare};
+ghost use Rattle.index_tree.specs.Shape.{fits};
+ghost use Rattle.node_table.specs.NodeView.{views, view_of, row_of, children_in, tree_at, IsRootIn};
+ghost use Rattle.node_table.specs.Sound.{IsSoundView};
+ghost use Rattle.node_table.specs.declared.node.Root.{Root as ARoot};
 
 use crate::link::Link;
 use crate::node::TableNode;
 use crate::table::NodeTable;
 
 impl NodeTable {
-    /// The node of this number; none where there is no such node.
-    pub(crate) fn node_at(&self, number: u64) -> Option<&TableNode>
+    /// The node that stands at this number; none where there is no such node.
+    fn stored_at(&self, number: u64) -> Option<&TableNode>
         ensures some { IfSome result (λ node. slice_get self.now.nodes.items number ≡ Some node.now) }
         ensures none { IfNone result (length self.now.nodes.items ≤ number) }
     {
         self.nodes.get(number as usize)
+    }
+
+    /// The node of this number, with its level, its place and its links; none where there is no such node.
+    pub fn node_at(&self, number: u64) -> Option<&TableNode>
+        ensures some { IfSome result (λ node. slice_get self.now.nodes.items number ≡ Some node.now) }
+        ensures seen { IfSome result (λ node. slice_get (views self.now.nodes.items) number ≡ Some (view_of (views self.now.nodes.items) node.now)) }
+        ensures sound { IfSome result (λ node. IsSoundView self.now.fanout (view_of (views self.now.nodes.items) node.now)) }
+        ensures none { IfNone result (length self.now.nodes.items ≤ number) }
+        ensures unseen { IfNone result (slice_get (views self.now.nodes.items) number ≡ None) }
+    {
+        match self.stored_at(number) {
+            None => None,
+            Some(node) => Some(node),
+        }
     }
 
     /// The links of a node; none where there is no such node.
@@ -29,4 +46,9 @@ impl NodeTable {
             Some(node) => Some(node.links.as_slice()),
         }
     }
+
+    /// Each node below a root has 1 to `fanout` children.
+    pub fn trees_fit(&self)
+        ensures { (root : Option ARoot) → IsRootIn self.now.nodes.items root → fits self.now.fanout (bare (tree_at self.now.nodes.items root)) ≡ true }
+    {}
 }
