@@ -1,3 +1,4 @@
 pub mod Placed
 pub mod Links
 pub mod Roots
+pub mod Written

@@ -1,3 +1,4 @@
 pub mod Props
 pub mod Paged
 pub mod Loaded
+pub mod Commit

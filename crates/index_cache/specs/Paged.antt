@@ -2,6 +2,7 @@
 use Rattle.std.specs.Prelude.{◌≡◌, ℕ, List}
 use Rattle.index_tree.specs.declared.leaf.Leaf.{Leaf}
 use Rattle.index_media.specs.KeyedRow.{KeyedRow}
+use Rattle.node_table.specs.Dirty.{dirty_at}
 use Rattle.node_table.specs.NodeView.{tree_at, leaves_at}
 use Rattle.node_table.specs.Staging.{IsAdded}
 use Rattle.index_cache.specs.declared.paged.PagedIndex.{PagedIndex}
@@ -14,11 +15,20 @@ tree_of index = tree_at index.table.nodes.items index.root
 abbrev pub leaves_of : PagedIndex → List Leaf
 leaves_of index = leaves_at index.table.nodes.items index.root
 
+-- the index that a commit writes: that of its last freeze, with the places that its nodes have got since
+abbrev pub frozen_of : PagedIndex → KeyedRow
+frozen_of index = tree_at index.table.nodes.items index.frozen
+
+-- the numbers of its dirty nodes, each behind those below it
+abbrev pub dirty_of : PagedIndex → List ℕ
+dirty_of index = dirty_at index.table.nodes.items index.frozen
+
 -- the most children that its nodes have
 abbrev pub fanout_of : PagedIndex → ℕ
 fanout_of index = index.table.fanout
 
--- an index keeps its nodes, and the most children that they have; others may have come behind them
+-- an index keeps its nodes, the most children that they have, and what is frozen; other nodes may have come behind them
 pub record KeepsNodes (old new : PagedIndex) : Type 0 where
   pub added : IsAdded old.table.nodes.items new.table.nodes.items
   pub fanout : fanout_of new ≡ fanout_of old
+  pub frozen : new.frozen ≡ old.frozen

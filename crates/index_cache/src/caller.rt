@@ -1,19 +1,21 @@
 // A caller of several calls, proved from their contracts alone.
 
-ghost use Rattle.std.specs.Prelude.{◌≡◌, IfOk, OnOk};
+ghost use Rattle.std.specs.Prelude.{◌≡◌, IfOk, OnOk, IsTrue};
 ghost use Rattle.index_media.specs.KeyedRow.{all_clean};
 ghost use Rattle.index_media.specs.PlacedRow.{PlacedRow, plain};
 ghost use Rattle.index_tree.specs.Shape.{contents};
+ghost use Rattle.node_table.specs.Clean.{placed_of};
+ghost use Rattle.node_table.specs.Placing.{KeepsPlaces};
 ghost use Rattle.node_table.specs.Changing.{AreChanges, changed_by, leaves_after_all};
 ghost use Rattle.ubifs_base.specs.Key.{IsKey};
 ghost use Rattle.index_cache.specs.Loaded.{IsRead, IsIndexOn};
-ghost use Rattle.index_cache.specs.Paged.{tree_of, leaves_of, fanout_of, KeepsNodes};
+ghost use Rattle.index_cache.specs.Paged.{tree_of, leaves_of, frozen_of, fanout_of, KeepsNodes};
 
 use crate::paged::PagedIndex;
 use index_media::an_insertion_goes_by_the_keys_of_branches;
 use index_tree::Leaf;
 use media_sys::Branch;
-use node_table::{Change, roots_stay};
+use node_table::{Change, NodePlace, places_are_kept, roots_stay};
 use std::alloc::Global;
 use ubi_volume::{AreaFault, Volume};
 use ubifs_base::{Geometry, Memory};
@@ -64,4 +66,56 @@ pub fn adopt_both(
     index.insert(alloc, leaf)?;
     index.adopt(other);
     Ok(())
+}
+
+/// Writes the dirty nodes of a frozen index one after another, each to the next of these places; true exactly where none
+/// is left. A place tells a LEB and an offset, and its length isn't looked at.
+///
+/// Whoever has a volume writes the bytes there before the node gets its place.
+fn write_frozen(
+    index: &mut PagedIndex,
+    alloc: Global,
+    sqnum: u64,
+    places: &[NodePlace],
+) -> Result<bool, Memory>
+    ensures clean { IfOk result (λ done. IsTrue done → frozen_of index.new ≡ all_clean (placed_of (frozen_of index.new))) }
+    ensures frozen { KeepsPlaces (frozen_of index.old) (frozen_of index.new) }
+    ensures tree { KeepsPlaces (tree_of index.old) (tree_of index.new) }
+{
+    places_are_kept();
+    let Some(found) = index.next_dirty() else {
+        return Ok(true);
+    };
+    let Some((place, rest)) = places.split_first() else {
+        return Ok(false);
+    };
+    let mut bytes = vec![in alloc; 0; found.len as usize]?;
+    if !index.write_node(alloc, found.node, sqnum, &mut bytes)? {
+        return Ok(false);
+    }
+    index.place(found.node, place.lnum, place.offs);
+    write_frozen(index, alloc, sqnum, rest)
+}
+
+/// Freezes an index, makes changes of it then, and writes what is frozen beside them. What stands at last is a row of the
+/// leaves from before the changes, in which each node that was clean is at its place. What is seen are the changes.
+pub fn commit_beside_changes(
+    index: &mut PagedIndex,
+    alloc: Global,
+    changes: &[Change],
+    sqnum: u64,
+    places: &[NodePlace],
+) -> Result<bool, Memory>
+    requires changes { AreChanges changes.now }
+    ensures clean { IfOk result (λ done. IsTrue done → all_clean (placed_of (frozen_of index.new)) ≡ frozen_of index.new) }
+    ensures leaves { IfOk result (λ done. IsTrue done → contents (plain (placed_of (frozen_of index.new))) ≡ leaves_of index.old) }
+    ensures kept { OnOk result (KeepsPlaces (tree_of index.old) (frozen_of index.new)) }
+    ensures tree { OnOk result (KeepsPlaces (changed_by (fanout_of index.old) changes.now (tree_of index.old)) (tree_of index.new)) }
+{
+    roots_stay();
+    places_are_kept();
+    index.freeze();
+    let staged = index.stage(alloc, changes)?;
+    index.adopt(staged);
+    write_frozen(index, alloc, sqnum, places)
 }

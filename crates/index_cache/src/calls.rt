@@ -42,6 +42,7 @@ impl PagedIndex {
         PagedIndex {
             table: NodeTable::new(alloc, fanout),
             root: None,
+            frozen: None,
         }
     }
 
@@ -209,6 +210,7 @@ impl PagedIndex {
         ensures nodes { self.new.table.nodes.items ≡ self.old.table.nodes.items }
         ensures fanout { fanout_of self.new ≡ fanout_of self.old }
         ensures root { self.new.root ≡ staged.root }
+        ensures frozen { self.new.frozen ≡ self.old.frozen }
     {
         self.root = staged.root;
     }

@@ -7,10 +7,13 @@
 
 pub mod caller;
 mod calls;
+mod commit;
 mod load;
 mod paged;
 mod reading;
+mod writing;
 
 pub use crate::calls::Staged;
+pub use crate::commit::DirtyNode;
 pub use crate::paged::PagedIndex;
 pub use crate::reading::read_root;

@@ -3,13 +3,14 @@ use Rattle.std.specs.Prelude.{OnOk, Some}
 use Rattle.index_media.specs.KeyedRow.{KeyedRow, no_more, node_in, all_clean}
 use Rattle.index_media.specs.PlacedRow.{branches_of, stretch_of, leaf_of}
 use Rattle.media_sys.specs.Index.{Index}
+use Rattle.node_table.specs.Clean.{is_clean}
 use Rattle.node_table.specs.NodeView.{views, row_of}
 use Rattle.node_table.specs.Sound.{IsSoundView}
 use Rattle.node_table.specs.Staging.{row_before, AreLinksIn}
 use Rattle.node_table.specs.declared.link.Link.{Link}
 use Rattle.node_table.specs.declared.link.Link.TheVariants.{ToLeaf, ToNode}
 use Rattle.index_cache.proofs.Links.{links_in_added, links_in_append, made_row, node_behind, leaf_behind}
-use Rattle.index_cache.proofs.Placed.{row_moved, first_leaf, first_node, below, row_as, none_clean}
+use Rattle.index_cache.proofs.Placed.{row_moved, first_leaf, first_node, below, row_as, none_clean, all_is_clean}
 use Rattle.index_cache.proofs.load.+loading.Goals as goal
 
 pub load_among-load_among-requires : goal.load_among-load_among-requires
@@ -122,7 +123,7 @@ load_node-add_clean-requires g t c =
     let is = made_row c.args.table.now.nodes.items c.load_among.new.table.nodes.items c.new-links.result.items c.load_among.new.links.items (all_clean own.0) c.new-links.ensures.items loaded in
     let P : KeyedRow → Type 0 = λ r. IsSoundView f (record { level = c.args.level; place = Some (stretch_of branch); children = r }) in
     let F : ℕ → Type 0 = λ n. IsSoundView n (record { level = c.args.level; place = Some (stretch_of branch); children = row_of (views c.load_among.new.table.nodes.items) c.load_among.new.links.items }) in
-    record { sound = subst F (sym c.in_ok-load_among.ensures.fanout) (subst P (sym is) p.sound) }
+    record { clean = ap is_clean is ∙ all_is_clean own.0; sound = subst F (sym c.in_ok-load_among.ensures.fanout) (subst P (sym is) p.sound) }
 
 pub load_node-returns-clause-loaded : goal.load_node-returns-clause-loaded
 load_node-returns-clause-loaded g t c row on =

@@ -49,6 +49,9 @@ invariant_of-result g c =
       there = c.in_ok-number.ensures.number;
       bounded = subst B (sym tree) (clean_bounded 0 None row r.on.bounded);
       keys = subst K (sym tree) (clean_keys a.holds (r.level + 1) row r.on.keys r.on.stored);
+      frozen_there = tt;
+      frozen_bounded = tt;
+      frozen_keys = tt;
     }
 
 pub returns-clause-loaded : goal.returns-clause-loaded

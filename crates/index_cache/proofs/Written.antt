@@ -1,0 +1,95 @@
+-- A node of a table as an index node of the medium.
+use Rattle.std.proofs.Common.{◌≡◌, ℕ, ◌≤◌, List, [], ◌∷◌, length, refl, ap, sym, ◌∙◌, subst, arith}
+use Rattle.std.specs.Prelude.{Bool, Option, None, Some, Result, Ok, Err, IfOk, IsTrue, map, slice_get}
+use Rattle.std.specs.List.{AllByRecursion}
+use Rattle.ubifs_base.specs.Key.{IsKey}
+use Rattle.ubifs_base.specs.declared.key.Key.{Key}
+use Rattle.ubifs_base.specs.declared.memory.Memory.{Memory}
+use Rattle.index_tree.specs.Shape.{count, leaf, done}
+use Rattle.index_media.specs.InsertionSound.{AreKeys, fit_node}
+use Rattle.index_media.specs.KeyedRow.{KeyedRow, no_more, leaf_in, node_in, bare}
+use Rattle.index_media.specs.PlacedRow.{Stretch, plain, branch_to, branches_of}
+use Rattle.media_sys.specs.Index.{IsIdxNode, in_order}
+use Rattle.media_sys.specs.declared.branch.Branch.{Branch}
+use Rattle.node_table.specs.Clean.{node_branch, placed_of}
+use Rattle.node_table.specs.NodeView.{NodeView, views, view_of, row_of, node_before, tree_at}
+use Rattle.node_table.specs.Pruning.{place_in}
+use Rattle.node_table.specs.Sound.{IsSoundView}
+use Rattle.node_table.specs.declared.link.Link.{Link}
+use Rattle.node_table.specs.declared.link.Link.TheVariants.{ToLeaf, ToNode}
+use Rattle.node_table.specs.declared.node.Root.{Root}
+use Rattle.node_table.specs.declared.node.TableNode.{TableNode}
+use Rattle.index_cache.specs.Commit.{link_branch}
+
+-- the branches to what links lead to
+node_first : (key : Key) (o : Option NodeView) (rest : KeyedRow) → branches_of (placed_of (node_before key o rest)) ≡ node_branch key (place_in o) ∷ branches_of (placed_of rest)
+node_first key None rest = refl
+node_first key (Some v) rest = refl
+
+pub linked_branches : (seen : List NodeView) (links : List Link) → branches_of (placed_of (row_of seen links)) ≡ map (link_branch seen) links
+linked_branches seen [] = refl
+linked_branches seen (ToLeaf x ∷ links) = ap (λ (bs : List Branch). branch_to x ∷ bs) (linked_branches seen links)
+linked_branches seen (ToNode key number ∷ links) =
+    node_first key (slice_get seen number) (row_of seen links) ∙ ap (λ (bs : List Branch). node_branch key (place_in (slice_get seen number)) ∷ bs) (linked_branches seen links)
+
+map_long : (seen : List NodeView) (links : List Link) → length (map (link_branch seen) links) ≡ length links
+map_long seen [] = refl
+map_long seen (link ∷ links) = let more = map_long seen links in omega (arith, more)
+
+pub branches_long : (seen : List NodeView) (links : List Link) → length (branches_of (placed_of (row_of seen links))) ≡ length links
+branches_long seen links = ap length (linked_branches seen links) ∙ map_long seen links
+
+-- of a row there are as many branches as siblings
+pub branches_counted : (row : KeyedRow) → length (branches_of (placed_of row)) ≡ count (bare row)
+branches_counted no_more = refl
+branches_counted (leaf_in x rest) = let more = branches_counted rest in omega (arith, more)
+branches_counted (node_in key place children rest) = let more = branches_counted rest in omega (arith, more)
+
+branch_key : (key : Key) (place : Option Stretch) → (node_branch key place).key ≡ key
+branch_key key None = refl
+branch_key key (Some p) = refl
+
+pub branches_keys : (row : KeyedRow) → AreKeys row → AllByRecursion (λ branch. IsKey branch.key) (branches_of (placed_of row))
+branches_keys no_more h = tt
+branches_keys (leaf_in x rest) h = (h.0, branches_keys rest h.1)
+branches_keys (node_in key place children rest) h = (subst IsKey (sym (branch_key key place)) h.0, branches_keys rest h.2)
+
+-- how many children a node has
+pub few_links : (f : ℕ) (seen : List NodeView) (n : TableNode) → f ≤ 256 → IsSoundView f (view_of seen n) → length n.links.items ≤ 256
+few_links f seen n most s =
+    let fit = (fit_node f (bare (row_of seen n.links.items)) done s.0).most in
+    let long = branches_long seen n.links.items in
+    let counted = branches_counted (row_of seen n.links.items) in
+    omega (arith, fit, long, counted, most)
+
+-- what a node says is an index node
+pub says_node : (f level : ℕ) (v : NodeView) (branches : List Branch) → f ≤ 256 → IsSoundView f v → branches ≡ branches_of (placed_of v.children) → IsTrue (in_order None branches)
+    → IsIdxNode (record { level = level; branches = branches })
+says_node f level v branches most s e order =
+    let fit = fit_node f (bare v.children) done s.0 in
+    let least = fit.least in
+    let more = fit.most in
+    let long = ap length e ∙ branches_counted v.children in
+    record {
+      some = omega (arith, long, least);
+      most = omega (arith, long, more, most);
+      keys = subst (λ bs. AllByRecursion (λ branch. IsKey branch.key) bs) (sym e) (branches_keys v.children s.3);
+      order = order;
+    }
+
+-- the branch to a root
+pub root_branch : (nodes : List TableNode) (o : Option Root) (root : Root) (branch : Branch) → o ≡ Some root → branch ≡ node_branch root.key (place_in (slice_get (views nodes) root.number))
+    → Some branch ≡ slice_get (branches_of (placed_of (tree_at nodes o))) 0
+root_branch nodes o root branch e b =
+    ap (λ (x : Branch). Some x) b
+    ∙ sym (ap (λ r. slice_get (branches_of (placed_of (tree_at nodes r))) 0) e ∙ ap (λ (bs : List Branch). slice_get bs 0) (node_first root.key (slice_get (views nodes) root.number) no_more))
+
+-- a placed row has the shape of the row that it places
+pub plain_placed : (row : KeyedRow) → plain (placed_of row) ≡ bare row
+plain_placed no_more = refl
+plain_placed (leaf_in x rest) = ap (leaf x) (plain_placed rest)
+plain_placed (node_in key place children rest) = rw (plain_placed children, plain_placed rest) refl
+
+pub ok_then : {P : Type 0} (r : Result Bool Memory) → P → IfOk r (λ done. IsTrue done → P)
+ok_then (Ok it) p = λ yes. p
+ok_then (Err e) p = tt

@@ -1,0 +1,15 @@
+use Rattle.std.proofs.Common.{rules, ◌≡◌, true, ap, sym, ◌∙◌}
+use Rattle.std.specs.Prelude.{None}
+use Rattle.media_sys.specs.Index.{in_order}
+use Rattle.node_table.specs.NodeView.{views, view_of}
+use Rattle.index_cache.proofs.Written.{says_node}
+use Rattle.index_cache.proofs.paged.PagedIndex.write_node.Goals as goal
+
+pub encode-requires-clause-node : goal.encode-requires-clause-node
+encode-requires-clause-node c =
+    let t = c.args.self.now.table in
+    let v = view_of (views t.nodes.items) c.in-Some.found.now in
+    let said = c.in_ok-said-in-Some in
+    let yes : c.are_in_order.result ≡ true = search (rules, c.if-not-are_in_order.false) in
+    let order : in_order None said.said.branches.items ≡ true = ap (in_order None) (sym c.as_slice.ensures.value) ∙ sym c.are_in_order.ensures ∙ yes in
+    says_node t.fanout said.said.level v said.said.branches.items t.most c.in-Some.ensures.sound said.ensures.branches order

@@ -1,0 +1,15 @@
+use Rattle.std.proofs.Common.{◌++◌, List, ap, sym, ◌∙◌}
+use Rattle.std.specs.Prelude.{map}
+use Rattle.media_sys.specs.declared.branch.Branch.{Branch}
+use Rattle.node_table.specs.NodeView.{views}
+use Rattle.index_cache.specs.Commit.{link_branch}
+use Rattle.index_cache.proofs.Written.{linked_branches}
+use Rattle.index_cache.proofs.writing.index_node.Goals as goal
+
+pub returns-clause-branches : goal.returns-clause-branches
+returns-clause-branches c =
+    let seen = views c.args.table.now.nodes.items in
+    c.in_ok-push_branches.ensures
+    ∙ ap (λ (v : List Branch). v ++ map (link_branch seen) c.as_slice.result.now) c.new-branches.ensures.items
+    ∙ ap (map (link_branch seen)) c.as_slice.ensures.value
+    ∙ sym (linked_branches seen c.args.node.now.links.items)
