@@ -19,7 +19,7 @@ use Rattle.index_media.specs.KeyedRow.{no_more, all_clean}
 use Rattle.index_media.specs.Keys.{branch_rank, bound_before, AreBounded}
 use Rattle.index_media.specs.PlacedRow.{PlacedRow, ended, leaf_at, node_at, plain, branch_to, leaf_of, branches_of, all_nodes, lebs_of, stretch_of}
 use Rattle.index_media.specs.Stored.{IsIndexNodeAt, AreStored}
-use Rattle.node_table.specs.Clean.{is_clean}
+use Rattle.node_table.specs.Clean.{is_clean_row}
 use Rattle.node_table.specs.Sound.{IsSoundView}
 use Rattle.ubi_volume.specs.Volume.{VolumeState, Keeps, SameShape}
 use Rattle.index_cache.specs.Loaded.{IsIndexOn, IsRowOn}
@@ -269,7 +269,7 @@ pub written_back : (xs ys : List ℕ) (n : ℕ) → n ≡ length xs → take n (
 written_back xs ys n e = ap (λ k. take k (xs ++ ys)) e ∙ take-append_seam xs ys
 
 -- a row that stands on a medium is clean
-pub all_is_clean : (row : PlacedRow) → is_clean (all_clean row) ≡ true
+pub all_is_clean : (row : PlacedRow) → is_clean_row (all_clean row) ≡ true
 all_is_clean ended = refl
 all_is_clean (leaf_at x rest) = all_is_clean rest
 all_is_clean (node_at branch children rest) = rw (all_is_clean children, all_is_clean rest) refl

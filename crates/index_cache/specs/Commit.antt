@@ -4,7 +4,7 @@ use Rattle.index_media.specs.KeyedRow.{KeyedRow}
 use Rattle.index_media.specs.PlacedRow.{branch_to, branches_of}
 use Rattle.media_sys.specs.Index.{Index}
 use Rattle.media_sys.specs.declared.branch.Branch.{Branch}
-use Rattle.node_table.specs.Clean.{node_branch, placed_of, IsReady}
+use Rattle.node_table.specs.Clean.{node_branch, placed_of, IsReadyNode}
 use Rattle.node_table.specs.NodeView.{NodeView, views, children_in}
 use Rattle.node_table.specs.Pruning.{place_in}
 use Rattle.node_table.specs.declared.link.Link.{Link}
@@ -16,7 +16,7 @@ use Rattle.index_cache.specs.declared.paged.PagedIndex.{PagedIndex}
 -- a node's number is that of the first dirty node of the frozen index: all nodes below it are clean
 pub record IsNextNode (index : PagedIndex) (number : ℕ) : Type 0 where
   pub first : slice_get (dirty_of index) 0 ≡ Some number
-  pub ready : IsReady index.table.nodes.items number
+  pub ready : IsReadyNode index.table.nodes.items number
 
 -- the branch to what a link leads to
 abbrev pub link_branch : List NodeView → Link → Branch

@@ -2,7 +2,7 @@
 use Rattle.std.specs.Prelude.{◌≡◌, ℕ, List}
 use Rattle.index_tree.specs.declared.leaf.Leaf.{Leaf}
 use Rattle.index_media.specs.KeyedRow.{KeyedRow}
-use Rattle.node_table.specs.Dirty.{dirty_at}
+use Rattle.node_table.specs.Dirty.{dirty_below}
 use Rattle.node_table.specs.NodeView.{tree_at, leaves_at}
 use Rattle.node_table.specs.Staging.{IsAdded}
 use Rattle.index_cache.specs.declared.paged.PagedIndex.{PagedIndex}
@@ -21,7 +21,7 @@ frozen_of index = tree_at index.table.nodes.items index.frozen
 
 -- the numbers of its dirty nodes, each behind those below it
 abbrev pub dirty_of : PagedIndex → List ℕ
-dirty_of index = dirty_at index.table.nodes.items index.frozen
+dirty_of index = dirty_below index.table.nodes.items index.frozen
 
 -- the most children that its nodes have
 abbrev pub fanout_of : PagedIndex → ℕ

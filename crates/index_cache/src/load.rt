@@ -3,7 +3,7 @@
 ghost use Rattle.std.specs.Prelude.{◌≡◌, ◌+◌, ◌<◌, true, IfOk, OnOk, Some, length};
 ghost use Rattle.index_media.specs.KeyedRow.{KeyedRow, no_more, node_in, all_clean};
 ghost use Rattle.index_media.specs.PlacedRow.{PlacedRow, ended, node_at, branches_of, stretch_of, leaf_of};
-ghost use Rattle.node_table.specs.Clean.{is_clean};
+ghost use Rattle.node_table.specs.Clean.{is_clean_row};
 ghost use Rattle.node_table.specs.NodeView.{views, row_of, linked_before};
 ghost use Rattle.node_table.specs.Sound.{IsSoundView};
 ghost use Rattle.node_table.specs.Staging.{row_before, AreLinksIn, IsAdded};
@@ -40,7 +40,7 @@ fn add_clean(
     level: u16,
     links: Vec<Link>,
 ) -> Result<u64, Memory>
-    requires clean { is_clean (row_of (views table.old.nodes.items) links.items) ≡ true }
+    requires clean { is_clean_row (row_of (views table.old.nodes.items) links.items) ≡ true }
     requires sound { IsSoundView table.old.fanout (record { level = level; place = Some (stretch_of branch.now); children = row_of (views table.old.nodes.items) links.items }) }
     ensures made { IfOk result (λ number. (key : AKey) (rest : KeyedRow) → linked_before (views table.new.nodes.items) (ToNode key number) rest ≡ node_in key (Some (stretch_of branch.now)) (row_of (views table.old.nodes.items) links.items) rest) }
     ensures number { IfOk result (λ number. number < length table.new.nodes.items) }

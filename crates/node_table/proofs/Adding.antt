@@ -6,7 +6,7 @@ use Rattle.std.proofs.lemmas.List.Folds.{list_all-append}
 use Rattle.std.proofs.lemmas.Option.{slice_get-get_or}
 use Rattle.ubifs_base.specs.declared.key.Key.{Key}
 use Rattle.index_media.specs.KeyedRow.{no_more, node_in}
-use Rattle.node_table.specs.Clean.{is_settled, are_settled}
+use Rattle.node_table.specs.Clean.{is_clean_below, are_clean_below}
 use Rattle.node_table.specs.NodeView.{node_before, row_of, view_of, stretch_at, views, tree_at, IsRootIn}
 use Rattle.node_table.specs.Sound.{IsSoundView, AreSoundViews}
 use Rattle.node_table.specs.declared.node.Root.{Root}
@@ -41,13 +41,13 @@ pub after_push : (fanout : ℕ) (nodes new : List TableNode) (n : TableNode) (b 
 after_push fanout nodes new n true e s h = subst (λ v. AreSoundViews fanout (views v)) (sym e) (pushed_sound fanout nodes n s h)
 after_push fanout nodes new n false e s h = subst (λ v. AreSoundViews fanout (views v)) (sym e) s
 
-pub after_push_settled : (nodes new : List TableNode) (n : TableNode) (b : Bool) → new ≡ (if b then nodes ++ n ∷ [] else nodes) → are_settled (views nodes) ≡ true
-    → is_settled (view_of (views nodes) n) ≡ true → are_settled (views new) ≡ true
+pub after_push_settled : (nodes new : List TableNode) (n : TableNode) (b : Bool) → new ≡ (if b then nodes ++ n ∷ [] else nodes) → are_clean_below (views nodes) ≡ true
+    → is_clean_below (view_of (views nodes) n) ≡ true → are_clean_below (views new) ≡ true
 after_push_settled nodes new n true e s h =
     let seen = views nodes in
     let v = view_of seen n in
-    let one : are_settled (v ∷ []) ≡ true = rw h refl in
-    ap (λ v. are_settled (views v)) e ∙ ap are_settled (views_push nodes n) ∙ list_all-append is_settled seen (v ∷ []) ∙ rw (s, one) refl
-after_push_settled nodes new n false e s h = ap (λ v. are_settled (views v)) e ∙ s
+    let one : are_clean_below (v ∷ []) ≡ true = rw h refl in
+    ap (λ v. are_clean_below (views v)) e ∙ ap are_clean_below (views_push nodes n) ∙ list_all-append is_clean_below seen (v ∷ []) ∙ rw (s, one) refl
+after_push_settled nodes new n false e s h = ap (λ v. are_clean_below (views v)) e ∙ s
 
 pub ruleset adding = (pushed_sound, pushed_kept, pushed_made, views_push)

@@ -5,7 +5,7 @@ use Rattle.std.proofs.lemmas.Option.{slice_get-get_or, slice_get_within}
 use Rattle.ubifs_base.specs.declared.key.Key.{Key}
 use Rattle.index_media.specs.KeyedRow.{KeyedRow, no_more, leaf_in, node_in, all_clean}
 use Rattle.index_media.specs.PlacedRow.{Stretch}
-use Rattle.node_table.specs.Clean.{is_clean, is_clean_node, is_settled, are_settled, node_branch, placed_of, IsReady}
+use Rattle.node_table.specs.Clean.{is_clean_row, is_clean_node, is_clean_below, are_clean_below, node_branch, placed_of, IsReadyNode}
 use Rattle.node_table.specs.Dirty.{dirty_node, dirty_among, dirty_lists, dirty_from}
 use Rattle.node_table.specs.NodeView.{NodeView, stretch_at, node_before, row_of, view_of, views, children_in, tree_at}
 use Rattle.node_table.specs.Pruning.{place_in}
@@ -20,26 +20,26 @@ use Rattle.node_table.proofs.GivenPlaces.{and_left, and_right, clean_node}
 use Rattle.node_table.proofs.Viewing.{opened, views_length}
 
 -- a clean node before a row
-pub clean_before : (key : Key) (o : Option NodeView) (rest : KeyedRow) → is_clean_node o ≡ true → is_clean rest ≡ true → is_clean (node_before key o rest) ≡ true
+pub clean_before : (key : Key) (o : Option NodeView) (rest : KeyedRow) → is_clean_node o ≡ true → is_clean_row rest ≡ true → is_clean_row (node_before key o rest) ≡ true
 clean_before key None rest h r = absurd cc
 clean_before key (Some v) rest h r =
-    let p = and_left (is_some v.place) (is_clean v.children) h in
-    let c = and_right (is_some v.place) (is_clean v.children) h in
+    let p = and_left (is_some v.place) (is_clean_row v.children) h in
+    let c = and_right (is_some v.place) (is_clean_row v.children) h in
     rw (p, c, r) refl
 
-pub clean_apart : (key : Key) (o : Option NodeView) (rest : KeyedRow) → is_clean (node_before key o rest) ≡ true → (is_clean_node o ≡ true) × (is_clean rest ≡ true)
+pub clean_apart : (key : Key) (o : Option NodeView) (rest : KeyedRow) → is_clean_row (node_before key o rest) ≡ true → (is_clean_node o ≡ true) × (is_clean_row rest ≡ true)
 clean_apart key None rest h = absurd cc
 clean_apart key (Some v) rest h =
     let s = clean_node key v.place v.children rest h in
     (rw (s.0, s.1) refl, s.2)
 
-pub clean_first : (seen : List NodeView) (link : Link) (rest : List Link) → is_clean (row_of seen (link ∷ [])) ≡ true → is_clean (row_of seen rest) ≡ true → is_clean (row_of seen (link ∷ rest)) ≡ true
+pub clean_first : (seen : List NodeView) (link : Link) (rest : List Link) → is_clean_row (row_of seen (link ∷ [])) ≡ true → is_clean_row (row_of seen rest) ≡ true → is_clean_row (row_of seen (link ∷ rest)) ≡ true
 clean_first seen (ToLeaf x) rest h r = r
 clean_first seen (ToNode key number) rest h r = clean_before key (slice_get seen number) (row_of seen rest) (clean_apart key (slice_get seen number) no_more h).0 r
 
 clean_there : (seen : List NodeView) (i : ℕ) (o : Option NodeView) → slice_get seen i ≡ o → is_clean_node o ≡ true → (i < length seen) × (is_some (place_in o) ≡ true)
 clean_there seen i None e h = absurd cc
-clean_there seen i (Some v) e h = (slice_get_within seen i v e, and_left (is_some v.place) (is_clean v.children) h)
+clean_there seen i (Some v) e h = (slice_get_within seen i v e, and_left (is_some v.place) (is_clean_row v.children) h)
 
 none_dirty : (o : Option NodePlace) (number : ℕ) (below : List ℕ) → is_some (stretch_at o) ≡ true → dirty_node o number below ≡ []
 none_dirty None number below h = absurd cc
@@ -56,7 +56,7 @@ clean_at f nodes d i s h =
     let place : is_some (stretch_at n.place) ≡ true = sym (ap (λ o. is_some (place_in o)) seen) ∙ t.1 in
     dirty_opened f nodes i n s there ∙ none_dirty n.place i (dirty_among (dirty_lists nodes) n.links.items) place
 
-clean_among : (f : ℕ) (nodes : List TableNode) (d : TableNode) (links : List Link) → AreSoundViews f (views nodes) → is_clean (row_of (views nodes) links) ≡ true → dirty_among (dirty_lists nodes) links ≡ []
+clean_among : (f : ℕ) (nodes : List TableNode) (d : TableNode) (links : List Link) → AreSoundViews f (views nodes) → is_clean_row (row_of (views nodes) links) ≡ true → dirty_among (dirty_lists nodes) links ≡ []
 clean_among f nodes d [] s h = refl
 clean_among f nodes d (ToLeaf x ∷ links) s h = clean_among f nodes d links s h
 clean_among f nodes d (ToNode key number ∷ links) s h =
@@ -73,12 +73,12 @@ pub record ReadyNode (f : ℕ) (nodes : List TableNode) (number : ℕ) (n : Tabl
   pub children : children_in (slice_get (views nodes) number) ≡ row_of (views nodes) n.links.items
   pub alone : dirty_from nodes number ≡ number ∷ []
 
-pub ready_node : (f : ℕ) (nodes : List TableNode) (number : ℕ) (n : TableNode) → AreSoundViews f (views nodes) → IsReady nodes number → slice_get nodes number ≡ Some n → ReadyNode f nodes number n
+pub ready_node : (f : ℕ) (nodes : List TableNode) (number : ℕ) (n : TableNode) → AreSoundViews f (views nodes) → IsReadyNode nodes number → slice_get nodes number ≡ Some n → ReadyNode f nodes number n
 ready_node f nodes number n s r h =
     let seen = opened f nodes number n s h in
     let dirty = dirty_place n.place (sym (ap place_in seen) ∙ r.dirty) in
     let children = ap children_in seen in
-    let clean = ap is_clean (sym children) ∙ r.below in
+    let clean = ap is_clean_row (sym children) ∙ r.below in
     record {
       dirty = dirty;
       children = children;
@@ -100,10 +100,10 @@ among_first known (ToLeaf x) rest = refl
 among_first known (ToNode key number) rest = ap (λ (v : List ℕ). v ++ dirty_among known rest) (sym (append-nil (unwrap_or (slice_get known number) [])))
 
 -- a node that is settled and has a place is clean
-pub settled_at : (seen : List NodeView) (i : ℕ) (v : NodeView) → are_settled seen ≡ true → slice_get seen i ≡ Some v → is_settled v ≡ true
+pub settled_at : (seen : List NodeView) (i : ℕ) (v : NodeView) → are_clean_below seen ≡ true → slice_get seen i ≡ Some v → is_clean_below v ≡ true
 settled_at [] i v s h = absurd cc
-settled_at (w ∷ seen) zero v s h = let same : w ≡ v = cc in subst (λ x. is_settled x ≡ true) same (and_left (is_settled w) (are_settled seen) s)
-settled_at (w ∷ seen) (suc i) v s h = settled_at seen i v (and_right (is_settled w) (are_settled seen) s) h
+settled_at (w ∷ seen) zero v s h = let same : w ≡ v = cc in subst (λ x. is_clean_below x ≡ true) same (and_left (is_clean_below w) (are_clean_below seen) s)
+settled_at (w ∷ seen) (suc i) v s h = settled_at seen i v (and_right (is_clean_below w) (are_clean_below seen) s) h
 
 settled_clean : (o : Option Stretch) (b : Bool) → is_some o ≡ true → (is_none o || b) ≡ true → (is_some o && b) ≡ true
 settled_clean None b h s = absurd cc
@@ -113,11 +113,11 @@ some_stretch : (o : Option NodePlace) → is_some o ≡ true → is_some (stretc
 some_stretch None h = absurd cc
 some_stretch (Some p) h = refl
 
-pub placed_is_clean : (nodes : List TableNode) (i : ℕ) (n : TableNode) → are_settled (views nodes) ≡ true → slice_get (views nodes) i ≡ Some (view_of (views nodes) n) → is_some n.place ≡ true
+pub placed_is_clean : (nodes : List TableNode) (i : ℕ) (n : TableNode) → are_clean_below (views nodes) ≡ true → slice_get (views nodes) i ≡ Some (view_of (views nodes) n) → is_some n.place ≡ true
     → is_clean_node (slice_get (views nodes) i) ≡ true
 placed_is_clean nodes i n s h p =
     let own = settled_at (views nodes) i (view_of (views nodes) n) s h in
-    ap is_clean_node h ∙ settled_clean (stretch_at n.place) (is_clean (row_of (views nodes) n.links.items)) (some_stretch n.place p) own
+    ap is_clean_node h ∙ settled_clean (stretch_at n.place) (is_clean_row (row_of (views nodes) n.links.items)) (some_stretch n.place p) own
 
 pub placed_list : (o : Option NodePlace) (number : ℕ) (below : List ℕ) → is_some o ≡ true → dirty_node o number below ≡ []
 placed_list None number below h = absurd cc
@@ -132,7 +132,7 @@ dirty_view None h = refl
 dirty_view (Some p) h = absurd cc
 
 -- the index below a root
-pub clean_tree : (nodes : List TableNode) (root : Root) → is_clean_node (slice_get (views nodes) root.number) ≡ true → is_clean (tree_at nodes (Some root)) ≡ true
+pub clean_tree : (nodes : List TableNode) (root : Root) → is_clean_node (slice_get (views nodes) root.number) ≡ true → is_clean_row (tree_at nodes (Some root)) ≡ true
 clean_tree nodes root h = clean_before root.key (slice_get (views nodes) root.number) no_more h refl
 
 -- a row that is clean stands on a medium
@@ -145,7 +145,7 @@ branch_keeps : (key : Key) (place : Option Stretch) → (node_branch key place).
 branch_keeps key None = refl
 branch_keeps key (Some p) = refl
 
-pub clean_placed : (row : KeyedRow) → is_clean row ≡ true → row ≡ all_clean (placed_of row)
+pub clean_placed : (row : KeyedRow) → is_clean_row row ≡ true → row ≡ all_clean (placed_of row)
 clean_placed no_more h = refl
 clean_placed (leaf_in x rest) h = ap (leaf_in x) (clean_placed rest h)
 clean_placed (node_in key place children rest) h =

@@ -4,7 +4,7 @@ use Rattle.std.specs.Prelude.{◌==◌, not, Option, None, Some, slice_get, map,
 use Rattle.std.proofs.lemmas.Bool.Decides.{nat_tests}
 use Rattle.std.proofs.lemmas.List.{map-append}
 use Rattle.std.proofs.lemmas.List.Elements.{filter-append}
-use Rattle.node_table.specs.Dirty.{dirty_node, dirty_among, dirty_behind, dirty_lists, dirty_from, dirty_at}
+use Rattle.node_table.specs.Dirty.{dirty_node, dirty_among, dirty_behind, dirty_lists, dirty_from, dirty_below}
 use Rattle.node_table.specs.NodeView.{NodeView, view_of, views_behind, views, IsRootIn}
 use Rattle.node_table.specs.Placing.{with_place, without_number}
 use Rattle.node_table.specs.Sound.{AreSoundViews}
@@ -52,7 +52,7 @@ dirty_long known (n ∷ ns) =
     omega (arith, more, one)
 
 -- nodes behind change nothing
-pub dirty_kept : (old new : List TableNode) (root : Option Root) → IsAdded old new → IsRootIn old root → dirty_at new root ≡ dirty_at old root
+pub dirty_kept : (old new : List TableNode) (root : Option Root) → IsAdded old new → IsRootIn old root → dirty_below new root ≡ dirty_below old root
 dirty_kept old new None a h = refl
 dirty_kept old new (Some root) a h =
     let p = dirty_more (dirty_lists old) a.more in
@@ -193,7 +193,7 @@ option_there None i h = absurd cc
 option_there (Some d) i h = ap Some h
 
 pub dirty_given : (nodes : List TableNode) (number : ℕ) (p : NodePlace) (n : TableNode) (root : Option Root) → slice_get nodes number ≡ Some n → n.place ≡ None
-    → dirty_from nodes number ≡ number ∷ [] → dirty_at (with_place number p nodes) root ≡ without_number number (dirty_at nodes root)
+    → dirty_from nodes number ≡ number ∷ [] → dirty_below (with_place number p nodes) root ≡ without_number number (dirty_below nodes root)
 dirty_given nodes number p n None h d alone = refl
 dirty_given nodes number p n (Some root) h d alone =
     let start : length {A = List ℕ} [] + number ≡ number = omega arith in

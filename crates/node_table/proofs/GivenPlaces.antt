@@ -10,7 +10,7 @@ use Rattle.index_media.specs.InsertionSound.{AreKeys}
 use Rattle.index_media.specs.KeyedKeys.{key_before, AreKeysBounded}
 use Rattle.index_media.specs.KeyedRow.{KeyedRow, no_more, leaf_in, node_in, bare}
 use Rattle.index_media.specs.PlacedRow.{Stretch}
-use Rattle.node_table.specs.Clean.{is_clean, is_settled, are_settled}
+use Rattle.node_table.specs.Clean.{is_clean_row, is_clean_below, are_clean_below}
 use Rattle.node_table.specs.Counting.{counts_of, counts_of_all}
 use Rattle.node_table.specs.NodeView.{NodeView, stretch_at, node_before, linked_before, row_of, view_of, views_behind, views, children_in, tree_at, IsRootIn}
 use Rattle.node_table.specs.Placing.{with_place, IsPlacedRow}
@@ -68,18 +68,18 @@ and_right true b h = h
 and_right false b h = absurd cc
 
 -- a clean node of a row, what is below it, and what is behind it
-pub clean_node : (key : Key) (place : Option Stretch) (children rest : KeyedRow) → is_clean (node_in key place children rest) ≡ true
-    → (is_some place ≡ true) × (is_clean children ≡ true) × (is_clean rest ≡ true)
+pub clean_node : (key : Key) (place : Option Stretch) (children rest : KeyedRow) → is_clean_row (node_in key place children rest) ≡ true
+    → (is_some place ≡ true) × (is_clean_row children ≡ true) × (is_clean_row rest ≡ true)
 clean_node key place children rest h =
-    let more = and_right (is_some place) (is_clean children && is_clean rest) h in
-    (and_left (is_some place) (is_clean children && is_clean rest) h, and_left (is_clean children) (is_clean rest) more, and_right (is_clean children) (is_clean rest) more)
+    let more = and_right (is_some place) (is_clean_row children && is_clean_row rest) h in
+    (and_left (is_some place) (is_clean_row children && is_clean_row rest) h, and_left (is_clean_row children) (is_clean_row rest) more, and_right (is_clean_row children) (is_clean_row rest) more)
 
 clean_place : (p : NodePlace) (b children : KeyedRow) (old now : Option Stretch) → is_some old ≡ true → (now ≡ old) ⊎ ((old ≡ None) × (now ≡ stretch_at (Some p)) × (children ≡ b)) → now ≡ old
 clean_place p b children None now s h = absurd cc
 clean_place p b children (Some x) now s (inl e) = e
 clean_place p b children (Some x) now s (inr e) = let bad = e.0 in absurd cc
 
-pub placed_clean : (p : NodePlace) (b row new : KeyedRow) → is_clean row ≡ true → IsPlacedRow p b row new → new ≡ row
+pub placed_clean : (p : NodePlace) (b row new : KeyedRow) → is_clean_row row ≡ true → IsPlacedRow p b row new → new ≡ row
 placed_clean p b no_more new c h = h
 placed_clean p b (leaf_in x rest) new c h = h.1 ∙ ap (leaf_in x) (placed_clean p b rest h.0 c h.2)
 placed_clean p b (node_in key old children rest) new c h =
@@ -218,22 +218,22 @@ views_sound f p b (v ∷ vs) ws h s =
     subst (λ xs. AreSoundViews f xs) (sym h.2)
     (All-cons P h.0 h.1 (view_sound f p b v h.0 h.3 (All-head P v vs s)) (views_sound f p b vs h.1 h.4 (All-tail P v vs s)))
 
-settled_view : (p : NodePlace) (b : KeyedRow) (v : NodeView) (o : Option Stretch) (row : KeyedRow) → is_clean b ≡ true
-    → (o ≡ v.place) ⊎ ((v.place ≡ None) × (o ≡ stretch_at (Some p)) × (v.children ≡ b)) → IsPlacedRow p b v.children row → is_settled v ≡ true → (is_none o || is_clean row) ≡ true
+settled_view : (p : NodePlace) (b : KeyedRow) (v : NodeView) (o : Option Stretch) (row : KeyedRow) → is_clean_row b ≡ true
+    → (o ≡ v.place) ⊎ ((v.place ≡ None) × (o ≡ stretch_at (Some p)) × (v.children ≡ b)) → IsPlacedRow p b v.children row → is_clean_below v ≡ true → (is_none o || is_clean_row row) ≡ true
 settled_view p b v None row c e h s = refl
 settled_view p b v (Some x) row c (inl e) h s =
-    let own : is_clean v.children ≡ true = ap (λ (o : Option Stretch). is_none o || is_clean v.children) e ∙ s in
-    ap is_clean (placed_clean p b v.children row own h) ∙ own
+    let own : is_clean_row v.children ≡ true = ap (λ (o : Option Stretch). is_none o || is_clean_row v.children) e ∙ s in
+    ap is_clean_row (placed_clean p b v.children row own h) ∙ own
 settled_view p b v (Some x) row c (inr e) h s =
-    let own : is_clean v.children ≡ true = ap is_clean e.2 ∙ c in
-    ap is_clean (placed_clean p b v.children row own h) ∙ own
+    let own : is_clean_row v.children ≡ true = ap is_clean_row e.2 ∙ c in
+    ap is_clean_row (placed_clean p b v.children row own h) ∙ own
 
-pub views_settled : (p : NodePlace) (b : KeyedRow) (vs ws : List NodeView) → is_clean b ≡ true → ArePlacedViews p b vs ws → are_settled vs ≡ true → are_settled ws ≡ true
-views_settled p b [] ws c h s = ap are_settled h
+pub views_settled : (p : NodePlace) (b : KeyedRow) (vs ws : List NodeView) → is_clean_row b ≡ true → ArePlacedViews p b vs ws → are_clean_below vs ≡ true → are_clean_below ws ≡ true
+views_settled p b [] ws c h s = ap are_clean_below h
 views_settled p b (v ∷ vs) ws c h s =
-    let own = settled_view p b v h.0.place h.0.children c h.3.place h.3.children (and_left (is_settled v) (are_settled vs) s) in
-    let more = views_settled p b vs h.1 c h.4 (and_right (is_settled v) (are_settled vs) s) in
-    ap are_settled h.2 ∙ rw (own, more) refl
+    let own = settled_view p b v h.0.place h.0.children c h.3.place h.3.children (and_left (is_clean_below v) (are_clean_below vs) s) in
+    let more = views_settled p b vs h.1 c h.4 (and_right (is_clean_below v) (are_clean_below vs) s) in
+    ap are_clean_below h.2 ∙ rw (own, more) refl
 
 pub views_counted : (f : ℕ) (p : NodePlace) (b : KeyedRow) (vs ws : List NodeView) → ArePlacedViews p b vs ws → counts_of_all f ws ≡ counts_of_all f vs
 views_counted f p b [] ws h = ap (counts_of_all f) h

@@ -1,9 +1,9 @@
 -- A table in which a node that was ready has got a place.
 use Rattle.std.proofs.Common.{◌≡◌, ℕ, zero, suc, ◌≤◌, ◌<◌, true, List, [], ◌∷◌, length, refl, ap, sym, arith}
 use Rattle.std.specs.Prelude.{Option, Some, slice_get, slice_set}
-use Rattle.node_table.specs.Clean.{are_settled, IsReady}
+use Rattle.node_table.specs.Clean.{are_clean_below, IsReadyNode}
 use Rattle.node_table.specs.Counting.{counts_of_all}
-use Rattle.node_table.specs.Dirty.{dirty_at}
+use Rattle.node_table.specs.Dirty.{dirty_below}
 use Rattle.node_table.specs.NodeView.{views, children_in, tree_at}
 use Rattle.node_table.specs.Placing.{with_place, IsPlacedRow, without_number}
 use Rattle.node_table.specs.Sound.{AreSoundViews}
@@ -28,10 +28,10 @@ put_past (m ∷ ms) (suc i) p h = ap (λ (ns : List TableNode). m ∷ ns) (put_p
 
 pub record TablePlaced (f : ℕ) (nodes : List TableNode) (number : ℕ) (p : NodePlace) : Type 0 where
   pub sound : AreSoundViews f (views (with_place number p nodes))
-  pub settled : are_settled (views (with_place number p nodes)) ≡ true
+  pub settled : are_clean_below (views (with_place number p nodes)) ≡ true
   pub counted : counts_of_all f (views (with_place number p nodes)) ≡ counts_of_all f (views nodes)
   pub trees : (root : Option Root) → IsPlacedRow p (children_in (slice_get (views nodes) number)) (tree_at nodes root) (tree_at (with_place number p nodes) root)
-  pub dirty : (root : Option Root) → dirty_at (with_place number p nodes) root ≡ without_number number (dirty_at nodes root)
+  pub dirty : (root : Option Root) → dirty_below (with_place number p nodes) root ≡ without_number number (dirty_below nodes root)
   pub roots : (root : Option Root) → IsSoundRoot nodes root → IsSoundRoot (with_place number p nodes) root
 
 there_of : (nodes : List TableNode) (i : ℕ) → i < length nodes → (n : TableNode) × (slice_get nodes i ≡ Some n)
@@ -39,7 +39,7 @@ there_of [] i h = absurd (omega (arith, h))
 there_of (m ∷ ms) zero h = (m, refl)
 there_of (m ∷ ms) (suc i) h = there_of ms i (omega (arith, h))
 
-pub table_placed : (f : ℕ) (nodes : List TableNode) (number : ℕ) (p : NodePlace) → AreSoundViews f (views nodes) → are_settled (views nodes) ≡ true → IsReady nodes number → TablePlaced f nodes number p
+pub table_placed : (f : ℕ) (nodes : List TableNode) (number : ℕ) (p : NodePlace) → AreSoundViews f (views nodes) → are_clean_below (views nodes) ≡ true → IsReadyNode nodes number → TablePlaced f nodes number p
 table_placed f nodes number p s t r =
     let found = there_of nodes number r.there in
     let n = found.0 in

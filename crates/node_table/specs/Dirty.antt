@@ -32,6 +32,6 @@ abbrev pub dirty_from : List TableNode → ℕ → List ℕ
 dirty_from nodes number = unwrap_or (slice_get (dirty_lists nodes) number) []
 
 -- those below a root, the topmost node included; a node that is seen twice stands there twice
-abbrev pub dirty_at : List TableNode → Option Root → List ℕ
-dirty_at nodes None = []
-dirty_at nodes (Some root) = dirty_from nodes root.number
+abbrev pub dirty_below : List TableNode → Option Root → List ℕ
+dirty_below nodes None = []
+dirty_below nodes (Some root) = dirty_from nodes root.number

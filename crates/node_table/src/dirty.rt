@@ -1,8 +1,8 @@
 // The walk to the next dirty node: down dirty nodes alone.
 
 ghost use Rattle.std.specs.Prelude.{◌≡◌, ◌<◌, ◌∷◌, [], true, IfSome, IfNone, length, slice_get};
-ghost use Rattle.node_table.specs.Clean.{is_clean, is_clean_node, IsReady};
-ghost use Rattle.node_table.specs.Dirty.{dirty_lists, dirty_among, dirty_from, dirty_at};
+ghost use Rattle.node_table.specs.Clean.{is_clean_row, is_clean_node, IsReadyNode};
+ghost use Rattle.node_table.specs.Dirty.{dirty_lists, dirty_among, dirty_from, dirty_below};
 ghost use Rattle.node_table.specs.NodeView.{views, row_of, tree_at, IsRootIn};
 ghost use Rattle.node_table.specs.Staging.{IsLinkIn, AreLinksIn};
 
@@ -16,9 +16,9 @@ impl NodeTable {
     ///
     /// It goes down dirty nodes alone, since below a clean node all are clean.
     pub fn next_dirty(&self, root: Option<Root>) -> Option<u64>
-        ensures first { result ≡ slice_get (dirty_at self.now.nodes.items root) 0 }
-        ensures ready { IfSome result (λ number. IsReady self.now.nodes.items number) }
-        ensures none { IsRootIn self.now.nodes.items root → IfNone result (is_clean (tree_at self.now.nodes.items root) ≡ true) }
+        ensures first { result ≡ slice_get (dirty_below self.now.nodes.items root) 0 }
+        ensures ready { IfSome result (λ number. IsReadyNode self.now.nodes.items number) }
+        ensures none { IsRootIn self.now.nodes.items root → IfNone result (is_clean_row (tree_at self.now.nodes.items root) ≡ true) }
     {
         match root {
             None => None,
@@ -30,7 +30,7 @@ impl NodeTable {
     #[cycle(seeking)]
     fn first_dirty(&self, number: u64) -> Option<u64>
         ensures first { result ≡ slice_get (dirty_from self.now.nodes.items number) 0 }
-        ensures ready { IfSome result (λ found. IsReady self.now.nodes.items found) }
+        ensures ready { IfSome result (λ found. IsReadyNode self.now.nodes.items found) }
         ensures none { number < length self.now.nodes.items → IfNone result (is_clean_node (slice_get (views self.now.nodes.items) number) ≡ true) }
     {
         match self.node_at(number) {
@@ -52,8 +52,8 @@ impl NodeTable {
     fn first_dirty_among(&self, links: &[Link]) -> Option<u64>
         requires there { AreLinksIn (length self.now.nodes.items) links.now }
         ensures first { result ≡ slice_get (dirty_among (dirty_lists self.now.nodes.items) links.now) 0 }
-        ensures ready { IfSome result (λ found. IsReady self.now.nodes.items found) }
-        ensures none { IfNone result (is_clean (row_of (views self.now.nodes.items) links.now) ≡ true) }
+        ensures ready { IfSome result (λ found. IsReadyNode self.now.nodes.items found) }
+        ensures none { IfNone result (is_clean_row (row_of (views self.now.nodes.items) links.now) ≡ true) }
     {
         match links.split_first() {
             None => None,
@@ -69,8 +69,8 @@ impl NodeTable {
     fn first_dirty_link(&self, link: &Link) -> Option<u64>
         requires there { IsLinkIn (length self.now.nodes.items) link.now }
         ensures first { result ≡ slice_get (dirty_among (dirty_lists self.now.nodes.items) (link.now ∷ [])) 0 }
-        ensures ready { IfSome result (λ found. IsReady self.now.nodes.items found) }
-        ensures none { IfNone result (is_clean (row_of (views self.now.nodes.items) (link.now ∷ [])) ≡ true) }
+        ensures ready { IfSome result (λ found. IsReadyNode self.now.nodes.items found) }
+        ensures none { IfNone result (is_clean_row (row_of (views self.now.nodes.items) (link.now ∷ [])) ≡ true) }
     {
         match *link {
             Link::ToLeaf(_) => None,

@@ -2,8 +2,8 @@
 
 ghost use Rattle.std.specs.Prelude.{◌≡◌, ◌<◌, true, ℕ, List, Option, Some, length, slice_get};
 ghost use Rattle.index_media.specs.KeyedRow.{KeyedRow, all_clean, bare};
-ghost use Rattle.node_table.specs.Clean.{is_clean, placed_of};
-ghost use Rattle.node_table.specs.Dirty.{dirty_at};
+ghost use Rattle.node_table.specs.Clean.{is_clean_row, placed_of};
+ghost use Rattle.node_table.specs.Dirty.{dirty_below};
 ghost use Rattle.node_table.specs.NodeView.{tree_at, IsRootIn};
 ghost use Rattle.node_table.specs.Placing.{IsPlacedRow, KeepsPlaces, without_number};
 ghost use Rattle.node_table.specs.Staging.{IsAdded, IsSoundRoot};
@@ -17,12 +17,12 @@ pub fn roots_stay()
     ensures there { (old new : List ANode) (root : Option ARoot) → IsAdded old new → IsRootIn old root → IsRootIn new root }
     ensures sound { (old new : List ANode) (root : Option ARoot) → IsAdded old new → IsSoundRoot old root → IsSoundRoot new root }
     ensures tree { (old new : List ANode) (root : Option ARoot) → IsAdded old new → IsRootIn old root → tree_at new root ≡ tree_at old root }
-    ensures dirty { (old new : List ANode) (root : Option ARoot) → IsAdded old new → IsRootIn old root → dirty_at new root ≡ dirty_at old root }
+    ensures dirty { (old new : List ANode) (root : Option ARoot) → IsAdded old new → IsRootIn old root → dirty_below new root ≡ dirty_below old root }
 {}
 
 /// Where all of a row is clean, it is a row that stands on a medium.
 pub fn clean_rows_are_placed()
-    ensures { (row : KeyedRow) → is_clean row ≡ true → row ≡ all_clean (placed_of row) }
+    ensures { (row : KeyedRow) → is_clean_row row ≡ true → row ≡ all_clean (placed_of row) }
 {}
 
 /// A place that is given changes no shape and no leaf, and no node that has a place; and so do several, one after another.

@@ -1,8 +1,8 @@
 // A node is given its place on the medium: the one change that is made of a node where it stands.
 
 ghost use Rattle.std.specs.Prelude.{◌≡◌, Option, slice_get};
-ghost use Rattle.node_table.specs.Clean.{IsReady};
-ghost use Rattle.node_table.specs.Dirty.{dirty_at};
+ghost use Rattle.node_table.specs.Clean.{IsReadyNode};
+ghost use Rattle.node_table.specs.Dirty.{dirty_below};
 ghost use Rattle.node_table.specs.NodeView.{views, children_in, tree_at};
 ghost use Rattle.node_table.specs.Placing.{with_place, IsPlacedRow, without_number};
 ghost use Rattle.node_table.specs.Staging.{IsSoundRoot};
@@ -24,10 +24,10 @@ impl NodeTable {
     /// Gives a dirty node, below which all nodes are clean, its place on the medium. Below each root stands what stood
     /// there, but that this node has its place. No clean node's place changes.
     pub fn set_place(&mut self, number: u64, place: NodePlace)
-        requires ready { IsReady self.old.nodes.items number }
+        requires ready { IsReadyNode self.old.nodes.items number }
         ensures nodes { self.new.nodes.items ≡ with_place number place self.old.nodes.items }
         ensures trees { (root : Option ARoot) → IsPlacedRow place (children_in (slice_get (views self.old.nodes.items) number)) (tree_at self.old.nodes.items root) (tree_at self.new.nodes.items root) }
-        ensures dirty { (root : Option ARoot) → dirty_at self.new.nodes.items root ≡ without_number number (dirty_at self.old.nodes.items root) }
+        ensures dirty { (root : Option ARoot) → dirty_below self.new.nodes.items root ≡ without_number number (dirty_below self.old.nodes.items root) }
         ensures roots { (root : Option ARoot) → IsSoundRoot self.old.nodes.items root → IsSoundRoot self.new.nodes.items root }
         ensures fanout { self.new.fanout ≡ self.old.fanout }
     {

@@ -6,7 +6,7 @@ ghost use Rattle.index_tree.specs.Order.{key_rank, of_rank, first_after};
 ghost use Rattle.index_tree.specs.RangeRemoval.{within_range};
 ghost use Rattle.index_tree.specs.Removal.{holds};
 ghost use Rattle.index_media.specs.KeyedRow.{no_more, node_in};
-ghost use Rattle.node_table.specs.Clean.{is_settled, are_settled};
+ghost use Rattle.node_table.specs.Clean.{is_clean_below, are_clean_below};
 ghost use Rattle.node_table.specs.Counting.{counts_of_all, counted-prop};
 ghost use Rattle.node_table.specs.NodeView.{views, view_of, row_of, stretch_at, tree_at, leaves_at, IsRootIn};
 ghost use Rattle.node_table.specs.Sound.{IsSoundView, AreSoundViews, sound_views-prop};
@@ -32,7 +32,7 @@ pub struct NodeTable {
     ghost least: { 3 ≤ fanout },
     ghost most: { fanout ≤ 256 },
     ghost sound: { AreSoundViews fanout (views nodes.items) } by { sound_views-prop fanout (views nodes.items) },
-    ghost settled: { are_settled (views nodes.items) ≡ true },
+    ghost clean: { are_clean_below (views nodes.items) ≡ true },
     ghost counted: { counts.items ≡ counts_of_all fanout (views nodes.items) } by { counted-prop fanout counts.items (views nodes.items) },
 }
 
@@ -58,7 +58,7 @@ impl NodeTable {
     #[tactic(auto, using(crate::proofs::Adding::adding))]
     pub fn add(&mut self, node: TableNode) -> Result<u64, Memory>
         requires sound { IsSoundView self.old.fanout (view_of (views self.old.nodes.items) node) }
-        requires settled { is_settled (view_of (views self.old.nodes.items) node) ≡ true }
+        requires clean { is_clean_below (view_of (views self.old.nodes.items) node) ≡ true }
         ensures made { IfOk result (λ number. (key : AKey) → tree_at self.new.nodes.items (Some (record { key = key; number = number })) ≡ node_in key (stretch_at node.place) (row_of (views self.old.nodes.items) node.links.items) no_more) }
         ensures added { OnOk result (self.new.nodes.items ≡ self.old.nodes.items ++ node ∷ []) }
         ensures number { IfOk result (λ number. number ≡ length self.old.nodes.items) }

@@ -3,7 +3,7 @@ use Rattle.std.specs.Prelude.{OnOk, Some}
 use Rattle.index_media.specs.KeyedRow.{KeyedRow, no_more, node_in, all_clean}
 use Rattle.index_media.specs.PlacedRow.{branches_of, stretch_of, leaf_of}
 use Rattle.media_sys.specs.Index.{Index}
-use Rattle.node_table.specs.Clean.{is_clean}
+use Rattle.node_table.specs.Clean.{is_clean_row}
 use Rattle.node_table.specs.NodeView.{views, row_of}
 use Rattle.node_table.specs.Sound.{IsSoundView}
 use Rattle.node_table.specs.Staging.{row_before, AreLinksIn}
@@ -123,7 +123,7 @@ load_node-add_clean-requires g t c =
     let is = made_row c.args.table.now.nodes.items c.load_among.new.table.nodes.items c.new-links.result.items c.load_among.new.links.items (all_clean own.0) c.new-links.ensures.items loaded in
     let P : KeyedRow → Type 0 = λ r. IsSoundView f (record { level = c.args.level; place = Some (stretch_of branch); children = r }) in
     let F : ℕ → Type 0 = λ n. IsSoundView n (record { level = c.args.level; place = Some (stretch_of branch); children = row_of (views c.load_among.new.table.nodes.items) c.load_among.new.links.items }) in
-    record { clean = ap is_clean is ∙ all_is_clean own.0; sound = subst F (sym c.in_ok-load_among.ensures.fanout) (subst P (sym is) p.sound) }
+    record { clean = ap is_clean_row is ∙ all_is_clean own.0; sound = subst F (sym c.in_ok-load_among.ensures.fanout) (subst P (sym is) p.sound) }
 
 pub load_node-returns-clause-loaded : goal.load_node-returns-clause-loaded
 load_node-returns-clause-loaded g t c row on =

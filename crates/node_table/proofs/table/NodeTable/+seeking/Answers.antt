@@ -1,7 +1,7 @@
 use Rattle.std.proofs.Common.{ℕ, List, [], ◌∷◌, length, ap, sym, ◌∙◌, subst, arith}
 use Rattle.std.specs.Prelude.{slice_get}
 use Rattle.std.proofs.lemmas.Option.{slice_get_within}
-use Rattle.node_table.specs.Clean.{is_clean}
+use Rattle.node_table.specs.Clean.{is_clean_row}
 use Rattle.node_table.specs.Dirty.{dirty_lists, dirty_among}
 use Rattle.node_table.specs.NodeView.{views, view_of, row_of, children_in}
 use Rattle.node_table.specs.Pruning.{place_in}
@@ -28,7 +28,7 @@ first_dirty-returns-then-is_some-clause-first t c =
 pub first_dirty-returns-then-is_some-clause-none : goal.first_dirty-returns-then-is_some-clause-none
 first_dirty-returns-then-is_some-clause-none t c = λ h.
     let s = c.args.self.now in
-    placed_is_clean s.nodes.items c.args.number c.in-Some.node.now s.settled c.in-Some.ensures.seen (sym c.is_some.ensures ∙ c.if-is_some.true)
+    placed_is_clean s.nodes.items c.args.number c.in-Some.node.now s.clean c.in-Some.ensures.seen (sym c.is_some.ensures ∙ c.if-is_some.true)
 
 pub first_dirty-first_dirty_among-requires : goal.first_dirty-first_dirty_among-requires
 first_dirty-first_dirty_among-requires t c =
@@ -62,7 +62,7 @@ first_dirty-returns-in-None-first_dirty_among-clause-ready t c =
     record {
       there = slice_get_within s.nodes.items c.args.number n c.in-Some.ensures.some;
       dirty = ap place_in c.in-Some.ensures.seen ∙ dirty_view n.place dirty;
-      below = ap (λ o. is_clean (children_in o)) c.in-Some.ensures.seen ∙ ap (λ (v : List Link). is_clean (row_of seen v)) (sym c.as_slice.ensures.value) ∙ c.in-None-first_dirty_among.ensures.none;
+      below = ap (λ o. is_clean_row (children_in o)) c.in-Some.ensures.seen ∙ ap (λ (v : List Link). is_clean_row (row_of seen v)) (sym c.as_slice.ensures.value) ∙ c.in-None-first_dirty_among.ensures.none;
     }
 
 pub first_dirty-returns-in-Some-first_dirty_among-clause-first : goal.first_dirty-returns-in-Some-first_dirty_among-clause-first

@@ -18,6 +18,6 @@ invariant_of-self-clause-counted c =
     after_both f old c.push_both.new.nodes.items c.args.self.now.counts.items c.push_both.new.counts.items c.args.node c.in_ok-own.own (is_ok c.push_both.result)
     c.push_both.ensures.nodes c.push_both.ensures.counts c.args.self.now.counted own
 
-pub invariant_of-self-clause-settled : goal.invariant_of-self-clause-settled
-invariant_of-self-clause-settled c =
-    after_push_settled c.args.self.now.nodes.items c.push_both.new.nodes.items c.args.node (is_ok c.push_both.result) c.push_both.ensures.nodes c.args.self.now.settled c.requires.settled
+pub invariant_of-self-clause-clean : goal.invariant_of-self-clause-clean
+invariant_of-self-clause-clean c =
+    after_push_settled c.args.self.now.nodes.items c.push_both.new.nodes.items c.args.node (is_ok c.push_both.result) c.push_both.ensures.nodes c.args.self.now.clean c.requires.clean

@@ -11,7 +11,7 @@ pub add-requires : goal.add-requires
 add-requires c = record {
   sound = row_sound c.args.self.now.fanout c.insert_row.new.self.fanout c.in_ok-level.level c.args.leaf (tree_at c.args.self.now.nodes.items c.args.root)
       (row_of (views c.insert_row.new.self.nodes.items) c.in_ok-links.links.items) c.args.self.now.least c.in_ok-links.ensures.fanout c.requires.key c.in_ok-level.ensures c.in_ok-links.ensures.made;
-  settled = refl;
+  clean = refl;
 }
 
 pub returns-in-Some-clause-made : goal.returns-in-Some-clause-made

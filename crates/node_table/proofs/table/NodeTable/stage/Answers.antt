@@ -1,5 +1,5 @@
 use Rattle.std.proofs.Common.{arith, ◌≡◌, ◌∙◌, length, ap}
-use Rattle.node_table.specs.Clean.{are_settled}
+use Rattle.node_table.specs.Clean.{are_clean_below}
 use Rattle.node_table.specs.NodeView.{views}
 use Rattle.node_table.proofs.Counted.{taken_both, taken_back}
 use Rattle.node_table.proofs.table.NodeTable.stage.Goals as goal
@@ -14,10 +14,10 @@ invariant_of-self-clause-counted c =
     taken_both now.fanout old now.nodes.items c.truncate_both.new.nodes.items now.counts.items c.truncate_both.new.counts.items c.len-number.result added number
     (c.truncate_both.ensures.nodes ∙ taken_back old now.nodes.items c.len-number.result added number) now.counted c.truncate_both.ensures.counts
 
-pub invariant_of-self-clause-settled : goal.invariant_of-self-clause-settled
-invariant_of-self-clause-settled c =
+pub invariant_of-self-clause-clean : goal.invariant_of-self-clause-clean
+invariant_of-self-clause-clean c =
     let old = c.args.self.now.nodes.items in
     let same = c.len-number.ensures in
     let number : c.len-number.result ≡ length old = omega (arith, same) in
-    ap (λ v. are_settled (views v)) (c.truncate_both.ensures.nodes ∙ taken_back old c.stage_all.new.self.nodes.items c.len-number.result c.stage_all.ensures.added number)
-    ∙ c.args.self.now.settled
+    ap (λ v. are_clean_below (views v)) (c.truncate_both.ensures.nodes ∙ taken_back old c.stage_all.new.self.nodes.items c.len-number.result c.stage_all.ensures.added number)
+    ∙ c.args.self.now.clean
