@@ -2,3 +2,4 @@ pub mod Placed
 pub mod Links
 pub mod Roots
 pub mod Written
+pub mod Hand

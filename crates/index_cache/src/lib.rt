@@ -11,6 +11,7 @@ mod commit;
 mod load;
 mod paged;
 mod reading;
+pub mod worked;
 mod writing;
 
 pub use crate::calls::Staged;
