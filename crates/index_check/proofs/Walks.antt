@@ -46,7 +46,7 @@ pub record IsUnderWay (contents : ℕ → List ℕ) (geo : RawGeometry) (master 
       → (placed : PlacedRow) × AreBelow contents geo props (root_wanted master ∷ []) placed × (leaves_in (plain placed) ≡ walk.leaves.items ++ leaves_in (plain row)) × (all_nodes placed ≡ walk.nodes.items ++ all_nodes row)
 
 -- ---- the start
-pub walk_start : (contents : ℕ → List ℕ) (geo : RawGeometry) (master : Master) (props : List Lprop) (walk : IndexWalk) → BeginsAtRoot master walk → IsUnderWay contents geo master props (waiting_in walk.waiting.items) walk
+pub walk_start : (contents : ℕ → List ℕ) (geo : RawGeometry) (master : Master) (props : List Lprop) (walk : IndexWalk) → BeginsAtRoot geo master walk → IsUnderWay contents geo master props (waiting_in walk.waiting.items) walk
 walk_start contents geo master props walk b =
     let P : List NodeWanted → Type 0 = λ ws. IsUnderWay contents geo master props ws walk in
     subst P (sym b.waiting) (record {

@@ -1,5 +1,6 @@
 -- The walk over an index: the nodes that wait, those that were taken, and what is wrong first.
-use Rattle.std.specs.Prelude.{◌≡◌, ◌⊎◌, ℕ, ◌+◌, ◌-◌, ◌^◌, ◌<◌, ◌≤◌, ◌==◌, is_some, if◌then◌else◌, List, [], ◌∷◌, ◌++◌, Option, Some, None, IfSome, Result, length, map, reverse, take, drop}
+use Rattle.std.specs.Prelude.{◌≡◌, ◌⊎◌, ℕ, ◌+◌, ◌-◌, ◌*◌, ◌^◌, ◌<◌, ◌≤◌, ◌==◌, is_some, if◌then◌else◌, List, [], ◌∷◌, ◌++◌, Option, Some, None, IfSome, Result, length, map, reverse, take, drop}
+use Rattle.ubifs_base.specs.Areas.{main_lebs}
 use Rattle.ubifs_base.specs.Key.{IsKey}
 use Rattle.ubifs_base.specs.declared.key.Key.{Key}
 use Rattle.ubifs_base.specs.declared.raw_geometry.RawGeometry.{RawGeometry}
@@ -12,7 +13,7 @@ use Rattle.media_sys.specs.SystemNode.{IsSystemNode, index}
 use Rattle.media_sys.specs.declared.branch.Branch.{Branch}
 use Rattle.media_sys.specs.declared.master.Master.{Master}
 use Rattle.index_tree.specs.declared.leaf.Leaf.{Leaf}
-use Rattle.index_media.specs.PlacedRow.{leaf_of}
+use Rattle.index_media.specs.PlacedRow.{leaf_of, node_end}
 use Rattle.index_media.specs.Stored.{IsIndexNodeAt}
 use Rattle.sound_image.specs.IndexBreaches.{LacksIndexNode, NodeWanted, index_misfit, most_below, root_wanted}
 use Rattle.sound_image.specs.Wrong.{Misfit, Wrong, differs}
@@ -78,13 +79,14 @@ leaves_below said = if said.level == 0 then map leaf_of said.branches else []
 abbrev pub nodes_below : NodeWanted → Index → List NodeWanted
 nodes_below wanted said = if said.level == 0 then [] else wanted_below (said.level - 1) wanted.most said.branches
 
--- a node that says this was taken
+-- a node that says this was taken, and its bytes up to the next multiple of 8
 pub record HasTaken (wanted : NodeWanted) (said : Index) (old new : IndexWalk) : Type 0 where
   pub level : said.level < 2 ^ 16
   pub nodes : new.nodes.items ≡ old.nodes.items ++ told_branch wanted said.branches ∷ []
   pub leaves : new.leaves.items ≡ old.leaves.items ++ leaves_below said
   pub waiting : waiting_in new.waiting.items ≡ nodes_below wanted said ++ waiting_in old.waiting.items
   pub first : new.first ≡ old.first
+  pub room : new.room + node_end wanted.branch.len ≡ old.room
 
 -- something is wrong at a node, which is kept if it comes first
 pub record HasPassed (node : WrongValue) (old new : IndexWalk) : Type 0 where
@@ -92,6 +94,7 @@ pub record HasPassed (node : WrongValue) (old new : IndexWalk) : Type 0 where
   pub leaves : new.leaves.items ≡ old.leaves.items
   pub waiting : new.waiting.items ≡ old.waiting.items
   pub first : new.first ≡ sooner_of old.first (Some node)
+  pub room : new.room ≡ old.room
 
 -- where a node is wanted one stands with which nothing is wrong, and it was taken; or something is wrong there
 abbrev pub IsIndexStep : (ℕ → List ℕ) → RawGeometry → List Lprop → NodeWanted → IndexWalk → IndexWalk → Type 0
@@ -99,9 +102,10 @@ IsIndexStep contents geo props wanted old new =
     ((said : Index) × IsIndexNodeAt contents wanted.branch said × (index_misfit geo props wanted said ≡ None) × HasTaken wanted said old new)
     ⊎ ((node : WrongValue) × IsWrongWanted contents geo props wanted (wrong_at node) × HasPassed node old new)
 
--- nothing was seen, and the root waits
-pub record BeginsAtRoot (master : Master) (walk : IndexWalk) : Type 0 where
+-- nothing was seen, the root waits, and nodes may take as many bytes as the main LEBs have
+pub record BeginsAtRoot (geo : RawGeometry) (master : Master) (walk : IndexWalk) : Type 0 where
   pub nodes : walk.nodes.items ≡ []
   pub leaves : walk.leaves.items ≡ []
   pub waiting : waiting_in walk.waiting.items ≡ root_wanted master ∷ []
   pub first : walk.first ≡ None
+  pub room : walk.room ≡ main_lebs geo * geo.leb_size

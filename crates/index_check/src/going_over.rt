@@ -21,8 +21,8 @@ use ubi_volume::{AreaFault, Volume};
 use ubifs_base::Geometry;
 
 // Nothing was seen, and the root waits.
-fn begin_walk(alloc: Global, master: &Master) -> Result<IndexWalk, AllocError>
-    ensures { IfOk result (BeginsAtRoot master.now) }
+fn begin_walk(alloc: Global, geometry: &Geometry, master: &Master) -> Result<IndexWalk, AllocError>
+    ensures { IfOk result (BeginsAtRoot (raw_of geometry.now) master.now) }
 {
     let mut waiting = Vec::new(alloc);
     waiting.push(root_wanted(master))?;
@@ -31,6 +31,7 @@ fn begin_walk(alloc: Global, master: &Master) -> Result<IndexWalk, AllocError>
         nodes: Vec::new(alloc),
         leaves: Vec::new(alloc),
         first: None,
+        room: geometry.main_lebs() as u64 * geometry.leb_size as u64,
     })
 }
 
@@ -47,7 +48,7 @@ pub(crate) fn go_over<V: Volume>(
     ensures reads { OnlyReads (V.state volume.old) (V.state volume.new) result }
 {
     one_node();
-    let mut walk = begin_walk(alloc, master)?;
+    let mut walk = begin_walk(alloc, geometry, master)?;
     'walking: while let Some(wanted) = walk.waiting.pop() {
         walk_step(alloc, volume, geometry, props, &wanted, &mut walk)?;
     }

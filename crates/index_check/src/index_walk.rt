@@ -1,9 +1,9 @@
 // One step of the walk.
 
-ghost use Rattle.std.specs.Prelude.{◌≡◌, ◌++◌, OnOk, map};
+ghost use Rattle.std.specs.Prelude.{◌≡◌, ◌+◌, ◌<◌, ◌++◌, OnOk, IfSome, IfNone, map};
 ghost use Rattle.ubifs_base.specs.RawOf.{raw_of};
 ghost use Rattle.media_sys.specs.Index.{index_of};
-ghost use Rattle.index_media.specs.PlacedRow.{leaf_of as leaf_to};
+ghost use Rattle.index_media.specs.PlacedRow.{leaf_of as leaf_to, node_end};
 ghost use Rattle.index_check.specs.IndexWalk.{HasKeys, HasTaken, IsIndexStep, OnlyReads, wanted_of};
 
 use crate::judging::judge_node;
@@ -14,15 +14,17 @@ use media_lpt::Lprop;
 use media_sys::{Branch, IdxNode};
 use std::alloc::{AllocError, Global};
 use ubi_volume::{AreaFault, Volume};
-use ubifs_base::Geometry;
+use ubifs_base::{Geometry, Memory};
 
-/// The nodes that wait, the next one last; the branches of those that were seen, and the leaves below them; and what is wrong first.
+/// The nodes that wait, the next one last; the branches of those that were taken, and the leaves below them; what is wrong first; and
+/// the bytes of main LEBs that no node has which was taken.
 #[derive(Debug, Drop)]
 pub(crate) struct IndexWalk {
     pub waiting: Vec<Wanted>,
     pub nodes: Vec<Branch>,
     pub leaves: Vec<Leaf>,
     pub first: Option<WrongValue>,
+    pub room: u64,
 }
 
 // The leaf to which a branch leads.
@@ -49,20 +51,39 @@ fn push_leaves(leaves: &mut Vec<Leaf>, branches: &[Branch]) -> Result<(), AllocE
     Ok(())
 }
 
-// Takes a node with which nothing is wrong: tells its branch, and its leaves or the nodes that wait below it.
-fn take_node(wanted: &Wanted, node: &IdxNode, walk: &mut IndexWalk) -> Result<(), AllocError>
+// What is left of so many bytes behind a node of a length, which takes them up to the next multiple of 8; none where they are too few.
+fn room_behind(room: u64, len: u32) -> Option<u64>
+    ensures left { IfSome result (λ left. left + node_end len ≡ room) }
+    ensures none { IfNone result (room < node_end len) }
+{
+    let taken = (len as u64).div_ceil(8) * 8;
+    if room < taken {
+        return None;
+    }
+    Some(room - taken)
+}
+
+// Takes a node with which nothing is wrong: tells its branch, and its leaves or the nodes that wait below it. The nodes of an index that take
+// more bytes than the main LEBs have are no sound one's: then want of memory is told.
+fn take_node(wanted: &Wanted, node: &IdxNode, walk: &mut IndexWalk) -> Result<(), Memory>
     ensures { OnOk result (HasTaken (wanted_of wanted.now) (index_of node.now) walk.old walk.new) }
 {
+    let Some(room) = room_behind(walk.room, wanted.branch.len) else {
+        return Err(Memory);
+    };
+    walk.room = room;
     walk.nodes.push(told_branch(wanted, &node.branches))?;
     if node.level == 0 {
-        return push_leaves(&mut walk.leaves, &node.branches);
+        push_leaves(&mut walk.leaves, &node.branches)?;
+        return Ok(());
     }
     push_children(
         &mut walk.waiting,
         node.level - 1,
         wanted.most,
         &node.branches,
-    )
+    )?;
+    Ok(())
 }
 
 /// Goes to the place where a node is wanted: takes the node, or keeps what is wrong there if it comes first.
