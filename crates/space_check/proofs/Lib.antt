@@ -1,0 +1,5 @@
+pub mod Added
+pub mod FreeEnds
+pub mod Kept
+pub mod Places
+pub mod LebSums
