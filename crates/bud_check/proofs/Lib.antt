@@ -1,0 +1,7 @@
+pub mod Firsts
+pub mod Frames
+pub mod Kept
+pub mod Members
+pub mod ReadBuds
+pub mod SoundBuds
+pub mod TextFirsts
