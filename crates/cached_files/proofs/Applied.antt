@@ -215,7 +215,7 @@ sizes_alike a b now later pa pb h s ino inode found plain = by (s.ends ino) (s.i
         let high = h.highest in
         ap (λ n. max inode.size n) (same.0 ∙ above_proper a.tree ino pa new ∙ sym (same.1 ∙ above_proper b.tree ino pb (omega (arith, new, high))))
 
-group_alike : (group : List Change) (a b : Files) → IsProper a.tree → IsProper b.tree → AreOfNames a.tree group → IsAlike a b → IsAlike (record a { tree = apply a.tree group }) (record b { tree = apply b.tree group })
+pub group_alike : (group : List Change) (a b : Files) → IsProper a.tree → IsProper b.tree → AreOfNames a.tree group → IsAlike a b → IsAlike (record a { tree = apply a.tree group }) (record b { tree = apply b.tree group })
 group_alike group a b pa pb names h =
     let same = group_agrees a.tree group a b names (record { inodes = h.inodes; blocks = h.blocks; entries = h.entries; highest = h.highest; handles = h.handles }) in
     let begin : Sized a.tree b.tree a.tree b.tree = record { up = pa.inodes_ascend; inodes = λ ino inode found. inl (inode, found, record { kind = refl; size = λ d. refl }); ends = λ ino. inr (refl, refl) } in

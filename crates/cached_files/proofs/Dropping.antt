@@ -1,18 +1,18 @@
 -- An inode without a name that goes, with its pages: what is kept follows.
-use Rattle.std.proofs.Common.{◌≡◌, ℕ, ◌≤◌, ◌&&◌, ◌||◌, Bool, true, false, cond, max, not, List, [], ◌∷◌, length, Option, Some, None, refl, sym, ap, subst, ◌∙◌, arith}
-use Rattle.std.specs.Prelude.{◌==◌, nat_lt, nat_le}
-use Rattle.std.specs.Map.{lookup, remove_entry}
+use Rattle.std.proofs.Common.{◌≡◌, ℕ, ◌+◌, ◌≤◌, ◌&&◌, ◌||◌, Bool, true, false, cond, max, not, List, [], ◌∷◌, length, Option, Some, None, refl, sym, ap, subst, ◌∙◌, arith}
+use Rattle.std.specs.Prelude.{◌==◌, filter, nat_lt, nat_le}
+use Rattle.std.specs.Map.{keys_of, lookup, remove_entry}
 use Rattle.std.specs.BTreeMap.{is_at}
 use Rattle.std.specs.Option.{option_map_or}
 use Rattle.std.specs.Ordering.{nat_cmp}
-use Rattle.std.proofs.lemmas.Bool.{and_parts, and_from}
+use Rattle.std.proofs.lemmas.Bool.{and_parts, and_from, false≢true}
 use Rattle.fs_model.specs.declared.change.Change.TheVariants.{DropInode}
 use Rattle.fs_model.specs.declared.inode.Inode.{Inode}
 use Rattle.fs_model.specs.declared.inode.Kind.{Kind}
-use Rattle.fs_model.specs.Backing.{BackingState, IsDropped, given_back, is_node}
+use Rattle.fs_model.specs.Backing.{BackingState, IsDropped, KeepsFiles, given_back, is_node, next_orphans}
 use Rattle.fs_model.specs.Change.{applied, without_inode}
 use Rattle.fs_model.specs.Files.{Tree, Inodes, inode_at, pair_cmp}
-use Rattle.fs_model.specs.Orphan.{is_nameless}
+use Rattle.fs_model.specs.Orphan.{is_nameless, nameless}
 use Rattle.fs_model.specs.Path.{is_empty}
 use Rattle.fs_model.specs.Proper.{IsProper, are_words, are_long_words, are_bytes, has_data, is_inode_node, is_block_node}
 use Rattle.fs_laws.specs.Alike.{HasNodes, IsBuiltAlike, kind_and_links, told_by}
@@ -122,3 +122,32 @@ dropped old put new kept after ino credits is none proper made follows given =
     let tree : new.tree ≡ without_inode old.tree ino = ap (λ s. s.tree) given ∙ made.tree in
     subst (λ t. Dropped old.tree t kept after ino) (sym tree)
     (subst (λ k. Dropped old.tree (without_inode old.tree ino) kept k ino) (sym follows) (tree_dropped old.tree kept ino is none proper))
+
+-- an inode without a name fewer
+fewer_nameless : (es : Inodes) (ino : ℕ) → option_map_or (λ (inode : Inode). inode.nlink == 0) (lookup (is_at (nat_cmp ino)) es) false ≡ true
+    → length (keys_of (filter (λ entry. entry.1.nlink == 0) (remove_entry (is_at (nat_cmp ino)) es))) + 1 ≡ length (keys_of (filter (λ entry. entry.1.nlink == 0) es))
+fewer_nameless [] ino t = absurd cc
+fewer_nameless (e ∷ es) ino t = by (λ h. fewer_nameless es ino h) (is_at (nat_cmp ino) e.0) refl (e.1.nlink == 0) refl
+  where
+    by : (option_map_or (λ (inode : Inode). inode.nlink == 0) (lookup (is_at (nat_cmp ino)) es) false ≡ true → length (keys_of (filter (λ entry. entry.1.nlink == 0) (remove_entry (is_at (nat_cmp ino)) es))) + 1 ≡ length (keys_of (filter (λ entry. entry.1.nlink == 0) es)))
+        → (b : Bool) → is_at (nat_cmp ino) e.0 ≡ b → (z : Bool) → (e.1.nlink == 0) ≡ z
+        → length (keys_of (filter (λ entry. entry.1.nlink == 0) (remove_entry (is_at (nat_cmp ino)) (e ∷ es)))) + 1 ≡ length (keys_of (filter (λ entry. entry.1.nlink == 0) (e ∷ es)))
+    by more true at true zero = rw (at, zero) (omega arith)
+    by more true at false some = let n : (e.1.nlink == 0) ≡ true = rw at at t in absurd (false≢true (sym some ∙ n))
+    by more false at true zero = let n = more (rw at at t) in rw (at, zero) (omega (arith, n))
+    by more false at false some = let n = more (rw at at t) in rw (at, some) n
+
+-- the next list of orphans gets no longer where one of them goes
+pub orphan_gone : (old new : BackingState) (ino : ℕ) → is_nameless old.tree ino ≡ true → IsDropped old new ino → next_orphans new ≤ next_orphans old
+orphan_gone old new ino none gone =
+    let n : length (nameless (without_inode old.tree ino)) + 1 ≡ length (nameless old.tree) = fewer_nameless old.tree.inodes ino none in
+    let same : length (nameless new.tree) ≡ length (nameless (without_inode old.tree ino)) = ap (λ t. length (nameless t)) gone.tree in
+    let few = gone.closed in
+    omega (arith, n, same, few)
+
+-- nor where the files are kept
+pub orphans_kept : (old new : BackingState) → KeepsFiles old new → next_orphans new ≤ next_orphans old
+orphans_kept old new files =
+    let same : length (nameless new.tree) ≡ length (nameless old.tree) = ap (λ t. length (nameless t)) files.tree in
+    let few = files.closed in
+    omega (arith, same, few)

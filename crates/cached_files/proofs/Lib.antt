@@ -11,6 +11,7 @@ pub mod Ends
 pub mod Filing
 pub mod Following
 pub mod GroupPut
+pub mod Growing
 pub mod Inserts
 pub mod MakingRoom
 pub mod Nodes

@@ -49,5 +49,5 @@ rose_later a b count h (inr r) = inr r
 -- a group that was admitted isn't put for a fault
 pub put_refused : (old mid new : BackingState) (kept : Kept) (need : Need) (fault : StoreFault) → old.faults ≤ mid.faults → HasCause {T = Unit {0}} mid new (Err fault) → TellsMode {T = Unit {0}} new (Err fault) → IsWithoutRoom old new kept need (refusal_of fault)
 put_refused old mid new kept need Memory more cause mode = tt
-put_refused old mid new kept need (Volume count) more cause mode = (rose_later old.faults mid.faults new.faults more cause.0, cause.1)
+put_refused old mid new kept need (Volume count) more cause mode = (rose_later old.faults mid.faults new.faults more cause.0, cause.1, cause.2)
 put_refused old mid new kept need (IsReadOnly why) more cause mode = mode

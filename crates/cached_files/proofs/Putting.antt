@@ -16,7 +16,7 @@ use Rattle.fs_model.specs.declared.inode.Inode.{Inode}
 use Rattle.fs_model.specs.declared.inode.Kind.TheVariants.{File}
 use Rattle.fs_model.specs.declared.page_node.PageNode.{PageNode}
 use Rattle.cached_files.specs.Alike.{IsAlike}
-use Rattle.cached_files.specs.Calls.{SureGoes}
+use Rattle.cached_files.specs.Calls.{GrowsBy, SureGoes}
 use Rattle.fs_model.specs.Backing.{BackingState, Outlook, Goes, page_group, IsPagePut}
 use Rattle.fs_model.specs.Change.{apply}
 use Rattle.fs_model.specs.Files.{Tree, Files, Blocks, inode_at, pair_cmp, with_block, blocks_end, size_of}
@@ -425,17 +425,18 @@ pub record Written (x y : Outlook) (old now : BackingState) (kept still : Kept) 
   pub count : length still.pages.dirty ≡ left
   pub few : left ≤ length kept.pages.dirty
   pub goes : Goes (2 * (length kept.pages.dirty - left)) old now
+  pub grows : GrowsBy 0 old now kept still
   pub closed : now.closed ≤ old.closed
   pub sure : SureGoes x y old now
 
 pub written_begins : (x : Outlook) (old : BackingState) (kept : Kept) (n : ℕ) → IsKept old.tree kept → length kept.pages.dirty ≤ old.space.credits → n ≡ length kept.pages.dirty → Written x x old old kept kept n
 written_begins x old kept n is paid same =
     let zero_more : 2 * (length kept.pages.dirty - n) ≡ 0 = omega (arith, same) in
-    record { fits = is; same = same-none (present old.tree kept); paid = paid; issued = refl; count = sym same; few = omega (arith, same); goes = subst (λ k. Goes k old old) (sym zero_more) (Goes-none old); closed = omega arith; sure = Sure-none x old }
+    record { fits = is; same = same-none (present old.tree kept); paid = paid; issued = refl; count = sym same; few = omega (arith, same); goes = subst (λ k. Goes k old old) (sym zero_more) (Goes-none old); grows = omega arith; closed = omega arith; sure = Sure-none x old }
 
 pub written_more : (x y z : Outlook) (old now new : BackingState) (kept still after : Kept) (left next : ℕ) → Written x y old now kept still left → next + 1 ≡ left → IsKept new.tree after
-    → IsAlike (present now.tree still) (present new.tree after) → length after.pages.dirty ≤ new.space.credits → new.space.credits + length still.pages.dirty ≡ now.space.credits + length after.pages.dirty → after.pages.dirty ≡ drop 1 still.pages.dirty → Goes 2 now new → new.closed ≤ now.closed → SureGoes y z now new → Written x z old new kept after next
-written_more x y z old now new kept still after left next w one fits same paid issued pages goes closed sure =
+    → IsAlike (present now.tree still) (present new.tree after) → length after.pages.dirty ≤ new.space.credits → new.space.credits + length still.pages.dirty ≡ now.space.credits + length after.pages.dirty → after.pages.dirty ≡ drop 1 still.pages.dirty → Goes 2 now new → GrowsBy 0 now new still after → new.closed ≤ now.closed → SureGoes y z now new → Written x z old new kept after next
+written_more x y z old now new kept still after left next w one fits same paid issued pages goes grows closed sure =
     let n : length after.pages.dirty ≡ length still.pages.dirty - 1 = ap (λ dirty. length dirty) pages ∙ length-drop 1 still.pages.dirty in
     let count = w.count in
     let few = w.few in
@@ -448,6 +449,7 @@ written_more x y z old now new kept still after left next w one fits same paid i
       count = omega (arith, n, count, one);
       few = omega (arith, few, one);
       goes = subst (λ k. Goes k old new) more (Goes-then (2 * (length kept.pages.dirty - left)) 2 old now new w.goes goes);
+      grows = let before = w.grows in omega (arith, before, grows);
       closed = let before = w.closed in omega (arith, before, closed);
       sure = Sure-then x y z old now new w.sure sure;
     }

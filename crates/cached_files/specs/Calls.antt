@@ -1,9 +1,9 @@
 -- What several calls of a backing, one after another, answer and leave.
-use Rattle.std.specs.Prelude.{◌≡◌, ◌⊎◌, ℕ, ◌+◌, ◌*◌, ◌<◌, ◌≤◌, None, Result, Err, [], length}
+use Rattle.std.specs.Prelude.{◌≡◌, ◌≢◌, ◌⊎◌, ℕ, ◌+◌, ◌*◌, ◌<◌, ◌≤◌, None, Result, Ok, Err, [], length}
 use Rattle.ubifs_base.specs.Areas.{main_lebs}
-use Rattle.fs_model.specs.declared.backing_answers.Mode.TheVariants.{ReadOnly}
+use Rattle.fs_model.specs.declared.backing_answers.Mode.TheVariants.{ReadWrite, ReadOnly}
 use Rattle.fs_model.specs.declared.backing_answers.StoreFault.{StoreFault}
-use Rattle.fs_model.specs.declared.backing_answers.StoreFault.TheVariants.{ReadOnly as IsReadOnly}
+use Rattle.fs_model.specs.declared.backing_answers.StoreFault.TheVariants.{Volume, ReadOnly as IsReadOnly}
 use Rattle.fs_model.specs.declared.refusal.Refusal.{Refusal}
 use Rattle.fs_model.specs.declared.refusal.Refusal.TheVariants.{Enospc, Erofs, Eio, Enomem}
 use Rattle.fs_model.specs.declared.space.Need.{Need}
@@ -24,10 +24,31 @@ pub record SureGoes (before after : Outlook) (old new : BackingState) : Type 0 w
   pub sure : before.sure → after.spent ⊎ (after.sure × (new.faults ≡ old.faults))
   pub spent : before.spent → after.spent
 
--- a commit has ended that began after all else was put: none runs, and no node was put since its start
+-- What the index weighs at most once all dirty pages are put: two nodes for each page.
+abbrev pub full_weight : BackingState → Kept → ℕ
+full_weight state kept = state.space.weight + 2 * length kept.pages.dirty
+
+-- with the dirty pages the index gets heavier by so many nodes at most
+abbrev pub GrowsBy : ℕ → BackingState → BackingState → Kept → Kept → Type 0
+GrowsBy nodes old new before after = full_weight new after ≤ full_weight old before + nodes
+
+-- how many nodes a call adds at most: if it is done, and if the volume failed; otherwise none
+abbrev pub added_or_failed : {T : Type 0} → ℕ → ℕ → Result T StoreFault → ℕ
+added_or_failed done failed (Ok x) = done
+added_or_failed done failed (Err (Volume count)) = failed
+added_or_failed done failed (Err fault) = 0
+
+-- the same, where the fault is told as a refusal
+abbrev pub added_or_refused : {T : Type 0} → ℕ → ℕ → Result T Refusal → ℕ
+added_or_refused done failed (Ok x) = done
+added_or_refused done failed (Err (Eio count)) = failed
+added_or_refused done failed (Err refusal) = 0
+
+-- a commit has ended that began after all else was put: none runs, no node was put since its start, and no byte is held
 pub record HasCommitted (state : BackingState) : Type 0 where
   pub running : state.journal.running ≡ None
   pub nodes : state.journal.nodes ≡ 0
+  pub held : state.space.held ≡ 0
 
 -- Why a need was admitted: the test of admission held, on the backing as it was, or with no page dirty and a commit ended; and it is granted now.
 pub record IsCoveredBy (old new : BackingState) (kept : Kept) (need : Need) : Type 0 where
@@ -62,12 +83,12 @@ abbrev pub IsNotEnospc : {T : Type 0} → Result T Refusal → Type 0
 IsNotEnospc (Err (Enospc space)) = ⊥
 IsNotEnospc result = Unit {0}
 
--- Why nothing was admitted: the test fails, with no page dirty and a commit ended; or a call of the backing failed.
+-- Why nothing was admitted: the test fails, with no page dirty and a commit ended; or a call of the backing failed, which is read-only then.
 abbrev pub IsWithoutRoom : BackingState → BackingState → Kept → Need → Refusal → Type 0
 IsWithoutRoom old new kept need (Enospc space) =
     (space.need ≡ needed new.space need) × (space.room ≡ room_for new.geometry new.space need) × (space.room < space.need)
     × (kept.pages.dirty ≡ []) × HasCommitted new
-IsWithoutRoom old new kept need (Eio count) = Rose old.faults new.faults × (count ≡ new.faults)
+IsWithoutRoom old new kept need (Eio count) = Rose old.faults new.faults × (count ≡ new.faults) × (new.mode ≢ ReadWrite)
 IsWithoutRoom old new kept need (Erofs cause) = new.mode ≡ ReadOnly cause
 IsWithoutRoom old new kept need Enomem = Unit {0}
 IsWithoutRoom old new kept need refusal = ⊥

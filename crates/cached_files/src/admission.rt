@@ -4,7 +4,7 @@ ghost use Rattle.std.specs.Prelude.{◌≡◌, ◌⊎◌, ◌+◌, ◌*◌, ◌�
 ghost use Rattle.fs_model.specs.Backing.{Goes, HasCause, IsModest, KeepsFiles, granted};
 ghost use Rattle.fs_model.specs.Cover.{needed, room_for};
 ghost use Rattle.cached_files.specs.Alike.{IsAlike};
-ghost use Rattle.cached_files.specs.Calls.{HasCommitted, HasMadeRoom, IsCoveredAtLast, IsCoveredBy, IsWithoutRoom, SureGoes, TellsMode, WasCovered};
+ghost use Rattle.cached_files.specs.Calls.{GrowsBy, HasCommitted, HasMadeRoom, IsCoveredAtLast, IsCoveredBy, IsWithoutRoom, SureGoes, TellsMode, WasCovered, added_or_failed, added_or_refused};
 ghost use Rattle.cached_files.specs.Present.{IsKept, present};
 
 use crate::commits::commit;
@@ -40,6 +40,7 @@ pub fn admit<B: Backing>(
         → (result ≡ Ok tt) × (B.state backing.new ≡ granted (B.state backing.old) need.now) × (kept.new ≡ kept.old) }
     ensures refused { IfErr result (IsWithoutRoom (B.state backing.old) (B.state backing.new) kept.new need.now) }
     ensures goes { Goes (2 * length kept.old.pages.dirty) (B.state backing.old) (B.state backing.new) }
+    ensures grows { GrowsBy (added_or_refused 0 2 result) (B.state backing.old) (B.state backing.new) kept.old kept.new }
     ensures closed { (B.state backing.new).closed ≤ (B.state backing.old).closed }
     ensures sure { SureGoes (B.outlook backing.old) (B.outlook backing.new) (B.state backing.old) (B.state backing.new) }
 {
@@ -71,6 +72,7 @@ fn admit_again<B: Backing>(
     ensures inodes { OnOk result (kept.new.inodes ≡ []) }
     ensures refused { IfErr result (IsWithoutRoom (B.state backing.old) (B.state backing.new) kept.new need.now) }
     ensures goes { Goes (2 * length kept.old.pages.dirty) (B.state backing.old) (B.state backing.new) }
+    ensures grows { GrowsBy (added_or_refused 0 2 result) (B.state backing.old) (B.state backing.new) kept.old kept.new }
     ensures closed { (B.state backing.new).closed ≤ (B.state backing.old).closed }
     ensures sure { SureGoes (B.outlook backing.old) (B.outlook backing.new) (B.state backing.old) (B.state backing.new) }
 {
@@ -100,6 +102,7 @@ pub fn make_room<B: Backing>(
     ensures done { OnOk result (HasCommitted (B.state backing.new)) }
     ensures room { OnOk result (HasMadeRoom (B.state backing.old) (B.state backing.new) kept.old) }
     ensures goes { Goes (2 * length kept.old.pages.dirty) (B.state backing.old) (B.state backing.new) }
+    ensures grows { GrowsBy (added_or_failed 0 2 result) (B.state backing.old) (B.state backing.new) kept.old kept.new }
     ensures closed { (B.state backing.new).closed ≤ (B.state backing.old).closed }
     ensures cause { HasCause (B.state backing.old) (B.state backing.new) result }
     ensures mode { TellsMode (B.state backing.new) result }

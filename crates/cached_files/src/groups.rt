@@ -1,12 +1,12 @@
 // Groups of changes are put.
 
-ghost use Rattle.std.specs.Prelude.{◌≡◌, ◌+◌, ◌*◌, ◌≤◌, Some, IfOk, OnOk, OnErr, IfErr, length, filter};
+ghost use Rattle.std.specs.Prelude.{◌≡◌, ◌+◌, ◌*◌, ◌≤◌, max, Some, IfOk, OnOk, OnErr, IfErr, length, filter};
 ghost use Rattle.fs_model.specs.declared.space.Grant.{Grant};
 ghost use Rattle.fs_model.specs.Backing.{FitsGroup, FitsOrphans, Goes, HasCause, IsModest, KeepsFiles};
 ghost use Rattle.fs_model.specs.Change.{apply};
 ghost use Rattle.fs_model.specs.Cover.{needed, room_for};
 ghost use Rattle.cached_files.specs.Alike.{IsAlike};
-ghost use Rattle.cached_files.specs.Calls.{IsNotEnospc, IsWithoutRoom, SureGoes, TellsMode, WasCovered};
+ghost use Rattle.cached_files.specs.Calls.{GrowsBy, IsNotEnospc, IsWithoutRoom, SureGoes, TellsMode, WasCovered, added_or_failed, added_or_refused};
 ghost use Rattle.cached_files.specs.Follow.{AreOfNames, follow, followed, is_of_inode};
 ghost use Rattle.cached_files.specs.Present.{IsKept, present};
 
@@ -39,6 +39,8 @@ pub fn put_group<B: Backing>(
     ensures same { OnErr result (kept.new ≡ kept.old) }
     ensures files { OnErr result (KeepsFiles (B.state backing.old) (B.state backing.new)) }
     ensures goes { Goes (length group.now) (B.state backing.old) (B.state backing.new) }
+    ensures grows { GrowsBy (added_or_failed (length group.now) (length group.now) result) (B.state backing.old) (B.state backing.new) kept.old kept.new }
+    ensures closed { (B.state backing.new).closed ≤ (B.state backing.old).closed }
     ensures cause { HasCause (B.state backing.old) (B.state backing.new) result }
     ensures mode { TellsMode (B.state backing.new) result }
     ensures sure { SureGoes (B.outlook backing.old) (B.outlook backing.new) (B.state backing.old) (B.state backing.new) }
@@ -77,6 +79,8 @@ pub fn apply_group<B: Backing>(
     ensures at_once { needed (B.state backing.old).space need.now ≤ room_for (B.state backing.old).geometry (B.state backing.old).space need.now → IsNotEnospc result }
     ensures refused { IfErr result (IsWithoutRoom (B.state backing.old) (B.state backing.new) kept.new need.now) }
     ensures goes { Goes (2 * length kept.old.pages.dirty + length group.now) (B.state backing.old) (B.state backing.new) }
+    ensures grows { GrowsBy (added_or_refused (length group.now) (max 2 (length group.now)) result) (B.state backing.old) (B.state backing.new) kept.old kept.new }
+    ensures closed { (B.state backing.new).closed ≤ (B.state backing.old).closed }
     ensures sure { SureGoes (B.outlook backing.old) (B.outlook backing.new) (B.state backing.old) (B.state backing.new) }
 {
     groups_fit_trees_built_alike();

@@ -1,8 +1,10 @@
 // Laws of the present files.
 
-ghost use Rattle.std.specs.Prelude.{◌≡◌, ℕ, ◌<◌, [], false, length, Some};
+ghost use Rattle.std.specs.Prelude.{◌≡◌, ℕ, ◌<◌, List, [], false, length, Some};
 ghost use Rattle.fs_laws.specs.Sound.{AreFiles, IsSound};
+ghost use Rattle.fs_model.specs.declared.change.Change.{Change};
 ghost use Rattle.fs_model.specs.declared.inode.Inode.{Inode};
+ghost use Rattle.fs_model.specs.Change.{apply};
 ghost use Rattle.fs_model.specs.Files.{Files, Tree, inode_at};
 ghost use Rattle.fs_model.specs.Handles.{tree_written};
 ghost use Rattle.fs_model.specs.Orphan.{nameless};
@@ -11,6 +13,7 @@ ghost use Rattle.fs_model.specs.Proper.{IsProper};
 ghost use Rattle.fs_model.specs.Same.{IsSame};
 ghost use Rattle.cached_files.specs.declared.kept.Kept.{Kept as AnyKept};
 ghost use Rattle.cached_files.specs.Alike.{IsAlike};
+ghost use Rattle.cached_files.specs.Follow.{AreOfNames};
 ghost use Rattle.cached_files.specs.Present.{IsKept, present};
 
 use fs_laws::{groups_fit_trees_built_alike, trees_built_alike_are_proper};
@@ -23,6 +26,11 @@ pub fn alike_files_are_the_same()
 /// A write to what is no directory leaves files alike that were alike.
 pub fn written_files_stay_alike()
     ensures { (a b : Files) (ino : ℕ) (inode : Inode) (now offs n byte : ℕ) → 0 < n → inode_at a.tree ino ≡ Some inode → is_dir inode.kind ≡ false → IsAlike a b → IsAlike (record a { tree = tree_written a.tree ino inode now offs n byte }) (record b { tree = tree_written b.tree ino inode now offs n byte }) }
+{}
+
+/// A group of changes of inodes and names leaves files alike that were alike.
+pub fn groups_leave_files_alike()
+    ensures { (a b : Files) (group : List Change) → IsProper a.tree → IsProper b.tree → AreOfNames a.tree group → IsAlike a b → IsAlike (record a { tree = apply a.tree group }) (record b { tree = apply b.tree group }) }
 {}
 
 /// The present tree is proper, and has as many inodes without a name as the tree below; the present files are sound where

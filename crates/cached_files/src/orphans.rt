@@ -2,11 +2,11 @@
 
 ghost use Rattle.std.specs.Prelude.{◌≡◌, ◌+◌, ◌≤◌, IsTrue, OnOk, OnErr, length};
 ghost use Rattle.fs_model.specs.declared.change.Change.TheVariants.{DropInode};
-ghost use Rattle.fs_model.specs.Backing.{Goes, HasCause, IsNotReadOnly, KeepsFiles};
+ghost use Rattle.fs_model.specs.Backing.{Goes, HasCause, IsNotReadOnly, KeepsFiles, next_orphans};
 ghost use Rattle.fs_model.specs.Change.{without_inode};
 ghost use Rattle.fs_model.specs.Orphan.{is_nameless};
 ghost use Rattle.fs_model.specs.Proper.{IsProper};
-ghost use Rattle.cached_files.specs.Calls.{SureGoes};
+ghost use Rattle.cached_files.specs.Calls.{GrowsBy, SureGoes};
 ghost use Rattle.cached_files.specs.Follow.{follow};
 ghost use Rattle.cached_files.specs.Present.{IsKept, present};
 
@@ -28,6 +28,8 @@ pub fn drop_orphan<B: Backing>(backing: &mut B, kept: &mut Kept, ino: u32) -> Re
     ensures same { OnErr result (kept.new ≡ kept.old) }
     ensures files { OnErr result (KeepsFiles (B.state backing.old) (B.state backing.new)) }
     ensures goes { Goes 0 (B.state backing.old) (B.state backing.new) }
+    ensures grows { GrowsBy 0 (B.state backing.old) (B.state backing.new) kept.old kept.new }
+    ensures orphans { next_orphans (B.state backing.new) ≤ next_orphans (B.state backing.old) }
     ensures cause { HasCause (B.state backing.old) (B.state backing.new) result }
     ensures mode { IsNotReadOnly result }
     ensures sure { SureGoes (B.outlook backing.old) (B.outlook backing.new) (B.state backing.old) (B.state backing.new) }

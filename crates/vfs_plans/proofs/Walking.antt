@@ -33,8 +33,8 @@ same_tree x y a b looks = ap (λ s. s.tree) looks.reads
 
 -- a fault of a later call is one of both
 pub fault_later : (a b c : BackingState) (refusal : Refusal) → a.faults ≤ b.faults → IsFault b c refusal → IsFault a c refusal
-fault_later a b c (Eio count) h (inl r, same) = (inl (omega (arith, h, r)), same)
-fault_later a b c (Eio count) h (inr r, same) = (inr r, same)
+fault_later a b c (Eio count) h (inl r, same, mode) = (inl (omega (arith, h, r)), same, mode)
+fault_later a b c (Eio count) h (inr r, same, mode) = (inr r, same, mode)
 fault_later a b c Enomem h f = tt
 fault_later a b c Enoent h f = f
 fault_later a b c Eexist h f = f

@@ -1,13 +1,14 @@
 -- What a question about the files comes to over a backing, which may fail.
-use Rattle.std.specs.Prelude.{◌≡◌, ◌⊎◌, Result, Err}
+use Rattle.std.specs.Prelude.{◌≡◌, ◌≢◌, ◌⊎◌, Result, Err}
+use Rattle.fs_model.specs.declared.backing_answers.Mode.TheVariants.{ReadWrite}
 use Rattle.fs_model.specs.declared.refusal.Refusal.{Refusal}
 use Rattle.fs_model.specs.declared.refusal.Refusal.TheVariants.{Eio, Enomem}
 use Rattle.fs_model.specs.Backing.{BackingState, Outlook, Goes, Reads, Rose}
 use Rattle.cached_files.specs.Calls.{SureGoes}
 
--- a fault of the backing in this call, told as a refusal; want of memory is free
+-- a fault of the backing in this call, told as a refusal; the backing is read-only then. Want of memory is free
 abbrev pub IsFault : BackingState → BackingState → Refusal → Type 0
-IsFault old new (Eio count) = Rose old.faults new.faults × (count ≡ new.faults)
+IsFault old new (Eio count) = Rose old.faults new.faults × (count ≡ new.faults) × (new.mode ≢ ReadWrite)
 IsFault old new Enomem = Unit {0}
 IsFault old new refusal = ⊥
 

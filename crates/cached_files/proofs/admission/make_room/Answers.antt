@@ -1,4 +1,5 @@
-use Rattle.std.proofs.Common.{◌+◌, ◌*◌, ◌∙◌, arith, length}
+use Rattle.std.proofs.Common.{◌+◌, ◌*◌, ◌∙◌, arith, length, rules}
+use Rattle.cached_files.proofs.Growing.{none_put}
 use Rattle.cached_files.proofs.MakingRoom.{on_ok, all_put}
 use Rattle.cached_files.specs.CallLaws.{Goes-then, Goes-within}
 use Rattle.cached_files.proofs.admission.make_room.Goals as goal
@@ -28,3 +29,15 @@ returns-clause-closed g c =
     let synced = c.sync_all.ensures.files.closed in
     let done = c.commit.ensures.files.closed in
     omega (arith, put, synced, done)
+
+pub returns-in_err-sync_all-clause-grows : goal.returns-in_err-sync_all-clause-grows
+returns-in_err-sync_all-clause-grows g c =
+    let f = none_put 2 (g.B.Backing.state c.args.backing.now) (g.B.Backing.state c.write_back.new.backing) (g.B.Backing.state c.sync_all.new.backing) c.args.kept.now c.write_back.new.kept c.in_ok-write_back.ensures.grows c.sync_all.ensures.goes in
+    search (rules, f)
+
+pub returns-clause-grows : goal.returns-clause-grows
+returns-clause-grows g c =
+    let put = g.B.Backing.state c.write_back.new.backing in
+    let synced = g.B.Backing.state c.sync_all.new.backing in
+    let new = g.B.Backing.state c.commit.new.backing in
+    none_put _ (g.B.Backing.state c.args.backing.now) put new c.args.kept.now c.write_back.new.kept c.in_ok-write_back.ensures.grows (Goes-then 0 0 put synced new c.sync_all.ensures.goes c.commit.ensures.goes)

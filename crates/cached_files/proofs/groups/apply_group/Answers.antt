@@ -2,6 +2,7 @@ use Rattle.std.proofs.Common.{rules, arith, ◌+◌, sym, ◌*◌, length}
 use Rattle.fs_model.specs.declared.space.Grant.{Grant}
 use Rattle.cached_files.specs.Present.{present}
 use Rattle.cached_files.proofs.Applied.{built_alike, bytes_alike, names_alike, alike_put}
+use Rattle.cached_files.proofs.Growing.{admitted_failed, grows_on, not_admitted}
 use Rattle.cached_files.proofs.MakingRoom.{put_refused}
 use Rattle.cached_files.specs.CallLaws.{Covered-then, Goes-then, Goes-within, fewer_closed}
 use Rattle.cached_files.proofs.groups.apply_group.Goals as goal
@@ -60,3 +61,23 @@ returns-in-Err-clause-refused g c =
 pub returns-in_err-admit-clause-goes : goal.returns-in_err-admit-clause-goes
 returns-in_err-admit-clause-goes g c =
     Goes-within (2 * length c.args.kept.now.pages.dirty) (2 * length c.args.kept.now.pages.dirty + length c.args.group.now) (g.B.Backing.state c.args.backing.now) (g.B.Backing.state c.admit.new.backing) (omega arith) c.admit.ensures.goes
+
+pub returns-in_err-admit-clause-grows : goal.returns-in_err-admit-clause-grows
+returns-in_err-admit-clause-grows g c =
+    let f = not_admitted (Unit {0}) (Unit {0}) (length c.args.group.now) c.in_err-admit.field-0.0 (g.B.Backing.state c.args.backing.now) (g.B.Backing.state c.admit.new.backing) c.args.kept.now c.admit.new.kept c.in_err-admit.ensures.grows in
+    search (rules, f)
+
+pub returns-in-Ok-clause-grows : goal.returns-in-Ok-clause-grows
+returns-in-Ok-clause-grows g c =
+    grows_on (length c.args.group.now) (g.B.Backing.state c.args.backing.now) (g.B.Backing.state c.admit.new.backing) (g.B.Backing.state c.put_group.new.backing) c.args.kept.now c.admit.new.kept c.put_group.new.kept c.in_ok-admit.ensures.grows c.in-Ok.ensures.grows
+
+pub returns-in-Err-clause-grows : goal.returns-in-Err-clause-grows
+returns-in-Err-clause-grows g c =
+    let f = admitted_failed (Unit {0}) (Unit {0}) (length c.args.group.now) c.in-Err.fault (g.B.Backing.state c.args.backing.now) (g.B.Backing.state c.admit.new.backing) (g.B.Backing.state c.put_group.new.backing) c.args.kept.now c.admit.new.kept c.put_group.new.kept c.in_ok-admit.ensures.grows c.in-Err.ensures.grows in
+    search (rules, f)
+
+pub returns-in-Ok-clause-closed : goal.returns-in-Ok-clause-closed
+returns-in-Ok-clause-closed g c = let first = c.admit.ensures.closed in let second = c.put_group.ensures.closed in omega (arith, first, second)
+
+pub returns-in-Err-clause-closed : goal.returns-in-Err-clause-closed
+returns-in-Err-clause-closed g c = let first = c.admit.ensures.closed in let second = c.put_group.ensures.closed in omega (arith, first, second)

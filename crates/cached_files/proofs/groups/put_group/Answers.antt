@@ -1,10 +1,11 @@
-use Rattle.std.proofs.Common.{length, ap, ◌∙◌}
+use Rattle.std.proofs.Common.{◌≤◌, length, ap, arith, rules, subst, sym, ◌∙◌}
 use Rattle.std.specs.Prelude.{filter}
-use Rattle.fs_model.specs.Backing.{FitsGroup}
+use Rattle.fs_model.specs.Backing.{BackingState, FitsGroup}
 use Rattle.cached_files.specs.CallLaws.{Goes-put}
 use Rattle.cached_files.specs.Follow.{is_of_inode}
 use Rattle.cached_files.specs.Present.{present}
 use Rattle.cached_files.proofs.Alike.{present_alike, present_bytes}
+use Rattle.cached_files.proofs.Growing.{group_failed, no_more}
 use Rattle.cached_files.proofs.GroupPut.{GroupPut, group_put, goes_given}
 use Rattle.cached_files.proofs.groups.put_group.Given.{Over}
 use Rattle.cached_files.proofs.groups.put_group.Goals as goal
@@ -45,3 +46,17 @@ returns-clause-goes g c =
 
 pub returns-in_err-put_group-clause-goes : goal.returns-in_err-put_group-clause-goes
 returns-in_err-put_group-clause-goes g c = Goes-put c.put_group.result c.args.group.now (g.B.Backing.state c.args.backing.now) (g.B.Backing.state c.put_group.new.self) c.put_group.ensures.goes
+
+pub returns-in_err-put_group-clause-grows : goal.returns-in_err-put_group-clause-grows
+returns-in_err-put_group-clause-grows g c =
+    let f = group_failed (Unit {0}) (Unit {0}) c.in_err-put_group.field-0.0 c.args.group.now (g.B.Backing.state c.args.backing.now) (g.B.Backing.state c.put_group.new.self) c.args.kept.now c.in_err-put_group.ensures.goes in
+    search (rules, f)
+
+pub returns-clause-grows : goal.returns-clause-grows
+returns-clause-grows g c =
+    let gone = c.follow_all-gone.ensures.gone in
+    no_more (length c.args.group.now) (g.B.Backing.state c.args.backing.now) (g.B.Backing.state c.give_back.new.self) c.args.kept.now c.follow_all-gone.new.kept (returns-clause-goes g c) (omega (arith, gone))
+
+pub returns-clause-closed : goal.returns-clause-closed
+returns-clause-closed g c =
+    subst (λ (s : BackingState). s.closed ≤ (g.B.Backing.state c.args.backing.now).closed) (sym c.give_back.ensures.given) c.in_ok-put_group.ensures.ok.closed

@@ -1,9 +1,12 @@
+use Rattle.std.proofs.Common.{◌≤◌, arith, subst, sym}
+use Rattle.fs_model.specs.Backing.{BackingState, next_orphans}
 use Rattle.fs_model.specs.Change.{without_inode}
 use Rattle.fs_model.specs.Proper.{IsProper}
 use Rattle.cached_files.specs.Present.{present}
 use Rattle.cached_files.proofs.Alike.{present_alike}
+use Rattle.cached_files.proofs.Growing.{no_more}
 use Rattle.cached_files.proofs.GroupPut.{goes_given}
-use Rattle.cached_files.proofs.Dropping.{Dropped, alike_without, dropped, nameless_alike, nodes_without}
+use Rattle.cached_files.proofs.Dropping.{Dropped, alike_without, dropped, nameless_alike, nodes_without, orphan_gone, orphans_kept}
 use Rattle.cached_files.proofs.orphans.drop_orphan.Given.{Over}
 use Rattle.cached_files.proofs.orphans.drop_orphan.Goals as goal
 
@@ -32,3 +35,21 @@ returns-clause-ok g c = (made g c).seen
 pub returns-clause-goes : goal.returns-clause-goes
 returns-clause-goes g c =
     goes_given 0 (g.B.Backing.state c.args.backing.now) (g.B.Backing.state c.drop_orphan.new.self) (g.B.Backing.state c.give_back.new.self) c.let_go-gone.result c.drop_orphan.ensures.goes c.give_back.ensures.given
+
+pub returns-clause-grows : goal.returns-clause-grows
+returns-clause-grows g c =
+    let gone = c.let_go-gone.ensures.gone in
+    no_more 0 (g.B.Backing.state c.args.backing.now) (g.B.Backing.state c.give_back.new.self) c.args.kept.now c.let_go-gone.new.kept (returns-clause-goes g c) (omega (arith, gone))
+
+pub returns-clause-orphans : goal.returns-clause-orphans
+returns-clause-orphans g c =
+    let old = g.B.Backing.state c.args.backing.now in
+    let alike = present_alike old.tree c.args.kept.now c.requires.kept in
+    let none = nameless_alike (present old.tree c.args.kept.now).tree old.tree c.args.ino alike c.requires.nameless in
+    subst (λ (s : BackingState). next_orphans s ≤ next_orphans old) (sym c.give_back.ensures.given) (orphan_gone old (g.B.Backing.state c.drop_orphan.new.self) c.args.ino none c.in_ok-drop_orphan.ensures.ok)
+
+pub returns-in_err-drop_orphan-clause-orphans : goal.returns-in_err-drop_orphan-clause-orphans
+returns-in_err-drop_orphan-clause-orphans g c = orphans_kept (g.B.Backing.state c.args.backing.now) (g.B.Backing.state c.drop_orphan.new.self) c.in_err-drop_orphan.ensures.err
+
+pub returns-in_err-drop_orphan-clause-grows : goal.returns-in_err-drop_orphan-clause-grows
+returns-in_err-drop_orphan-clause-grows g c = no_more 0 (g.B.Backing.state c.args.backing.now) (g.B.Backing.state c.drop_orphan.new.self) c.args.kept.now c.args.kept.now c.drop_orphan.ensures.goes (omega arith)

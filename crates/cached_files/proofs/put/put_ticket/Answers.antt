@@ -1,6 +1,7 @@
 use Rattle.std.proofs.Common.{Bool, rules, is_some, ap, sym, ◌∙◌}
 use Rattle.fs_model.specs.Backing.{page_group}
 use Rattle.cached_files.specs.CallLaws.{Goes-put}
+use Rattle.cached_files.proofs.Growing.{page_done, page_failed}
 use Rattle.cached_files.proofs.PagePuts.{put_done, put_failed, put_none, same_node}
 use Rattle.cached_files.proofs.Putting.{at_ticket, putting_of, cleaned, AfterPut, after_put, is_file_page}
 use Rattle.cached_files.proofs.put.put_ticket.Given.{Over}
@@ -61,7 +62,12 @@ returns-in_err-page-clause-placed g c current page at =
 
 pub returns-in_err-put_page-clause-placed : goal.returns-in_err-put_page-clause-placed
 returns-in_err-put_page-clause-placed g c current page at =
-    let f = put_failed (Unit {0}) Bool (g.B.Backing.state c.args.backing.now) (g.B.Backing.state c.put_page.new.self) page c.in_err-put_page.field-0.0 c.in_err-put_page.ensures.err c.in_err-put_page.ensures.mode in
+    let old = g.B.Backing.state c.args.backing.now in
+    let o = at_ticket c.args.kept.now.pages c.args.ticket.now current in
+    let p = putting_of old.tree c.args.kept.now c.args.ticket.now o c.requires.kept in
+    let shown = c.in_ok-page.ensures p.inode o.page p.found o.found in
+    let e = c.in_err-put_page.ensures in
+    let f = put_failed (Unit {0}) Bool old (g.B.Backing.state c.put_page.new.self) c.in_ok-page.page page c.in_err-put_page.field-0.0 (shown ∙ same_node c.args.kept.now c.args.ticket.now o p.inode p.found page at) e.err e.mode e.goes e.cut in
     search (rules, f)
 
 pub returns-clause-placed : goal.returns-clause-placed
@@ -70,4 +76,14 @@ returns-clause-placed g c current page at =
     let o = at_ticket c.args.kept.now.pages c.args.ticket.now current in
     let p = putting_of old.tree c.args.kept.now c.args.ticket.now o c.requires.kept in
     let shown = c.in_ok-page.ensures p.inode o.page p.found o.found in
-    put_done (Unit {0}) Bool old (g.B.Backing.state c.put_page.new.self) c.in_ok-page.page page tt _ (shown ∙ same_node c.args.kept.now c.args.ticket.now o p.inode p.found page at) c.in_ok-put_page.ensures.ok c.in_ok-put_page.ensures.mode
+    let e = c.in_ok-put_page.ensures in
+    put_done (Unit {0}) Bool old (g.B.Backing.state c.put_page.new.self) c.in_ok-page.page page tt _ (shown ∙ same_node c.args.kept.now c.args.ticket.now o p.inode p.found page at) e.ok e.mode e.goes e.cut
+
+pub returns-in_err-put_page-clause-grows : goal.returns-in_err-put_page-clause-grows
+returns-in_err-put_page-clause-grows g c =
+    let f = page_failed (Unit {0}) Bool c.in_err-put_page.field-0.0 c.in_ok-page.page (g.B.Backing.state c.args.backing.now) (g.B.Backing.state c.put_page.new.self) c.args.kept.now c.in_err-put_page.ensures.goes in
+    search (rules, f)
+
+pub returns-clause-grows : goal.returns-clause-grows
+returns-clause-grows g c =
+    page_done (g.B.Backing.state c.args.backing.now) (g.B.Backing.state c.put_page.new.self) c.args.kept.now (record c.args.kept.now { pages = c.mark_clean.new.self }) c.in_ok-put_page.ensures.goes c.in_ok-put_page.ensures.ok.credits (made g c).issued

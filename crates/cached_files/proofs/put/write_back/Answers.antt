@@ -1,10 +1,11 @@
-use Rattle.std.proofs.Common.{◌≡◌, ℕ, ◌+◌, ◌-◌, ◌*◌, List, sym, subst, arith}
+use Rattle.std.proofs.Common.{◌≡◌, ℕ, ◌+◌, ◌-◌, ◌*◌, Bool, List, rules, sym, subst, arith}
 use Rattle.std.specs.Prelude.{length}
 use Rattle.fs_model.specs.declared.inode.Inode.{Inode}
 use Rattle.fs_model.specs.Files.{Files}
 use Rattle.cached_files.specs.Alike.{IsAlike}
 use Rattle.cached_files.specs.Present.{IsKept, present}
 use Rattle.cached_files.specs.CallLaws.{Goes-then, Goes-within, Sure-then}
+use Rattle.cached_files.proofs.Growing.{failed_on}
 use Rattle.cached_files.proofs.Putting.{written_more, let_go, let_go_still, none_left}
 use Rattle.cached_files.proofs.put.write_back.Goals as goal
 
@@ -12,7 +13,7 @@ pub loop-left-preserved : goal.loop-left-preserved
 loop-left-preserved g c =
     let some = c.loop-left-test.true in
     written_more (g.B.Backing.outlook c.args.backing.now) (g.B.Backing.outlook c.loop-left.backing) (g.B.Backing.outlook c.put_oldest.new.backing) (g.B.Backing.state c.args.backing.now) (g.B.Backing.state c.loop-left.backing) (g.B.Backing.state c.put_oldest.new.backing) c.args.kept.now c.loop-left.kept c.put_oldest.new.kept
-    c.loop-left.left (c.loop-left.left - 1) c.loop-left.invariant (omega (arith, some)) c.put_oldest.ensures.kept c.put_oldest.ensures.same c.put_oldest.ensures.paid c.put_oldest.ensures.issued c.in_ok-put_oldest.ensures.pages c.put_oldest.ensures.goes c.put_oldest.ensures.closed c.put_oldest.ensures.sure
+    c.loop-left.left (c.loop-left.left - 1) c.loop-left.invariant (omega (arith, some)) c.put_oldest.ensures.kept c.put_oldest.ensures.same c.put_oldest.ensures.paid c.put_oldest.ensures.issued c.in_ok-put_oldest.ensures.pages c.put_oldest.ensures.goes c.in_ok-put_oldest.ensures.grows c.put_oldest.ensures.closed c.put_oldest.ensures.sure
 
 pub returns-in_err-put_oldest-clause-goes : goal.returns-in_err-put_oldest-clause-goes
 returns-in_err-put_oldest-clause-goes g c =
@@ -50,3 +51,8 @@ returns-in_err-put_oldest-clause-sure g c =
 
 pub returns-clause-sure : goal.returns-clause-sure
 returns-clause-sure g c = c.loop-left.invariant.sure
+
+pub returns-in_err-put_oldest-clause-grows : goal.returns-in_err-put_oldest-clause-grows
+returns-in_err-put_oldest-clause-grows g c =
+    let f = failed_on Bool (Unit {0}) c.in_err-put_oldest.field-0.0 (g.B.Backing.state c.args.backing.now) (g.B.Backing.state c.loop-left.backing) (g.B.Backing.state c.put_oldest.new.backing) c.args.kept.now c.loop-left.kept c.put_oldest.new.kept c.loop-left.invariant.grows c.in_err-put_oldest.ensures.grows in
+    search (rules, f)
