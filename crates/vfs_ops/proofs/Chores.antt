@@ -5,7 +5,7 @@ use Rattle.std.proofs.lemmas.Bool.{cases_lt}
 use Rattle.fs_model.specs.declared.backing_answers.StoreFault.{StoreFault}
 use Rattle.fs_model.specs.declared.refusal.NoSpace.{NoSpace}
 use Rattle.fs_model.specs.declared.space.Need.{Need}
-use Rattle.fs_model.specs.Backing.{BackingState, Goes, Outlook, KeepsSure, given_back, granted}
+use Rattle.fs_model.specs.Backing.{BackingState, Goes, KeepsFiles, Outlook, KeepsSure, given_back, granted, next_orphans}
 use Rattle.fs_model.specs.Cover.{needed, room_for}
 use Rattle.cached_files.specs.declared.kept.Kept.{Kept}
 use Rattle.cached_files.specs.Calls.{SureGoes}
@@ -15,13 +15,15 @@ use Rattle.vfs_ops.specs.declared.event.Event.{Event}
 use Rattle.vfs_ops.specs.declared.event.Event.TheVariants.{Call, Pick, Put, Sync, Collect, CommitStart, CommitStep, CommitEnd, Refill, Drain}
 use Rattle.vfs_ops.specs.declared.event.Outcome.{Outcome}
 use Rattle.vfs_ops.specs.declared.event.Outcome.TheVariants.{Synced, Did, Began, Went, Closed, Granted, Refused, Drained, Fault}
-use Rattle.vfs_ops.specs.Background.{IsBackgroundStep, IsBackingCall, IsChore, IsMade, drained_in, granted_in, nodes_in}
+use Rattle.vfs_ops.specs.Background.{IsBackgroundStep, IsBackingCall, IsChore, IsMade, added_in, drained_in, granted_in, nodes_in}
 use Rattle.vfs_ops.specs.Events.{grant_of}
 use Rattle.vfs_ops.specs.FilesState.{FilesState}
 use Rattle.vfs_ops.specs.Passing.{IsStep}
 use Rattle.vfs_ops.specs.Steps.{IsReady}
 use Rattle.vfs_ops.specs.Writing.{credits_need}
+use Rattle.fs_model.specs.Orphan.{nameless}
 use Rattle.vfs_ops.proofs.Takes.{alike_on, sound_on}
+use Rattle.vfs_ops.proofs.Weighing.{no_heavier}
 
 -- what each call of the background leaves: the tree, all credits but those granted or drained, and no node was put
 pub record IsLeft (old new : BackingState) (event : Event) (outcome : Outcome) : Type 0 where
@@ -29,9 +31,16 @@ pub record IsLeft (old new : BackingState) (event : Event) (outcome : Outcome) :
   pub issued : new.space.credits + drained_in outcome ≡ old.space.credits + granted_in outcome
   pub few : drained_in outcome ≤ grant_of event
   pub goes : Goes 0 old new
+  pub orphans : next_orphans new ≤ next_orphans old
+
+orphans_kept : (old new : BackingState) → KeepsFiles old new → next_orphans new ≤ next_orphans old
+orphans_kept old new files =
+    let same : length (nameless new.tree) ≡ length (nameless old.tree) = ap (λ t. length (nameless t)) files.tree in
+    let few = files.closed in
+    omega (arith, same, few)
 
 left_by : (T : Type 0) (old new : BackingState) (result : Result T StoreFault) (event : Event) (outcome : Outcome) → drained_in outcome ≡ 0 → granted_in outcome ≡ 0 → IsBackingCall old new result → IsLeft old new event outcome
-left_by T old new result event outcome none nil h = let e = h.files.credits in record { tree = h.files.tree; issued = omega (arith, e, none, nil); few = omega (arith, none); goes = h.goes }
+left_by T old new result event outcome none nil h = let e = h.files.credits in record { tree = h.files.tree; issued = omega (arith, e, none, nil); few = omega (arith, none); goes = h.goes; orphans = orphans_kept old new h.files }
 
 goes_granted : (old : BackingState) (need : Need) → Goes 0 old (granted old need)
 goes_granted old need = record { geometry = refl; orphan_limit = refl; mode = inl refl; faults = omega arith; weight = omega arith; index = omega arith; nodes_put = omega arith; told = refl }
@@ -53,14 +62,14 @@ left_after old new CommitEnd (Fault why) few h = left_by (Unit {0}) old new (Err
 left_after old new (Refill n) (Granted m) few h =
     let e = h.0 in
     let credits : new.space.credits ≡ old.space.credits + n = ap (λ s. s.space.credits) h.1.1 in
-    record { tree = ap (λ s. s.tree) h.1.1; issued = omega (arith, e, credits); few = omega arith; goes = subst (λ s. Goes 0 old s) (sym h.1.1) (goes_granted old (credits_need n)) }
+    record { tree = ap (λ s. s.tree) h.1.1; issued = omega (arith, e, credits); few = omega arith; goes = subst (λ s. Goes 0 old s) (sym h.1.1) (goes_granted old (credits_need n)); orphans = let same = ap next_orphans h.1.1 in omega (arith, same) }
 left_after old new (Refill n) (Refused space) few h =
     let credits : new.space.credits ≡ old.space.credits = ap (λ s. s.space.credits) h.0 in
-    record { tree = ap (λ s. s.tree) h.0; issued = omega (arith, credits); few = omega arith; goes = subst (λ s. Goes 0 old s) (sym h.0) (Goes-none old) }
+    record { tree = ap (λ s. s.tree) h.0; issued = omega (arith, credits); few = omega arith; goes = subst (λ s. Goes 0 old s) (sym h.0) (Goes-none old); orphans = let same = ap next_orphans h.0 in omega (arith, same) }
 left_after old new (Drain n) (Drained m) few h =
     let e = h.0 in
     let credits : new.space.credits ≡ old.space.credits - n = ap (λ s. s.space.credits) h.1 in
-    record { tree = ap (λ s. s.tree) h.1; issued = omega (arith, e, few, credits); few = omega (arith, e); goes = subst (λ s. Goes 0 old s) (sym h.1) (goes_given old n) }
+    record { tree = ap (λ s. s.tree) h.1; issued = omega (arith, e, few, credits); few = omega (arith, e); goes = subst (λ s. Goes 0 old s) (sym h.1) (goes_given old n); orphans = let same = ap next_orphans h.1 in omega (arith, same) }
 left_after old new event outcome few h = absurd h
 
 made_by : (old : FilesState) (b : BackingState) (event : Event) (outcome : Outcome) → IsChore old.backing b event outcome → IsMade old (record old { backing = b }) event outcome
@@ -81,6 +90,8 @@ background_by old b event outcome few h =
       same = alike_on b.tree old.backing.tree old.kept left.tree;
       refused = refl;
       issued = omega (arith, issued);
+      weighed = no_heavier (added_in event outcome) old.backing b old.kept old.kept left.goes (omega arith);
+      orphans = left.orphans;
       goes = goes_by old.backing b event outcome h left.goes;
     }
 

@@ -1,4 +1,5 @@
 pub mod Admitted
+pub mod Answering
 pub mod Buffering
 pub mod Chores
 pub mod Closing
@@ -8,10 +9,14 @@ pub mod Groups
 pub mod Looking
 pub mod Named
 pub mod Nameless
+pub mod Orphaning
 pub mod Orphans
+pub mod Others
 pub mod Picking
 pub mod Placing
 pub mod Plans
+pub mod Replying
 pub mod Serving
 pub mod States
 pub mod Takes
+pub mod Weighing

@@ -15,6 +15,7 @@ use Rattle.fs_model.specs.declared.space.Need.{Need}
 use Rattle.fs_model.specs.Backing.{BackingState, Outlook}
 use Rattle.fs_model.specs.CallFaults.{refusal_of}
 use Rattle.fs_model.specs.Files.{pair_cmp}
+use Rattle.page_cache.specs.Pages.{Pages}
 use Rattle.cached_files.specs.declared.kept.Kept.{Kept}
 use Rattle.cached_files.specs.Calls.{IsWithoutRoom}
 use Rattle.cached_files.specs.Present.{IsSameButClean, newly_dirty}
@@ -63,7 +64,10 @@ store_late (IsReadOnly cause) early = false≢true (sym early)
 
 -- looks that leave what is kept
 pub looked : {x y : Outlook} {a b : BackingState} → Looks x y a b → (before after : Kept) → IsSameButClean before after → OnlyLooks a b before after
-looked looks before after same = record { reads = looks.reads; dirty = ap (λ (k : Kept). k.pages.dirty) same; inodes = ap (λ (k : Kept). k.inodes) same }
+looked looks before after same = record {
+  reads = looks.reads;
+  kept = same ∙ ap (λ handles. record before { pages = record before.pages { clean = after.pages.clean }; handles = handles }) (sym (ap (λ (k : Kept). k.handles) same));
+}
 
 -- an operation on names is no question
 pub names_ask : (op : Op) → is_of_names op ≡ true → is_question op ≡ true → ⊥
@@ -105,11 +109,19 @@ write_left kept caller grant slot offs len byte ino left found taken =
 
 -- opening changes handles alone
 pub opened_looks : {x y : Outlook} {a b : BackingState} → Looks x y a b → (before after : Kept) → after.pages ≡ before.pages → after.inodes ≡ before.inodes → OnlyLooks a b before after
-opened_looks looks before after pages inodes = record { reads = looks.reads; dirty = ap (λ p. p.dirty) pages; inodes = inodes }
+opened_looks looks before after pages inodes = record {
+  reads = looks.reads;
+  kept =
+      let same : after.pages ≡ record before.pages { clean = after.pages.clean } = pages ∙ ap (λ clean. record before.pages { clean = clean }) (sym (ap (λ (p : Pages). p.clean) pages)) in
+      ap (λ (p : Pages). record after { pages = p }) same ∙ ap (λ inodes. record after { pages = record before.pages { clean = after.pages.clean }; inodes = inodes }) inodes;
+}
 
 -- all is as it was
 pub same_looks : (a b : BackingState) (before after : Kept) → b ≡ a → after ≡ before → OnlyLooks a b before after
-same_looks a b before after same kept = record { reads = rw same refl; dirty = ap (λ (k : Kept). k.pages.dirty) kept; inodes = ap (λ (k : Kept). k.inodes) kept }
+same_looks a b before after same kept = record {
+  reads = rw same refl;
+  kept = kept ∙ ap (λ (k : Kept). record before { pages = record before.pages { clean = k.pages.clean }; handles = k.handles }) (sym kept);
+}
 
 -- a sync isn't refused early where it is stopped
 pub unsynced_early : {T Q : Type 0} (old new : BackingState) (result : Result T Refusal) → IfErr result (λ r. IsUnsynced old new r) → IsEarly result → Q

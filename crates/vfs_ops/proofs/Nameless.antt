@@ -298,3 +298,22 @@ one_at_most files group proper tells =
         let less = count_within (fold set_in files.tree.inodes group) files.tree.inodes fewer.ascends fewer.within in
         omega (arith, less)
     by (inr it) = few_more files.tree.inodes group proper.inodes_ascend it
+
+-- an inode that is set again with as many links
+pub set_again : (tree : Tree) (ino : ℕ) (old new : Inode) → IsProper tree → inode_at tree ino ≡ Some old → new.nlink ≡ old.nlink → length (keys_of (filter (λ e. e.1.nlink == 0) (insert_entry nat_cmp tree.inodes ino new))) ≤ length (nameless tree)
+set_again tree ino old new proper found links =
+    let up : ascends nat_cmp (keys_of tree.inodes) ≡ true = proper.inodes_ascend in
+    let few = count_within (insert_entry nat_cmp tree.inodes ino new) tree.inodes (insert_ascends nat_cmp numbers tree.inodes ino new up) within in
+    let first = nameless_counted (insert_entry nat_cmp tree.inodes ino new) in
+    let last = nameless_counted tree.inodes in
+    omega (arith, few, first, last)
+  where
+    within : (k : ℕ) → no_link_at (insert_entry nat_cmp tree.inodes ino new) k ≡ true → no_link_at tree.inodes k ≡ true
+    within k h = elim (key_cases nat_cmp numbers k ino) [
+      | inl same ↦
+          let t : no_link_at (insert_entry nat_cmp tree.inodes ino new) ino ≡ true = subst (λ q. no_link_at (insert_entry nat_cmp tree.inodes ino new) q ≡ true) same h in
+          let z : has_no_link new ≡ true = rw (set_here nat_cmp numbers tree.inodes ino new) at t in
+          let y : has_no_link old ≡ true = subst (λ n. (n == 0) ≡ true) links z in
+          subst (λ q. no_link_at tree.inodes q ≡ true) (sym same) (ap (λ o. option_map_or has_no_link o false) found ∙ y)
+      | inr other ↦ rw (set_other nat_cmp numbers tree.inodes ino new k other) at h
+    ]

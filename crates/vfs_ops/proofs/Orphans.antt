@@ -1,12 +1,12 @@
 -- Whether the group of an operation on names leaves an orphan.
-use Rattle.std.proofs.Common.{◌≡◌, ℕ, ◌+◌, ◌-◌, ◌≤◌, ◌⊎◌, inl, inr, min, max, Bool, true, false, cond, ◌&&◌, ◌||◌, not, List, [], ◌∷◌, ◌++◌, length, Option, Some, None, Ok, Err, refl, sym, ap, subst, ◌∙◌, arith}
+use Rattle.std.proofs.Common.{◌≡◌, ℕ, ◌+◌, ◌-◌, ◌≤◌, ◌⊎◌, inl, inr, min, max, Bool, true, false, cond, ◌&&◌, ◌||◌, not, List, [], ◌∷◌, ◌++◌, length, length-append, Option, Some, None, Ok, Err, refl, sym, ap, subst, ◌∙◌, arith}
 use Rattle.std.specs.Prelude.{◌==◌, nat_le, nat_lt, is_some, Result}
 use Rattle.std.specs.List.{AllByRecursion}
 use Rattle.std.specs.Option.{option_map_or}
 use Rattle.std.proofs.lemmas.Bool.{false≢true, ltb-false}
 use Rattle.std.proofs.lemmas.Bool.Decides.{eqb_tells, nat_tests}
 use Rattle.fs_model.specs.declared.change.Change.{Change}
-use Rattle.fs_model.specs.declared.change.Change.TheVariants.{SetInode, DropEntry, DropInode}
+use Rattle.fs_model.specs.declared.change.Change.TheVariants.{SetInode, SetEntry, DropEntry, DropInode}
 use Rattle.fs_model.specs.declared.inode.Inode.{Inode}
 use Rattle.fs_model.specs.declared.inode.Entry.{Entry}
 use Rattle.fs_model.specs.declared.op.Op.{Op}
@@ -24,9 +24,9 @@ use Rattle.fs_model.specs.Directory.{counted, dir_links, has_no_entry, is_linked
 use Rattle.fs_model.specs.Files.{Tree, Files, inode_at, entry_at}
 use Rattle.fs_model.specs.Links.{linking, losing, removing, linked, unlinked, dir_removed}
 use Rattle.fs_model.specs.Making.{inode_limit, is_bad_mode, is_bad_target, is_name_path, touched, touching, making, made, new_file, new_dir, new_symlink}
-use Rattle.fs_model.specs.Operation.{plan_of, outcome_of}
+use Rattle.fs_model.specs.Operation.{group_of, plan_of, outcome_of}
 use Rattle.fs_model.specs.Orphan.{is_open, leaves_orphan, nameless, within_orphans}
-use Rattle.fs_model.specs.Outcome.{Plan, done_by, group_in, refuse, with_found, with_some}
+use Rattle.fs_model.specs.Outcome.{Outcome, Plan, done_by, group_in, refuse, with_found, with_some}
 use Rattle.fs_model.specs.Path.{is_path, has_long_name, components, last_of, walked, parent_of, is_dir}
 use Rattle.fs_model.specs.Proper.{IsProper}
 use Rattle.fs_model.specs.Rename.{is_under, moved, moving, coming, comes_linked_out, renamed}
@@ -35,6 +35,7 @@ use Rattle.cached_files.specs.declared.kept.Kept.{Kept}
 use Rattle.cached_files.specs.Alike.{IsAlike}
 use Rattle.cached_files.specs.Present.{present}
 use Rattle.vfs_plans.specs.Answers.{Looks}
+use Rattle.vfs_plans.specs.Operations.{is_truncate}
 use Rattle.vfs_ops.specs.Operations.{is_of_names, is_orphaned, orphans}
 use Rattle.vfs_ops.proofs.Groups.{outcome_is}
 use Rattle.vfs_ops.proofs.Named.{Stands, IsDirAt, stored_at, walked_stands, above_is_dir, parent_is_dir, has_link, never_open}
@@ -178,12 +179,47 @@ moving_tells files from dir name ino change now above is (inr it) = inr (record 
   );
 })
 
--- a plan whose group tells so
-abbrev Told : Files → Plan → Type 0
-Told files plan = Tells files.tree.inodes (group_in plan)
+-- a reply that an operation on names or of a size gives: it tells no bytes, and isn't a refusal
+abbrev pub is_brief : Reply → Bool
+is_brief Done = true
+is_brief (Ino ino) = true
+is_brief reply = false
+
+abbrev IsBrief : Plan → Type 0
+IsBrief (Ok found) = is_brief found.0 ≡ true
+IsBrief (Err refusal) = Unit {0}
+
+-- a plan whose group tells so, and is short
+record Told (files : Files) (plan : Plan) : Type 0 where
+  pub tells : Tells files.tree.inodes (group_in plan)
+  pub short : length (group_in plan) ≤ 5
+  pub brief : IsBrief plan
 
 nothing : (files : Files) (e : Refusal) → Told files (Err e)
-nothing files e = inl tt
+nothing files e = record { tells = inl tt; short = omega arith; brief = tt }
+
+-- a directory that changes is one node
+touch_short : (tree : Tree) (dir now : ℕ) (came gone : Share) → length (touching tree dir now came gone) ≤ 1
+touch_short tree dir now came gone = by (inode_at tree dir)
+  where
+    by : (o : Option Inode) → length (option_map_or (λ inode. SetInode dir (touched now (counted came gone inode)) ∷ []) o []) ≤ 1
+    by (Some inode) = omega arith
+    by None = omega arith
+
+five_at_most : (a c : Change) (x y z : List Change) → length x ≤ 1 → length y ≤ 1 → length z ≤ 1 → length (a ∷ c ∷ (x ++ y ++ z)) ≤ 5
+five_at_most a c x y z first second third = let p = length-append (x ++ y) z in let q = length-append x y in omega (arith, first, second, third, p, q)
+
+moving_short : (files : Files) (from : Entry) (dir : ℕ) (name : List ℕ) (lost : List Change) (now : ℕ) → length lost ≤ 1 → length (moving files from dir name lost now) ≤ 5
+moving_short files from dir name lost now few = by (from.dir == dir)
+  where
+    by : (b : Bool) → length (SetEntry (record from { dir = dir; name = name }) ∷ DropEntry from.dir from.name ∷ (lost ++ touching files.tree from.dir now (cond b (coming (record from { dir = dir; name = name }) lost) no_share) (share_of from)
+        ++ (cond b [] (touching files.tree dir now (coming (record from { dir = dir; name = name }) lost) no_share)))) ≤ 5
+    by true =
+        five_at_most (SetEntry (record from { dir = dir; name = name })) (DropEntry from.dir from.name) lost (touching files.tree from.dir now (coming (record from { dir = dir; name = name }) lost) (share_of from)) [] few
+        (touch_short files.tree from.dir now (coming (record from { dir = dir; name = name }) lost) (share_of from)) (omega arith)
+    by false =
+        five_at_most (SetEntry (record from { dir = dir; name = name })) (DropEntry from.dir from.name) lost (touching files.tree from.dir now no_share (share_of from)) (touching files.tree dir now (coming (record from { dir = dir; name = name }) lost) no_share) few
+        (touch_short files.tree from.dir now no_share (share_of from)) (touch_short files.tree dir now (coming (record from { dir = dir; name = name }) lost) no_share)
 
 made_told : (files : Files) (now : ℕ) (path : List ℕ) (inode : Inode) → IsProper files.tree → (inode.nlink == 0) ≡ false → Told files (made files now path inode)
 made_told files now path inode proper links =
@@ -199,7 +235,11 @@ made_told files now path inode proper links =
     refuse_to P (is_some (entry_at tree parent.ino name)) Eexist (room parent) (nothing files) (λ absent.
     refuse_to P (is_dir inode.kind && is_linked_out (dir_links tree parent.ino)) Emlink (few parent) (nothing files) (λ low.
     refuse_to P (nat_le inode_limit tree.highest) (Enfile InodeTable inode_limit) (last parent) (nothing files) (λ left.
-    making_tells tree parent.ino name inode now links (parent_is_dir tree path parent proper up))))))
+    record {
+      tells = making_tells tree parent.ino name inode now links (parent_is_dir tree path parent proper up);
+      short = let one = touch_short tree parent.ino now (share_of (record { dir = parent.ino; name = name; ino = tree.highest + 1; kind = inode.kind })) no_share in omega (arith, one);
+      brief = refl;
+    })))))
 
 linked_told : (files : Files) (now : ℕ) (old new : List ℕ) → IsProper files.tree → Told files (linked files now old new)
 linked_told files now old new proper =
@@ -220,7 +260,11 @@ linked_told files now old new proper =
     refuse_to P (is_linked_out inode.nlink) Emlink (above entry inode) (nothing files) (λ low.
     found_to P (parent_of tree new) (free entry inode) (nothing files) (λ parent up.
     refuse_to P (is_some (entry_at tree parent.ino name)) Eexist (last entry inode parent) (nothing files) (λ absent.
-    linking_tells tree entry inode parent.ino name now (parent_is_dir tree new parent proper up)))))))))
+    record {
+      tells = linking_tells tree entry inode parent.ino name now (parent_is_dir tree new parent proper up);
+      short = let one = touch_short tree parent.ino now (share_of (record entry { dir = parent.ino; name = name })) no_share in omega (arith, one);
+      brief = refl;
+    }))))))))
 
 unlinked_told : (files : Files) (now : ℕ) (path : List ℕ) → IsSound files → Told files (unlinked files now path)
 unlinked_told files now path sound =
@@ -234,7 +278,11 @@ unlinked_told files now path sound =
     found_to P (walked tree path) plain (nothing files) (λ entry at.
     refuse_to P (is_dir entry.kind) Eisdir (with_it entry) (nothing files) (λ file.
     some_to P (inode_at tree entry.ino) Enoent (last entry) (nothing files) (λ inode there.
-    removing_tells files entry inode now sound (walked_stands tree path entry at) there)))))
+    record {
+      tells = removing_tells files entry inode now sound (walked_stands tree path entry at) there;
+      short = let one = touch_short tree entry.dir now no_share (share_of entry) in omega (arith, one);
+      brief = refl;
+    })))))
 
 dir_removed_told : (files : Files) (now : ℕ) (path : List ℕ) → IsSound files → Told files (dir_removed files now path)
 dir_removed_told files now path sound =
@@ -250,11 +298,15 @@ dir_removed_told files now path sound =
     refuse_to P (not (is_dir entry.kind)) Enotdir (empty entry) (nothing files) (λ is.
     refuse_to P (not (has_no_entry tree entry.ino)) Enotempty (with_it entry) (nothing files) (λ free.
     some_to P (inode_at tree entry.ino) Enoent (last entry) (nothing files) (λ inode there.
-    removing_tells files entry inode now sound (walked_stands tree path entry at) there))))))
+    record {
+      tells = removing_tells files entry inode now sound (walked_stands tree path entry at) there;
+      short = let one = touch_short tree entry.dir now no_share (share_of entry) in omega (arith, one);
+      brief = refl;
+    }))))))
 
 moved_told : (files : Files) (now : ℕ) (from : Entry) (dir : ℕ) (name : List ℕ) (at : Option Entry) → IsSound files → IsDirAt files.tree from.dir → IsDirAt files.tree dir → ((over : Entry) → at ≡ Some over → Stands files.tree over) → Told files (moved files now from dir name at)
 moved_told files now from dir name None sound above is stands =
-    refuse_to (λ plan. Told files plan) (comes_linked_out files from dir) Emlink (Ok (Done, moving files from dir name [] now)) (nothing files) (λ low. moving_spares files from dir name [] now above is tt)
+    refuse_to (λ plan. Told files plan) (comes_linked_out files from dir) Emlink (Ok (Done, moving files from dir name [] now)) (nothing files) (λ low. record { tells = moving_spares files from dir name [] now above is tt; short = moving_short files from dir name [] now (omega arith); brief = refl })
 moved_told files now from dir name (Some over) sound above is stands = by (over.ino == from.ino)
   where
     P : Plan → Type 0
@@ -273,13 +325,17 @@ moved_told files now from dir name (Some over) sound above is stands = by (over.
     second = refuse (not (is_dir from.kind) && is_dir over.kind) Eisdir third
 
     by : (b : Bool) → P (cond b (Ok (Done, [])) (refuse (is_dir from.kind && not (is_dir over.kind)) Enotdir second))
-    by true = inl tt
+    by true = record { tells = inl tt; short = omega arith; brief = refl }
     by false =
         refuse_to P (is_dir from.kind && not (is_dir over.kind)) Enotdir second (nothing files) (λ a.
         refuse_to P (not (is_dir from.kind) && is_dir over.kind) Eisdir third (nothing files) (λ b.
         refuse_to P (is_dir over.kind && not (has_no_entry files.tree over.ino)) Enotempty with_it (nothing files) (λ c.
         some_to P (inode_at files.tree over.ino) Enoent last (nothing files) (λ inode there.
-        moving_tells files from dir name over.ino (losing files over.ino now inode) now above is (losing_tells files over.ino now inode sound there (has_link files.tree over inode sound.proper (stands over refl) there))))))
+        record {
+          tells = moving_tells files from dir name over.ino (losing files over.ino now inode) now above is (losing_tells files over.ino now inode sound there (has_link files.tree over inode sound.proper (stands over refl) there));
+          short = moving_short files from dir name (losing files over.ino now inode ∷ []) now (omega arith);
+          brief = refl;
+        }))))
 
 renamed_told : (files : Files) (now : ℕ) (old new : List ℕ) → IsSound files → Told files (renamed files now old new)
 renamed_told files now old new sound =
@@ -318,7 +374,7 @@ mode_set_told files now path mode proper =
     some_to P (inode_at tree at.ino) Enoent (last at) (nothing files) (λ inode there.
     let short : refuse (has_long_name path) Enametoolong (walked tree path) ≡ Ok at = not_refused (not (is_path path)) Einval (refuse (has_long_name path) Enametoolong (walked tree path)) at is in
     let leads : walked tree path ≡ Ok at = not_refused (has_long_name path) Enametoolong (walked tree path) at short in
-    inl (mode_spares tree at inode now mode proper (walked_stands tree path at leads) there, tt))))
+    record { tells = inl (mode_spares tree at inode now mode proper (walked_stands tree path at leads) there, tt); short = omega arith; brief = refl })))
 
 -- the group of an operation on names
 group_told : (files : Files) (caller now : ℕ) (op : Op) → IsSound files → is_of_names op ≡ true → Told files (plan_of files caller now op)
@@ -334,11 +390,48 @@ group_told files caller now (Rmdir path) sound is = dir_removed_told files now p
 group_told files caller now (Rename old new) sound is = renamed_told files now old new sound
 group_told files caller now (Chmod path mode) sound is = mode_set_told files now path mode sound.proper
 group_told files caller now (Truncate slot size) sound is = absurd cc
-group_told files caller now op sound is = inl tt
+group_told files caller now op sound is = absurd (false≢true is)
+
+told_of : (files : Files) (caller now : ℕ) (op : Op) (reply : Reply) (group : List Change) → IsSound files → is_of_names op ≡ true → plan_of files caller now op ≡ Ok (reply, group) → Told files (Ok (reply, group))
+told_of files caller now op reply group sound is found = subst (λ (plan : Plan). Told files plan) found (group_told files caller now op sound is)
+
+-- an operation on names puts five nodes at most
+pub names_short : (files : Files) (caller now : ℕ) (op : Op) → IsSound files → is_of_names op ≡ true → length (group_of files caller now op) ≤ 5
+names_short files caller now op sound is = (group_told files caller now op sound is).short
+
+abbrev value_or : Reply × Files → Outcome → Reply × Files
+value_or other (Ok done) = done
+value_or other (Err refusal) = other
+
+-- what it answers tells no bytes and no refusal, and one inode at most loses its last name
+pub record OnNames (files : Files) (reply : Reply) (after : Files) : Type 0 where
+  pub brief : is_brief reply ≡ true
+  pub one : length (nameless after.tree) ≤ length (nameless files.tree) + 1
+
+pub on_names : (room limit : ℕ) (files : Files) (caller now : ℕ) (op : Op) (reply : Reply) (after : Files) → IsSound files → is_of_names op ≡ true → within_orphans room limit files (outcome_of files caller now op) ≡ Ok (reply, after) → OnNames files reply after
+on_names room limit files caller now op reply after sound is done =
+    let out : within_orphans room limit files (done_by files (plan_of files caller now op)) ≡ Ok (reply, after) = ap (λ outcome. within_orphans room limit files outcome) (sym (outcome_is files caller now op is)) ∙ done in
+    by (plan_of files caller now op) (group_told files caller now op sound is) out
+  where
+    by : (plan : Plan) → Told files plan → within_orphans room limit files (done_by files plan) ≡ Ok (reply, after) → OnNames files reply after
+    by (Err refusal) told e = absurd cc
+    by (Ok plain) told e =
+        let made : Files = record files { tree = apply files.tree plain.1 } in
+        let free : Ok (plain.0, made) ≡ Ok (reply, after) = not_refused ((room == 0) && leaves_orphan files made) (Enfile OrphanTable limit) (Ok (plain.0, made)) (reply, after) e in
+        let pair : (plain.0, made) ≡ (reply, after) = ap (λ (o : Outcome). value_or (reply, after) o) free in
+        let same : plain.0 ≡ reply = ap (λ (p : Reply × Files). p.0) pair in
+        let last : made ≡ after = ap (λ (p : Reply × Files). p.1) pair in
+        record {
+          brief = subst (λ r. is_brief r ≡ true) same told.brief;
+          one = subst (λ (f : Files). length (nameless f.tree) ≤ length (nameless files.tree) + 1) last (one_at_most files plain.1 sound.proper told.tells);
+        }
+
+pub names_answer : (files : Files) (caller now : ℕ) (op : Op) (reply : Reply) (after : Files) → IsSound files → is_of_names op ≡ true → outcome_of files caller now op ≡ Ok (reply, after) → is_brief reply ≡ true
+names_answer files caller now op reply after sound is done = (on_names 1 0 files caller now op reply after sound is (ap (λ (o : Outcome). within_orphans 1 0 files o) done)).brief
 
 -- an operation on names leaves an orphan where its group does
 orphans_told : (files : Files) (caller now : ℕ) (op : Op) (reply : Reply) (group : List Change) → IsSound files → is_of_names op ≡ true → plan_of files caller now op ≡ Ok (reply, group) → leaves_orphan files (record files { tree = apply files.tree group }) ≡ orphans group
-orphans_told files caller now op reply group sound is found = orphan_told files group sound.proper (subst (λ (plan : Plan). Told files plan) found (group_told files caller now op sound is))
+orphans_told files caller now op reply group sound is found = orphan_told files group sound.proper (told_of files caller now op reply group sound is found).tells
 
 -- what such an operation comes to where so many more orphans can be told of
 within_is : (room limit : ℕ) (files : Files) (caller now : ℕ) (op : Op) (reply : Reply) (group : List Change) → IsSound files → is_of_names op ≡ true → plan_of files caller now op ≡ Ok (reply, group)
@@ -393,7 +486,7 @@ closed_on looks = ap (λ s. s.closed) looks.reads
 pub orphans_fit : (files : Files) (caller now : ℕ) (op : Op) (reply : Reply) (group : List Change) (room closed limit : ℕ) → IsSound files → is_of_names op ≡ true → plan_of files caller now op ≡ Ok (reply, group)
     → room ≡ limit - (length (nameless files.tree) + closed) → ((room == 0) && orphans group) ≡ false → FitsOrphans files.tree closed limit group
 orphans_fit files caller now op reply group room closed limit sound is found same free =
-    let tells : Tells files.tree.inodes group = subst (λ (plan : Plan). Told files plan) found (group_told files caller now op sound is) in
+    let tells : Tells files.tree.inodes group = (told_of files caller now op reply group sound is found).tells in
     by (orphans group) (orphans_told files caller now op reply group sound is found) free (one_at_most files group sound.proper tells)
   where
     by : (b : Bool) → nat_lt (length (nameless files.tree)) (length (nameless (apply files.tree group))) ≡ b → ((room == 0) && b) ≡ false → length (nameless (apply files.tree group)) ≤ length (nameless files.tree) + 1 → FitsOrphans files.tree closed limit group
@@ -402,3 +495,16 @@ orphans_fit files caller now op reply group room closed limit sound is found sam
       | inl zero_room ↦ absurd (false≢true (sym none ∙ rw zero_room.0 refl))
       | inr some ↦ (let left = some.1 in inr (omega (arith, same, left, most)))
     ]
+
+-- an operation puts five nodes at most
+pub all_short : (files : Files) (caller now : ℕ) (op : Op) → IsSound files → is_truncate op ≡ false → length (group_of files caller now op) ≤ 5
+all_short files caller now (Create path mode) sound plain = names_short files caller now (Create path mode) sound refl
+all_short files caller now (Mkdir path mode) sound plain = names_short files caller now (Mkdir path mode) sound refl
+all_short files caller now (Symlink path target) sound plain = names_short files caller now (Symlink path target) sound refl
+all_short files caller now (Link a b) sound plain = names_short files caller now (Link a b) sound refl
+all_short files caller now (Unlink path) sound plain = names_short files caller now (Unlink path) sound refl
+all_short files caller now (Rmdir path) sound plain = names_short files caller now (Rmdir path) sound refl
+all_short files caller now (Rename a b) sound plain = names_short files caller now (Rename a b) sound refl
+all_short files caller now (Chmod path mode) sound plain = names_short files caller now (Chmod path mode) sound refl
+all_short files caller now (Truncate slot size) sound plain = absurd (false≢true (sym plain))
+all_short files caller now op sound plain = omega arith

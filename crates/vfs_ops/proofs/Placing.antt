@@ -1,24 +1,26 @@
 -- A page that was picked is put.
-use Rattle.std.proofs.Common.{◌≡◌, ◌+◌, Bool, true, Some, inl, inr, length, refl, sym, ap, subst, ◌∙◌, arith}
+use Rattle.std.proofs.Common.{◌≡◌, ◌+◌, ◌≤◌, Bool, true, Some, inl, inr, length, refl, sym, ap, subst, ◌∙◌, arith}
 use Rattle.std.specs.Prelude.{Ok, Err, if◌then◌else◌}
 use Rattle.fs_model.specs.declared.backing_answers.Mode.{Mode}
 use Rattle.fs_model.specs.declared.backing_answers.Mode.TheVariants.{ReadWrite, ReadOnly}
 use Rattle.fs_model.specs.declared.backing_answers.StoreFault.{StoreFault}
 use Rattle.fs_model.specs.declared.backing_answers.StoreFault.TheVariants.{Memory, Volume, ReadOnly as IsReadOnly}
 use Rattle.fs_model.specs.declared.page_node.PageNode.{PageNode}
-use Rattle.fs_model.specs.Backing.{BackingState, Goes, HasCause, HasMode}
+use Rattle.fs_model.specs.Backing.{BackingState, Goes, HasCause, HasMode, next_orphans, page_group, page_puts, put_by}
+use Rattle.fs_model.specs.Journal.{Leaves}
 use Rattle.page_cache.specs.Pages.{Pages, is_current, without_dirty}
 use Rattle.cached_files.specs.declared.kept.Kept.{Kept}
 use Rattle.cached_files.specs.Alike.{IsAlike}
+use Rattle.cached_files.specs.Calls.{GrowsBy, added_or_failed}
 use Rattle.cached_files.specs.CallLaws.{Goes-none, Goes-within}
-use Rattle.cached_files.specs.PagePut.{IsPutOrKept}
+use Rattle.cached_files.specs.PagePut.{IsPutOrKept, page_at}
 use Rattle.cached_files.specs.Present.{present}
 use Rattle.vfs_ops.specs.declared.event.Encoded.{Encoded}
 use Rattle.vfs_ops.specs.declared.event.Event.{Event}
 use Rattle.vfs_ops.specs.declared.event.Event.TheVariants.{Pick, Put}
 use Rattle.vfs_ops.specs.declared.event.Outcome.{Outcome}
 use Rattle.vfs_ops.specs.declared.event.Outcome.TheVariants.{Page, NoPage, PutDone, Stale, Fault}
-use Rattle.vfs_ops.specs.Background.{IsPicked, IsPlaced, IsPut, IsUnplaced, drained_in, encoded_at, granted_in}
+use Rattle.vfs_ops.specs.Background.{IsPicked, IsPlaced, IsPut, IsUnplaced, added_in, drained_in, encoded_at, granted_in}
 use Rattle.vfs_ops.specs.FilesState.{FilesState, present_in}
 use Rattle.vfs_ops.specs.Passing.{IsStep}
 use Rattle.vfs_ops.specs.Steps.{Passage}
@@ -56,11 +58,38 @@ pub placed : (p : Passage) (shown : Encoded) (t : IsThere p.before shown) (put :
 placed p shown t put done current is pages inodes handles =
     let yes : put ≡ true = is ∙ t.current in
     let clean : p.after.pages ≡ without_dirty p.before.pages shown.ino shown.block = pages ∙ ap (λ (b : Bool). if b then without_dirty p.before.pages shown.ino shown.block else p.before.pages) yes in
-    record { node = t.node; found = t.found; current = current; put = done.done; clean = kept_is p.before p.after (without_dirty p.before.pages shown.ino shown.block) clean inodes handles; mode = writable Bool p.old.mode put done.mode }
+    record { node = t.node; found = t.found; current = current; put = done.done; clean = kept_is p.before p.after (without_dirty p.before.pages shown.ino shown.block) clean inodes handles; mode = writable Bool p.old.mode put done.mode; cut = done.cut }
 
 -- the page that couldn't be put stays as it is
-pub unplaced : (p : Passage) (shown : Encoded) (node : PageNode) (why : StoreFault) → IsPutOrKept {T = Bool} p.old p.new node (Err why) → encoded_at p.before shown.ino shown.block ≡ Some shown → p.after ≡ p.before → HasCause {T = Bool} p.old p.new (Err why) → IsUnplaced p shown why
-unplaced p shown node why kept current same cause = record { current = current; pages = same; files = kept.files; cause = cause_again Bool (Unit {0}) p.old p.new why cause; mode = mode_again Bool (Unit {0}) p.old.mode why kept.mode }
+pub unplaced : (p : Passage) (shown : Encoded) (node : PageNode) (why : StoreFault) → page_at p.before shown.ino shown.block ≡ Some node → IsPutOrKept {T = Bool} p.old p.new node (Err why) → encoded_at p.before shown.ino shown.block ≡ Some shown → p.after ≡ p.before
+    → HasCause {T = Bool} p.old p.new (Err why) → IsUnplaced p shown why
+unplaced p shown node why found kept current same cause = record {
+  node = node;
+  found = found;
+  current = current;
+  pages = same;
+  files = kept.files;
+  cause = cause_again Bool (Unit {0}) p.old p.new why cause;
+  mode = mode_again Bool (Unit {0}) p.old.mode why kept.mode;
+  goes = goes_again why kept.goes;
+  cut = cut_again why kept.cut;
+}
+  where
+    goes_again : (f : StoreFault) → Goes (length (put_by {T = Bool} (Err f) (page_group node))) p.old p.new → Goes (length (put_by {T = Unit {0}} (Err f) (page_group node))) p.old p.new
+    goes_again Memory h = h
+    goes_again (Volume count) h = h
+    goes_again (IsReadOnly cause) h = h
+
+    cut_again : (f : StoreFault) → Leaves p.old.journal p.new.journal (put_by {T = Bool} (Err f) (page_puts node)) → Leaves p.old.journal p.new.journal (put_by {T = Unit {0}} (Err f) (page_puts node))
+    cut_again Memory h = h
+    cut_again (Volume count) h = h
+    cut_again (IsReadOnly cause) h = h
+
+-- a page that couldn't be put is heavier only where the volume failed
+pub put_weighed : (shown : Encoded) (why : StoreFault) (a b : BackingState) (before after : Kept) → GrowsBy (added_or_failed {T = Bool} 0 2 (Err why)) a b before after → GrowsBy (added_in (Put shown) (Fault why)) a b before after
+put_weighed shown Memory a b before after h = h
+put_weighed shown (Volume count) a b before after h = h
+put_weighed shown (IsReadOnly cause) a b before after h = h
 
 -- a pick gives and takes no credit
 pick_plain : (kept : Kept) (outcome : Outcome) → IsPicked kept outcome → (drained_in outcome ≡ 0) × (granted_in outcome ≡ 0)
@@ -75,7 +104,7 @@ pick_step old outcome h =
     let plain = pick_plain old.kept outcome h in
     let none = plain.0 in
     let nil = plain.1 in
-    record { made = (h, refl); same = alike_on old.backing.tree old.backing.tree old.kept refl; refused = refl; issued = omega (arith, none, nil); goes = Goes-none old.backing }
+    record { made = (h, refl); same = alike_on old.backing.tree old.backing.tree old.kept refl; refused = refl; issued = omega (arith, none, nil); weighed = omega arith; orphans = omega arith; goes = Goes-none old.backing }
 
 -- nor does a put
 put_plain : (p : Passage) (shown : Encoded) (outcome : Outcome) → IsPut p shown outcome → (drained_in outcome ≡ 0) × (granted_in outcome ≡ 0)
@@ -86,18 +115,18 @@ put_plain p shown outcome h = absurd h
 
 -- and a put is one
 pub put_step : (old : FilesState) (b : BackingState) (kept : Kept) (shown : Encoded) (outcome : Outcome) → IsPut (record { old = old.backing; new = b; before = old.kept; after = kept }) shown outcome → IsAlike (present_in old) (present b.tree kept)
-    → b.space.credits + length old.kept.pages.dirty ≡ old.backing.space.credits + length kept.pages.dirty → Goes 2 old.backing b → IsStep old (record { backing = b; kept = kept; refused = old.refused }) (Put shown) outcome
-put_step old b kept shown outcome h same issued goes =
+    → b.space.credits + length old.kept.pages.dirty ≡ old.backing.space.credits + length kept.pages.dirty → GrowsBy (added_in (Put shown) outcome) old.backing b old.kept kept → next_orphans b ≤ next_orphans old.backing → Goes 2 old.backing b → IsStep old (record { backing = b; kept = kept; refused = old.refused }) (Put shown) outcome
+put_step old b kept shown outcome h same issued weighed orphans goes =
     let plain = put_plain (record { old = old.backing; new = b; before = old.kept; after = kept }) shown outcome h in
     let none = plain.0 in
     let nil = plain.1 in
-    record { made = h; same = same; refused = refl; issued = omega (arith, issued, none, nil); goes = goes }
+    record { made = h; same = same; refused = refl; issued = omega (arith, issued, none, nil); weighed = weighed; orphans = orphans; goes = goes }
 
 -- nothing was put
 pub goes_none : (old : BackingState) → Goes 2 old old
 goes_none old = Goes-within 0 2 old old (omega arith) (Goes-none old)
 
 pub put_step_at : (old : FilesState) (b : BackingState) (kept : Kept) (event : Event) (shown : Encoded) (outcome : Outcome) → event ≡ Put shown → IsPut (record { old = old.backing; new = b; before = old.kept; after = kept }) shown outcome → IsAlike (present_in old) (present b.tree kept)
-    → b.space.credits + length old.kept.pages.dirty ≡ old.backing.space.credits + length kept.pages.dirty → Goes 2 old.backing b → IsStep old (record { backing = b; kept = kept; refused = old.refused }) event outcome
-put_step_at old b kept event shown outcome is h same issued goes =
-    subst (λ (e : Event). IsStep old (record { backing = b; kept = kept; refused = old.refused }) e outcome) (sym is) (put_step old b kept shown outcome h same issued goes)
+    → b.space.credits + length old.kept.pages.dirty ≡ old.backing.space.credits + length kept.pages.dirty → GrowsBy (added_in (Put shown) outcome) old.backing b old.kept kept → next_orphans b ≤ next_orphans old.backing → Goes 2 old.backing b → IsStep old (record { backing = b; kept = kept; refused = old.refused }) event outcome
+put_step_at old b kept event shown outcome is h same issued weighed orphans goes =
+    subst (λ (e : Event). IsStep old (record { backing = b; kept = kept; refused = old.refused }) e outcome) (sym is) (put_step old b kept shown outcome h same issued weighed orphans goes)

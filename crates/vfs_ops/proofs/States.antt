@@ -31,13 +31,13 @@ rose_later a b count h (inr r) = inr r
 
 -- a fault after a look is one
 pub fault_later : {x y : Outlook} {a b : BackingState} → Looks x y a b → (c : BackingState) (r : Refusal) → IsFault b c r → IsFault a c r
-fault_later {x} {y} {a} {b} looks c (Eio count) fault = (rose_later a.faults b.faults c.faults looks.goes.faults fault.0, fault.1)
+fault_later {x} {y} {a} {b} looks c (Eio count) fault = (rose_later a.faults b.faults c.faults looks.goes.faults fault.0, fault.1, fault.2)
 fault_later looks c Enomem fault = tt
 fault_later looks c refusal fault = absurd fault
 
 -- and want of room after a look is that
 pub room_later : {x y : Outlook} {a b : BackingState} → Looks x y a b → (c : BackingState) (kept : Kept) (need : Need) (r : Refusal) → IsWithoutRoom b c kept need r → IsWithoutRoom a c kept need r
-room_later {x} {y} {a} {b} looks c kept need (Eio count) h = (rose_later a.faults b.faults c.faults looks.goes.faults h.0, h.1)
+room_later {x} {y} {a} {b} looks c kept need (Eio count) h = (rose_later a.faults b.faults c.faults looks.goes.faults h.0, h.1, h.2)
 room_later looks c kept need (Enospc space) h = h
 room_later looks c kept need (Erofs cause) h = h
 room_later looks c kept need Enomem h = tt

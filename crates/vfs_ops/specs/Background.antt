@@ -3,14 +3,15 @@ use Rattle.std.specs.Prelude.{◌≡◌, ◌≢◌, ℕ, ◌+◌, ◌<◌, ◌�
 use Rattle.std.specs.Option.{option_map, option_map_or}
 use Rattle.fs_model.specs.declared.backing_answers.Mode.TheVariants.{ReadWrite}
 use Rattle.fs_model.specs.declared.backing_answers.StoreFault.{StoreFault}
-use Rattle.fs_model.specs.declared.backing_answers.StoreFault.TheVariants.{Memory}
+use Rattle.fs_model.specs.declared.backing_answers.StoreFault.TheVariants.{Memory, Volume}
 use Rattle.fs_model.specs.declared.page_node.PageNode.{PageNode}
-use Rattle.fs_model.specs.Backing.{BackingState, Goes, HasCause, HasMode, IsCollected, IsEnded, IsPagePut, IsStarted, IsStepped, IsSynced, KeepsCommit, KeepsFiles, KeepsOrEnds, ended_of, given_back, granted, started_of}
+use Rattle.fs_model.specs.Backing.{BackingState, Goes, HasCause, HasMode, IsCollected, IsEnded, IsPagePut, IsStarted, IsStepped, IsSynced, KeepsCommit, KeepsFiles, KeepsOrEnds, ended_of, given_back, granted, next_orphans, page_group, page_puts, put_by, started_of}
 use Rattle.fs_model.specs.Cover.{needed, room_for}
 use Rattle.fs_model.specs.Journal.{Leaves}
 use Rattle.page_cache.specs.Pages.{dirty_at, oldest_of, without_dirty}
 use Rattle.cached_files.specs.declared.kept.Kept.{Kept}
 use Rattle.cached_files.specs.Alike.{IsAlike}
+use Rattle.cached_files.specs.Calls.{GrowsBy}
 use Rattle.cached_files.specs.PagePut.{page_at}
 use Rattle.vfs_ops.specs.declared.event.Encoded.{Encoded}
 use Rattle.vfs_ops.specs.declared.event.Event.{Event}
@@ -48,6 +49,7 @@ pub record IsPlaced (p : Passage) (page : Encoded) : Type 0 where
   pub put : IsPagePut p.old p.new node
   pub clean : p.after ≡ record p.before { pages = without_dirty p.before.pages page.ino page.block }
   pub mode : p.old.mode ≡ ReadWrite
+  pub cut : Leaves p.old.journal p.new.journal (page_puts node)
 
 -- A page that isn't as it was picked was left as it is, and so is all else. Its version then and now is told.
 pub record IsStale (p : Passage) (page : Encoded) (kept now : ℕ) : Type 0 where
@@ -57,13 +59,17 @@ pub record IsStale (p : Passage) (page : Encoded) (kept now : ℕ) : Type 0 wher
   pub backing : p.new ≡ p.old
   pub pages : p.after ≡ p.before
 
--- A page that is still as it was picked couldn't be put. It is dirty and paid as before.
+-- A page that is still as it was picked couldn't be put. It is dirty and paid as before. Only where the volume failed may a cut leave its nodes, and the index be heavier.
 pub record IsUnplaced (p : Passage) (page : Encoded) (fault : StoreFault) : Type 0 where
+  pub node : PageNode
+  pub found : page_at p.before page.ino page.block ≡ Some node
   pub current : encoded_at p.before page.ino page.block ≡ Some page
   pub pages : p.after ≡ p.before
   pub files : KeepsFiles p.old p.new
   pub cause : HasCause {T = Unit {0}} p.old p.new (Err fault)
   pub mode : HasMode {T = Unit {0}} p.old.mode (Err fault)
+  pub goes : Goes (length (put_by {T = Unit {0}} (Err fault) (page_group node))) p.old p.new
+  pub cut : Leaves p.old.journal p.new.journal (put_by {T = Unit {0}} (Err fault) (page_puts node))
 
 -- what the put of a page answers and leaves
 abbrev pub IsPut : Passage → Encoded → Outcome → Type 0
@@ -130,6 +136,11 @@ abbrev pub nodes_in : Event → ℕ
 nodes_in (Put shown) = 2
 nodes_in event = 0
 
+-- the nodes by which the index gets heavier at most, dirty pages included: those of a put that the volume failed
+abbrev pub added_in : Event → Outcome → ℕ
+added_in event (Fault (Volume count)) = nodes_in event
+added_in event outcome = 0
+
 -- What an event of the background does to the files, and what comes of it.
 pub record IsBackgroundStep (old new : FilesState) (event : Event) (outcome : Outcome) : Type 0 where
   -- What was asked for is done, or why not is told.
@@ -140,5 +151,9 @@ pub record IsBackgroundStep (old new : FilesState) (event : Event) (outcome : Ou
   pub refused : new.refused ≡ old.refused
   -- The credits beside those of dirty pages stay, but for those that were granted or drained.
   pub issued : new.backing.space.credits + length old.kept.pages.dirty + drained_in outcome ≡ old.backing.space.credits + length new.kept.pages.dirty + granted_in outcome
+  -- With the dirty pages the index gets no heavier, but where the volume failed a put.
+  pub weighed : GrowsBy (added_in event outcome) old.backing new.backing old.kept new.kept
+  -- The next list of orphans gets no longer.
+  pub orphans : next_orphans new.backing ≤ next_orphans old.backing
   -- What the backing may have done meanwhile: a put puts two nodes at most, and no other event puts any.
   pub goes : Goes (nodes_in event) old.backing new.backing

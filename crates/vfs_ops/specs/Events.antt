@@ -1,5 +1,5 @@
 -- What comes of an event.
-use Rattle.std.specs.Prelude.{◌≡◌, ℕ, ◌^◌, ◌<◌, ◌≤◌, false, Some, List, []}
+use Rattle.std.specs.Prelude.{◌≡◌, ℕ, ◌+◌, ◌*◌, ◌^◌, ◌<◌, ◌≤◌, max, false, Some, List, [], length}
 use Rattle.std.specs.BTreeMap.{is_at}
 use Rattle.std.specs.Map.{lookup}
 use Rattle.fs_model.specs.declared.backing_answers.Mode.{Mode}
@@ -12,15 +12,18 @@ use Rattle.fs_model.specs.declared.reply.Reply.TheVariants.{Done}
 use Rattle.fs_model.specs.declared.refusal.NoSpace.{NoSpace}
 use Rattle.fs_model.specs.Backing.{BackingState, IsSynced}
 use Rattle.fs_model.specs.Files.{Files, pair_cmp}
+use Rattle.fs_model.specs.Legal.{pages_in}
 use Rattle.fs_model.specs.Operation.{group_of}
 use Rattle.fs_laws.specs.Sound.{IsCall}
 use Rattle.cached_files.specs.declared.kept.Kept.{Kept}
+use Rattle.cached_files.specs.Calls.{GrowsBy}
 use Rattle.cached_files.specs.Present.{has_dirty, present}
 use Rattle.vfs_plans.specs.Operations.{is_truncate}
 use Rattle.vfs_ops.specs.declared.event.Event.{Event}
 use Rattle.vfs_ops.specs.declared.event.Event.TheVariants.{Call, Drain, Refill}
 use Rattle.vfs_ops.specs.declared.event.Outcome.{Outcome}
 use Rattle.vfs_ops.specs.declared.event.Outcome.TheVariants.{Replied}
+use Rattle.vfs_ops.specs.Kinds.{KeepsOthers, added_by}
 use Rattle.vfs_ops.specs.Steps.{IsAdmittedReply, IsAnswered, IsAtOnceReply, IsExact, Passage}
 use Rattle.vfs_ops.specs.Writing.{BuffersReply}
 
@@ -51,6 +54,17 @@ IsAnswer old new before after refused_before refused_after event outcome = ⊥
 abbrev pub IsExactCall : Passage → Event → Outcome → Type 0
 IsExactCall p (Call caller now grant op) (Replied reply left) = IsExact p caller now grant op reply left
 IsExactCall p event outcome = ⊥
+
+-- a sync of one file leaves the dirty pages of the others
+abbrev pub KeepsOthersCall : Kept → Kept → Event → Type 0
+KeepsOthersCall before after (Call caller now grant op) = KeepsOthers before after caller op
+KeepsOthersCall before after event = ⊥
+
+-- With the dirty pages the index gets heavier by two nodes for each page that a write touches, and by its group. A call that is refused adds nothing, but where the volume failed: then what it was putting.
+abbrev pub IsWeighedCall : Passage → Event → Outcome → Type 0
+IsWeighedCall p (Call caller now grant op) (Replied reply left) =
+    GrowsBy (added_by (2 * pages_in op + length (group_of (present p.old.tree p.before) caller now op)) (max 2 (length (group_of (present p.old.tree p.before) caller now op))) reply) p.old p.new p.before p.after
+IsWeighedCall p event outcome = ⊥
 
 -- the outcome is a reply
 abbrev pub IsReply : Outcome → Type 0

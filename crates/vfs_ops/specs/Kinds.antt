@@ -1,12 +1,19 @@
 -- Which operations and refusals only look, and why one that writes back isn't done.
-use Rattle.std.specs.Prelude.{◌≡◌, ◌⊎◌, Bool, true, false, Result, Ok, Err}
-use Rattle.fs_model.specs.declared.backing_answers.Mode.TheVariants.{ReadOnly}
+use Rattle.std.specs.Prelude.{◌≡◌, ◌≢◌, ◌⊎◌, ◌+◌, ◌≤◌, ℕ, if◌then◌else◌, Bool, true, false, Some, Result, Ok, Err}
+use Rattle.std.specs.BTreeMap.{is_at}
+use Rattle.std.specs.Map.{lookup}
+use Rattle.fs_model.specs.declared.backing_answers.Mode.TheVariants.{ReadWrite, ReadOnly}
 use Rattle.fs_model.specs.declared.op.Op.{Op}
-use Rattle.fs_model.specs.declared.op.Op.TheVariants.{OpenFile, Read, List as ListDir, Stat, Readlink}
+use Rattle.fs_model.specs.declared.op.Op.TheVariants.{OpenFile, Fsync, Read, List as ListDir, Stat, Readlink}
 use Rattle.fs_model.specs.declared.refusal.Refusal.{Refusal}
 use Rattle.fs_model.specs.declared.refusal.Refusal.TheVariants.{Enospc, Eio, Erofs, Enomem}
-use Rattle.fs_model.specs.Backing.{BackingState, Reads, Rose}
+use Rattle.fs_model.specs.Backing.{BackingState, Reads, Rose, next_orphans}
+use Rattle.fs_model.specs.declared.reply.Reply.{Reply}
+use Rattle.fs_model.specs.declared.reply.Reply.TheVariants.{Refused}
+use Rattle.fs_model.specs.Files.{Files, pair_cmp}
+use Rattle.fs_model.specs.Orphan.{leaves_orphan}
 use Rattle.cached_files.specs.declared.kept.Kept.{Kept}
+use Rattle.cached_files.specs.Present.{dirty_of_others}
 
 -- whether it only looks at the files
 abbrev pub is_look : Op → Bool
@@ -16,9 +23,9 @@ is_look (Stat path) = true
 is_look (Readlink path) = true
 is_look op = false
 
--- a fault of the backing, or that it is read-only now
+-- a fault of the backing, which is read-only then, or that it is read-only now
 abbrev pub IsStopped : BackingState → BackingState → Refusal → Type 0
-IsStopped old new (Eio count) = Rose old.faults new.faults × (count ≡ new.faults)
+IsStopped old new (Eio count) = Rose old.faults new.faults × (count ≡ new.faults) × (new.mode ≢ ReadWrite)
 IsStopped old new (Erofs cause) = new.mode ≡ ReadOnly cause
 IsStopped old new Enomem = Unit {0}
 IsStopped old new refusal = ⊥
@@ -28,11 +35,15 @@ abbrev pub is_question : Op → Bool
 is_question (OpenFile path slot) = true
 is_question op = is_look op
 
--- Only looked at: tree, journal and space are as they were, and so is what is kept, but for clean pages and open files.
+-- Only looked at: the backing is as it was, but for a volume that failed; and so is what is kept, but for clean pages and open files.
 pub record OnlyLooks (old new : BackingState) (before after : Kept) : Type 0 where
   pub reads : Reads old new
-  pub dirty : after.pages.dirty ≡ before.pages.dirty
-  pub inodes : after.inodes ≡ before.inodes
+  pub kept : after ≡ record before { pages = record before.pages { clean = after.pages.clean }; handles = after.handles }
+
+-- A sync of one file leaves the dirty pages of the others.
+abbrev pub KeepsOthers : Kept → Kept → ℕ → Op → Type 0
+KeepsOthers before after caller (Fsync slot) = (ino : ℕ) → lookup (is_at (pair_cmp (caller, slot))) before.handles ≡ Some ino → dirty_of_others after.pages.dirty ino ≡ dirty_of_others before.pages.dirty ino
+KeepsOthers before after caller op = Unit {0}
 
 -- whether a refusal may come once pages were put: want of room, a read-only store, a fault, or want of memory
 abbrev pub is_late : Refusal → Bool
@@ -50,3 +61,13 @@ IsEarly (Ok x) = ⊥
 -- a question, or an early refusal
 abbrev pub IsLookOnly : {T : Type 0} → Op → Result T Refusal → Type 0
 IsLookOnly op result = (is_question op ≡ true) ⊎ IsEarly result
+
+-- how many nodes a call adds at most, dirty pages included: if it is done, and if the volume failed; another refusal adds none
+abbrev pub added_by : ℕ → ℕ → Reply → ℕ
+added_by done failed (Refused (Eio count)) = failed
+added_by done failed (Refused refusal) = 0
+added_by done failed reply = done
+
+-- the next list of orphans gets longer by one at most, and only where an open inode lost its last name
+abbrev pub KeepsOrphans : BackingState → BackingState → Files → Files → Type 0
+KeepsOrphans old new before after = next_orphans new ≤ next_orphans old + (if leaves_orphan before after then 1 else 0)

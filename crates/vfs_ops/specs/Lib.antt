@@ -6,5 +6,6 @@ pub mod Kinds
 pub mod Operations
 pub mod Passing
 pub mod ReadyLaws
+pub mod Replies
 pub mod Steps
 pub mod Writing

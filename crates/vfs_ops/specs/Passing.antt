@@ -1,22 +1,26 @@
 -- What an event does to the files, and what a group does that is put.
-use Rattle.std.specs.Prelude.{◌≡◌, ◌+◌, ◌*◌, ◌++◌, Result, OnOk, OnErr, IfErr, List, length}
+use Rattle.std.specs.Prelude.{◌≡◌, ◌+◌, ◌*◌, ◌++◌, max, Result, Err, OnOk, OnErr, IfErr, List, length}
+use Rattle.fs_model.specs.declared.backing_answers.Mode.{Mode}
+use Rattle.fs_model.specs.declared.backing_answers.Mode.TheVariants.{ReadWrite, ReadOnly}
 use Rattle.fs_model.specs.declared.change.Change.{Change}
 use Rattle.fs_model.specs.declared.refusal.Refusal.{Refusal}
+use Rattle.fs_model.specs.declared.refusal.Refusal.TheVariants.{Erofs}
 use Rattle.fs_model.specs.declared.space.Need.{Need}
 use Rattle.fs_model.specs.Backing.{FitsGroup, FitsOrphans, Goes, IsModest}
 use Rattle.fs_model.specs.Change.{apply}
 use Rattle.fs_model.specs.Files.{Files}
 use Rattle.fs_laws.specs.Sound.{IsSound}
 use Rattle.cached_files.specs.Alike.{IsAlike}
-use Rattle.cached_files.specs.Calls.{IsWithoutRoom, WasCovered}
+use Rattle.cached_files.specs.Calls.{GrowsBy, IsWithoutRoom, WasCovered, added_or_refused}
 use Rattle.cached_files.specs.Follow.{AreOfNames}
 use Rattle.vfs_ops.specs.declared.event.Event.{Event}
 use Rattle.vfs_ops.specs.declared.event.Event.TheVariants.{Call}
 use Rattle.vfs_ops.specs.declared.event.Outcome.{Outcome}
 use Rattle.vfs_ops.specs.Background.{IsBackgroundStep}
-use Rattle.vfs_ops.specs.Events.{IsAdmittedCall, IsAnswer, IsAtOnceCall, IsBufferedCall, IsExactCall, IsWrittenBack, grant_of, group_in, left_of}
+use Rattle.vfs_ops.specs.Events.{IsAdmittedCall, IsAnswer, IsAtOnceCall, IsBufferedCall, IsExactCall, IsWeighedCall, IsWrittenBack, KeepsOthersCall, grant_of, group_in, left_of}
 use Rattle.vfs_ops.specs.FilesState.{FilesState, present_in}
-use Rattle.vfs_ops.specs.Steps.{HasOpen, no_space_from}
+use Rattle.vfs_ops.specs.Kinds.{KeepsOrphans}
+use Rattle.vfs_ops.specs.Steps.{no_space_from}
 
 -- What a caller's event does to the files, and what comes of it.
 pub record IsCallStep (old new : FilesState) (event : Event) (outcome : Outcome) : Type 0 where
@@ -24,6 +28,8 @@ pub record IsCallStep (old new : FilesState) (event : Event) (outcome : Outcome)
   pub answered : IsAnswer old.backing new.backing old.kept new.kept old.refused new.refused event outcome
   -- What is left is the grant less the pages that became dirty; a question only looks, and so does a refusal that comes before anything is put.
   pub exact : IsExactCall (record { old = old.backing; new = new.backing; before = old.kept; after = new.kept }) event outcome
+  -- A sync of one file leaves the dirty pages of the others.
+  pub others : KeepsOthersCall old.kept new.kept event
   -- The credits beside those of dirty pages stay, but for what is taken of the grant.
   pub issued : new.backing.space.credits + length old.kept.pages.dirty + grant_of event ≡ old.backing.space.credits + length new.kept.pages.dirty + left_of outcome
   -- After a sync that is done no page is dirty of what it names, and all that was put is synced.
@@ -34,6 +40,10 @@ pub record IsCallStep (old new : FilesState) (event : Event) (outcome : Outcome)
   pub at_once : IsAtOnceCall old.backing old.kept old.refused new.refused event
   -- A write that its grant or the first test covers stays in memory.
   pub buffered : IsBufferedCall old.backing new.backing old.kept new.kept old.refused new.refused event outcome
+  -- With the dirty pages the index gets heavier by what the call wrote and its group.
+  pub weighed : IsWeighedCall (record { old = old.backing; new = new.backing; before = old.kept; after = new.kept }) event outcome
+  -- The next list of orphans gets longer by one at most, where an open inode lost its last name.
+  pub orphans : KeepsOrphans old.backing new.backing (present_in old) (present_in new)
   -- What the backing may have done meanwhile: at most two nodes for each dirty page, and the group.
   pub goes : Goes (2 * length old.kept.pages.dirty + length (group_in (present_in old) event)) old.backing new.backing
 
@@ -55,6 +65,11 @@ pub record MayApply (old : FilesState) (group : List Change) (need : Need) : Typ
   pub names : AreOfNames (present_in old).tree group
   pub sound : IsSound (with_group old group)
 
+-- a read-only store refuses with its cause, and all is as it was
+abbrev pub HasOpen : {T : Type 0} → FilesState → FilesState → Mode → Result T Refusal → Type 0
+HasOpen old new ReadWrite result = Unit {0}
+HasOpen old new (ReadOnly cause) result = (result ≡ Err (Erofs cause)) × (new ≡ old)
+
 -- What a group does to the files, and what is answered.
 pub record IsApplied {T : Type 0} (old new : FilesState) (group : List Change) (need : Need) (result : Result T Refusal) : Type 0 where
   -- Done, callers see the group, but for zeros at the ends of blocks.
@@ -65,11 +80,13 @@ pub record IsApplied {T : Type 0} (old new : FilesState) (group : List Change) (
   pub admitted : OnOk result (WasCovered old.backing new.backing old.kept need need (length group))
   -- Why it isn't done: no room with no page dirty and a commit ended, a fault, a read-only store, or want of memory.
   pub why : IfErr result (IsWithoutRoom old.backing new.backing new.kept need)
-  -- A read-only store refuses before all else.
-  pub read_only : HasOpen old.backing.mode result
+  -- A read-only store refuses before all else, and nothing changes.
+  pub read_only : HasOpen old new old.backing.mode result
   -- The sides of a refusal for want of room are noted.
   pub refused : new.refused ≡ old.refused ++ no_space_from result
   -- The credits beside those of dirty pages stay.
   pub issued : new.backing.space.credits + length old.kept.pages.dirty ≡ old.backing.space.credits + length new.kept.pages.dirty
+  -- With the dirty pages the index gets heavier by the group alone, and by nothing where that wasn't put.
+  pub weighed : GrowsBy (added_or_refused (length group) (max 2 (length group)) result) old.backing new.backing old.kept new.kept
   -- What the backing may have done meanwhile: at most two nodes for each dirty page, and the group.
   pub goes : Goes (2 * length old.kept.pages.dirty + length group) old.backing new.backing

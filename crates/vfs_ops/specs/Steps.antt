@@ -1,5 +1,5 @@
 -- What a step of the file system answers and leaves, over any backing.
-use Rattle.std.specs.Prelude.{◌≡◌, ◌⊎◌, ℕ, ◌-◌, ◌≤◌, Bool, true, false, if◌then◌else◌, Option, Some, None, Result, Ok, Err, List, [], ◌∷◌, ◌++◌, length}
+use Rattle.std.specs.Prelude.{◌≡◌, ◌⊎◌, ℕ, ◌-◌, ◌≤◌, Bool, true, false, if◌then◌else◌, Option, Some, None, IsSome, Result, Ok, Err, List, [], ◌∷◌, ◌++◌, length}
 use Rattle.fs_model.specs.declared.backing_answers.Mode.{Mode}
 use Rattle.fs_model.specs.declared.backing_answers.Mode.TheVariants.{ReadWrite, ReadOnly}
 use Rattle.fs_model.specs.declared.op.Op.{Op}
@@ -130,11 +130,6 @@ abbrev pub no_space_from : {T : Type 0} → Result T Refusal → List NoSpace
 no_space_from (Err (Enospc space)) = space ∷ []
 no_space_from result = []
 
--- a read-only store refuses with its cause
-abbrev pub HasOpen : {T : Type 0} → Mode → Result T Refusal → Type 0
-HasOpen ReadWrite result = Unit {0}
-HasOpen (ReadOnly cause) result = result ≡ Err (Erofs cause)
-
 -- a backing and what is kept in front of it, before and after a step
 pub record Passage : Type 0 where
   pub old : BackingState
@@ -148,12 +143,13 @@ pub record WasDone (p : Passage) (caller now grant : ℕ) (op : Op) (reply : Rep
   pub given_back : left ≡ grant - newly_by p.before caller op
   pub looked : is_question op ≡ true → OnlyLooks p.old p.new p.before p.after
 
--- Refused: the whole grant is left. A question only looked, and so did a refusal that comes before anything is put.
+-- Refused: the whole grant is left. A question only looked, and so did a refusal that comes before anything is put. If it is read-only, all is as it was.
 pub record WasRefused (p : Passage) (grant : ℕ) (op : Op) (reply : Reply) (left : ℕ) : Type 0 where
   pub refusal : Refusal
   pub told : reply ≡ Refused refusal
   pub given_back : left ≡ grant
   pub looked : (is_question op ≡ true) ⊎ (is_late refusal ≡ false) → OnlyLooks p.old p.new p.before p.after
+  pub closed : IsSome (read_only_cause p.old.mode op) → (p.new ≡ p.old) × (p.after ≡ p.before)
 
 -- how much of its grant a step leaves, and which steps only look
 abbrev pub IsExact : Passage → ℕ → ℕ → ℕ → Op → Reply → ℕ → Type 0

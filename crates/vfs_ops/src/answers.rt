@@ -1,17 +1,18 @@
 // A caller's operation, from the mode of the backing on.
 
-ghost use Rattle.std.specs.Prelude.{◌≡◌, ◌⊎◌, ℕ, ◌+◌, ◌-◌, ◌*◌, ◌≤◌, [], false, None, Ok, Err, IfOk, OnOk, OnErr, IfErr, length};
+ghost use Rattle.std.specs.Prelude.{◌≡◌, ◌⊎◌, ℕ, ◌+◌, ◌-◌, ◌*◌, ◌≤◌, max, [], false, None, IsSome, Ok, Err, IfOk, OnOk, OnErr, IfErr, length};
 ghost use Rattle.fs_model.specs.declared.op.Op.TheVariants.{Fsync, Flush};
 ghost use Rattle.fs_model.specs.Backing.{Goes};
 ghost use Rattle.fs_model.specs.Files.{Tree};
+ghost use Rattle.fs_model.specs.Legal.{pages_in};
 ghost use Rattle.fs_model.specs.Operation.{group_of, outcome_of};
 ghost use Rattle.fs_laws.specs.Sound.{IsCall};
 ghost use Rattle.cached_files.specs.Alike.{IsAlike};
-ghost use Rattle.cached_files.specs.Calls.{SureGoes};
+ghost use Rattle.cached_files.specs.Calls.{GrowsBy, SureGoes, added_or_refused};
 ghost use Rattle.cached_files.specs.Present.{present};
 ghost use Rattle.vfs_plans.specs.Operations.{is_truncate};
 ghost use Rattle.vfs_ops.specs.Events.{HasSynced};
-ghost use Rattle.vfs_ops.specs.Kinds.{IsEarly, IsLookOnly, OnlyLooks};
+ghost use Rattle.vfs_ops.specs.Kinds.{IsEarly, IsLookOnly, KeepsOrphans, KeepsOthers, OnlyLooks};
 ghost use Rattle.vfs_ops.specs.Operations.{is_of_names};
 ghost use Rattle.vfs_ops.specs.Writing.{Buffers, newly_by};
 ghost use Rattle.vfs_ops.specs.Steps.{IsReady, IsAtOnce, WasAdmitted, IsDone, IsTurnedDown, IsLast, IsRefusedFor, IsUnsynced, allowed_on, asked, is_write, read_only_cause};
@@ -21,7 +22,7 @@ use crate::handles::{close, open};
 use crate::reads::look;
 use crate::syncs::{flush, fsync};
 use crate::writes::write;
-use cached_files::Kept;
+use cached_files::{Kept, present_files_are_sound};
 use fs_model::{Backing, Cause, Mode, Op, Refusal, Reply};
 use op_plans::is_bad_slot;
 use std::alloc::Global;
@@ -72,6 +73,7 @@ pub(crate) fn call<B: Backing>(
     requires grant { length kept.old.pages.dirty + grant ≤ (B.state backing.old).space.credits }
     ensures ready { IsReady (B.state backing.new) kept.new }
     ensures mode { OnOk result (read_only_cause (B.state backing.old).mode op.now ≡ None) }
+    ensures closed { IsSome (read_only_cause (B.state backing.old).mode op.now) → (B.state backing.new ≡ B.state backing.old) × (kept.new ≡ kept.old) }
     ensures done { IfOk result (λ r. IsDone (allowed_on (B.state backing.old) (present (B.state backing.old).tree kept.old) caller now op.now) (present (B.state backing.new).tree kept.new) r.0) }
     ensures left { IfOk result (λ r. r.1 ≡ grant - newly_by kept.old caller op.now) }
     ensures same { OnErr result (IsAlike (present (B.state backing.old).tree kept.old) (present (B.state backing.new).tree kept.new)) }
@@ -80,9 +82,12 @@ pub(crate) fn call<B: Backing>(
     ensures still { OnErr result ((B.state backing.new).space.credits + length kept.old.pages.dirty ≡ (B.state backing.old).space.credits + length kept.new.pages.dirty) }
     ensures looked { IsLookOnly op.now result → OnlyLooks (B.state backing.old) (B.state backing.new) kept.old kept.new }
     ensures written { IfOk result (λ r. HasSynced (B.state backing.old).mode (B.state backing.new) kept.old kept.new caller op.now r.0) }
+    ensures others { KeepsOthers kept.old kept.new caller op.now }
     ensures admitted { OnOk result (WasAdmitted (B.state backing.old) (B.state backing.new) kept.old caller now grant op.now) }
     ensures at_once { IsAtOnce (B.state backing.old) kept.old caller now op.now result }
     ensures buffered { Buffers (B.state backing.old) (B.state backing.new) kept.old kept.new caller grant op.now result }
+    ensures grows { GrowsBy (added_or_refused (2 * pages_in op.now + length (group_of (present (B.state backing.old).tree kept.old) caller now op.now)) (max 2 (length (group_of (present (B.state backing.old).tree kept.old) caller now op.now))) result) (B.state backing.old) (B.state backing.new) kept.old kept.new }
+    ensures orphans { KeepsOrphans (B.state backing.old) (B.state backing.new) (present (B.state backing.old).tree kept.old) (present (B.state backing.new).tree kept.new) }
     ensures goes { Goes (2 * length kept.old.pages.dirty + length (group_of (present (B.state backing.old).tree kept.old) caller now op.now)) (B.state backing.old) (B.state backing.new) }
     ensures sure { SureGoes (B.outlook backing.old) (B.outlook backing.new) (B.state backing.old) (B.state backing.new) }
 {
@@ -118,12 +123,16 @@ pub(crate) fn serve<B: Backing>(
     ensures still { OnErr result ((B.state backing.new).space.credits + length kept.old.pages.dirty ≡ (B.state backing.old).space.credits + length kept.new.pages.dirty) }
     ensures looked { IsLookOnly op.now result → OnlyLooks (B.state backing.old) (B.state backing.new) kept.old kept.new }
     ensures written { IfOk result (λ r. HasSynced (B.state backing.old).mode (B.state backing.new) kept.old kept.new caller op.now r.0) }
+    ensures others { KeepsOthers kept.old kept.new caller op.now }
     ensures admitted { OnOk result (WasAdmitted (B.state backing.old) (B.state backing.new) kept.old caller now grant op.now) }
     ensures at_once { IsAtOnce (B.state backing.old) kept.old caller now op.now result }
     ensures buffered { Buffers (B.state backing.old) (B.state backing.new) kept.old kept.new caller grant op.now result }
+    ensures grows { GrowsBy (added_or_refused (2 * pages_in op.now + length (group_of (present (B.state backing.old).tree kept.old) caller now op.now)) (max 2 (length (group_of (present (B.state backing.old).tree kept.old) caller now op.now))) result) (B.state backing.old) (B.state backing.new) kept.old kept.new }
+    ensures orphans { KeepsOrphans (B.state backing.old) (B.state backing.new) (present (B.state backing.old).tree kept.old) (present (B.state backing.new).tree kept.new) }
     ensures goes { Goes (2 * length kept.old.pages.dirty + length (group_of (present (B.state backing.old).tree kept.old) caller now op.now)) (B.state backing.old) (B.state backing.new) }
     ensures sure { SureGoes (B.outlook backing.old) (B.outlook backing.new) (B.state backing.old) (B.state backing.new) }
 {
+    present_files_are_sound();
     if let Op::Write {
         slot,
         offs,
@@ -165,11 +174,15 @@ fn serve_without<B: Backing>(
     ensures issued { (B.state backing.new).space.credits + length kept.old.pages.dirty ≡ (B.state backing.old).space.credits + length kept.new.pages.dirty }
     ensures looked { IsLookOnly op.now result → OnlyLooks (B.state backing.old) (B.state backing.new) kept.old kept.new }
     ensures written { IfOk result (λ reply. HasSynced (B.state backing.old).mode (B.state backing.new) kept.old kept.new caller op.now reply) }
+    ensures others { KeepsOthers kept.old kept.new caller op.now }
     ensures admitted { OnOk result (WasAdmitted (B.state backing.old) (B.state backing.new) kept.old caller now grant op.now) }
     ensures at_once { IsAtOnce (B.state backing.old) kept.old caller now op.now result }
+    ensures grows { GrowsBy (added_or_refused (length (group_of (present (B.state backing.old).tree kept.old) caller now op.now)) (max 2 (length (group_of (present (B.state backing.old).tree kept.old) caller now op.now))) result) (B.state backing.old) (B.state backing.new) kept.old kept.new }
+    ensures orphans { KeepsOrphans (B.state backing.old) (B.state backing.new) (present (B.state backing.old).tree kept.old) (present (B.state backing.new).tree kept.new) }
     ensures goes { Goes (2 * length kept.old.pages.dirty + length (group_of (present (B.state backing.old).tree kept.old) caller now op.now)) (B.state backing.old) (B.state backing.new) }
     ensures sure { SureGoes (B.outlook backing.old) (B.outlook backing.new) (B.state backing.old) (B.state backing.new) }
 {
+    present_files_are_sound();
     if is_of_names(op) {
         return change(alloc, backing, kept, caller, now, op);
     }
@@ -235,7 +248,10 @@ fn synced<B: Backing>(
     ensures refused { IfErr result (λ refusal. ((now : ℕ) → outcome_of (present (B.state backing.old).tree kept.old) caller now (Fsync slot) ≡ Err refusal) ⊎ IsUnsynced (B.state backing.old) (B.state backing.new) refusal) }
     ensures early { IsEarly result → OnlyLooks (B.state backing.old) (B.state backing.new) kept.old kept.new }
     ensures written { IfOk result (λ reply. HasSynced (B.state backing.old).mode (B.state backing.new) kept.old kept.new caller (Fsync slot) reply) }
+    ensures others { KeepsOthers kept.old kept.new caller (Fsync slot) }
     ensures issued { (B.state backing.new).space.credits + length kept.old.pages.dirty ≡ (B.state backing.old).space.credits + length kept.new.pages.dirty }
+    ensures grows { GrowsBy (added_or_refused 0 2 result) (B.state backing.old) (B.state backing.new) kept.old kept.new }
+    ensures closed { (B.state backing.new).closed ≤ (B.state backing.old).closed }
     ensures goes { Goes (2 * length kept.old.pages.dirty) (B.state backing.old) (B.state backing.new) }
     ensures sure { SureGoes (B.outlook backing.old) (B.outlook backing.new) (B.state backing.old) (B.state backing.new) }
 {
@@ -275,6 +291,8 @@ fn flushed<B: Backing>(alloc: Global, backing: &mut B, kept: &mut Kept) -> Resul
     ensures refused { IfErr result (λ refusal. IsUnsynced (B.state backing.old) (B.state backing.new) refusal) }
     ensures issued { (B.state backing.new).space.credits + length kept.old.pages.dirty ≡ (B.state backing.old).space.credits + length kept.new.pages.dirty }
     ensures written { IfOk result (λ reply. (caller : ℕ) → HasSynced (B.state backing.old).mode (B.state backing.new) kept.old kept.new caller Flush reply) }
+    ensures grows { GrowsBy (added_or_refused 0 2 result) (B.state backing.old) (B.state backing.new) kept.old kept.new }
+    ensures closed { (B.state backing.new).closed ≤ (B.state backing.old).closed }
     ensures goes { Goes (2 * length kept.old.pages.dirty) (B.state backing.old) (B.state backing.new) }
     ensures sure { SureGoes (B.outlook backing.old) (B.outlook backing.new) (B.state backing.old) (B.state backing.new) }
 {

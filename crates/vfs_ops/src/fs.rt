@@ -32,21 +32,23 @@ pub struct Fs<B: Backing> {
 }
 
 impl<B: Backing> Fs<B> {
-    ghost use Rattle.std.specs.Prelude.{◌≡◌, ◌+◌, ◌*◌, ◌<◌, ◌≤◌, false, length, Ok, IfOk, IfErr};
+    ghost use Rattle.std.specs.Prelude.{◌≡◌, ◌+◌, ◌*◌, ◌<◌, ◌≤◌, max, false, length, Ok, IfOk, IfErr};
     ghost use Rattle.fs_model.specs.Backing.{Goes, HasCause, IsNotReadOnly, Reads};
     ghost use Rattle.fs_model.specs.Directory.{entries_in};
     ghost use Rattle.fs_model.specs.Files.{entry_at, inode_at};
+    ghost use Rattle.fs_model.specs.Legal.{pages_in};
     ghost use Rattle.fs_model.specs.Operation.{group_of};
     ghost use Rattle.fs_model.specs.Path.{walked};
     ghost use Rattle.fs_model.specs.Proper.{IsProper};
     ghost use Rattle.fs_laws.specs.Sound.{IsCall};
-    ghost use Rattle.cached_files.specs.Calls.{SureGoes};
+    ghost use Rattle.cached_files.specs.Calls.{GrowsBy, SureGoes};
     ghost use Rattle.cached_files.specs.Present.{present};
     ghost use Rattle.vfs_plans.specs.Answers.{IsRefused, Looks};
     ghost use Rattle.vfs_plans.specs.Operations.{is_truncate};
     ghost use Rattle.vfs_ops.specs.Events.{HasSynced, IsCalled, grant_of};
     ghost use Rattle.vfs_ops.specs.FilesState.{IsOpened, LeavesKept, present_in};
     ghost use Rattle.vfs_ops.specs.Fs.{files_state};
+    ghost use Rattle.vfs_ops.specs.Kinds.{KeepsOrphans, KeepsOthers, added_by};
     ghost use Rattle.vfs_ops.specs.Passing.{IsApplied, IsStep, MayApply};
     ghost use Rattle.vfs_ops.specs.Steps.{IsAdmittedReply, IsAnswered, IsAtOnceReply, IsExact};
     ghost use Rattle.vfs_ops.specs.Writing.{BuffersReply};
@@ -140,9 +142,12 @@ impl<B: Backing> Fs<B> {
         ensures exact { IsExact (record { old = B.state self.old.backing; new = B.state self.new.backing; before = self.old.kept; after = self.new.kept }) caller now grant op.now result.0 result.1 }
         ensures issued { (B.state self.new.backing).space.credits + length self.old.kept.pages.dirty + grant ≡ (B.state self.old.backing).space.credits + length self.new.kept.pages.dirty + result.1 }
         ensures written { HasSynced (B.state self.old.backing).mode (B.state self.new.backing) self.old.kept self.new.kept caller op.now result.0 }
+        ensures others { KeepsOthers self.old.kept self.new.kept caller op.now }
         ensures admitted { IsAdmittedReply (B.state self.old.backing) (B.state self.new.backing) self.old.kept caller now grant op.now result.0 }
         ensures at_once { IsAtOnceReply (B.state self.old.backing) self.old.kept caller now op.now self.old.refused.items self.new.refused.items }
         ensures buffered { BuffersReply (B.state self.old.backing) (B.state self.new.backing) self.old.kept self.new.kept self.old.refused.items self.new.refused.items caller grant op.now result.0 }
+        ensures weighed { GrowsBy (added_by (2 * pages_in op.now + length (group_of (present (B.state self.old.backing).tree self.old.kept) caller now op.now)) (max 2 (length (group_of (present (B.state self.old.backing).tree self.old.kept) caller now op.now))) result.0) (B.state self.old.backing) (B.state self.new.backing) self.old.kept self.new.kept }
+        ensures orphans { KeepsOrphans (B.state self.old.backing) (B.state self.new.backing) (present (B.state self.old.backing).tree self.old.kept) (present (B.state self.new.backing).tree self.new.kept) }
         ensures goes { Goes (2 * length self.old.kept.pages.dirty + length (group_of (present (B.state self.old.backing).tree self.old.kept) caller now op.now)) (B.state self.old.backing) (B.state self.new.backing) }
         ensures sure { SureGoes (B.outlook self.old.backing) (B.outlook self.new.backing) (B.state self.old.backing) (B.state self.new.backing) }
     {

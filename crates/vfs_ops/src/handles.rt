@@ -5,12 +5,12 @@ ghost use Rattle.std.specs.BTreeMap.{is_at};
 ghost use Rattle.std.specs.List.{list_any};
 ghost use Rattle.std.specs.Map.{lookup, remove_entry};
 ghost use Rattle.fs_model.specs.declared.op.Op.TheVariants.{OpenFile, Close};
-ghost use Rattle.fs_model.specs.Backing.{Goes, KeepsFiles};
+ghost use Rattle.fs_model.specs.Backing.{Goes, KeepsFiles, next_orphans};
 ghost use Rattle.fs_model.specs.Files.{pair_cmp};
 ghost use Rattle.fs_model.specs.Operation.{outcome_of};
 ghost use Rattle.fs_model.specs.Orphan.{is_nameless};
 ghost use Rattle.fs_laws.specs.Sound.{IsSound};
-ghost use Rattle.cached_files.specs.Calls.{SureGoes};
+ghost use Rattle.cached_files.specs.Calls.{GrowsBy, SureGoes};
 ghost use Rattle.cached_files.specs.Present.{present, IsKept};
 ghost use Rattle.vfs_plans.specs.Answers.{IsFault, IsRefused, Looks};
 ghost use Rattle.vfs_ops.specs.Kinds.{IsEarly, OnlyLooks};
@@ -71,6 +71,8 @@ pub(crate) fn close<B: Backing>(
     ensures early { IsEarly result → OnlyLooks (B.state backing.old) (B.state backing.new) kept.old kept.new }
     ensures refused { IfErr result (λ refusal. (now : ℕ) → IsRefused (B.state backing.old) (B.state backing.new) (outcome_of (present (B.state backing.old).tree kept.old) caller now (Close slot)) refusal) }
     ensures issued { (B.state backing.new).space.credits + length kept.old.pages.dirty ≡ (B.state backing.old).space.credits + length kept.new.pages.dirty }
+    ensures grows { GrowsBy 0 (B.state backing.old) (B.state backing.new) kept.old kept.new }
+    ensures orphans { next_orphans (B.state backing.new) ≤ next_orphans (B.state backing.old) }
     ensures goes { Goes 0 (B.state backing.old) (B.state backing.new) }
     ensures sure { SureGoes (B.outlook backing.old) (B.outlook backing.new) (B.state backing.old) (B.state backing.new) }
 {

@@ -12,9 +12,11 @@ mod done;
 mod event;
 mod fs;
 mod handles;
+mod laws;
 mod needs;
 mod pages;
 mod reads;
+mod replies;
 mod syncs;
 mod writes;
 
@@ -22,3 +24,8 @@ pub use crate::changes::change;
 pub use crate::done::Done;
 pub use crate::event::{Encoded, Event, Outcome};
 pub use crate::fs::Fs;
+pub use crate::laws::{
+    a_call_adds_few_nodes, a_plain_answer_is_no_refusal, a_reply_with_bytes_leaves_the_files,
+    alike_files_answer_alike,
+};
+pub use crate::replies::copied_reply;

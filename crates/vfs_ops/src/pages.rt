@@ -2,12 +2,13 @@
 
 ghost use Rattle.std.specs.Prelude.{◌≡◌, ◌≢◌, ◌==◌, ◌+◌, ◌≤◌, true, false, length, IfOk, Some};
 ghost use Rattle.std.specs.List.{AllByRecursion};
-ghost use Rattle.fs_model.specs.Backing.{Goes};
+ghost use Rattle.fs_model.specs.Backing.{Goes, next_orphans};
 ghost use Rattle.page_cache.specs.Pages.{oldest_of};
 ghost use Rattle.cached_files.specs.Alike.{IsAlike};
-ghost use Rattle.cached_files.specs.Calls.{SureGoes};
+ghost use Rattle.cached_files.specs.Calls.{GrowsBy, SureGoes};
 ghost use Rattle.cached_files.specs.Present.{FitsPages, present};
-ghost use Rattle.vfs_ops.specs.Background.{IsPicked, IsPut, encoded_at, version_at};
+ghost use Rattle.vfs_ops.specs.Background.{IsPicked, IsPut, added_in, encoded_at, version_at};
+ghost use Rattle.vfs_ops.specs.declared.event.Event.TheVariants.{Put};
 ghost use Rattle.vfs_ops.specs.Steps.{IsReady};
 
 use crate::event::{Encoded, Outcome};
@@ -61,6 +62,8 @@ pub(crate) fn put<B: Backing>(
     ensures put { IsPut (record { old = B.state backing.old; new = B.state backing.new; before = kept.old; after = kept.new }) page.now result }
     ensures same { IsAlike (present (B.state backing.old).tree kept.old) (present (B.state backing.new).tree kept.new) }
     ensures issued { (B.state backing.new).space.credits + length kept.old.pages.dirty ≡ (B.state backing.old).space.credits + length kept.new.pages.dirty }
+    ensures weighed { GrowsBy (added_in (Put page.now) result) (B.state backing.old) (B.state backing.new) kept.old kept.new }
+    ensures orphans { next_orphans (B.state backing.new) ≤ next_orphans (B.state backing.old) }
     ensures goes { Goes 2 (B.state backing.old) (B.state backing.new) }
     ensures sure { SureGoes (B.outlook backing.old) (B.outlook backing.new) (B.state backing.old) (B.state backing.new) }
 {
@@ -87,6 +90,8 @@ fn put_current<B: Backing>(
     ensures put { IsPut (record { old = B.state backing.old; new = B.state backing.new; before = kept.old; after = kept.new }) page.now result }
     ensures same { IsAlike (present (B.state backing.old).tree kept.old) (present (B.state backing.new).tree kept.new) }
     ensures issued { (B.state backing.new).space.credits + length kept.old.pages.dirty ≡ (B.state backing.old).space.credits + length kept.new.pages.dirty }
+    ensures weighed { GrowsBy (added_in (Put page.now) result) (B.state backing.old) (B.state backing.new) kept.old kept.new }
+    ensures orphans { next_orphans (B.state backing.new) ≤ next_orphans (B.state backing.old) }
     ensures goes { Goes 2 (B.state backing.old) (B.state backing.new) }
     ensures sure { SureGoes (B.outlook backing.old) (B.outlook backing.new) (B.state backing.old) (B.state backing.new) }
 {

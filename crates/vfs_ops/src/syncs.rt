@@ -9,7 +9,7 @@ ghost use Rattle.fs_model.specs.Files.{pair_cmp};
 ghost use Rattle.fs_model.specs.Operation.{outcome_of};
 ghost use Rattle.fs_laws.specs.Sound.{IsSound};
 ghost use Rattle.cached_files.specs.Alike.{IsAlike};
-ghost use Rattle.cached_files.specs.Calls.{SureGoes};
+ghost use Rattle.cached_files.specs.Calls.{GrowsBy, SureGoes, added_or_refused};
 ghost use Rattle.cached_files.specs.Present.{dirty_of_others, has_dirty, present, IsKept};
 ghost use Rattle.vfs_ops.specs.Kinds.{IsEarly, IsStopped, OnlyLooks};
 
@@ -38,6 +38,8 @@ pub(crate) fn flush<B: Backing>(
     ensures inodes { OnOk result (kept.new.inodes ≡ []) }
     ensures refused { IfErr result (λ refusal. IsStopped (B.state backing.old) (B.state backing.new) refusal) }
     ensures issued { (B.state backing.new).space.credits + length kept.old.pages.dirty ≡ (B.state backing.old).space.credits + length kept.new.pages.dirty }
+    ensures grows { GrowsBy (added_or_refused 0 2 result) (B.state backing.old) (B.state backing.new) kept.old kept.new }
+    ensures closed { (B.state backing.new).closed ≤ (B.state backing.old).closed }
     ensures goes { Goes (2 * length kept.old.pages.dirty) (B.state backing.old) (B.state backing.new) }
     ensures sure { SureGoes (B.outlook backing.old) (B.outlook backing.new) (B.state backing.old) (B.state backing.new) }
 {
@@ -70,6 +72,8 @@ pub(crate) fn fsync<B: Backing>(
     ensures others { (ino : ℕ) → lookup (is_at (pair_cmp (caller, slot))) kept.old.handles ≡ Some ino → dirty_of_others kept.new.pages.dirty ino ≡ dirty_of_others kept.old.pages.dirty ino }
     ensures refused { IfErr result (λ refusal. ((now : ℕ) → outcome_of (present (B.state backing.old).tree kept.old) caller now (Fsync slot) ≡ Err refusal) ⊎ IsStopped (B.state backing.old) (B.state backing.new) refusal) }
     ensures issued { (B.state backing.new).space.credits + length kept.old.pages.dirty ≡ (B.state backing.old).space.credits + length kept.new.pages.dirty }
+    ensures grows { GrowsBy (added_or_refused 0 2 result) (B.state backing.old) (B.state backing.new) kept.old kept.new }
+    ensures closed { (B.state backing.new).closed ≤ (B.state backing.old).closed }
     ensures goes { Goes (2 * length kept.old.pages.dirty) (B.state backing.old) (B.state backing.new) }
     ensures sure { SureGoes (B.outlook backing.old) (B.outlook backing.new) (B.state backing.old) (B.state backing.new) }
 {
@@ -101,6 +105,8 @@ fn put_file<B: Backing>(
     ensures others { dirty_of_others kept.new.pages.dirty ino ≡ dirty_of_others kept.old.pages.dirty ino }
     ensures refused { IfErr result (λ refusal. IsStopped (B.state backing.old) (B.state backing.new) refusal) }
     ensures issued { (B.state backing.new).space.credits + length kept.old.pages.dirty ≡ (B.state backing.old).space.credits + length kept.new.pages.dirty }
+    ensures grows { GrowsBy (added_or_refused 0 2 result) (B.state backing.old) (B.state backing.new) kept.old kept.new }
+    ensures closed { (B.state backing.new).closed ≤ (B.state backing.old).closed }
     ensures goes { Goes (2 * length kept.old.pages.dirty) (B.state backing.old) (B.state backing.new) }
     ensures sure { SureGoes (B.outlook backing.old) (B.outlook backing.new) (B.state backing.old) (B.state backing.new) }
 {
@@ -121,6 +127,8 @@ fn put_all<B: Backing>(alloc: Global, backing: &mut B, kept: &mut Kept) -> Resul
     ensures inodes { OnOk result (kept.new.inodes ≡ []) }
     ensures refused { IfErr result (λ refusal. IsStopped (B.state backing.old) (B.state backing.new) refusal) }
     ensures issued { (B.state backing.new).space.credits + length kept.old.pages.dirty ≡ (B.state backing.old).space.credits + length kept.new.pages.dirty }
+    ensures grows { GrowsBy (added_or_refused 0 2 result) (B.state backing.old) (B.state backing.new) kept.old kept.new }
+    ensures closed { (B.state backing.new).closed ≤ (B.state backing.old).closed }
     ensures goes { Goes (2 * length kept.old.pages.dirty) (B.state backing.old) (B.state backing.new) }
     ensures sure { SureGoes (B.outlook backing.old) (B.outlook backing.new) (B.state backing.old) (B.state backing.new) }
 {

@@ -5,13 +5,13 @@ ghost use Rattle.fs_model.specs.declared.inode.Inode.{Inode as AnyInode};
 ghost use Rattle.fs_model.specs.declared.inode.Kind.TheVariants.{File};
 ghost use Rattle.fs_model.specs.declared.op.Op.TheVariants.{Write};
 ghost use Rattle.fs_model.specs.Backing.{Goes};
-ghost use Rattle.fs_model.specs.Files.{Files, handle_at, inode_at};
+ghost use Rattle.fs_model.specs.Files.{Files, handle_at, inode_at, pages_of};
 ghost use Rattle.fs_model.specs.Handles.{tree_written};
 ghost use Rattle.fs_model.specs.Operation.{outcome_of};
 ghost use Rattle.fs_model.specs.Proper.{has_kind};
 ghost use Rattle.fs_laws.specs.Sound.{IsSound};
 ghost use Rattle.cached_files.specs.Alike.{IsAlike};
-ghost use Rattle.cached_files.specs.Calls.{IsCoveredAtLast, IsWithoutRoom, SureGoes};
+ghost use Rattle.cached_files.specs.Calls.{GrowsBy, IsCoveredAtLast, IsWithoutRoom, SureGoes, added_or_refused};
 ghost use Rattle.cached_files.specs.Present.{IsKept, newly_dirty, present};
 ghost use Rattle.vfs_plans.specs.Answers.{IsFault, IsRefused, Looks};
 ghost use Rattle.vfs_ops.specs.Kinds.{IsEarly, OnlyLooks};
@@ -65,6 +65,8 @@ pub(crate) fn write<B: Backing>(
     ensures admitted { OnOk result ((ino : _) → handle_at (present (B.state backing.old).tree kept.old) caller slot ≡ Some ino → WasPaid (B.state backing.old) (B.state backing.new) kept.old ino offs len grant) }
     ensures buffered { (ino : _) → handle_at (present (B.state backing.old).tree kept.old) caller slot ≡ Some ino → HasRoom (B.state backing.old) kept.old ino offs len grant
         → IsBuffered (B.state backing.old) (B.state backing.new) kept.old kept.new ino offs len result }
+    ensures grows { GrowsBy (added_or_refused (2 * length (pages_of offs len)) 2 result) (B.state backing.old) (B.state backing.new) kept.old kept.new }
+    ensures closed { (B.state backing.new).closed ≤ (B.state backing.old).closed }
     ensures goes { Goes (2 * length kept.old.pages.dirty) (B.state backing.old) (B.state backing.new) }
     ensures sure { SureGoes (B.outlook backing.old) (B.outlook backing.new) (B.state backing.old) (B.state backing.new) }
 {
@@ -118,6 +120,8 @@ fn write_some<B: Backing>(
     ensures still_issued { OnErr result ((B.state backing.new).space.credits + length kept.old.pages.dirty ≡ (B.state backing.old).space.credits + length kept.new.pages.dirty) }
     ensures admitted { OnOk result (WasPaid (B.state backing.old) (B.state backing.new) kept.old ino offs len grant) }
     ensures buffered { HasRoom (B.state backing.old) kept.old ino offs len grant → IsBuffered (B.state backing.old) (B.state backing.new) kept.old kept.new ino offs len result }
+    ensures grows { GrowsBy (added_or_refused (2 * length (pages_of offs len)) 2 result) (B.state backing.old) (B.state backing.new) kept.old kept.new }
+    ensures closed { (B.state backing.new).closed ≤ (B.state backing.old).closed }
     ensures goes { Goes (2 * length kept.old.pages.dirty) (B.state backing.old) (B.state backing.new) }
     ensures sure { SureGoes (B.outlook backing.old) (B.outlook backing.new) (B.state backing.old) (B.state backing.new) }
 {
@@ -158,6 +162,8 @@ fn cover<B: Backing>(
     ensures refused { IfErr result (IsWithoutRoom (B.state backing.old) (B.state backing.new) kept.new (write_need offs len grant)) }
     ensures admitted { OnOk result (WasPaid (B.state backing.old) (B.state backing.new) kept.old ino offs len grant) }
     ensures covered { HasRoom (B.state backing.old) kept.old ino offs len grant → IsCovered (B.state backing.old) (B.state backing.new) kept.old kept.new result }
+    ensures grows { GrowsBy (added_or_refused 0 2 result) (B.state backing.old) (B.state backing.new) kept.old kept.new }
+    ensures closed { (B.state backing.new).closed ≤ (B.state backing.old).closed }
     ensures goes { Goes (2 * length kept.old.pages.dirty) (B.state backing.old) (B.state backing.new) }
     ensures sure { SureGoes (B.outlook backing.old) (B.outlook backing.new) (B.state backing.old) (B.state backing.new) }
 {
@@ -196,6 +202,8 @@ fn cover_again<B: Backing>(
     ensures same { IsAlike (present (B.state backing.old).tree kept.old) (present (B.state backing.new).tree kept.new) }
     ensures admitted { OnOk result (IsCoveredAtLast (B.state backing.old) (B.state backing.new) kept.old (write_need offs len grant) 0) }
     ensures refused { IfErr result (IsWithoutRoom (B.state backing.old) (B.state backing.new) kept.new (write_need offs len grant)) }
+    ensures grows { GrowsBy (added_or_refused 0 2 result) (B.state backing.old) (B.state backing.new) kept.old kept.new }
+    ensures closed { (B.state backing.new).closed ≤ (B.state backing.old).closed }
     ensures goes { Goes (2 * length kept.old.pages.dirty) (B.state backing.old) (B.state backing.new) }
     ensures sure { SureGoes (B.outlook backing.old) (B.outlook backing.new) (B.state backing.old) (B.state backing.new) }
 {

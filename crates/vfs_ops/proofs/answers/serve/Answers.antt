@@ -1,4 +1,4 @@
-use Rattle.std.proofs.Common.{◌≡◌, ℕ, ◌-◌, ap, refl, subst, sym}
+use Rattle.std.proofs.Common.{◌≡◌, ℕ, ◌+◌, ◌-◌, ◌*◌, ap, arith, length, max, refl, subst, sym}
 use Rattle.fs_model.specs.declared.reply.Reply.{Reply}
 use Rattle.fs_model.specs.declared.op.Op.{Op}
 use Rattle.vfs_ops.specs.Operations.{is_of_names}
@@ -6,7 +6,13 @@ use Rattle.vfs_ops.specs.Steps.{WasAdmitted}
 use Rattle.vfs_ops.specs.Writing.{newly_by}
 use Rattle.vfs_ops.proofs.Admitted.{on_ok, other_at_once, retyped}
 use Rattle.vfs_ops.proofs.Looking.{only_early, whole_left}
+use Rattle.vfs_ops.proofs.Others.{others_on}
 use Rattle.vfs_ops.proofs.Serving.{none_buffered, not_write, ok_map}
+use Rattle.fs_model.specs.Legal.{pages_in}
+use Rattle.fs_model.specs.Operation.{group_of}
+use Rattle.cached_files.specs.Present.{present}
+use Rattle.vfs_ops.proofs.Orphaning.{write_keep}
+use Rattle.vfs_ops.proofs.Weighing.{refused_wider, write_weighs}
 use Rattle.vfs_ops.proofs.answers.serve.Goals as goal
 
 pub returns-in-Err : goal.returns-in-Err
@@ -20,9 +26,12 @@ returns-in-Err g c = let e = c.in-Err.ensures in record {
   still = e.issued;
   looked = e.looked;
   written = tt;
+  others = e.others;
   admitted = tt;
   at_once = λ is done out room. retyped Reply (Reply × ℕ) c.in-Err.refusal (e.at_once is done out room);
   buffered = none_buffered (g.B.Backing.state c.args.backing.now) (g.B.Backing.state c.serve_without.new.backing) c.args.kept.now c.serve_without.new.kept c.args.caller c.args.grant c.args.op.now _ (not_write c.args.op.now c.in_default.not-Write);
+  grows = refused_wider Reply (Reply × ℕ) (length (group_of (present (g.B.Backing.state c.args.backing.now).tree c.args.kept.now) c.args.caller c.args.now c.args.op.now)) (2 * pages_in c.args.op.now + length (group_of (present (g.B.Backing.state c.args.backing.now).tree c.args.kept.now) c.args.caller c.args.now c.args.op.now)) (max 2 (length (group_of (present (g.B.Backing.state c.args.backing.now).tree c.args.kept.now) c.args.caller c.args.now c.args.op.now))) (max 2 (length (group_of (present (g.B.Backing.state c.args.backing.now).tree c.args.kept.now) c.args.caller c.args.now c.args.op.now))) c.in-Err.refusal (g.B.Backing.state c.args.backing.now) (g.B.Backing.state c.serve_without.new.backing) c.args.kept.now c.serve_without.new.kept (omega arith) e.grows;
+  orphans = e.orphans;
   goes = e.goes;
   sure = e.sure;
 }
@@ -50,3 +59,21 @@ returns-in-Write-clause-left g c =
 
 pub returns-in-Write-clause-looked : goal.returns-in-Write-clause-looked
 returns-in-Write-clause-looked g c = only_early c.args.op.now _ c.write.result c.in-Write.is refl c.write.ensures.early
+
+pub returns-in-Write-clause-others : goal.returns-in-Write-clause-others
+returns-in-Write-clause-others g c = others_on c.args.kept.now c.write.new.kept c.args.caller c.args.op.now _ c.in-Write.is tt
+
+pub returns-in-Ok-clause-others : goal.returns-in-Ok-clause-others
+returns-in-Ok-clause-others g c = c.in-Ok.ensures.others
+
+pub returns-in-Ok-clause-grows : goal.returns-in-Ok-clause-grows
+returns-in-Ok-clause-grows g c = let put = c.in-Ok.ensures.grows in omega (arith, put)
+
+pub returns-in-Write-clause-grows : goal.returns-in-Write-clause-grows
+returns-in-Write-clause-grows g c =
+    write_weighs (present (g.B.Backing.state c.args.backing.now).tree c.args.kept.now) c.args.caller c.args.now c.args.op.now _ _ _ _ c.write.result (g.B.Backing.state c.args.backing.now) (g.B.Backing.state c.write.new.backing) c.args.kept.now c.write.new.kept c.in-Write.is c.write.ensures.grows
+
+pub returns-in-Write-clause-orphans : goal.returns-in-Write-clause-orphans
+returns-in-Write-clause-orphans g c =
+    write_keep c.write.result (g.B.Backing.state c.args.backing.now) (g.B.Backing.state c.write.new.backing) (present (g.B.Backing.state c.args.backing.now).tree c.args.kept.now) (present (g.B.Backing.state c.write.new.backing).tree c.write.new.kept) c.args.caller c.args.now c.args.op.now _ _ _ _ c.in-Write.is c.requires.ready.sound
+    (c.present_files_are_sound.ensures.nameless (g.B.Backing.state c.args.backing.now).tree c.args.kept.now c.requires.ready.kept_fits) (c.present_files_are_sound.ensures.nameless (g.B.Backing.state c.write.new.backing).tree c.write.new.kept c.write.ensures.kept) c.write.ensures.closed c.write.ensures.done c.write.ensures.same

@@ -1,8 +1,13 @@
-use Rattle.std.proofs.Common.{inr, refl, sym, ◌∙◌}
+use Rattle.std.proofs.Common.{◌≡◌, ap, arith, inr, length, max, refl, sym, ◌∙◌}
 use Rattle.cached_files.specs.Present.{present}
 use Rattle.vfs_ops.proofs.Admitted.{after_ok, names_admitted, none_admitted, on_ok, other_at_once}
 use Rattle.vfs_ops.proofs.Looking.{names_early, only_early, opened_looks, unsynced_early}
+use Rattle.vfs_ops.proofs.Others.{names_leave, others_on}
 use Rattle.vfs_ops.proofs.Serving.{alike_self, done_on, refused_on, ok_map, err_map, at_now, names_synced, or_fault_last, or_unsynced_last, synced_on, unsynced_last}
+use Rattle.fs_model.specs.Operation.{group_of}
+use Rattle.page_cache.specs.Pages.{Pages}
+use Rattle.vfs_ops.proofs.Orphaning.{keeps_alike, keeps_few, looked_orphans, names_keep}
+use Rattle.vfs_ops.proofs.Weighing.{no_heavier, wider}
 use Rattle.vfs_ops.proofs.answers.serve_without.Goals as goal
 
 pub returns-in-OpenFile-clause-done : goal.returns-in-OpenFile-clause-done
@@ -107,3 +112,54 @@ returns-in-Fsync-clause-looked g c = only_early c.args.op.now _ c.synced.result 
 pub returns-in-Flush-clause-looked : goal.returns-in-Flush-clause-looked
 returns-in-Flush-clause-looked g c =
     only_early c.args.op.now _ c.flushed.result c.in-Flush.is refl (unsynced_early (g.B.Backing.state c.args.backing.now) (g.B.Backing.state c.flushed.new.backing) c.flushed.result c.flushed.ensures.refused)
+
+pub returns-then-is_of_names-clause-others : goal.returns-then-is_of_names-clause-others
+returns-then-is_of_names-clause-others g c = names_leave c.args.kept.now c.change.new.kept c.args.caller c.args.op.now (sym c.is_of_names.ensures ∙ c.if-is_of_names.true)
+
+pub returns-in-OpenFile-clause-others : goal.returns-in-OpenFile-clause-others
+returns-in-OpenFile-clause-others g c = others_on c.args.kept.now c.open.new.kept c.args.caller c.args.op.now _ c.in-OpenFile.is tt
+
+pub returns-in-Close-clause-others : goal.returns-in-Close-clause-others
+returns-in-Close-clause-others g c = others_on c.args.kept.now c.close.new.kept c.args.caller c.args.op.now _ c.in-Close.is tt
+
+pub returns-in-Fsync-clause-others : goal.returns-in-Fsync-clause-others
+returns-in-Fsync-clause-others g c = others_on c.args.kept.now c.synced.new.kept c.args.caller c.args.op.now _ c.in-Fsync.is c.synced.ensures.others
+
+pub returns-in-Flush-clause-others : goal.returns-in-Flush-clause-others
+returns-in-Flush-clause-others g c = others_on c.args.kept.now c.flushed.new.kept c.args.caller c.args.op.now _ c.in-Flush.is tt
+
+pub returns-in-OpenFile-clause-grows : goal.returns-in-OpenFile-clause-grows
+returns-in-OpenFile-clause-grows g c =
+    let same : length c.open.new.kept.pages.dirty ≡ length c.args.kept.now.pages.dirty = ap (λ (p : Pages). length p.dirty) c.open.ensures.pages in
+    let none = no_heavier 0 (g.B.Backing.state c.args.backing.now) (g.B.Backing.state c.open.new.backing) c.args.kept.now c.open.new.kept c.open.ensures.looks.goes (omega (arith, same)) in
+    omega (arith, none)
+
+pub returns-in-Close-clause-grows : goal.returns-in-Close-clause-grows
+returns-in-Close-clause-grows g c = let none = c.close.ensures.grows in omega (arith, none)
+
+pub returns-in-Fsync-clause-grows : goal.returns-in-Fsync-clause-grows
+returns-in-Fsync-clause-grows g c = wider 0 (length (group_of (present (g.B.Backing.state c.args.backing.now).tree c.args.kept.now) c.args.caller c.args.now c.args.op.now)) 2 (max 2 (length (group_of (present (g.B.Backing.state c.args.backing.now).tree c.args.kept.now) c.args.caller c.args.now c.args.op.now))) c.synced.result (g.B.Backing.state c.args.backing.now) (g.B.Backing.state c.synced.new.backing) c.args.kept.now c.synced.new.kept (omega arith) (omega arith) c.synced.ensures.grows
+
+pub returns-in-Flush-clause-grows : goal.returns-in-Flush-clause-grows
+returns-in-Flush-clause-grows g c = wider 0 (length (group_of (present (g.B.Backing.state c.args.backing.now).tree c.args.kept.now) c.args.caller c.args.now c.args.op.now)) 2 (max 2 (length (group_of (present (g.B.Backing.state c.args.backing.now).tree c.args.kept.now) c.args.caller c.args.now c.args.op.now))) c.flushed.result (g.B.Backing.state c.args.backing.now) (g.B.Backing.state c.flushed.new.backing) c.args.kept.now c.flushed.new.kept (omega arith) (omega arith) c.flushed.ensures.grows
+
+pub returns-then-is_of_names-clause-orphans : goal.returns-then-is_of_names-clause-orphans
+returns-then-is_of_names-clause-orphans g c =
+    names_keep c.change.result (g.B.Backing.state c.args.backing.now) (g.B.Backing.state c.change.new.backing) (present (g.B.Backing.state c.args.backing.now).tree c.args.kept.now) (present (g.B.Backing.state c.change.new.backing).tree c.change.new.kept) c.args.caller c.args.now c.args.op.now c.requires.ready.sound (sym c.is_of_names.ensures ∙ c.if-is_of_names.true)
+    (c.present_files_are_sound.ensures.nameless (g.B.Backing.state c.args.backing.now).tree c.args.kept.now c.requires.ready.kept_fits) (c.present_files_are_sound.ensures.nameless (g.B.Backing.state c.change.new.backing).tree c.change.new.kept c.change.ensures.kept) c.change.ensures.closed c.change.ensures.done c.change.ensures.same
+
+pub returns-in-OpenFile-clause-orphans : goal.returns-in-OpenFile-clause-orphans
+returns-in-OpenFile-clause-orphans g c = keeps_few (g.B.Backing.state c.args.backing.now) (g.B.Backing.state c.open.new.backing) (present (g.B.Backing.state c.args.backing.now).tree c.args.kept.now) (present (g.B.Backing.state c.open.new.backing).tree c.open.new.kept) (looked_orphans c.open.ensures.looks)
+
+pub returns-in-Close-clause-orphans : goal.returns-in-Close-clause-orphans
+returns-in-Close-clause-orphans g c = keeps_few (g.B.Backing.state c.args.backing.now) (g.B.Backing.state c.close.new.backing) (present (g.B.Backing.state c.args.backing.now).tree c.args.kept.now) (present (g.B.Backing.state c.close.new.backing).tree c.close.new.kept) c.close.ensures.orphans
+
+pub returns-in-Fsync-clause-orphans : goal.returns-in-Fsync-clause-orphans
+returns-in-Fsync-clause-orphans g c =
+    keeps_few (g.B.Backing.state c.args.backing.now) (g.B.Backing.state c.synced.new.backing) (present (g.B.Backing.state c.args.backing.now).tree c.args.kept.now) (present (g.B.Backing.state c.synced.new.backing).tree c.synced.new.kept) (keeps_alike (g.B.Backing.state c.args.backing.now) (g.B.Backing.state c.synced.new.backing) (present (g.B.Backing.state c.args.backing.now).tree c.args.kept.now) (present (g.B.Backing.state c.synced.new.backing).tree c.synced.new.kept)
+    (c.present_files_are_sound.ensures.nameless (g.B.Backing.state c.args.backing.now).tree c.args.kept.now c.requires.ready.kept_fits) (c.present_files_are_sound.ensures.nameless (g.B.Backing.state c.synced.new.backing).tree c.synced.new.kept c.synced.ensures.ready.kept_fits) c.synced.ensures.closed c.synced.ensures.same)
+
+pub returns-in-Flush-clause-orphans : goal.returns-in-Flush-clause-orphans
+returns-in-Flush-clause-orphans g c =
+    keeps_few (g.B.Backing.state c.args.backing.now) (g.B.Backing.state c.flushed.new.backing) (present (g.B.Backing.state c.args.backing.now).tree c.args.kept.now) (present (g.B.Backing.state c.flushed.new.backing).tree c.flushed.new.kept) (keeps_alike (g.B.Backing.state c.args.backing.now) (g.B.Backing.state c.flushed.new.backing) (present (g.B.Backing.state c.args.backing.now).tree c.args.kept.now) (present (g.B.Backing.state c.flushed.new.backing).tree c.flushed.new.kept)
+    (c.present_files_are_sound.ensures.nameless (g.B.Backing.state c.args.backing.now).tree c.args.kept.now c.requires.ready.kept_fits) (c.present_files_are_sound.ensures.nameless (g.B.Backing.state c.flushed.new.backing).tree c.flushed.new.kept c.flushed.ensures.ready.kept_fits) c.flushed.ensures.closed c.flushed.ensures.same)

@@ -1,6 +1,14 @@
+use Rattle.fs_model.specs.declared.op.Op.TheVariants.{Fsync}
+use Rattle.vfs_ops.proofs.Others.{same_leave}
 use Rattle.vfs_ops.proofs.Serving.{fsync_written}
 use Rattle.vfs_ops.proofs.answers.synced.Goals as goal
 
 pub returns-in-ReadWrite-clause-written : goal.returns-in-ReadWrite-clause-written
 returns-in-ReadWrite-clause-written g c =
     fsync_written c.fsync.result (g.B.Backing.state c.args.backing.now).mode (g.B.Backing.state c.fsync.new.backing) c.args.kept.now c.fsync.new.kept c.args.caller c.args.slot c.fsync.ensures.synced c.fsync.ensures.pages
+
+pub returns-in-ReadWrite-clause-others : goal.returns-in-ReadWrite-clause-others
+returns-in-ReadWrite-clause-others g c = c.fsync.ensures.others
+
+pub returns-in-ReadOnly-clause-others : goal.returns-in-ReadOnly-clause-others
+returns-in-ReadOnly-clause-others g c = same_leave c.args.kept.now c.named.new.kept c.args.caller (Fsync c.args.slot) c.named.ensures.kept

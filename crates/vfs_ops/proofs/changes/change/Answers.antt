@@ -1,4 +1,4 @@
-use Rattle.std.proofs.Common.{◌≡◌, ◌+◌, ◌∙◌, rules, refl, true, false, ◌&&◌, inl, Err, length, sym, ap, subst, List}
+use Rattle.std.proofs.Common.{◌≡◌, ◌+◌, ◌∙◌, arith, max, rules, refl, true, false, ◌&&◌, inl, Err, length, sym, ap, subst, List}
 use Rattle.std.specs.Prelude.{◌==◌, ◌-◌}
 use Rattle.fs_model.specs.Orphan.{nameless}
 use Rattle.fs_model.specs.declared.change.Change.{Change}
@@ -13,7 +13,7 @@ use Rattle.fs_model.specs.Orphan.{within_orphans}
 use Rattle.vfs_ops.proofs.Admitted.{group_admitted, plan_refused, room_looked}
 use Rattle.vfs_ops.proofs.Groups.{AreFitting, group_fits, leaves, names_of}
 use Rattle.vfs_ops.proofs.Looking.{looked, room_late}
-use Rattle.vfs_ops.proofs.Orphans.{within_none, within_full, within_done, done_alike, orphans_fit, orphan_room_on, orphan_limit_on}
+use Rattle.vfs_ops.proofs.Orphans.{closed_on, within_none, within_full, within_done, done_alike, orphans_fit, orphan_room_on, orphan_limit_on}
 use Rattle.vfs_ops.proofs.States.{both, tree_on}
 use Rattle.vfs_ops.proofs.Takes.{alike_on, alike_sound, sound_done, sound_on, fits_on, goes_looked, goes_whole, group_is, need_whole, not_truncate, pays_whole, refused_whole, last_done}
 use Rattle.vfs_ops.proofs.changes.change.Given.{Over}
@@ -22,6 +22,9 @@ use Rattle.vfs_ops.specs.Writing.{HasGroupRoom}
 use Rattle.std.proofs.lemmas.Bool.{eqb-true}
 use Rattle.fs_model.specs.declared.refusal.Refusal.TheVariants.{Enfile}
 use Rattle.fs_model.specs.declared.refusal.Table.TheVariants.{Orphans as OrphanTable}
+use Rattle.fs_model.specs.declared.reply.Reply.{Reply}
+use Rattle.cached_files.specs.Calls.{added_or_refused}
+use Rattle.vfs_ops.proofs.Weighing.{after_look, no_heavier, refused_wider}
 use Rattle.vfs_ops.proofs.changes.change.Goals as goal
 
 -- the group of the plan is that of the operation, and fits
@@ -235,3 +238,54 @@ pub returns-in_err-apply_group-clause-early : goal.returns-in_err-apply_group-cl
 returns-in_err-apply_group-clause-early g c =
     let late = room_late (g.B.Backing.state c.need_of.new.backing) (g.B.Backing.state c.apply_group.new.backing) c.apply_group.new.kept c.in_ok-need.need c.in_err-apply_group.field-0.0 c.in_err-apply_group.ensures.refused in
     search (rules, late)
+
+pub returns-in_err-reply-clause-grows : goal.returns-in_err-reply-clause-grows
+returns-in_err-reply-clause-grows g c =
+    let none = no_heavier 0 (g.B.Backing.state c.args.backing.now) (g.B.Backing.state c.plan.new.backing) c.args.kept.now c.args.kept.now c.plan.ensures.looks.goes (omega arith) in
+    omega (arith, none)
+
+pub returns-then-is_empty-clause-grows : goal.returns-then-is_empty-clause-grows
+returns-then-is_empty-clause-grows g c = no_heavier _ (g.B.Backing.state c.args.backing.now) (g.B.Backing.state c.plan.new.backing) c.args.kept.now c.args.kept.now c.plan.ensures.looks.goes (omega arith)
+
+pub returns-then-lacks_orphan_room-clause-grows : goal.returns-then-lacks_orphan_room-clause-grows
+returns-then-lacks_orphan_room-clause-grows g c = no_heavier _ (g.B.Backing.state c.args.backing.now) (g.B.Backing.state c.plan.new.backing) c.args.kept.now c.args.kept.now c.plan.ensures.looks.goes (omega arith)
+
+pub returns-in_err-need-clause-grows : goal.returns-in_err-need-clause-grows
+returns-in_err-need-clause-grows g c =
+    let none = no_heavier 0 (g.B.Backing.state c.args.backing.now) (g.B.Backing.state c.need_of.new.backing) c.args.kept.now c.args.kept.now (both c.plan.ensures.looks c.need_of.ensures.looks).goes (omega arith) in
+    omega (arith, none)
+
+pub returns-in_err-apply_group-clause-grows : goal.returns-in_err-apply_group-clause-grows
+returns-in_err-apply_group-clause-grows g c =
+    let files = present (g.B.Backing.state c.args.backing.now).tree c.args.kept.now in
+    let made = group_is files c.args.caller c.args.now c.args.op.now c.in_ok-reply.reply c.in_ok-reply.group c.in_ok-reply.ensures.found in
+    let n : length (group_of files c.args.caller c.args.now c.args.op.now) ≡ length c.in_ok-reply.group = ap (λ (group : List Change). length group) made in
+    let put = after_look (added_or_refused {T = Unit {0}} (length c.in_ok-reply.group) (max 2 (length c.in_ok-reply.group)) (Err c.in_err-apply_group.field-0.0)) (g.B.Backing.state c.args.backing.now) (g.B.Backing.state c.need_of.new.backing) (g.B.Backing.state c.apply_group.new.backing) c.args.kept.now c.apply_group.new.kept (both c.plan.ensures.looks c.need_of.ensures.looks).goes c.in_err-apply_group.ensures.grows in
+    let f = refused_wider (Unit {0}) Reply (length c.in_ok-reply.group) (length (group_of files c.args.caller c.args.now c.args.op.now)) (max 2 (length c.in_ok-reply.group)) (max 2 (length (group_of files c.args.caller c.args.now c.args.op.now))) c.in_err-apply_group.field-0.0 (g.B.Backing.state c.args.backing.now) (g.B.Backing.state c.apply_group.new.backing) c.args.kept.now c.apply_group.new.kept (omega (arith, n)) put in
+    search (rules, f)
+
+pub returns-clause-grows : goal.returns-clause-grows
+returns-clause-grows g c =
+    let files = present (g.B.Backing.state c.args.backing.now).tree c.args.kept.now in
+    let made = group_is files c.args.caller c.args.now c.args.op.now c.in_ok-reply.reply c.in_ok-reply.group c.in_ok-reply.ensures.found in
+    let n : length (group_of files c.args.caller c.args.now c.args.op.now) ≡ length c.in_ok-reply.group = ap (λ (group : List Change). length group) made in
+    let put = after_look (length c.in_ok-reply.group) (g.B.Backing.state c.args.backing.now) (g.B.Backing.state c.need_of.new.backing) (g.B.Backing.state c.apply_group.new.backing) c.args.kept.now c.apply_group.new.kept (both c.plan.ensures.looks c.need_of.ensures.looks).goes c.in_ok-apply_group.ensures.grows in
+    omega (arith, n, put)
+
+pub returns-in_err-reply-clause-closed : goal.returns-in_err-reply-clause-closed
+returns-in_err-reply-clause-closed g c = let same = closed_on c.plan.ensures.looks in omega (arith, same)
+
+pub returns-then-is_empty-clause-closed : goal.returns-then-is_empty-clause-closed
+returns-then-is_empty-clause-closed g c = let same = closed_on c.plan.ensures.looks in omega (arith, same)
+
+pub returns-then-lacks_orphan_room-clause-closed : goal.returns-then-lacks_orphan_room-clause-closed
+returns-then-lacks_orphan_room-clause-closed g c = let same = closed_on c.plan.ensures.looks in omega (arith, same)
+
+pub returns-in_err-need-clause-closed : goal.returns-in_err-need-clause-closed
+returns-in_err-need-clause-closed g c = let same = closed_on (both c.plan.ensures.looks c.need_of.ensures.looks) in omega (arith, same)
+
+pub returns-in_err-apply_group-clause-closed : goal.returns-in_err-apply_group-clause-closed
+returns-in_err-apply_group-clause-closed g c = let same = closed_on (both c.plan.ensures.looks c.need_of.ensures.looks) in let few = c.apply_group.ensures.closed in omega (arith, same, few)
+
+pub returns-clause-closed : goal.returns-clause-closed
+returns-clause-closed g c = let same = closed_on (both c.plan.ensures.looks c.need_of.ensures.looks) in let few = c.apply_group.ensures.closed in omega (arith, same, few)

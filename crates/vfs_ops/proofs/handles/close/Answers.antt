@@ -1,4 +1,4 @@
-use Rattle.std.proofs.Common.{rules, sym, subst, ◌∙◌}
+use Rattle.std.proofs.Common.{arith, rules, sym, subst, ◌∙◌}
 use Rattle.std.specs.BTreeMap.{is_at}
 use Rattle.std.specs.Map.{remove_entry}
 use Rattle.fs_model.specs.Change.{without_inode}
@@ -9,6 +9,8 @@ use Rattle.cached_files.specs.Present.{covered, present}
 use Rattle.vfs_ops.proofs.Closing.{closed_sound, dropped_sound, handles_kept, handles_sound, lost_sound}
 use Rattle.vfs_ops.proofs.Looking.{store_late}
 use Rattle.vfs_ops.proofs.States.{tree_on}
+use Rattle.vfs_ops.proofs.Orphaning.{looked_orphans}
+use Rattle.vfs_ops.proofs.Weighing.{after_look, no_heavier}
 use Rattle.vfs_ops.proofs.handles.close.Goals as goal
 
 pub drop_orphan-requires-clause-proper : goal.drop_orphan-requires-clause-proper
@@ -55,3 +57,27 @@ pub returns-in_err-drop_orphan-clause-early : goal.returns-in_err-drop_orphan-cl
 returns-in_err-drop_orphan-clause-early g c =
     let late = store_late c.in_err-drop_orphan.field-0.0 in
     search (rules, late)
+
+pub returns-in_err-is_lost-clause-grows : goal.returns-in_err-is_lost-clause-grows
+returns-in_err-is_lost-clause-grows g c = no_heavier 0 (g.B.Backing.state c.args.backing.now) (g.B.Backing.state c.is_lost.new.backing) c.args.kept.now c.args.kept.now c.is_lost.ensures.looks.goes (omega arith)
+
+pub returns-in_err-is_lost-clause-orphans : goal.returns-in_err-is_lost-clause-orphans
+returns-in_err-is_lost-clause-orphans g c = looked_orphans c.is_lost.ensures.looks
+
+pub returns-in_err-drop_orphan-clause-grows : goal.returns-in_err-drop_orphan-clause-grows
+returns-in_err-drop_orphan-clause-grows g c = after_look 0 (g.B.Backing.state c.args.backing.now) (g.B.Backing.state c.is_lost.new.backing) (g.B.Backing.state c.drop_orphan.new.backing) c.args.kept.now c.drop_orphan.new.kept c.is_lost.ensures.looks.goes c.drop_orphan.ensures.grows
+
+pub returns-in_err-drop_orphan-clause-orphans : goal.returns-in_err-drop_orphan-clause-orphans
+returns-in_err-drop_orphan-clause-orphans g c = let first = looked_orphans c.is_lost.ensures.looks in let second = c.drop_orphan.ensures.orphans in omega (arith, first, second)
+
+pub returns-then-branch-clause-grows : goal.returns-then-branch-clause-grows
+returns-then-branch-clause-grows g c = after_look 0 (g.B.Backing.state c.args.backing.now) (g.B.Backing.state c.is_lost.new.backing) (g.B.Backing.state c.drop_orphan.new.backing) c.args.kept.now c.drop_orphan.new.kept c.is_lost.ensures.looks.goes c.drop_orphan.ensures.grows
+
+pub returns-then-branch-clause-orphans : goal.returns-then-branch-clause-orphans
+returns-then-branch-clause-orphans g c = let first = looked_orphans c.is_lost.ensures.looks in let second = c.drop_orphan.ensures.orphans in omega (arith, first, second)
+
+pub returns-clause-grows : goal.returns-clause-grows
+returns-clause-grows g c = no_heavier 0 (g.B.Backing.state c.args.backing.now) (g.B.Backing.state c.is_lost.new.backing) c.args.kept.now c.args.kept.now c.is_lost.ensures.looks.goes (omega arith)
+
+pub returns-clause-orphans : goal.returns-clause-orphans
+returns-clause-orphans g c = looked_orphans c.is_lost.ensures.looks

@@ -1,4 +1,4 @@
-use Rattle.std.proofs.Common.{◌≡◌, ℕ, ◌*◌, false, length, Some, Ok, refl, rules, sym, ◌∙◌}
+use Rattle.std.proofs.Common.{◌≡◌, ℕ, ◌*◌, Err, arith, false, length, Some, Ok, refl, rules, sym, ◌∙◌}
 use Rattle.fs_model.specs.declared.reply.Reply.TheVariants.{Done}
 use Rattle.fs_model.specs.Files.{Files, handle_at}
 use Rattle.fs_model.specs.Handles.{is_bad_slot, synced}
@@ -6,6 +6,8 @@ use Rattle.cached_files.specs.Present.{dirty_of_others, has_dirty, present}
 use Rattle.vfs_ops.proofs.Flushing.{goes_on, same_open}
 use Rattle.vfs_ops.proofs.Looking.{stopped_late}
 use Rattle.vfs_ops.proofs.Takes.{alike_sound, sound_on}
+use Rattle.fs_model.specs.declared.reply.Reply.{Reply}
+use Rattle.vfs_ops.proofs.Weighing.{before_look, never, refused_wider}
 use Rattle.vfs_ops.proofs.syncs.fsync.Goals as goal
 
 -- a slot that is open is synced
@@ -66,3 +68,23 @@ pub returns-in_err-sync-clause-early : goal.returns-in_err-sync-clause-early
 returns-in_err-sync-clause-early g c =
     let late = stopped_late (g.B.Backing.state c.put_file.new.backing) (g.B.Backing.state c.sync.new.backing) c.in_err-sync.field-0.0 c.in_err-sync.ensures.refused in
     search (rules, late)
+
+pub returns-in_err-put_file-clause-grows : goal.returns-in_err-put_file-clause-grows
+returns-in_err-put_file-clause-grows g c =
+    let f = refused_wider (Unit {0}) Reply 0 0 2 2 c.in_err-put_file.field-0.0 (g.B.Backing.state c.args.backing.now) (g.B.Backing.state c.put_file.new.backing) c.args.kept.now c.put_file.new.kept (omega arith) c.in_err-put_file.ensures.grows in
+    search (rules, f)
+
+pub returns-in_err-sync-clause-grows : goal.returns-in_err-sync-clause-grows
+returns-in_err-sync-clause-grows g c =
+    let none = before_look 0 (g.B.Backing.state c.args.backing.now) (g.B.Backing.state c.put_file.new.backing) (g.B.Backing.state c.sync.new.backing) c.args.kept.now c.put_file.new.kept c.put_file.new.kept c.in_ok-put_file.ensures.grows c.sync.ensures.goes (omega arith) in
+    let f = never {T = Reply} 0 2 (Err c.in_err-sync.field-0.0) (g.B.Backing.state c.args.backing.now) (g.B.Backing.state c.sync.new.backing) c.args.kept.now c.put_file.new.kept none in
+    search (rules, f)
+
+pub returns-clause-grows : goal.returns-clause-grows
+returns-clause-grows g c = before_look 0 (g.B.Backing.state c.args.backing.now) (g.B.Backing.state c.put_file.new.backing) (g.B.Backing.state c.sync.new.backing) c.args.kept.now c.put_file.new.kept c.put_file.new.kept c.in_ok-put_file.ensures.grows c.sync.ensures.goes (omega arith)
+
+pub returns-in_err-sync-clause-closed : goal.returns-in_err-sync-clause-closed
+returns-in_err-sync-clause-closed g c = let first = c.put_file.ensures.closed in let second = c.sync.ensures.files.closed in omega (arith, first, second)
+
+pub returns-clause-closed : goal.returns-clause-closed
+returns-clause-closed g c = let first = c.put_file.ensures.closed in let second = c.sync.ensures.files.closed in omega (arith, first, second)

@@ -1,9 +1,10 @@
-use Rattle.std.proofs.Common.{inl, inr, refl, ap, subst, ◌∙◌, ◌-◌, arith}
+use Rattle.std.proofs.Common.{inl, inr, refl, ap, subst, ◌∙◌, ◌-◌, ◌≤◌, arith}
 use Rattle.fs_model.specs.Backing.{BackingState}
-use Rattle.cached_files.specs.Calls.{IsCoveredAtLast}
+use Rattle.cached_files.specs.Calls.{GrowsBy, IsCoveredAtLast, added_or_refused}
 use Rattle.vfs_ops.specs.Writing.{HasGroupRoom, credits_need, write_need}
 use Rattle.vfs_ops.proofs.Admitted.{on_ok}
 use Rattle.vfs_ops.proofs.Buffering.{modest_need}
+use Rattle.vfs_ops.proofs.Weighing.{weigh_granted}
 use Rattle.vfs_ops.proofs.writes.cover.Goals as goal
 
 pub admit-requires-clause-modest : goal.admit-requires-clause-modest
@@ -26,3 +27,16 @@ pub returns-in-Err-clause-admitted : goal.returns-in-Err-clause-admitted
 returns-in-Err-clause-admitted g c =
     let need = write_need c.args.offs c.args.len c.args.grant in
     on_ok c.cover_again.result (λ last. inr (inr (subst (λ (s : BackingState). IsCoveredAtLast s (g.B.Backing.state c.cover_again.new.backing) c.args.kept.now need 0) c.in-Err.ensures.err last))) c.cover_again.ensures.admitted
+
+pub returns-in-Ok-clause-grows : goal.returns-in-Ok-clause-grows
+returns-in-Ok-clause-grows g c = weigh_granted 0 (g.B.Backing.state c.args.backing.now) (g.B.Backing.state c.args.backing.now) (g.B.Backing.state c.admit.new.self) c.credits_need.result c.args.kept.now c.args.kept.now (omega arith) c.in-Ok.ensures.ok
+
+pub returns-in-Err-clause-grows : goal.returns-in-Err-clause-grows
+returns-in-Err-clause-grows g c =
+    subst (λ (s : BackingState). GrowsBy (added_or_refused 0 2 c.cover_again.result) s (g.B.Backing.state c.cover_again.new.backing) c.args.kept.now c.cover_again.new.kept) c.in-Err.ensures.err c.cover_again.ensures.grows
+
+pub returns-in-Err-clause-closed : goal.returns-in-Err-clause-closed
+returns-in-Err-clause-closed g c = subst (λ (s : BackingState). (g.B.Backing.state c.cover_again.new.backing).closed ≤ s.closed) c.in-Err.ensures.err c.cover_again.ensures.closed
+
+pub returns-in-Ok-clause-closed : goal.returns-in-Ok-clause-closed
+returns-in-Ok-clause-closed g c = let same = ap (λ (s : BackingState). s.closed) c.in-Ok.ensures.ok in omega (arith, same)

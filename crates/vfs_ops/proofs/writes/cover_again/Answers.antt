@@ -1,8 +1,10 @@
-use Rattle.std.proofs.Common.{◌≡◌, ◌*◌, arith, length, refl, subst, sym}
+use Rattle.std.proofs.Common.{◌≡◌, ℕ, ◌*◌, ap, arith, length, refl, rules, subst, sym}
 use Rattle.fs_model.specs.Backing.{BackingState, Goes, granted}
 use Rattle.cached_files.specs.CallLaws.{Goes-granted, Goes-none}
 use Rattle.vfs_ops.specs.Writing.{HasGroupRoom, write_need}
 use Rattle.vfs_ops.proofs.Buffering.{modest_need, more_new, no_room, whole_need}
+use Rattle.cached_files.specs.Calls.{GrowsBy}
+use Rattle.vfs_ops.proofs.Weighing.{fault_told, weigh_granted}
 use Rattle.vfs_ops.proofs.writes.cover_again.Goals as goal
 
 pub admit-requires-clause-modest : goal.admit-requires-clause-modest
@@ -37,3 +39,20 @@ returns-in-Ok-admit-clause-exact g c =
     let all = c.saturating_sub-all.ensures in
     let lacking = c.requires.lacking in
     omega (arith, more, counted, all, lacking)
+
+pub returns-in-Ok-admit-clause-grows : goal.returns-in-Ok-admit-clause-grows
+returns-in-Ok-admit-clause-grows g c = weigh_granted 0 (g.B.Backing.state c.args.backing.now) (g.B.Backing.state c.make_room.new.backing) (g.B.Backing.state c.admit.new.self) c.credits_need.result c.args.kept.now c.make_room.new.kept c.in-Ok.ensures.grows c.in-Ok-admit.ensures.ok
+
+pub returns-in-Err-admit-clause-grows : goal.returns-in-Err-admit-clause-grows
+returns-in-Err-admit-clause-grows g c = subst (λ (s : BackingState). GrowsBy 0 (g.B.Backing.state c.args.backing.now) s c.args.kept.now c.make_room.new.kept) (sym c.in-Err-admit.ensures.err) c.in-Ok.ensures.grows
+
+pub returns-in-Err-clause-grows : goal.returns-in-Err-clause-grows
+returns-in-Err-clause-grows g c =
+    let f = fault_told (Unit {0}) ℕ 0 2 c.in-Err.fault (g.B.Backing.state c.args.backing.now) (g.B.Backing.state c.make_room.new.backing) c.args.kept.now c.make_room.new.kept c.in-Err.ensures.grows in
+    search (rules, f)
+
+pub returns-in-Ok-admit-clause-closed : goal.returns-in-Ok-admit-clause-closed
+returns-in-Ok-admit-clause-closed g c = let same = ap (λ (s : BackingState). s.closed) c.in-Ok-admit.ensures.ok in let few = c.make_room.ensures.closed in omega (arith, same, few)
+
+pub returns-in-Err-admit-clause-closed : goal.returns-in-Err-admit-clause-closed
+returns-in-Err-admit-clause-closed g c = let same = ap (λ (s : BackingState). s.closed) c.in-Err-admit.ensures.err in let few = c.make_room.ensures.closed in omega (arith, same, few)

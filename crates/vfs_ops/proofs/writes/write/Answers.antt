@@ -1,4 +1,4 @@
-use Rattle.std.proofs.Common.{◌≡◌, inl, sym, subst, refl, ◌∙◌, arith, Some, rules}
+use Rattle.std.proofs.Common.{◌≡◌, ℕ, ◌*◌, length, inl, sym, subst, refl, ◌∙◌, arith, Some, rules}
 use Rattle.fs_model.specs.declared.reply.Reply.TheVariants.{Count}
 use Rattle.fs_model.specs.Files.{Files, handle_at}
 use Rattle.fs_model.specs.Handles.{bytes_written, tree_written}
@@ -8,6 +8,9 @@ use Rattle.vfs_ops.proofs.Admitted.{none_new}
 use Rattle.vfs_ops.proofs.Buffering.{at_hand, bad_len, bad_slot, none_written, open_file, some_written, sound_written, too_far}
 use Rattle.vfs_ops.proofs.Looking.{either_late, none_left, write_left}
 use Rattle.vfs_ops.proofs.Takes.{alike_on, alike_sound, last_done, refused_last}
+use Rattle.fs_model.specs.declared.reply.Reply.{Reply}
+use Rattle.fs_model.specs.Files.{pages_of}
+use Rattle.vfs_ops.proofs.Weighing.{refused_wider}
 use Rattle.vfs_ops.proofs.writes.write.Goals as goal
 
 pub returns-then-is_bad_slot-clause-refused : goal.returns-then-is_bad_slot-clause-refused
@@ -100,3 +103,9 @@ returns-in_err-left-clause-early g c =
     let need = write_need c.args.offs c.args.len c.args.grant in
     let late = either_late (g.B.Backing.state c.args.backing.now) (g.B.Backing.state c.write_some.new.backing) c.write_some.new.kept need c.in_err-left.field-0.0 c.in_err-left.ensures.refused in
     search (rules, late)
+
+pub returns-in_err-left-clause-grows : goal.returns-in_err-left-clause-grows
+returns-in_err-left-clause-grows g c =
+    let n = 2 * length (pages_of c.args.offs c.args.len) in
+    let f = refused_wider ℕ (Reply × ℕ) n n 2 2 c.in_err-left.field-0.0 (g.B.Backing.state c.args.backing.now) (g.B.Backing.state c.write_some.new.backing) c.args.kept.now c.write_some.new.kept (omega arith) c.in_err-left.ensures.grows in
+    search (rules, f)

@@ -22,6 +22,9 @@ returns-in-Call-clause-step g c =
       exact = e.exact;
       issued = e.issued;
       written = e.written;
+      others = e.others;
+      weighed = e.weighed;
+      orphans = e.orphans;
       admitted = e.admitted;
       at_once = e.at_once;
       buffered = e.buffered;
@@ -35,7 +38,7 @@ returns-in-Pick-clause-step g c =
 pub returns-in-Put-clause-step : goal.returns-in-Put-clause-step
 returns-in-Put-clause-step g c =
     let e = c.put.ensures in
-    put_step_at (files_state c.args.self.now) (g.B.Backing.state c.put.new.backing) c.put.new.kept c.args.event.now _ c.put.result c.in-Put.is e.put e.same e.issued e.goes
+    put_step_at (files_state c.args.self.now) (g.B.Backing.state c.put.new.backing) c.put.new.kept c.args.event.now _ c.put.result c.in-Put.is e.put e.same e.issued e.weighed e.orphans e.goes
 
 pub picked-requires : goal.picked-requires
 picked-requires g c = c.args.self.now.ready.kept_fits.pages

@@ -1,0 +1,16 @@
+use Rattle.std.proofs.Common.{ap, refl, sym, ◌∙◌}
+use Rattle.fs_model.specs.declared.backing_answers.Mode.{Mode}
+use Rattle.vfs_ops.specs.Steps.{read_only_cause}
+use Rattle.vfs_ops.proofs.Others.{not_closed, same_leave}
+use Rattle.vfs_ops.proofs.answers.call.Goals as goal
+
+pub returns-in-Some-clause-others : goal.returns-in-Some-clause-others
+returns-in-Some-clause-others g c = same_leave c.args.kept.now c.args.kept.now c.args.caller c.args.op.now refl
+
+pub returns-in-Some-clause-closed : goal.returns-in-Some-clause-closed
+returns-in-Some-clause-closed g c is = (refl, refl)
+
+pub returns-in-None-clause-closed : goal.returns-in-None-clause-closed
+returns-in-None-clause-closed g c =
+    let mode = (g.B.Backing.state c.args.backing.now).mode in
+    not_closed (read_only_cause mode c.args.op.now) (ap (λ (m : Mode). read_only_cause m c.args.op.now) (sym c.mode.ensures) ∙ sym c.read_only_cause.ensures ∙ c.in-None.is)
