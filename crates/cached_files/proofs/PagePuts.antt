@@ -1,5 +1,5 @@
 -- What the put of one dirty page says of the page as it stands in memory.
-use Rattle.std.proofs.Common.{◌≡◌, ℕ, inl, inr, Some, length, refl, sym, ap, subst, ◌∙◌, arith}
+use Rattle.std.proofs.Common.{◌≡◌, inl, inr, Some, length, refl, sym, ap, subst, ◌∙◌, arith}
 use Rattle.std.specs.Prelude.{Ok, Err, Option, None}
 use Rattle.std.specs.Option.{option_map, option_map_or}
 use Rattle.std.specs.BTreeMap.{is_at}

@@ -1,6 +1,6 @@
 -- Files that are alike give the same outcome of each operation.
-use Rattle.std.proofs.Common.{◌≡◌, ℕ, ◌<◌, ◌/◌, ◌⊎◌, inl, inr, Bool, true, false, cond, ◌&&◌, ◌||◌, not, min, map, List, [], ◌∷◌, Option, Some, None, Ok, Err, refl, sym, ap, subst, ◌∙◌, arith, Result}
-use Rattle.std.specs.Prelude.{◌==◌, ◌+◌, ◌-◌, ◌%◌, get_or, if◌then◌else◌, is_some, max, nat_le, nat_lt, suc, unwrap_or, zero}
+use Rattle.std.proofs.Common.{◌≡◌, ℕ, ◌<◌, ◌/◌, inl, inr, Bool, true, false, cond, ◌&&◌, ◌||◌, not, min, map, List, [], ◌∷◌, Option, Some, None, Ok, Err, refl, sym, ap, subst, ◌∙◌, arith, Result}
+use Rattle.std.specs.Prelude.{◌==◌, ◌+◌, ◌-◌, ◌%◌, get_or, if◌then◌else◌, is_some, nat_le, nat_lt, suc, unwrap_or, zero}
 use Rattle.std.proofs.lemmas.Bool.{false≢true}
 use Rattle.std.proofs.lemmas.Bool.Decides.{eqb_tells}
 use Rattle.std.specs.BTreeMap.{insert_entry, is_at}
@@ -21,7 +21,7 @@ use Rattle.fs_model.specs.Change.{apply, without_inode}
 use Rattle.fs_model.specs.Directory.{by_hash, dir_links, entries_in, has_no_entry, is_linked_out, links_of, shown_size}
 use Rattle.fs_model.specs.Files.{Blocks, Files, Handles, block_at, byte_at, bytes_from, entry_at, handle_at, inode_at, pair_cmp, size_of}
 use Rattle.fs_model.specs.Handles.{bytes_read, bytes_written, closed, is_bad_slot, opened, size_limit, synced, tree_written}
-use Rattle.fs_model.specs.Links.{dir_removed, linked, linking, losing, removing, unlinked}
+use Rattle.fs_model.specs.Links.{dir_removed, linked, linking, removing, unlinked}
 use Rattle.fs_model.specs.Making.{inode_limit, is_bad_mode, is_bad_target, is_name_path, made, making, new_dir, new_file, new_symlink, touched}
 use Rattle.fs_model.specs.Operation.{group_of, outcome_of, plan_of}
 use Rattle.fs_model.specs.Orphan.{is_nameless, is_open, without_lost}

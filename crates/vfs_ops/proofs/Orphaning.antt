@@ -1,5 +1,5 @@
 -- The next list of orphans over a step.
-use Rattle.std.proofs.Common.{◌≡◌, ℕ, ◌+◌, ◌≤◌, ◌||◌, Bool, true, false, cond, Ok, Err, length, refl, sym, ap, subst, ◌∙◌, arith, Result, IfOk}
+use Rattle.std.proofs.Common.{◌≡◌, ℕ, ◌+◌, ◌≤◌, ◌||◌, Bool, true, false, cond, Ok, Err, length, refl, sym, ap, subst, arith, Result, IfOk}
 use Rattle.std.specs.Prelude.{◌==◌, OnErr, filter, if◌then◌else◌, nat_lt}
 use Rattle.std.specs.Map.{keys_of}
 use Rattle.std.proofs.lemmas.Bool.{ltb-false}
@@ -15,7 +15,7 @@ use Rattle.fs_model.specs.Files.{Files, handle_at, inode_at, size_of}
 use Rattle.fs_model.specs.Handles.{bytes_written, is_bad_slot, size_limit, tree_written}
 use Rattle.fs_model.specs.Making.{touched}
 use Rattle.fs_model.specs.Operation.{outcome_of}
-use Rattle.fs_model.specs.Orphan.{leaves_orphan, nameless, within_orphans}
+use Rattle.fs_model.specs.Orphan.{nameless, within_orphans}
 use Rattle.fs_model.specs.Outcome.{Outcome, refuse, with_some}
 use Rattle.fs_laws.specs.Sound.{IsSound}
 use Rattle.cached_files.specs.Alike.{IsAlike}

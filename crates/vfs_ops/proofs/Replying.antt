@@ -1,5 +1,5 @@
 -- What the plain operation answers: never a refusal, and no bytes where it changes the files.
-use Rattle.std.proofs.Common.{◌≡◌, ℕ, Bool, true, false, cond, ◌||◌, not, min, Ok, Err, Option, Some, None, refl, sym, ap, subst, ◌∙◌}
+use Rattle.std.proofs.Common.{◌≡◌, ℕ, Bool, true, false, cond, ◌||◌, not, min, Ok, Err, refl, sym, ap, subst, ◌∙◌}
 use Rattle.std.specs.Prelude.{◌==◌, ◌+◌, ◌-◌, if◌then◌else◌, is_some, nat_lt, List}
 use Rattle.std.proofs.lemmas.Bool.{false≢true}
 use Rattle.std.specs.BTreeMap.{insert_entry, is_at}
@@ -7,21 +7,20 @@ use Rattle.std.specs.Map.{remove_entry}
 use Rattle.fs_model.specs.declared.inode.Entry.{Entry}
 use Rattle.fs_model.specs.declared.inode.Inode.{Inode}
 use Rattle.fs_model.specs.declared.op.Op.{Op}
-use Rattle.fs_model.specs.declared.op.Op.TheVariants.{Create, Mkdir, Symlink, Link, Unlink, Rmdir, Rename, OpenFile, Close, Read, Write, Truncate, Fsync, Flush, List as ListDir, Stat, Readlink, Chmod}
+use Rattle.fs_model.specs.declared.op.Op.TheVariants.{OpenFile, Close, Read, Write, Truncate, Fsync, Flush, List as ListDir, Stat, Readlink}
 use Rattle.fs_model.specs.declared.refusal.Refusal.{Refusal}
 use Rattle.fs_model.specs.declared.refusal.Refusal.TheVariants.{Enotdir, Eisdir, Enametoolong, Einval, Efbig, Enoent, Ebadf}
 use Rattle.fs_model.specs.declared.reply.Reply.{Reply}
 use Rattle.fs_model.specs.declared.reply.Reply.TheVariants.{Done, Ino, Count, Bytes, List as Listed, Target}
 use Rattle.fs_model.specs.Attributes.{found, is_symlink, link_read, listed, stat_of, told}
 use Rattle.fs_model.specs.Directory.{by_hash, entries_in}
-use Rattle.fs_model.specs.Files.{Files, Tree, bytes_from, handle_at, inode_at, pair_cmp, size_of}
+use Rattle.fs_model.specs.Files.{Files, bytes_from, handle_at, inode_at, pair_cmp, size_of}
 use Rattle.fs_model.specs.Handles.{bytes_read, bytes_written, closed, is_bad_slot, opened, size_limit, synced, tree_written}
 use Rattle.fs_model.specs.Operation.{outcome_of}
 use Rattle.fs_model.specs.Orphan.{within_orphans, without_lost}
 use Rattle.fs_model.specs.Outcome.{Outcome, Plan, done_by, refuse, with_found, with_some}
 use Rattle.fs_model.specs.Path.{has_long_name, is_dir, is_file, is_path, walked}
 use Rattle.fs_model.specs.Truncation.{truncating}
-use Rattle.fs_model.specs.Change.{apply}
 use Rattle.fs_laws.specs.Sound.{IsSound}
 use Rattle.fs_model.specs.Backing.{BackingState, orphan_room}
 use Rattle.vfs_ops.specs.Operations.{is_of_names}

@@ -1,5 +1,5 @@
 -- What is done beside callers: pages are picked and put, all is synced, LEBs are collected, commits go on, and credits come and go.
-use Rattle.std.specs.Prelude.{◌≡◌, ◌≢◌, ℕ, ◌+◌, ◌<◌, ◌≤◌, Bool, true, false, Result, Ok, Err, Option, Some, List, [], length}
+use Rattle.std.specs.Prelude.{◌≡◌, ◌≢◌, ℕ, ◌+◌, ◌<◌, ◌≤◌, Bool, true, false, Result, Ok, Err, Option, Some, [], length}
 use Rattle.std.specs.Option.{option_map, option_map_or}
 use Rattle.fs_model.specs.declared.backing_answers.Mode.TheVariants.{ReadWrite}
 use Rattle.fs_model.specs.declared.backing_answers.StoreFault.{StoreFault}
