@@ -20,7 +20,7 @@ use Rattle.store_model.proofs.TextEnds.{end_of}
 use Rattle.store_model.proofs.Units.{some_unit}
 
 -- ---- a copy
-named_copy : (copy : Placed) (buds : List Bud) → map named_by (with_copy copy buds) ≡ map named_by buds
+pub named_copy : (copy : Placed) (buds : List Bud) → map named_by (with_copy copy buds) ≡ map named_by buds
 named_copy copy [] = refl
 named_copy copy (bud ∷ buds) = by (named_copy copy buds) ((bud.head == 0) && not (has_bud 0 buds)) refl
   where

@@ -218,7 +218,7 @@ each_bare m End can a h = end_bare m m.next h
 each_bare m (Drop ino index) can a h = freed_bare (dropped_store ino index m) m.lebs h
 
 -- ---- no leaf stands in an empty LEB
-meant_none : (x : Kept) (text : List Item) → leaf_nodes text ≡ [] → IsMeantIn x text → ⊥
+pub meant_none : (x : Kept) (text : List Item) → leaf_nodes text ≡ [] → IsMeantIn x text → ⊥
 meant_none x [] e is = is
 meant_none x (leaf p ∷ text) e is = absurd cc
 meant_none x (branching b ∷ text) e is = meant_none x text e is

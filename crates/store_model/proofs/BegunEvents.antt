@@ -25,12 +25,12 @@ use Rattle.store_model.proofs.Since.{part_since}
 
 -- ---- the heads since a commit began
 
-one_less : (xs : List ℕ) (a b c : ℕ) → get_or (less xs (a ∷ b ∷ c ∷ [])) 1 0 ≡ get_or xs 1 0 - b
+pub one_less : (xs : List ℕ) (a b c : ℕ) → get_or (less xs (a ∷ b ∷ c ∷ [])) 1 0 ≡ get_or xs 1 0 - b
 one_less [] a b c = omega arith
 one_less (x ∷ []) a b c = omega arith
 one_less (x ∷ y ∷ xs) a b c = refl
 
-two_less : (xs : List ℕ) (a b c : ℕ) → get_or (less xs (a ∷ b ∷ c ∷ [])) 2 0 ≡ get_or xs 2 0 - c
+pub two_less : (xs : List ℕ) (a b c : ℕ) → get_or (less xs (a ∷ b ∷ c ∷ [])) 2 0 ≡ get_or xs 2 0 - c
 two_less [] a b c = omega arith
 two_less (x ∷ []) a b c = omega arith
 two_less (x ∷ y ∷ []) a b c = omega arith

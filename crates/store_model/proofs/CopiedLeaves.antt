@@ -17,7 +17,7 @@ use Rattle.store_model.proofs.LebRows.{has_row, Row, rows, to_rows, victim_row}
 use Rattle.store_model.proofs.RecoveryCopies.{either_of}
 use Rattle.store_model.proofs.TextSyncs.{next_role}
 
-each_of : (P : Kept → Type 0) (xs : List Kept) (x : Kept) → AllByRecursion P xs → IsLeafOf xs x → P x
+pub each_of : (P : Kept → Type 0) (xs : List Kept) (x : Kept) → AllByRecursion P xs → IsLeafOf xs x → P x
 each_of P [] x h i = absurd i
 each_of P (y ∷ xs) x h (inl e) = subst P e h.0
 each_of P (y ∷ xs) x h (inr i) = each_of P xs x h.1 i

@@ -1,3 +1,5 @@
+mod Accounted
+mod AccountedCopies
 mod AllViews
 mod Apart
 mod BackingCalls
@@ -18,6 +20,9 @@ mod EndNumbers
 mod EventFiles
 mod EventNumbers
 mod Further
+mod GoneEvents
+mod GoneGroups
+mod GoneLeaves
 mod GrantCounts
 mod History
 mod IndexCommits
@@ -84,8 +89,10 @@ mod ViewCommits
 mod Views
 mod Weights
 mod WholeEvents
+mod WholeLebs
 mod WholeOpens
 mod WholeStarts
+mod WholeSteps
 mod WorkedHalf
 mod WorkedOffered
 mod WorkedStates

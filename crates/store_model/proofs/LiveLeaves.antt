@@ -63,7 +63,7 @@ pub padded_stand : (geo : RawGeometry) (lebs : List Leb) (at : Option At) (x : K
 padded_stand geo lebs None x s = s
 padded_stand geo lebs (Some at) x s = items_stand at.lnum (last_gap geo at) lebs x s
 
-all_padded_stand : (geo : RawGeometry) (lebs : List Leb) (ends : List (Option At)) (x : Kept) → Stands lebs x → Stands (fold (padded geo) lebs ends) x
+pub all_padded_stand : (geo : RawGeometry) (lebs : List Leb) (ends : List (Option At)) (x : Kept) → Stands lebs x → Stands (fold (padded geo) lebs ends) x
 all_padded_stand geo lebs [] x s = s
 all_padded_stand geo lebs (at ∷ ends) x s = all_padded_stand geo (padded geo lebs at) ends x (padded_stand geo lebs at x s)
 

@@ -45,7 +45,7 @@ each_put P old new (x ∷ xs) n h = by (each_put P old new xs n h.1) (old x) (na
     by rest false true = (h.0, rest)
     by rest false false = (n, h)
 
-each_both : (P : Kept → Type 0) (xs ys : List Kept) → AllByRecursion P xs → AllByRecursion P ys → AllByRecursion P (xs ++ ys)
+pub each_both : (P : Kept → Type 0) (xs ys : List Kept) → AllByRecursion P xs → AllByRecursion P ys → AllByRecursion P (xs ++ ys)
 each_both P [] ys h g = g
 each_both P (x ∷ xs) ys h g = (h.0, each_both P xs ys h.1 g)
 

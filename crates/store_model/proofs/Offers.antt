@@ -42,7 +42,7 @@ nameless_same m (Some (CutBlocks ino old new)) stays = absurd stays
 nameless_same m (Some (DropInode ino)) stays = absurd stays
 nameless_same m None stays = absurd stays
 
-offer_left : (m : Store) (next : Next) → m.next ≡ Some next → HasCommitted m.now → AreOrphans (is_among next.listed) m.now → (lnum : ℕ) (kept : List Kept) → AreLeft (faced_now m) lnum kept → AreLeft (faced_now (offer m)) lnum kept
+pub offer_left : (m : Store) (next : Next) → m.next ≡ Some next → HasCommitted m.now → AreOrphans (is_among next.listed) m.now → (lnum : ℕ) (kept : List Kept) → AreLeft (faced_now m) lnum kept → AreLeft (faced_now (offer m)) lnum kept
 offer_left m next e has on lnum [] h = tt
 offer_left m next e has on lnum (x ∷ kept) h = (λ at. by (h.0 at), offer_left m next e has on lnum kept h.1)
   where

@@ -52,7 +52,7 @@ both_orphans p q r more (x ∷ kept) h g =
     let b = and_parts (is_listed q (shown_by x)) (list_all (λ x. is_listed q (shown_by x)) kept) g in
     and_from (is_listed r (shown_by x)) (list_all (λ x. is_listed r (shown_by x)) kept) (both_shown p q r more (shown_by x) a.0 b.0) (both_orphans p q r more kept a.1 b.1)
 
-more_orphans : (p q : ℕ → Bool) → ((n : ℕ) → p n ≡ true → q n ≡ true) → (kept : List Kept) → list_all (λ x. is_listed p (shown_by x)) kept ≡ true → list_all (λ x. is_listed q (shown_by x)) kept ≡ true
+pub more_orphans : (p q : ℕ → Bool) → ((n : ℕ) → p n ≡ true → q n ≡ true) → (kept : List Kept) → list_all (λ x. is_listed p (shown_by x)) kept ≡ true → list_all (λ x. is_listed q (shown_by x)) kept ≡ true
 more_orphans p q more kept h = both_orphans p p q (λ n a b. more n a) kept h h
 
 -- the lists that may be there have them
@@ -282,22 +282,23 @@ leaves_lost (x ∷ kept) = by (shown_by x) (leaves_lost kept)
     by (Some (DropInode ino)) h = h
     by None h = h
 
+-- each live inode without links is one that has no name
+pub live_nameless : (m : Store) → IsStore m → list_all (λ x. is_listed (is_nameless m.tree) (shown_by x)) m.live ≡ true
+live_nameless m s = more_orphans (is_among (nameless m.tree)) (is_nameless m.tree) (λ n h. listed_nameless m.tree.inodes n s.proper_now.inodes_ascend h) m.live
+    (subst (λ (es : Inodes). list_all (λ x. is_listed (is_among (keys_of (filter (λ e. e.1.nlink == 0) es))) (shown_by x)) m.live ≡ true) inodes (leaves_lost m.live))
+  where
+    inodes : inodes_of m.live ≡ m.tree.inodes
+    inodes = ap (λ (t : Tree). t.inodes) s.files.tree
+
 start_orphans : (m : Store) (taken : List ℕ) → m.next ≡ None → IsStore m → HasOrphans (start taken m)
 start_orphans m taken idle s = record {
   now = s.orphans.now;
   later = (
     more_orphans (is_still_listed m) (is_among (next_list m)) (next_has m) m.now.kept (subst (λ (o : Option Next). KeepOrphans m o) idle s.orphans.later),
-    more_orphans (is_nameless m.tree) (is_among (next_list m)) (λ n h. next_has m n (or_left (is_nameless m.tree n) (is_among m.closed n) h)) m.live live,
-    more_orphans (is_nameless m.tree) (is_still_listed (start taken m)) (λ n h. or_left (is_nameless m.tree n) false h) m.live live,
+    more_orphans (is_nameless m.tree) (is_among (next_list m)) (λ n h. next_has m n (or_left (is_nameless m.tree n) (is_among m.closed n) h)) m.live (live_nameless m s),
+    more_orphans (is_nameless m.tree) (is_still_listed (start taken m)) (λ n h. or_left (is_nameless m.tree n) false h) m.live (live_nameless m s),
   );
 }
-  where
-    inodes : inodes_of m.live ≡ m.tree.inodes
-    inodes = ap (λ (t : Tree). t.inodes) s.files.tree
-
-    live : list_all (λ x. is_listed (is_nameless m.tree) (shown_by x)) m.live ≡ true
-    live = more_orphans (is_among (nameless m.tree)) (is_nameless m.tree) (λ n h. listed_nameless m.tree.inodes n s.proper_now.inodes_ascend h) m.live
-        (subst (λ (es : Inodes). list_all (λ x. is_listed (is_among (keys_of (filter (λ e. e.1.nlink == 0) es))) (shown_by x)) m.live ≡ true) inodes (leaves_lost m.live))
 
 -- ---- each event
 plain : (m k : Store) → k.now.kept ≡ m.now.kept → k.listed ≡ m.listed → k.tree ≡ m.tree → k.closed ≡ m.closed → option_map orphans_of k.next ≡ option_map orphans_of m.next → HasOrphans m → HasOrphans k

@@ -108,7 +108,7 @@ none_copied : (buds : List Bud) → has_bud 0 buds ≡ false → copies_of buds 
 none_copied [] h = refl
 none_copied (bud ∷ buds) h = let p = or_false (bud.head == 0) (has_bud 0 buds) h in rw p.0 (none_copied buds p.1)
 
-copies_added : (copy : Placed) (buds : List Bud) → has_bud 0 buds ≡ true → copies_of (with_copy copy buds) ≡ copies_of buds ++ copy ∷ []
+pub copies_added : (copy : Placed) (buds : List Bud) → has_bud 0 buds ≡ true → copies_of (with_copy copy buds) ≡ copies_of buds ++ copy ∷ []
 copies_added copy [] has = absurd (false≢true has)
 copies_added copy (bud ∷ buds) has = by (copies_added copy buds) (has_bud 0 buds) refl (bud.head == 0) refl has
   where

@@ -95,12 +95,12 @@ pub start_stands : (m : Store) (taken : List ℕ) (xs : List Kept) → AllByRecu
 start_stands m taken xs s = each_weaker (Stands m.lebs) (Stands (map (take_leb taken) m.lebs)) (λ x h. stands_map (take_leb taken) x m.lebs (take_number taken) (λ leb same is. take_meant taken leb x is) h) xs s
 
 -- a LEB that is written was taken, so no leaf stands there
-among_taken : (test : ℕ → Bool) (numbers : List ℕ) (n : ℕ) → n < length numbers → list_all test numbers ≡ true → test (get_or numbers n 0) ≡ true
+pub among_taken : (test : ℕ → Bool) (numbers : List ℕ) (n : ℕ) → n < length numbers → list_all test numbers ≡ true → test (get_or numbers n 0) ≡ true
 among_taken test [] n low h = absurd (omega (arith, low))
 among_taken test (k ∷ numbers) zero low h = (and_parts (test k) (list_all test numbers) h).0
 among_taken test (k ∷ numbers) (suc n) low h = among_taken test numbers n (omega (arith, low)) (and_parts (test k) (list_all test numbers) h).1
 
-all_written : (rs : List (ℕ × LebKind)) (text : List Item) (n : ℕ) (lebs : List Leb) (xs : List Kept) → are_distinct (numbers_of rs) ≡ true → has_row kind.Taken rs n ≡ true
+pub all_written : (rs : List (ℕ × LebKind)) (text : List Item) (n : ℕ) (lebs : List Leb) (xs : List Kept) → are_distinct (numbers_of rs) ≡ true → has_row kind.Taken rs n ≡ true
     → list_all (λ x. has_row kind.Leaf rs x.leaf.lnum || has_row kind.Bud rs x.leaf.lnum) xs ≡ true → AllByRecursion (Stands lebs) xs → AllByRecursion (Stands (changed_leb n (λ leb. record leb { text = text }) lebs)) xs
 all_written rs text n lebs [] d is h s = tt
 all_written rs text n lebs (x ∷ xs) d is h s =
@@ -167,7 +167,7 @@ stands_number (leb ∷ lebs) x (inl is) = or_left (leb.lnum == x.leaf.lnum) (lis
 stands_number (leb ∷ lebs) x (inr s) = or_right (leb.lnum == x.leaf.lnum) (list_any (λ k. k == x.leaf.lnum) (numbers_of (rows lebs))) (stands_number lebs x s)
 
 -- of a LEB with leaves the role is one of the two
-stands_after : (view : View) (x : Kept) (lebs : List Leb) → are_distinct (numbers_of (rows lebs)) ≡ true → (has_row kind.Leaf (rows lebs) x.leaf.lnum || has_row kind.Bud (rows lebs) x.leaf.lnum) ≡ true → Stands lebs x → Stands (map (role_after view) lebs) x
+pub stands_after : (view : View) (x : Kept) (lebs : List Leb) → are_distinct (numbers_of (rows lebs)) ≡ true → (has_row kind.Leaf (rows lebs) x.leaf.lnum || has_row kind.Bud (rows lebs) x.leaf.lnum) ≡ true → Stands lebs x → Stands (map (role_after view) lebs) x
 stands_after view x [] d h s = absurd s
 stands_after view x (leb ∷ lebs) d h s = by (stands_after view x lebs parts.1) s
   where

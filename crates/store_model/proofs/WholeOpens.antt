@@ -46,7 +46,7 @@ nameless_as f g same (Some (CutBlocks ino old new)) h = absurd h
 nameless_as f g same (Some (DropInode ino)) h = absurd h
 nameless_as f g same None h = absurd h
 
-left_as : (f g : Faced) (x : Kept) → IsAsLeft f g → IsLeft f x → IsLeft g x
+pub left_as : (f g : Faced) (x : Kept) → IsAsLeft f g → IsLeft f x → IsLeft g x
 left_as f g x same (inl copy) =
     let copied : List ℕ → List Placed → Bool = λ synced copies. list_any (λ c. (c.sqnum == x.sqnum) && shows_same (shown_by x) (shown c.node)) (take (get_or synced 0 0) copies) in
     inl (ap (λ (s : List ℕ). copied s (copies_of g.view.buds)) same.synced ∙ ap (copied f.synced) same.copies ∙ copy)
@@ -90,25 +90,37 @@ whole_open m head lnum view n (x ∷ kept) empty a bare h = (λ at. by (h.0 at) 
 counts_open : (head lnum : ℕ) (buds : List Bud) → counts_of (buds ++ new_bud head lnum 0 ∷ []) ≡ counts_of buds
 counts_open head lnum buds = rw (copies_open head lnum buds, groups_open 1 head lnum buds, groups_open 2 head lnum buds) refl
 
+pub opened_now : (m : Store) (head lnum : ℕ) → IsAsLeft (faced_now m) (faced_now (open_leb head lnum m))
+opened_now m head lnum = record { tree = refl; copies = copies_open head lnum m.now.buds; synced = refl; heads = heads_open head lnum m.now.buds m.synced; lists = ap (λ (ls : List (List ℕ)). m.listed ∷ ls) (lists m.next) }
+  where
+    lists : (next : Option Next) → next_lists (option_map (in_next (λ buds. buds ++ new_bud head lnum 0 ∷ []) 0) next) ≡ next_lists next
+    lists None = refl
+    lists (Some next) = refl
+
+pub opened_later : (m : Store) (head lnum : ℕ) (next : Next) → IsAsLeft (faced_later m next) (faced_later (open_leb head lnum m) (in_next (λ buds. buds ++ new_bud head lnum 0 ∷ []) 0 next))
+opened_later m head lnum next = record {
+  tree = refl;
+  copies = copies_open head lnum next.view.buds;
+  synced = ap (λ (all : List ℕ). less m.synced (less all (counts_of after.view.buds))) (counts_open head lnum m.now.buds) ∙ ap (λ (last : List ℕ). less m.synced (less (counts_of m.now.buds) last)) (counts_open head lnum next.view.buds);
+  heads = same_since (open_leb head lnum m) m next after refl (groups_open 1 head lnum m.now.buds) (groups_open 2 head lnum m.now.buds) (groups_open 1 head lnum next.view.buds) (groups_open 2 head lnum next.view.buds);
+  lists = refl;
+}
+  where
+    after : Next
+    after = in_next (λ buds. buds ++ new_bud head lnum 0 ∷ []) 0 next
+
 pub open_whole : (m : Store) (head lnum : ℕ) → has_role kind.Free m.lebs lnum ≡ true → AreApart m → AllByRecursion IsBare m.lebs → OfBoth m (AreWholeOrLeft m) → OfBoth (open_leb head lnum m) (AreWholeOrLeft (open_leb head lnum m))
 open_whole m head lnum empty a bare h = (now, later m.next h.1)
   where
     k : Store
     k = open_leb head lnum m
 
-    lists : (next : Option Next) → next_lists (option_map (in_next (λ buds. buds ++ new_bud head lnum 0 ∷ []) 0) next) ≡ next_lists next
-    lists None = refl
-    lists (Some next) = refl
-
-    as_now : IsAsLeft (faced_now m) (faced_now k)
-    as_now = record { tree = refl; copies = copies_open head lnum m.now.buds; synced = refl; heads = heads_open head lnum m.now.buds m.synced; lists = ap (λ (ls : List (List ℕ)). m.listed ∷ ls) (lists m.next) }
-
     now : AreWholeOrLeft k (faced_now k)
     now n = by (h.0 n)
       where
         by : AreWhole m m.now n m.now.kept ⊎ AreLeft (faced_now m) n m.now.kept → AreWhole k k.now n m.now.kept ⊎ AreLeft (faced_now k) n m.now.kept
         by (inl whole) = inl (whole_open m head lnum m.now n m.now.kept empty a bare whole)
-        by (inr left) = inr (all_left_as (faced_now m) (faced_now k) n m.now.kept as_now left)
+        by (inr left) = inr (all_left_as (faced_now m) (faced_now k) n m.now.kept (opened_now m head lnum) left)
 
     later : (next : Option Next) → OfNext m next (AreWholeOrLeft m) → OfNext k (option_map (in_next (λ buds. buds ++ new_bud head lnum 0 ∷ []) 0) next) (AreWholeOrLeft k)
     later None g = tt
@@ -117,18 +129,6 @@ open_whole m head lnum empty a bare h = (now, later m.next h.1)
         after : Next
         after = in_next (λ buds. buds ++ new_bud head lnum 0 ∷ []) 0 next
 
-        since : synced_since k after ≡ synced_since m next
-        since = ap (λ (all : List ℕ). less m.synced (less all (counts_of after.view.buds))) (counts_open head lnum m.now.buds) ∙ ap (λ (last : List ℕ). less m.synced (less (counts_of m.now.buds) last)) (counts_open head lnum next.view.buds)
-
-        as_next : IsAsLeft (faced_later m next) (faced_later k after)
-        as_next = record {
-          tree = refl;
-          copies = copies_open head lnum next.view.buds;
-          synced = since;
-          heads = same_since k m next after refl (groups_open 1 head lnum m.now.buds) (groups_open 2 head lnum m.now.buds) (groups_open 1 head lnum next.view.buds) (groups_open 2 head lnum next.view.buds);
-          lists = refl;
-        }
-
         by : (n : ℕ) → AreWhole m next.view n next.view.kept ⊎ AreLeft (faced_later m next) n next.view.kept → AreWhole k after.view n next.view.kept ⊎ AreLeft (faced_later k after) n next.view.kept
         by n (inl whole) = inl (whole_open m head lnum next.view n next.view.kept empty a bare whole)
-        by n (inr left) = inr (all_left_as (faced_later m next) (faced_later k after) n next.view.kept as_next left)
+        by n (inr left) = inr (all_left_as (faced_later m next) (faced_later k after) n next.view.kept (opened_later m head lnum next) left)

@@ -78,6 +78,8 @@ half_is_store = record {
   history = (refl, tt);
   leads = record { named = refl; leads = refl };
   numbers = record { both = (record { base = refl; data_nodes = refl; apart = refl; kept = refl }, tt); live = refl; synced = refl };
+  accounted = ((inr (inr (inl (refl, refl))), (inl (inr (inl refl)), (inl (inr (inr (inl refl))), tt))), tt);
+  gone = (record { lost = refl; unset = refl; held = tt; orphans = tt }, tt);
   whole_or_left = (whole, tt);
   orphans = record { now = refl; later = refl };
   nameless_are = refl;

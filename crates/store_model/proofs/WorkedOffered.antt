@@ -138,6 +138,8 @@ offering_is_store = record {
   history = (refl, refl);
   leads = record { named = refl; leads = refl };
   numbers = record { both = (record { base = refl; data_nodes = refl; apart = refl; kept = refl }, record { base = refl; data_nodes = refl; apart = refl; kept = refl }); live = refl; synced = refl };
+  accounted = ((inl (inl refl), tt), (inl (inl refl), (inl (inr (inl refl)), (inl (inr (inr (inr (inl refl)))), tt))));
+  gone = (record { lost = refl; unset = refl; held = tt; orphans = tt }, record { lost = refl; unset = refl; held = tt; orphans = tt });
   whole_or_left = (whole, λ lnum. inl ((λ _. (inl (refl, inl refl), refl)), ((λ _. (inr (inr (inl (refl, inl refl))), refl)), ((λ _. (inr (inr (inl (refl, inr (inl refl)))), refl)), tt))));
   orphans = record { now = refl; later = (refl, refl, refl) };
   nameless_are = refl;

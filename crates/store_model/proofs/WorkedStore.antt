@@ -146,6 +146,8 @@ root_is_store = record {
   history = (refl, tt);
   leads = record { named = refl; leads = refl };
   numbers = record { both = (record { base = refl; data_nodes = refl; apart = refl; kept = refl }, tt); live = refl; synced = refl };
+  accounted = ((inl (inl refl), tt), tt);
+  gone = (record { lost = refl; unset = refl; held = tt; orphans = tt }, tt);
   whole_or_left = (whole, tt);
   orphans = record { now = refl; later = refl };
   nameless_are = refl;
@@ -226,6 +228,8 @@ file_is_store = record {
   history = (refl, tt);
   leads = record { named = refl; leads = refl };
   numbers = record { both = (record { base = refl; data_nodes = refl; apart = refl; kept = refl }, tt); live = refl; synced = refl };
+  accounted = ((inl (inl refl), (inl (inr (inl refl)), (inl (inr (inr (inl refl))), tt))), tt);
+  gone = (record { lost = refl; unset = refl; held = tt; orphans = tt }, tt);
   whole_or_left = (file_whole, tt);
   orphans = record { now = refl; later = refl };
   nameless_are = refl;

@@ -19,9 +19,10 @@ use Rattle.fs_model.specs.Files.{Tree}
 use Rattle.fs_model.specs.Orphan.{is_nameless, nameless, without_nameless}
 use Rattle.fs_model.specs.Proper.{IsProper, ascends}
 use Rattle.fs_model.specs.Recovery.{IsRecovered, Numbered, recovered, taken}
-use Rattle.leaf_map.specs.Allowed.{HasInode}
-use Rattle.leaf_map.specs.Kept.{Kept, kept_at, Placed, shown_by}
-use Rattle.leaf_map.specs.LeafMap.{IsLeafMap}
+use Rattle.leaf_map.specs.After.{is_gone}
+use Rattle.leaf_map.specs.Allowed.{HasInode, sets_inode}
+use Rattle.leaf_map.specs.Kept.{Kept, kept_at, Placed, shown, shown_by}
+use Rattle.leaf_map.specs.LeafMap.{IsLeafMap, shows_same}
 use Rattle.leaf_map.specs.Parts.{in_bud}
 use Rattle.leaf_map.specs.Recovered.{highest_key}
 use Rattle.leaf_map.specs.Shown.{tree_of}
@@ -30,7 +31,8 @@ use Rattle.space_sums.specs.Spaces.{IsNextIndex}
 use Rattle.store_model.specs.Backing.{book_of}
 use Rattle.store_model.specs.Begun.{HasBegun, JournalLeads}
 use Rattle.store_model.specs.Events.{all_places, dirty_count}
-use Rattle.store_model.specs.Fits.{AreLeft, Faced, faced_now, named_by}
+use Rattle.store_model.specs.Fits.{AreLeft, Faced, faced_now, IsLeft, named_by}
+use Rattle.store_model.specs.Gone.{is_lost, LostItsName, some_does}
 use Rattle.store_model.specs.Heads.{copies_of, counts_of, groups_of, heads_of, numbered, synced_since}
 use Rattle.store_model.specs.Indexed.{IsIndexed}
 use Rattle.store_model.specs.Legal.{are_distinct, is_block, IsCarried, IsLeafOf}
@@ -73,6 +75,23 @@ AreWhole m view lnum (x ∷ kept) =
 -- Of a LEB all committed leaves stand, or none needs to
 abbrev pub AreWholeOrLeft : Store → Faced → Type 0
 AreWholeOrLeft m f = (lnum : ℕ) → AreWhole m f.view lnum f.view.kept ⊎ AreLeft f lnum f.view.kept
+
+-- ---- what became of committed leaves
+-- a copy of a leaf's node was made since this master's commit began, synced or not
+abbrev pub is_copied : Faced → Kept → Bool
+is_copied f x = list_any (λ c. (c.sqnum == x.sqnum) && shows_same (shown_by x) (shown c.node)) (copies_of f.view.buds)
+
+-- a leaf was copied out of the LEB that a collection is to free
+abbrev pub IsMoved : Option Moving → Faced → Kept → Type 0
+IsMoved None f x = ⊥
+IsMoved (Some moving) f x = (x.leaf.lnum ≡ moving.victim) × IsTrue (is_copied f x)
+
+-- a committed leaf is live, or held, or moved, or needn't stand
+abbrev pub IsAccountedFor : Store → Faced → Kept → Type 0
+IsAccountedFor m f x = IsLeafOf m.live x ⊎ IsLeafOf m.held x ⊎ IsMoved m.moving f x ⊎ IsLeft f x
+
+abbrev pub AreAccountedFor : Store → Faced → Type 0
+AreAccountedFor m f = AllByRecursion (IsAccountedFor m f) f.view.kept
 
 -- ---- trees
 -- each tree that a cut may leave is proper
@@ -174,6 +193,13 @@ KeepOrphans m (Some next) = AreOrphans (is_among next.listed) m.now × AreOrphan
 pub record HasOrphans (m : Store) : Type 0 where
   pub now : AreOrphans (is_among m.listed) m.now
   pub later : KeepOrphans m m.next
+
+-- What is gone for good, by what a master leads to: a committed inode without links has no name still, or isn't there, and no group since gives it links; groups since made each held leaf obsolete, and took the last name of each orphan.
+pub record HasGone (m : Store) (f : Faced) : Type 0 where
+  pub lost : AreOrphans (is_lost m.tree) f.view
+  pub unset : AreOrphans (λ ino. not (some_does (sets_inode ino) f.view.buds)) f.view
+  pub held : AllByRecursion (λ x. IsTrue (some_does (λ change. is_gone change x) f.view.buds)) m.held
+  pub orphans : AllByRecursion (LostItsName f) m.orphans
 
 -- ---- what LEBs are for
 -- the LEBs that a running commit took
@@ -326,6 +352,8 @@ pub record HasViews (m : Store) : Type 0 where
 -- Of the invariant these are the fields that no law gives of each event.
 pub record HasRest (m : Store) : Type 0 where
   pub proper : OfBoth m AreProper
+  pub accounted : OfBoth m (AreAccountedFor m)
+  pub gone : OfBoth m (HasGone m)
   pub whole_or_left : OfBoth m (AreWholeOrLeft m)
   pub texts : AreTexts m
   pub indexed : IsIndexed m
@@ -356,6 +384,10 @@ pub record IsStore (m : Store) : Type 0 where
   pub numbers : HasNumbers m
   -- of each LEB all committed leaves stand, or none needs to
   pub whole_or_left : OfBoth m (AreWholeOrLeft m)
+  -- a committed leaf is live or held, unless it was copied out of a victim or needn't stand
+  pub accounted : OfBoth m (AreAccountedFor m)
+  -- and what is gone for good stays so
+  pub gone : OfBoth m (HasGone m)
   -- committed inodes without links are listed, by each list that may be there
   pub orphans : HasOrphans m
   pub nameless_are : map (λ orphan. orphan.ino) m.orphans ≡ nameless m.tree

@@ -2,6 +2,7 @@ pub mod Backing
 pub mod Begun
 pub mod Events
 pub mod Fits
+pub mod Gone
 pub mod Heads
 pub mod Indexed
 pub mod Invariant

@@ -6,6 +6,7 @@
 //! The idea: a commit that runs is a second view beside the first, so what a mount finds is one question of one view.
 #![tactic(auto)]
 
+mod accounts;
 mod backing;
 mod grants;
 mod invariant;
@@ -16,6 +17,12 @@ mod texts;
 mod whole;
 mod worked;
 
+pub use crate::accounts::{
+    a_collection_loses_no_committed_leaf, a_commit_loses_no_committed_leaf,
+    a_copy_brings_nothing_back, a_sync_and_a_drop_leave_lebs_whole_or_left,
+    a_sync_and_a_drop_lose_no_committed_leaf, emptied_lebs_have_no_leaf_that_need_stand,
+    what_is_gone_stays_gone,
+};
 pub use crate::backing::{
     a_commits_end_is_a_backings, a_commits_start_is_a_backings, a_drop_is_a_backings,
     a_put_is_a_backings, a_sync_is_a_backings, an_opened_leb_is_no_backings,

@@ -6,6 +6,10 @@ ghost use Rattle.store_model.specs.Invariant.{HasRest, IsStore};
 ghost use Rattle.store_model.specs.Legal.{IsLegalEvent};
 ghost use Rattle.store_model.specs.Store.{Store as AnyStore};
 
+use crate::accounts::{
+    a_collection_loses_no_committed_leaf, a_commit_loses_no_committed_leaf,
+    a_copy_brings_nothing_back,
+};
 use crate::backing::{
     each_event_keeps_what_a_commit_began_on, each_event_keeps_what_the_journal_leads_to,
 };
@@ -34,8 +38,8 @@ use crate::texts::{
     nodes_of_the_index_stay, texts_have_what_was_put,
 };
 
-/// After each event a store is a store again, if five things are so of it: the trees that a cut may leave, whole or left LEBs, texts, the
-/// nodes of the indexes, and cover. All else is kept by each event.
+/// After each event a store is a store again, if seven things are so of it: the trees that a cut may leave, what became of committed leaves,
+/// what is gone for good, whole or left LEBs, texts, the nodes of the indexes, and cover. All else is kept by each event.
 pub fn each_event_keeps_a_store()
     ensures { (m : AnyStore) (event : Event) → IsLegalEvent m event → IsStore m → HasRest (after event m) → IsStore (after event m) }
 {
@@ -73,6 +77,8 @@ pub fn an_opened_leb_keeps_a_store()
 {
     each_event_keeps_a_store();
     each_event_but_a_put_keeps_cut_trees_proper();
+    a_collection_loses_no_committed_leaf();
+    a_copy_brings_nothing_back();
     texts_have_what_was_put();
     nodes_of_the_index_stay();
     what_was_granted_stays_covered();
@@ -85,6 +91,9 @@ pub fn a_begin_and_an_offer_keep_a_store()
 {
     each_event_keeps_a_store();
     each_event_but_a_put_keeps_cut_trees_proper();
+    a_collection_loses_no_committed_leaf();
+    a_copy_brings_nothing_back();
+    a_commit_loses_no_committed_leaf();
     nodes_of_the_index_are_written_first();
     an_offered_list_has_what_may_be_empty();
 }
