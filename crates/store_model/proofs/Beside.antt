@@ -37,7 +37,7 @@ pub record IsBeside (files other : Tree) : Type 0 where
   pub low : has_low_inodes other.highest other.inodes ≡ true
 
 -- ---- a change
-high_more : (k h n : ℕ) → nat_le k h ≡ true → nat_le k (max h n) ≡ true
+pub high_more : (k h n : ℕ) → nat_le k h ≡ true → nat_le k (max h n) ≡ true
 high_more k h n e = grind (arith)
 
 high_own : (h n : ℕ) → nat_le n (max h n) ≡ true

@@ -68,7 +68,7 @@ both_do t a b p q e f =
     ∙ ap (λ (z : Bool). z || list_any (λ c. t (as_replayed c.1)) (b ++ [])) e
     ∙ ap (λ (z : Bool). p || z) (list_any-append (λ (c : ℕ × Change). t (as_replayed c.1)) b [] ∙ ap (λ (z : Bool). z || false) f)
 
-taken_does : (t : Change → Bool) (buds : List Bud) (synced : List ℕ) (n k : ℕ)
+pub taken_does : (t : Change → Bool) (buds : List Bud) (synced : List ℕ) (n k : ℕ)
     → list_any (λ c. t (as_replayed c.1)) (taken (heads_of buds synced) (0 ∷ n ∷ k ∷ [])) ≡ (list_any (group_does t) (take n (groups_of 1 buds)) || (list_any (group_does t) (take k (groups_of 2 buds)) || false))
 taken_does t buds synced n k = both_do t (flat_map (λ group. group) (take n (map numbered (groups_of 1 buds)))) (flat_map (λ group. group) (take k (map numbered (groups_of 2 buds)))) _ _ (groups_do t n (groups_of 1 buds)) (groups_do t k (groups_of 2 buds))
 

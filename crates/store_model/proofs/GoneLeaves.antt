@@ -113,7 +113,7 @@ leaf_passes test q (x ∷ kept) h on =
     lost_passes test q (shown_by x) (inodes_of kept) h p.0 (λ g. leaf_passes test q kept g p.1)
 
 -- a committed inode without a name
-committed_lost : (test : ℕ → Bool) (f : Faced) (q : ℕ) → HasCommitted f.view → AreOrphans test f.view → is_nameless f.view.tree q ≡ true → test q ≡ true
+pub committed_lost : (test : ℕ → Bool) (f : Faced) (q : ℕ) → HasCommitted f.view → AreOrphans test f.view → is_nameless f.view.tree q ≡ true → test q ≡ true
 committed_lost test f q has on lost = leaf_passes test q f.view.kept (subst (λ (t : Tree). is_nameless t q ≡ true) (sym has.tree) lost) on
 
 lists_have : (f : Faced) (lists : List (List ℕ)) (ino : ℕ) (x : Kept) → HasCommitted f.view → HaveOrphans f lists → is_nameless f.view.tree ino ≡ true → ((list : List ℕ) → is_among list ino ≡ true → is_of_listed list (shown_by x) ≡ true) → AreOfListed lists x
@@ -150,7 +150,7 @@ any_more p q more (x ∷ xs) h = by (λ g. any_more p q more xs g) (either_of (p
 group_more : (p q : Change → Bool) → ((c : Change) → p c ≡ true → q c ≡ true) → (group : List Carried) → group_does p group ≡ true → group_does q group ≡ true
 group_more p q more group h = any_more (λ (c : Change). p (as_replayed c)) (λ (c : Change). q (as_replayed c)) (λ c e. more (as_replayed c) e) (changes_of group) h
 
-either_more : (a b p q : Bool) → (a ≡ true → p ≡ true) → (b ≡ true → q ≡ true) → (a || b) ≡ true → (p || q) ≡ true
+pub either_more : (a b p q : Bool) → (a ≡ true → p ≡ true) → (b ≡ true → q ≡ true) → (a || b) ≡ true → (p || q) ≡ true
 either_more a b p q f g h = by (either_of a b h)
   where
     by : (a ≡ true) ⊎ (b ≡ true) → (p || q) ≡ true
@@ -195,7 +195,7 @@ dropped_left m f ino x gone has on synced goes_too = by (orphan_there f ino m.or
         let stays : StaysNameless f ino = (lost, none_sets f.view.buds f.synced ino (committed_lost (λ ino. not (some_does (sets_inode ino) f.view.buds)) f ino has gone.unset lost)) in
         inr (inr (lists_have f f.lists ino x has on lost (λ list among. (gone_with ino f (shown_by x) list goes_too stays).0 among), (gone_with ino f (shown_by x) [] goes_too stays).1))
 
-filter_leaf : (t : Kept → Bool) (xs : List Kept) (x : Kept) → IsLeafOf xs x → t x ≡ true → IsLeafOf (filter t xs) x
+pub filter_leaf : (t : Kept → Bool) (xs : List Kept) (x : Kept) → IsLeafOf xs x → t x ≡ true → IsLeafOf (filter t xs) x
 filter_leaf t [] x h e = h
 filter_leaf t (y ∷ xs) x h e = by (λ more. filter_leaf t xs x more e) (t y) refl h
   where
@@ -205,11 +205,11 @@ filter_leaf t (y ∷ xs) x h e = by (λ more. filter_leaf t xs x more e) (t y) r
     by rest false f (inl same) = absurd (false≢true (sym f ∙ ap t same ∙ e))
     by rest false f (inr more) = rest more
 
-leaf_last : (xs ys : List Kept) (x : Kept) → IsLeafOf ys x → IsLeafOf (xs ++ ys) x
+pub leaf_last : (xs ys : List Kept) (x : Kept) → IsLeafOf ys x → IsLeafOf (xs ++ ys) x
 leaf_last [] ys x h = h
 leaf_last (y ∷ xs) ys x h = inr (leaf_last xs ys x h)
 
-leaf_first : (xs ys : List Kept) (x : Kept) → IsLeafOf xs x → IsLeafOf (xs ++ ys) x
+pub leaf_first : (xs ys : List Kept) (x : Kept) → IsLeafOf xs x → IsLeafOf (xs ++ ys) x
 leaf_first [] ys x h = absurd h
 leaf_first (y ∷ xs) ys x (inl e) = inl e
 leaf_first (y ∷ xs) ys x (inr h) = inr (leaf_first xs ys x h)

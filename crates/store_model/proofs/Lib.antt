@@ -1,5 +1,6 @@
 mod Accounted
 mod AccountedCopies
+mod AccountedPuts
 mod AllViews
 mod Apart
 mod BackingCalls
@@ -11,6 +12,7 @@ mod BegunCommits
 mod BegunEvents
 mod Beside
 mod Bytes
+mod CommittedLeaves
 mod CopiedLeaves
 mod CutTrees
 mod DataHeads
@@ -23,6 +25,8 @@ mod Further
 mod GoneEvents
 mod GoneGroups
 mod GoneLeaves
+mod GonePuts
+mod GoneTrees
 mod GrantCounts
 mod History
 mod IndexCommits

@@ -34,7 +34,7 @@ all_found : (orphans : List Orphan) (inos : List ℕ) → map (λ orphan. orphan
 all_found orphans [] = refl
 all_found orphans (ino ∷ inos) = ap (λ (n : ℕ). n ∷ map (λ (orphan : Orphan). orphan.ino) (map (orphan_in orphans) inos)) (found_ino ino orphans) ∙ ap (λ (ns : List ℕ). ino ∷ ns) (all_found orphans inos)
 
-part_nameless : (m : Store) (part : Part) → AreNameless (after_part m part)
+pub part_nameless : (m : Store) (part : Part) → AreNameless (after_part m part)
 part_nameless m part = all_found m.orphans (nameless (after_part m part).tree)
 
 parts_nameless : (parts : List Part) (m : Store) → AreNameless m → AreNameless (fold after_part m parts)

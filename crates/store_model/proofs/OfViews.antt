@@ -137,7 +137,7 @@ open_views m head lnum v = record { live = each_weaker P Q more m.live v.live; h
     more x h = both_more m k (record { kept = refl; buds = open_buds head lnum m.now.buds }) (next_more (λ buds. buds ++ new_bud head lnum 0 ∷ []) 0 m.next (open_buds head lnum)) x h
 
 -- ---- a put
-named_put : (h : ℕ) (group : List Carried) (buds : List Bud) → map named_by (with_group h group buds) ≡ map named_by buds
+pub named_put : (h : ℕ) (group : List Carried) (buds : List Bud) → map named_by (with_group h group buds) ≡ map named_by buds
 named_put h group [] = refl
 named_put h group (bud ∷ buds) = by (named_put h group buds) ((bud.head == h) && not (has_bud h buds)) refl
   where

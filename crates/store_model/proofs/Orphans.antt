@@ -44,7 +44,7 @@ both_shown p q r more (Some (CutBlocks ino old new)) h g = refl
 both_shown p q r more (Some (DropInode ino)) h g = refl
 both_shown p q r more None h g = refl
 
-both_orphans : (p q r : ℕ → Bool) → ((n : ℕ) → p n ≡ true → q n ≡ true → r n ≡ true) → (kept : List Kept) → list_all (λ x. is_listed p (shown_by x)) kept ≡ true → list_all (λ x. is_listed q (shown_by x)) kept ≡ true
+pub both_orphans : (p q r : ℕ → Bool) → ((n : ℕ) → p n ≡ true → q n ≡ true → r n ≡ true) → (kept : List Kept) → list_all (λ x. is_listed p (shown_by x)) kept ≡ true → list_all (λ x. is_listed q (shown_by x)) kept ≡ true
     → list_all (λ x. is_listed r (shown_by x)) kept ≡ true
 both_orphans p q r more [] h g = refl
 both_orphans p q r more (x ∷ kept) h g =
@@ -206,7 +206,7 @@ drop_orphans m ino index h = record { now = h.now; later = by m.next refl h.late
 
 -- ---- a commit's start
 -- an inode without a name is among those that have none
-nameless_among : (inodes : Inodes) (n : ℕ) → has_none (lookup (is_at (nat_cmp n)) inodes) ≡ true → is_among (keys_of (filter (λ e. e.1.nlink == 0) inodes)) n ≡ true
+pub nameless_among : (inodes : Inodes) (n : ℕ) → has_none (lookup (is_at (nat_cmp n)) inodes) ≡ true → is_among (keys_of (filter (λ e. e.1.nlink == 0) inodes)) n ≡ true
 nameless_among [] n h = absurd (false≢true h)
 nameless_among (e ∷ inodes) n h = by (nameless_among inodes n) (is_at (nat_cmp n) e.0) refl h
   where

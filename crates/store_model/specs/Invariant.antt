@@ -352,9 +352,6 @@ pub record HasViews (m : Store) : Type 0 where
 -- Of the invariant these are the fields that no law gives of each event.
 pub record HasRest (m : Store) : Type 0 where
   pub proper : OfBoth m AreProper
-  pub accounted : OfBoth m (AreAccountedFor m)
-  pub gone : OfBoth m (HasGone m)
-  pub whole_or_left : OfBoth m (AreWholeOrLeft m)
   pub texts : AreTexts m
   pub indexed : IsIndexed m
   pub covered : AreGrantsCovered (book_of m)

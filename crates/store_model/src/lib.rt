@@ -18,10 +18,8 @@ mod whole;
 mod worked;
 
 pub use crate::accounts::{
-    a_collection_loses_no_committed_leaf, a_commit_loses_no_committed_leaf,
-    a_copy_brings_nothing_back, a_sync_and_a_drop_leave_lebs_whole_or_left,
-    a_sync_and_a_drop_lose_no_committed_leaf, emptied_lebs_have_no_leaf_that_need_stand,
-    what_is_gone_stays_gone,
+    each_event_keeps_what_is_gone, each_event_leaves_lebs_whole_or_left,
+    each_event_loses_no_committed_leaf,
 };
 pub use crate::backing::{
     a_commits_end_is_a_backings, a_commits_start_is_a_backings, a_drop_is_a_backings,

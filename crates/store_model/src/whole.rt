@@ -7,8 +7,8 @@ ghost use Rattle.store_model.specs.Legal.{IsLegalEvent};
 ghost use Rattle.store_model.specs.Store.{Store as AnyStore};
 
 use crate::accounts::{
-    a_collection_loses_no_committed_leaf, a_commit_loses_no_committed_leaf,
-    a_copy_brings_nothing_back,
+    each_event_keeps_what_is_gone, each_event_leaves_lebs_whole_or_left,
+    each_event_loses_no_committed_leaf,
 };
 use crate::backing::{
     each_event_keeps_what_a_commit_began_on, each_event_keeps_what_the_journal_leads_to,
@@ -18,7 +18,7 @@ use crate::grants::{
     what_was_granted_stays_covered,
 };
 use crate::invariant::{
-    an_offered_list_has_what_may_be_empty, each_event_but_a_put_keeps_cut_trees_proper,
+    each_event_but_a_put_keeps_cut_trees_proper,
     each_event_keeps_a_place_for_each_node, each_event_keeps_a_proper_tree,
     each_event_keeps_leaves_apart, each_event_keeps_the_history, each_event_keeps_the_orphans,
     each_event_keeps_the_weight, each_event_keeps_what_was_committed,
@@ -38,12 +38,15 @@ use crate::texts::{
     nodes_of_the_index_stay, texts_have_what_was_put,
 };
 
-/// After each event a store is a store again, if seven things are so of it: the trees that a cut may leave, what became of committed leaves,
-/// what is gone for good, whole or left LEBs, texts, the nodes of the indexes, and cover. All else is kept by each event.
+/// After each event a store is a store again, if four things are so of it: the trees that a cut may leave, texts, the nodes of the indexes,
+/// and cover. All else is kept by each event.
 pub fn each_event_keeps_a_store()
     ensures { (m : AnyStore) (event : Event) → IsLegalEvent m event → IsStore m → HasRest (after event m) → IsStore (after event m) }
 {
     each_event_keeps_the_main_area();
+    each_event_loses_no_committed_leaf();
+    each_event_keeps_what_is_gone();
+    each_event_leaves_lebs_whole_or_left();
     each_event_keeps_the_files();
     each_event_keeps_blocks_with_their_inodes();
     each_event_keeps_what_was_committed();
@@ -77,8 +80,6 @@ pub fn an_opened_leb_keeps_a_store()
 {
     each_event_keeps_a_store();
     each_event_but_a_put_keeps_cut_trees_proper();
-    a_collection_loses_no_committed_leaf();
-    a_copy_brings_nothing_back();
     texts_have_what_was_put();
     nodes_of_the_index_stay();
     what_was_granted_stays_covered();
@@ -91,9 +92,5 @@ pub fn a_begin_and_an_offer_keep_a_store()
 {
     each_event_keeps_a_store();
     each_event_but_a_put_keeps_cut_trees_proper();
-    a_collection_loses_no_committed_leaf();
-    a_copy_brings_nothing_back();
-    a_commit_loses_no_committed_leaf();
     nodes_of_the_index_are_written_first();
-    an_offered_list_has_what_may_be_empty();
 }
