@@ -1,7 +1,7 @@
 -- A committed leaf is live or held, or copied out of a victim, or needn't stand: after a collection's begin, an opened LEB, and a commit's events.
-use Rattle.std.proofs.Common.{◌≡◌, ◌⊎◌, ◌∙◌, ◌+◌, ℕ, Bool, true, false, cond, List, [], ◌∷◌, ◌++◌, length, map, refl, sym, ap, subst, inl, inr, Option, Some, None}
+use Rattle.std.proofs.Common.{◌≡◌, ◌∙◌, ◌+◌, ℕ, Bool, true, false, cond, List, [], ◌∷◌, ◌++◌, length, refl, sym, ap, subst, inl, inr, Option, Some, None}
 use Rattle.std.specs.Prelude.{◌==◌, ◌&&◌}
-use Rattle.std.specs.List.{AllByRecursion, list_any}
+use Rattle.std.specs.List.{list_any}
 use Rattle.std.specs.Option.{option_map}
 use Rattle.leaf_map.specs.Kept.{Kept, Placed, shown, shown_by}
 use Rattle.leaf_map.specs.LeafMap.{shows_same}
@@ -10,7 +10,7 @@ use Rattle.store_model.specs.Fits.{Faced, faced_now, IsLeft, next_lists}
 use Rattle.store_model.specs.Heads.{copies_of}
 use Rattle.store_model.specs.Invariant.{AreAccountedFor, faced_later, IsAccountedFor, IsMoved, IsStore, KeepOrphans, OfBoth, OfNext}
 use Rattle.store_model.specs.Legal.{CanBegin, CanStart, IfRunning, IsLeafOf}
-use Rattle.store_model.specs.Store.{Bud, Moving, Next, Store}
+use Rattle.store_model.specs.Store.{Moving, Next, Store}
 use Rattle.store_model.proofs.Moves.{all_leaves}
 use Rattle.store_model.proofs.Offers.{offer_left}
 use Rattle.store_model.proofs.OfViews.{each_weaker}

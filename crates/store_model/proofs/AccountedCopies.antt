@@ -1,5 +1,5 @@
 -- What becomes of committed leaves where one is copied, and where a victim is freed.
-use Rattle.std.proofs.Common.{◌≡◌, ◌⊎◌, ◌∙◌, ◌≤◌, ◌+◌, ◌-◌, ℕ, zero, suc, arith, Bool, true, false, cond, List, [], ◌∷◌, ◌++◌, length, length-append, map, refl, sym, ap, subst, inl, inr, Option, Some, None}
+use Rattle.std.proofs.Common.{◌≡◌, ◌∙◌, ◌+◌, ◌-◌, ℕ, zero, suc, arith, Bool, true, false, cond, List, [], ◌∷◌, ◌++◌, length, length-append, map, refl, sym, ap, subst, inl, inr, Option, Some, None}
 use Rattle.std.specs.Prelude.{◌==◌, ◌&&◌, ◌||◌, get_or, take}
 use Rattle.std.specs.List.{AllByRecursion, list_any}
 use Rattle.std.specs.Option.{option_map}
@@ -22,11 +22,10 @@ use Rattle.leaf_map.specs.Kept.{Kept, kept_at, Placed, shown, shown_by}
 use Rattle.leaf_map.specs.LeafMap.{HasKeyOf, IsKeyed, shows_same}
 use Rattle.store_model.specs.Events.{at_copy, Copying, end_at, free_victim, in_next, move}
 use Rattle.store_model.specs.Fits.{AreOfListed, Faced, faced_now, has_copy, IsLeft, IsOfNameless, IsTouchedBy, IsUnset, next_lists}
-use Rattle.store_model.specs.Heads.{copies_of, counts_of, groups_of, has_bud, heads_of, less, synced_since, with_copy}
+use Rattle.store_model.specs.Heads.{copies_of, counts_of, heads_of, less, synced_since, with_copy}
 use Rattle.store_model.specs.Invariant.{AreAccountedFor, AreApart, CameSince, faced_later, HasSince, is_copied, IsAccountedFor, IsMoved, IsSince, IsStore, OfBoth, OfNext}
 use Rattle.store_model.specs.Legal.{CanFree, CanMove, FitHead, IfMoving, IsLeafOf}
 use Rattle.store_model.specs.Store.{At, Bud, Moving, Next, Store}
-use Rattle.store_model.proofs.Accounted.{follows}
 use Rattle.store_model.proofs.BackingPuts.{has_last}
 use Rattle.store_model.proofs.BegunEvents.{same_since}
 use Rattle.store_model.proofs.CopiedLeaves.{each_of}
@@ -36,7 +35,6 @@ use Rattle.store_model.proofs.Moves.{one_leaf}
 use Rattle.store_model.proofs.OfViews.{each_weaker}
 use Rattle.store_model.proofs.RecoveryOrder.{or_left, or_right}
 use Rattle.store_model.proofs.SinceCommits.{copies_added}
-use Rattle.store_model.proofs.WholeOpens.{IsAsLeft}
 
 -- a copy has the node of a leaf, with its number
 abbrev copies_leaf : Kept → Placed → Bool

@@ -1,7 +1,7 @@
 -- A put loses no committed leaf: one that goes is held, and what needn't stand needn't still. So LEBs stay whole or left.
-use Rattle.std.proofs.Common.{◌≡◌, ◌⊎◌, ◌≤◌, ◌∙◌, ◌-◌, ℕ, zero, arith, Bool, true, false, cond, not, List, [], ◌∷◌, ◌++◌, length, map, refl, sym, ap, subst, inl, inr, Option, Some, None}
+use Rattle.std.proofs.Common.{◌≡◌, ◌⊎◌, ◌≤◌, ◌∙◌, ◌-◌, ℕ, arith, Bool, true, false, cond, not, List, [], ◌∷◌, ◌++◌, length, map, refl, sym, ap, subst, inl, inr, Option, Some, None}
 use Rattle.std.specs.Prelude.{◌==◌, ◌&&◌, ◌||◌, filter, fold, get_or, nat_le, take}
-use Rattle.std.specs.List.{AllByRecursion, list_all, list_any}
+use Rattle.std.specs.List.{list_any}
 use Rattle.std.specs.Option.{option_map, option_map_or}
 use Rattle.std.proofs.lemmas.Bool.{false≢true}
 use Rattle.index_tree.specs.Order.{leaf_rank}
@@ -10,17 +10,17 @@ use Rattle.fs_model.specs.declared.change.Change.TheVariants.{CutBlocks, DropEnt
 use Rattle.fs_model.specs.Files.{Tree}
 use Rattle.fs_model.specs.Orphan.{is_nameless, nameless}
 use Rattle.fs_model.specs.Proper.{IsProper}
-use Rattle.fs_model.specs.Recovery.{as_replayed, KeepsSynced}
+use Rattle.fs_model.specs.Recovery.{KeepsSynced}
 use Rattle.leaf_map.specs.After.{is_gone, is_idle, is_set, put_leaf}
 use Rattle.leaf_map.specs.Allowed.{sets_inode}
 use Rattle.leaf_map.specs.Kept.{Kept, kept_at, Placed, shown, shown_by}
 use Rattle.leaf_map.specs.LeafMap.{shows_same}
 use Rattle.leaf_map.specs.Shown.{tree_of}
 use Rattle.store_model.specs.Events.{after_change, after_part, credit, end_at, granted, Held, in_next, paid, Part, Payment, put, Putting, with_items}
-use Rattle.store_model.specs.Fits.{AreOfListed, Faced, faced_now, has_copy, IsLeft, IsOfNameless, IsTouchedBy, named_by, next_lists, StaysNameless}
-use Rattle.store_model.specs.Gone.{group_does, some_does, some_synced_does}
-use Rattle.store_model.specs.Heads.{copies_of, counts_of, groups_of, heads_of, numbered, synced_since, with_group}
-use Rattle.store_model.specs.Invariant.{AreAccountedFor, AreApart, AreOrphans, AreWholeOrLeft, faced_later, HasCommitted, HasGone, HasNumbers, HasSince, HasViews, is_copied, is_listed, IsAccountedFor, IsMoved, IsSince, IsStore, OfBoth, OfNext, Stands}
+use Rattle.store_model.specs.Fits.{AreOfListed, Faced, faced_now, IsLeft, IsOfNameless, IsTouchedBy, named_by, next_lists, StaysNameless}
+use Rattle.store_model.specs.Gone.{some_does, some_synced_does}
+use Rattle.store_model.specs.Heads.{copies_of, counts_of, groups_of, heads_of, numbered, with_group}
+use Rattle.store_model.specs.Invariant.{AreAccountedFor, AreApart, AreWholeOrLeft, faced_later, HasCommitted, HasGone, HasNumbers, HasSince, IsAccountedFor, IsMoved, IsSince, IsStore, OfBoth, OfNext, Stands}
 use Rattle.store_model.specs.Legal.{AreParts, FitHead, IsLeafOf, IsPart}
 use Rattle.store_model.specs.Store.{At, Bud, Carried, leaf, Moving, Next, Store}
 use Rattle.store_model.proofs.Accounted.{follows}

@@ -1,5 +1,5 @@
 -- What is gone for good stays so, after all events but a put.
-use Rattle.std.proofs.Common.{◌≡◌, ◌⊎◌, ◌≤◌, ◌∙◌, ◌+◌, ◌-◌, ℕ, zero, arith, Bool, true, false, cond, not, List, [], ◌∷◌, ◌++◌, length, length-append, map, refl, sym, ap, subst, inl, inr, Option, Some, None}
+use Rattle.std.proofs.Common.{◌≡◌, ◌⊎◌, ◌∙◌, ◌+◌, ◌-◌, ℕ, Bool, true, false, cond, not, List, [], ◌∷◌, ◌++◌, length, map, refl, sym, ap, subst, inl, inr, Option, Some, None}
 use Rattle.std.specs.Prelude.{◌==◌, ◌&&◌, ◌||◌, filter, get_or, nat_le, take}
 use Rattle.std.specs.BTreeMap.{is_at}
 use Rattle.std.specs.List.{AllByRecursion, list_all, list_any}
@@ -12,8 +12,8 @@ use Rattle.fs_model.specs.declared.change.Change.TheVariants.{DropInode}
 use Rattle.fs_model.specs.declared.inode.Inode.{Inode}
 use Rattle.fs_model.specs.Change.{without_inode}
 use Rattle.fs_model.specs.Files.{inode_at, Tree}
-use Rattle.fs_model.specs.Orphan.{is_nameless, nameless}
-use Rattle.fs_model.specs.Proper.{are_numbered, IsProper}
+use Rattle.fs_model.specs.Orphan.{is_nameless}
+use Rattle.fs_model.specs.Proper.{IsProper}
 use Rattle.fs_laws.specs.Maps.{all_at, key_cases, removed_here}
 use Rattle.fs_laws.specs.Orders.{numbers}
 use Rattle.leaf_map.specs.After.{is_gone}
@@ -23,9 +23,8 @@ use Rattle.store_model.specs.Events.{begin, Copying, drop_inode, end_commit, fre
 use Rattle.store_model.specs.Fits.{Faced, faced_now}
 use Rattle.store_model.specs.Gone.{drops_inode, group_does, is_lost, LostItsName, some_does, some_synced_does}
 use Rattle.store_model.specs.Heads.{groups_of, synced_since, with_copy}
-use Rattle.store_model.specs.Invariant.{AreOrphans, faced_later, HasGone, HasSince, is_listed, IsStore, OfBoth, OfNext}
-use Rattle.store_model.specs.Lebs.{is_among}
-use Rattle.store_model.specs.Legal.{CanDrop, CanStart, is_orphan}
+use Rattle.store_model.specs.Invariant.{faced_later, HasGone, HasSince, is_listed, IsStore, OfBoth, OfNext}
+use Rattle.store_model.specs.Legal.{CanDrop, CanStart}
 use Rattle.store_model.specs.Store.{Bud, Carried, Index, Moving, Next, Orphan, Store}
 use Rattle.store_model.proofs.BackingStarts.{no_groups}
 use Rattle.store_model.proofs.BegunEvents.{one_less, two_less}
@@ -33,7 +32,7 @@ use Rattle.store_model.proofs.EventNumbers.{groups_copied}
 use Rattle.store_model.proofs.GoneGroups.{any_first}
 use Rattle.store_model.proofs.GoneLeaves.{all_does, drops_leaf, since_base, since_data, some_more}
 use Rattle.store_model.proofs.JournalEvents.{listed_nameless}
-use Rattle.store_model.proofs.OfViews.{each_both, each_filter, each_weaker}
+use Rattle.store_model.proofs.OfViews.{each_both, each_weaker}
 use Rattle.store_model.proofs.Opens.{groups_open}
 use Rattle.store_model.proofs.Orphans.{gone_stays, live_nameless, more_orphans}
 use Rattle.store_model.proofs.RecoveryCopies.{either_of}
@@ -301,12 +300,15 @@ start_names m g same [] synced h = tt
 start_names m g same (o ∷ os) synced h = let p = and_parts o.synced (list_all (λ o. o.synced) os) synced in (inr (p.0, inr (ap (λ (t : Tree). is_nameless t o.ino) same ∙ h.0)), start_names m g same os p.1 h.1)
 
 pub start_gone : (m : Store) (taken : List ℕ) → CanStart m taken → IsStore m → OfBoth (start taken m) (HasGone (start taken m))
-start_gone m taken can s = (plain_gone m k refl refl refl refl refl s.gone.0, record {
-  lost = more_orphans (is_nameless m.tree) (is_lost m.tree) (λ n e. nameless_low m.tree n s.proper_now e) m.live (live_nameless m s);
-  unset = more_orphans (is_nameless m.tree) (λ ino. not (some_does (sets_inode ino) (open_buds 0 m.ends))) (λ n e. ap not (none n)) m.live (live_nameless m s);
-  held = subst (AllByRecursion (λ (x : Kept). some_does (λ change. is_gone change x) (open_buds 0 m.ends) ≡ true)) (sym can.synced.none_held) tt;
-  orphans = start_names m (faced_later k began) refl m.orphans can.synced.orphans (each_weaker _ _ (λ o e. listed_nameless m.tree.inodes o.ino s.proper_now.inodes_ascend (subst (λ (ns : List ℕ). list_any (λ k. k == o.ino) ns ≡ true) s.nameless_are e)) m.orphans (ino_there m.orphans));
-})
+start_gone m taken can s = (
+  plain_gone m k refl refl refl refl refl s.gone.0,
+  record {
+    lost = more_orphans (is_nameless m.tree) (is_lost m.tree) (λ n e. nameless_low m.tree n s.proper_now e) m.live (live_nameless m s);
+    unset = more_orphans (is_nameless m.tree) (λ ino. not (some_does (sets_inode ino) (open_buds 0 m.ends))) (λ n e. ap not (none n)) m.live (live_nameless m s);
+    held = subst (AllByRecursion (λ (x : Kept). some_does (λ change. is_gone change x) (open_buds 0 m.ends) ≡ true)) (sym can.synced.none_held) tt;
+    orphans = start_names m (faced_later k began) refl m.orphans can.synced.orphans (each_weaker _ _ (λ o e. listed_nameless m.tree.inodes o.ino s.proper_now.inodes_ascend (subst (λ (ns : List ℕ). list_any (λ k. k == o.ino) ns ≡ true) s.nameless_are e)) m.orphans (ino_there m.orphans));
+  },
+)
   where
     k : Store
     k = start taken m

@@ -1,15 +1,15 @@
 -- What groups of a view make obsolete, as what a cut leaves of them does: by all synced ones, whatever else is left.
-use Rattle.std.proofs.Common.{◌≡◌, ◌⊎◌, ◌≤◌, ◌∙◌, ℕ, zero, suc, arith, Bool, true, false, not, List, [], ◌∷◌, ◌++◌, map, refl, sym, ap, subst, inl, inr}
-use Rattle.std.specs.Prelude.{◌==◌, ◌&&◌, ◌||◌, get_or, take}
+use Rattle.std.proofs.Common.{◌≡◌, ◌⊎◌, ◌≤◌, ◌∙◌, ℕ, zero, suc, arith, Bool, true, false, not, List, [], ◌∷◌, ◌++◌, map, refl, ap, inl, inr}
+use Rattle.std.specs.Prelude.{◌||◌, get_or, take}
 use Rattle.std.specs.List.{flat_map, list_all, list_any}
-use Rattle.std.proofs.lemmas.Bool.{and_from, and_parts, false≢true}
+use Rattle.std.proofs.lemmas.Bool.{and_from, false≢true}
 use Rattle.std.proofs.lemmas.List.Folds.{list_any-append}
 use Rattle.fs_model.specs.declared.change.Change.{Change}
 use Rattle.fs_model.specs.Recovery.{as_replayed, KeepsSynced, Numbered, taken}
 use Rattle.leaf_map.specs.Allowed.{sets_inode}
 use Rattle.store_model.specs.Fits.{IsUnset}
 use Rattle.store_model.specs.Gone.{group_does, some_does, some_synced_does}
-use Rattle.store_model.specs.Heads.{changes_of, groups_of, heads_of, numbered}
+use Rattle.store_model.specs.Heads.{groups_of, heads_of, numbered}
 use Rattle.store_model.specs.Store.{Bud, Carried}
 use Rattle.store_model.proofs.RecoveryCopies.{either_of}
 use Rattle.store_model.proofs.RecoveryOrder.{or_left, or_right}

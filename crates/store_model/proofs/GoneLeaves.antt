@@ -1,15 +1,14 @@
 -- A committed leaf that is held needn't stand once all is synced, nor one of an orphan that is dropped, if that is synced.
-use Rattle.std.proofs.Common.{◌≡◌, ◌⊎◌, ◌≤◌, ◌∙◌, ◌-◌, ℕ, arith, Bool, true, false, cond, not, List, [], ◌∷◌, ◌++◌, length, length-append, map, refl, sym, ap, subst, inl, inr, Option, Some, None}
+use Rattle.std.proofs.Common.{◌≡◌, ◌⊎◌, ◌≤◌, ◌∙◌, ◌-◌, ℕ, arith, Bool, true, false, cond, not, List, [], ◌∷◌, ◌++◌, length, length-append, refl, sym, ap, subst, inl, inr, Option, Some, None}
 use Rattle.std.specs.Prelude.{◌==◌, ◌&&◌, ◌||◌, filter, get_or, take}
 use Rattle.std.specs.BTreeMap.{is_at}
 use Rattle.std.specs.List.{AllByRecursion, list_all, list_any}
 use Rattle.std.specs.Map.{lookup}
 use Rattle.std.specs.Ordering.{nat_cmp}
-use Rattle.std.proofs.lemmas.Bool.{and_from, and_parts, eq-eqb, eqb-true, false≢true}
+use Rattle.std.proofs.lemmas.Bool.{and_parts, eqb-true, false≢true}
 use Rattle.std.proofs.lemmas.List.{take_all}
 use Rattle.fs_model.specs.declared.change.Change.{Change}
 use Rattle.fs_model.specs.declared.change.Change.TheVariants.{CutBlocks, DropEntry, DropInode, SetBlock, SetEntry, SetInode}
-use Rattle.fs_model.specs.declared.inode.Inode.{Inode}
 use Rattle.fs_model.specs.Files.{Inodes, Tree}
 use Rattle.fs_model.specs.Orphan.{is_nameless}
 use Rattle.fs_model.specs.Recovery.{as_replayed}
@@ -20,7 +19,7 @@ use Rattle.leaf_map.specs.Shown.{inodes_of, with_inode}
 use Rattle.store_model.specs.Events.{drop_inode, is_synced_orphan, sync}
 use Rattle.store_model.specs.Fits.{AreOfListed, Faced, faced_now, is_of_listed, IsLeft, IsOfNameless, StaysNameless}
 use Rattle.store_model.specs.Gone.{drops_inode, group_does, LostItsName, some_does, some_synced_does}
-use Rattle.store_model.specs.Heads.{changes_of, copies_of, counts_of, groups_of, less, synced_since}
+use Rattle.store_model.specs.Heads.{changes_of, copies_of, counts_of, groups_of, synced_since}
 use Rattle.store_model.specs.Invariant.{AreAccountedFor, AreOrphans, faced_later, HasCommitted, HasGone, HasSince, HaveOrphans, is_listed, IsAccountedFor, IsMoved, IsSince, IsStore, KeepOrphans, OfBoth, OfNext}
 use Rattle.store_model.specs.Lebs.{is_among}
 use Rattle.store_model.specs.Legal.{IsLeafOf}

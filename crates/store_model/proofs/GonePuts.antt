@@ -1,13 +1,12 @@
 -- What is gone for good stays so through a put.
-use Rattle.std.proofs.Common.{◌≡◌, ◌⊎◌, ◌≤◌, ◌∙◌, ◌+◌, ◌-◌, ℕ, zero, suc, arith, Bool, true, false, cond, not, List, [], ◌∷◌, ◌++◌, append-nil, length, length-append, map, refl, sym, ap, subst, inl, inr, Option, Some, None}
-use Rattle.std.specs.Prelude.{◌==◌, ◌&&◌, ◌||◌, filter, fold, get_or, take}
+use Rattle.std.proofs.Common.{◌≡◌, ◌⊎◌, ◌∙◌, ◌+◌, ◌-◌, ℕ, zero, suc, arith, Bool, true, false, cond, not, List, [], ◌∷◌, ◌++◌, append-nil, length, length-append, map, refl, sym, ap, subst, inl, inr, Option, Some, None}
+use Rattle.std.specs.Prelude.{◌==◌, ◌||◌, filter, fold, get_or, take}
 use Rattle.std.specs.List.{AllByRecursion, find, list_all, list_any}
 use Rattle.std.specs.Option.{option_map, option_map_or}
-use Rattle.std.proofs.lemmas.Bool.{and_from, and_parts, eq-eqb, eqb-true, false≢true}
+use Rattle.std.proofs.lemmas.Bool.{eq-eqb, eqb-true, false≢true}
 use Rattle.std.proofs.lemmas.List.Folds.{list_any-append}
 use Rattle.fs_model.specs.declared.change.Change.{Change}
 use Rattle.fs_model.specs.declared.change.Change.TheVariants.{CutBlocks, DropEntry, DropInode, SetBlock, SetEntry, SetInode}
-use Rattle.fs_model.specs.declared.inode.Inode.{Inode}
 use Rattle.fs_model.specs.Change.{apply}
 use Rattle.fs_model.specs.Files.{Tree}
 use Rattle.fs_model.specs.Orphan.{is_nameless, nameless}
@@ -15,15 +14,15 @@ use Rattle.fs_model.specs.Proper.{IsProper}
 use Rattle.fs_model.specs.Recovery.{as_replayed}
 use Rattle.leaf_map.specs.After.{goes, is_gone, is_idle}
 use Rattle.leaf_map.specs.Allowed.{sets_inode}
-use Rattle.leaf_map.specs.Kept.{Kept, kept_at, shown_by}
-use Rattle.store_model.specs.Events.{after_change, after_part, end_at, Held, in_next, orphan_in, orphans_after, Part}
+use Rattle.leaf_map.specs.Kept.{Kept, shown_by}
+use Rattle.store_model.specs.Events.{after_change, after_part, end_at, Held, in_next, orphan_in, Part}
 use Rattle.store_model.specs.Fits.{Faced, faced_now}
 use Rattle.store_model.specs.Gone.{drops_inode, group_does, is_lost, LostItsName, some_does, some_synced_does}
-use Rattle.store_model.specs.Heads.{changes_of, groups_of, has_bud, synced_since, with_group}
-use Rattle.store_model.specs.Invariant.{AreApart, AreOrphans, faced_later, HasGone, HasSince, is_listed, IsSince, OfBoth, OfNext}
+use Rattle.store_model.specs.Heads.{changes_of, groups_of, has_bud, with_group}
+use Rattle.store_model.specs.Invariant.{AreApart, faced_later, HasGone, HasSince, is_listed, IsSince, OfBoth, OfNext}
 use Rattle.store_model.specs.Lebs.{is_among}
 use Rattle.store_model.specs.Legal.{FitHead, IsPart}
-use Rattle.store_model.specs.Store.{At, Bud, Carried, Next, Orphan, Store, View}
+use Rattle.store_model.specs.Store.{At, Bud, Carried, Next, Orphan, Store}
 use Rattle.store_model.proofs.Apart.{groups_other}
 use Rattle.store_model.proofs.BackingPuts.{groups_added, has_last}
 use Rattle.store_model.proofs.BegunEvents.{one_less, two_less}
@@ -33,9 +32,7 @@ use Rattle.store_model.proofs.JournalEvents.{in_order, listed_nameless}
 use Rattle.store_model.proofs.LebPuts.{end_bud}
 use Rattle.store_model.proofs.OfViews.{each_both, each_weaker}
 use Rattle.store_model.proofs.Orphans.{both_orphans, more_orphans, nameless_among}
-use Rattle.store_model.proofs.RecoveryCopies.{either_of}
 use Rattle.store_model.proofs.RecoveryOrder.{or_left, or_right}
-use Rattle.store_model.proofs.Sorting.{or_false}
 
 -- ---- the groups of a view, with one more
 -- groups come behind those that are there, and as much is synced

@@ -68,7 +68,7 @@ set_lost tree ino inode n none h = elim (key_cases nat_cmp numbers n ino) [
     here same =
         let z = no_links tree ino inode (subst (λ (k : ℕ). nat_le k tree.highest ≡ true) same p.0) (subst (λ (k : ℕ). has_no_links (inode_at tree k) ≡ true) same p.1) none in (
           subst (λ (k : ℕ). is_lost (applied tree (SetInode ino inode)) k ≡ true) (sym same)
-          (still_high tree ino ino (inode_at (applied tree (SetInode ino inode)) ino) (subst (λ (k : ℕ). nat_le k tree.highest ≡ true) same p.0) (ap has_no_links (set_here nat_cmp numbers tree.inodes ino inode) ∙ z)),
+              (still_high tree ino ino (inode_at (applied tree (SetInode ino inode)) ino) (subst (λ (k : ℕ). nat_le k tree.highest ≡ true) same p.0) (ap has_no_links (set_here nat_cmp numbers tree.inodes ino inode) ∙ z)),
           ap (λ (b : Bool). sets_inode n (cond b (DropInode ino) (SetInode ino inode))) z,
         )
 
@@ -92,10 +92,13 @@ change_lost tree (SetBlock ino block bytes) n o none h = (by (is_some (inode_at 
     by : (b : Bool) → is_lost (record (cond b (record tree { blocks = with_block tree.blocks ino block bytes }) tree) { highest = max tree.highest ino }) n ≡ true
     by true = still_high tree n ino (inode_at tree n) p.0 p.1
     by false = still_high tree n ino (inode_at tree n) p.0 p.1
-change_lost tree (DropInode ino) n o none h = (still_high tree n ino (inode_at (applied tree (DropInode ino)) n) p.0 (elim (key_cases nat_cmp numbers n ino) [
-  | inl same ↦ ap has_no_links (subst (λ (k : ℕ). lookup (is_at (nat_cmp k)) (remove_entry (is_at (nat_cmp ino)) tree.inodes) ≡ None) (sym same) (removed_here nat_cmp numbers tree.inodes ino o.inodes))
-  | inr other ↦ ap has_no_links (gone_stays tree ino n other) ∙ p.1
-]), refl)
+change_lost tree (DropInode ino) n o none h = (
+  still_high tree n ino (inode_at (applied tree (DropInode ino)) n) p.0 (elim (key_cases nat_cmp numbers n ino) [
+    | inl same ↦ ap has_no_links (subst (λ (k : ℕ). lookup (is_at (nat_cmp k)) (remove_entry (is_at (nat_cmp ino)) tree.inodes) ≡ None) (sym same) (removed_here nat_cmp numbers tree.inodes ino o.inodes))
+    | inr other ↦ ap has_no_links (gone_stays tree ino n other) ∙ p.1
+  ]),
+  refl,
+)
   where
     p : (nat_le n tree.highest ≡ true) × (has_no_links (inode_at tree n) ≡ true)
     p = and_parts (nat_le n tree.highest) (has_no_links (inode_at tree n)) h

@@ -2,12 +2,12 @@
 use Rattle.std.proofs.Common.{◌≡◌, ◌⊎◌, ℕ, List, [], ◌∷◌, inl, inr, Option, Some, None}
 use Rattle.std.specs.Option.{option_map}
 use Rattle.leaf_map.specs.Kept.{Kept}
-use Rattle.store_model.specs.Events.{begin, Begin, Offer, offer, offered, Open, Put, Putting}
+use Rattle.store_model.specs.Events.{begin, Begin, Drop, Offer, offer, offered, Open, Put, Putting, Sync}
 use Rattle.store_model.specs.Fits.{AreLeft, Faced, faced_now}
 use Rattle.store_model.specs.Invariant.{AreWhole, AreWholeOrLeft, faced_later, OfBoth, OfNext}
 use Rattle.store_model.specs.Lebs.{IsSettledWith, IsStoreSettled, lent, space_of}
 use Rattle.space_sums.specs.Spaces.{with_empty}
-use Rattle.store_model.specs.Store.{Next, Store, View}
+use Rattle.store_model.specs.Store.{Index, Next, Store, View}
 use Rattle.store_model.specs.Texts.{AreNextBudsIn, AreTexts}
 
 pub is_no_begin : (victim : ℕ) (p : Putting) → Begin victim ≡ Put p → ⊥
@@ -18,6 +18,12 @@ is_no_open head lnum p e = absurd cc
 
 pub is_no_offer : (p : Putting) → Offer ≡ Put p → ⊥
 is_no_offer p e = absurd cc
+
+pub is_no_sync : (p : Putting) → Sync ≡ Put p → ⊥
+is_no_sync p e = absurd cc
+
+pub is_no_drop : (ino : ℕ) (index : Index) (p : Putting) → Drop ino index ≡ Put p → ⊥
+is_no_drop ino index p e = absurd cc
 
 -- ---- a collection begins
 same_whole : (m : Store) (victim : ℕ) (view : View) (lnum : ℕ) (kept : List Kept) → AreWhole m view lnum kept → AreWhole (begin victim m) view lnum kept

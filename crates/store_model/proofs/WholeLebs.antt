@@ -1,9 +1,8 @@
 -- Whole or left LEBs after a sync, a drop, a copy, a freed victim, and a commit's writing and end: a LEB that is emptied has no leaf that need stand.
-use Rattle.std.proofs.Common.{◌≡◌, ◌⊎◌, ◌≤◌, ◌∙◌, ◌<◌, ◌-◌, ℕ, zero, suc, arith, Bool, true, false, cond, not, List, [], ◌∷◌, length, map, refl, sym, ap, subst, inl, inr, Option, Some, None}
+use Rattle.std.proofs.Common.{◌≡◌, ◌⊎◌, ◌≤◌, ◌∙◌, ℕ, zero, suc, arith, Bool, true, false, cond, not, List, [], ◌∷◌, map, refl, sym, ap, subst, inl, inr, Option, Some, None}
 use Rattle.std.specs.Prelude.{◌==◌, ◌&&◌, ◌||◌, get_or, nat_le, take}
 use Rattle.std.specs.List.{AllByRecursion, list_all, list_any}
-use Rattle.std.specs.Option.{option_map}
-use Rattle.std.proofs.lemmas.Bool.{and_from, and_parts, eq-eqb, eqb-true, false≢true}
+use Rattle.std.proofs.lemmas.Bool.{and_from, and_parts, eq-eqb, false≢true}
 use Rattle.media_lpt.specs.declared.leb_kind.LebKind.{LebKind}
 use Rattle.media_lpt.specs.declared.leb_kind.LebKind.TheVariants as kind
 use Rattle.fs_model.specs.declared.change.Change.{Change}
@@ -13,7 +12,7 @@ use Rattle.leaf_map.specs.After.{is_gone}
 use Rattle.leaf_map.specs.Allowed.{sets_inode}
 use Rattle.leaf_map.specs.Kept.{Kept, Placed, shown_by}
 use Rattle.leaf_map.specs.Parts.{in_bud, Named}
-use Rattle.store_model.specs.Fits.{AreLeft, Faced, has_copy, IsLeft, IsOfNameless, IsTouchedBy, IsUnset, named_by}
+use Rattle.store_model.specs.Fits.{AreLeft, Faced, IsLeft, IsOfNameless, IsUnset, named_by}
 use Rattle.store_model.specs.Heads.{copies_of, heads_of}
 use Rattle.store_model.specs.Invariant.{are_within, AreWhole, IsAccountedFor, IsBare, IsMeantIn, IsMoved, Stands, takes_leaves}
 use Rattle.store_model.specs.Lebs.{emptied, freed, has_leaf, is_role, is_victim_of, stands_in, tidied}

@@ -16,7 +16,7 @@ use Rattle.leaf_map.specs.LeafMap.{shows_same}
 use Rattle.leaf_map.specs.Parts.{in_bud}
 use Rattle.store_model.specs.Events.{end_at, in_next, new_bud, open_leb, padded}
 use Rattle.store_model.specs.Fits.{AreLeft, AreOfListed, Faced, faced_now, IsLeft, IsOfNameless, IsTouchedBy, IsUnset, named_by, next_lists}
-use Rattle.store_model.specs.Heads.{copies_of, counts_of, heads_of, less, synced_since}
+use Rattle.store_model.specs.Heads.{copies_of, counts_of, heads_of, less}
 use Rattle.store_model.specs.Invariant.{AreApart, AreWhole, AreWholeOrLeft, faced_later, IsBare, IsMeantIn, OfBoth, OfNext, Stands}
 use Rattle.store_model.specs.Lebs.{has_role}
 use Rattle.store_model.specs.Store.{Bud, Leb, Next, Store, View}

@@ -1,18 +1,18 @@
 -- Whole or left LEBs, event by event.
-use Rattle.std.proofs.Common.{◌≡◌, ◌⊎◌, ◌≤◌, ◌<◌, ◌∙◌, ◌+◌, ◌-◌, ℕ, arith, Bool, true, false, cond, not, List, [], ◌∷◌, length, map, refl, sym, ap, subst, inl, inr, Option, Some, None}
-use Rattle.std.specs.Prelude.{◌==◌, ◌&&◌, ◌||◌, fold, get_or}
+use Rattle.std.proofs.Common.{◌≡◌, ◌≤◌, ◌<◌, ◌∙◌, ◌+◌, ◌-◌, ℕ, arith, Bool, true, false, cond, not, List, [], ◌∷◌, length, map, refl, sym, ap, subst, inr, Option, Some, None}
+use Rattle.std.specs.Prelude.{◌==◌, ◌||◌, get_or}
 use Rattle.std.specs.List.{AllByRecursion, flat_map, list_all, list_any}
 use Rattle.std.specs.Option.{option_map, option_map_or}
 use Rattle.std.proofs.lemmas.Bool.{and_from, eq-eqb, eqb-true, false≢true}
 use Rattle.media_lpt.specs.declared.leb_kind.LebKind.TheVariants as kind
 use Rattle.leaf_map.specs.Kept.{Kept}
-use Rattle.store_model.specs.Events.{Copying, drop_inode, end_at, end_commit, free_victim, in_next, move, node_items, padded, sync, view_branchings, with_items, write_index}
+use Rattle.store_model.specs.Events.{Copying, drop_inode, end_at, end_commit, free_victim, in_next, move, node_items, sync, view_branchings, with_items, write_index}
 use Rattle.store_model.specs.Fits.{Faced, faced_now, IsLeft, named_by, next_lists}
-use Rattle.store_model.specs.Heads.{begun_of, counts_of, less, synced_since, with_copy}
-use Rattle.store_model.specs.Invariant.{are_within, AreAccountedFor, AreApart, AreWholeOrLeft, faced_later, HasSince, IsAccountedFor, IsBare, IsMeantIn, IsStore, IsTaking, OfBoth, OfNext, Stands}
-use Rattle.store_model.specs.Lebs.{changed_leb, emptied, has_role, is_victim_of, stands_in}
-use Rattle.store_model.specs.Legal.{CanFree, CanMove, FitHead, IfMoving, IfRunning}
-use Rattle.store_model.specs.Store.{At, Bud, Index, leaf, Leb, Moving, Next, Store}
+use Rattle.store_model.specs.Heads.{counts_of, less, with_copy}
+use Rattle.store_model.specs.Invariant.{are_within, AreAccountedFor, AreApart, AreWholeOrLeft, faced_later, HasSince, IsAccountedFor, IsBare, IsMeantIn, IsTaking, OfBoth, OfNext, Stands}
+use Rattle.store_model.specs.Lebs.{emptied, has_role, stands_in}
+use Rattle.store_model.specs.Legal.{CanFree, CanMove, FitHead, IfRunning}
+use Rattle.store_model.specs.Store.{At, Index, leaf, Leb, Moving, Next, Store}
 use Rattle.store_model.proofs.AccountedCopies.{copied_later, copied_now, HasCopyMore, left_more, zero_less}
 use Rattle.store_model.proofs.AllViews.{named_copy}
 use Rattle.store_model.proofs.BegunEvents.{one_less, two_less}

@@ -60,7 +60,8 @@ pub use crate::texts::{
     nodes_of_the_index_stay, texts_have_what_was_put,
 };
 pub use crate::whole::{
-    a_begin_and_an_offer_keep_a_store, an_opened_leb_keeps_a_store, each_event_keeps_a_store,
+    a_begin_and_an_offer_keep_a_store, a_sync_and_a_drop_keep_a_store, an_opened_leb_keeps_a_store,
+    each_event_keeps_a_store,
 };
 pub use crate::worked::{
     a_collection_is_told, a_commit_is_told, a_long_run_is_told, a_put_is_told, a_sync_is_told,

@@ -1,10 +1,10 @@
 // Laws of the whole invariant: what each event keeps of it together.
 
 ghost use Rattle.std.specs.Prelude.{ℕ};
-ghost use Rattle.store_model.specs.Events.{after, Begin, Event, Offer, Open};
+ghost use Rattle.store_model.specs.Events.{after, Begin, Drop, Event, Offer, Open, Sync};
 ghost use Rattle.store_model.specs.Invariant.{HasRest, IsStore};
 ghost use Rattle.store_model.specs.Legal.{IsLegalEvent};
-ghost use Rattle.store_model.specs.Store.{Store as AnyStore};
+ghost use Rattle.store_model.specs.Store.{Index as AnyIndex, Store as AnyStore};
 
 use crate::accounts::{
     each_event_keeps_what_is_gone, each_event_leaves_lebs_whole_or_left,
@@ -18,10 +18,9 @@ use crate::grants::{
     what_was_granted_stays_covered,
 };
 use crate::invariant::{
-    each_event_but_a_put_keeps_cut_trees_proper,
-    each_event_keeps_a_place_for_each_node, each_event_keeps_a_proper_tree,
-    each_event_keeps_leaves_apart, each_event_keeps_the_history, each_event_keeps_the_orphans,
-    each_event_keeps_the_weight, each_event_keeps_what_was_committed,
+    each_event_but_a_put_keeps_cut_trees_proper, each_event_keeps_a_place_for_each_node,
+    each_event_keeps_a_proper_tree, each_event_keeps_leaves_apart, each_event_keeps_the_history,
+    each_event_keeps_the_orphans, each_event_keeps_the_weight, each_event_keeps_what_was_committed,
     each_event_keeps_who_has_no_name,
 };
 use crate::law::{
@@ -93,4 +92,16 @@ pub fn a_begin_and_an_offer_keep_a_store()
     each_event_keeps_a_store();
     each_event_but_a_put_keeps_cut_trees_proper();
     nodes_of_the_index_are_written_first();
+}
+
+/// A sync and an inode without a name that goes keep the whole invariant, though both empty LEBs.
+pub fn a_sync_and_a_drop_keep_a_store()
+    ensures synced { (m : AnyStore) → IsStore m → IsStore (after Sync m) }
+    ensures dropped { (m : AnyStore) (ino : ℕ) (index : AnyIndex) → IsLegalEvent m (Drop ino index) → IsStore m → IsStore (after (Drop ino index) m) }
+{
+    each_event_keeps_a_store();
+    each_event_but_a_put_keeps_cut_trees_proper();
+    texts_have_what_was_put();
+    nodes_of_the_index_stay();
+    what_was_granted_stays_covered();
 }
