@@ -1,4 +1,4 @@
--- What became of committed leaves, what is gone for good, and whole or left LEBs: after each event.
+-- What became of committed leaves, what is gone since a commit, and whole or left LEBs: after each event.
 use Rattle.std.proofs.Common.{refl}
 use Rattle.store_model.specs.Events.{after, Begin, Drop, End, Event, Free, Move, Offer, Open, Put, Start, Sync, Write}
 use Rattle.store_model.specs.Invariant.{AreAccountedFor, AreWholeOrLeft, HasGone, IsStore, OfBoth}

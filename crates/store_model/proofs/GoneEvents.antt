@@ -1,4 +1,4 @@
--- What is gone for good stays so, after all events but a put.
+-- What is gone since a commit stays so, after all events but a put.
 use Rattle.std.proofs.Common.{◌≡◌, ◌⊎◌, ◌∙◌, ◌+◌, ◌-◌, ℕ, Bool, true, false, cond, not, List, [], ◌∷◌, ◌++◌, length, map, refl, sym, ap, subst, inl, inr, Option, Some, None}
 use Rattle.std.specs.Prelude.{◌==◌, ◌&&◌, ◌||◌, filter, get_or, nat_le, take}
 use Rattle.std.specs.BTreeMap.{is_at}

@@ -1,4 +1,4 @@
--- What is gone for good stays so through a put.
+-- What is gone since a commit stays so through a put.
 use Rattle.std.proofs.Common.{◌≡◌, ◌⊎◌, ◌∙◌, ◌+◌, ◌-◌, ℕ, zero, suc, arith, Bool, true, false, cond, not, List, [], ◌∷◌, ◌++◌, append-nil, length, length-append, map, refl, sym, ap, subst, inl, inr, Option, Some, None}
 use Rattle.std.specs.Prelude.{◌==◌, ◌||◌, filter, fold, get_or, take}
 use Rattle.std.specs.List.{AllByRecursion, find, list_all, list_any}

@@ -1,4 +1,4 @@
--- What is gone for good: inodes that lost their last name, and leaves that groups made obsolete.
+-- What is gone since a commit: inodes that lost their last name, and leaves that groups made obsolete.
 use Rattle.std.specs.Prelude.{◌≡◌, ◌⊎◌, ℕ, ◌==◌, ◌&&◌, ◌||◌, nat_le, IsTrue, Bool, true, false, List, take, get_or}
 use Rattle.std.specs.List.{list_any}
 use Rattle.std.specs.Option.{option_map_or}

@@ -194,7 +194,7 @@ pub record HasOrphans (m : Store) : Type 0 where
   pub now : AreOrphans (is_among m.listed) m.now
   pub later : KeepOrphans m m.next
 
--- What is gone for good, by what a master leads to: a committed inode without links has no name still, or isn't there, and no group since gives it links; groups since made each held leaf obsolete, and took the last name of each orphan.
+-- What is gone since a commit, by what a master leads to: a committed inode without links has no name still, or isn't there, and no group since gives it links; groups since, synced or not, made each held leaf that the view has obsolete, and took the last name of each orphan.
 pub record HasGone (m : Store) (f : Faced) : Type 0 where
   pub lost : AreOrphans (is_lost m.tree) f.view
   pub unset : AreOrphans (λ ino. not (some_does (sets_inode ino) f.view.buds)) f.view
@@ -383,7 +383,7 @@ pub record IsStore (m : Store) : Type 0 where
   pub whole_or_left : OfBoth m (AreWholeOrLeft m)
   -- a committed leaf is live or held, unless it was copied out of a victim or needn't stand
   pub accounted : OfBoth m (AreAccountedFor m)
-  -- and what is gone for good stays so
+  -- and what is gone since a commit stays so
   pub gone : OfBoth m (HasGone m)
   -- committed inodes without links are listed, by each list that may be there
   pub orphans : HasOrphans m
