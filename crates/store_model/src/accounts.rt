@@ -11,8 +11,8 @@ pub fn each_event_loses_no_committed_leaf()
     ensures { (m : AnyStore) (event : Event) → IsLegalEvent m event → IsStore m → OfBoth (after event m) (AreAccountedFor (after event m)) }
 {}
 
-/// What is gone since a commit stays so, after each event: a committed inode without links gets none, groups since, synced or not, made each held leaf that the view has obsolete,
-/// and took the last name of each orphan.
+/// What is gone since a commit stays so, after each event: a committed inode without links gets none, groups since, synced or not,
+/// made each held leaf that the view has obsolete, and took the last name of each orphan.
 pub fn each_event_keeps_what_is_gone()
     ensures { (m : AnyStore) (event : Event) → IsLegalEvent m event → IsStore m → OfBoth (after event m) (HasGone (after event m)) }
 {}
