@@ -1,4 +1,5 @@
 pub mod StandingNodes
+pub mod Fronts
 pub mod Levels
 pub mod Contents
 pub mod Kept

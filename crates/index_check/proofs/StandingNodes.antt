@@ -166,12 +166,6 @@ pub lack_none : (leb : List ℕ) (branch : Branch) (there : Option ℕ) (byte : 
 lack_none leb branch None byte e h same = inl ((λ len is. h len (at_len (λ k. leb) branch len is)), ap (differs 9) same)
 lack_none leb branch (Some len) byte e h same = absurd cc
 
-pub none_in : (contents : ℕ → List ℕ) (branch : Branch) (leb : List ℕ) → leb ≡ contents branch.lnum → ((said : Index) → IsIndexNodeAt contents branch said → ⊥) → IsIndexNodeIn leb branch.offs branch.len → ⊥
-none_in contents branch leb e none h =
-    let P : List ℕ → Type 0 = λ l. IsIndexNodeIn l branch.offs branch.len in
-    let g = subst P e h in
-    none g.said (record { sqnum = g.sqnum; group = g.group; room = g.room; is = g.is })
-
 pub none_of : {X : Type 0} (o : Option X) {P : Type 0} → o ≡ None → IfNone o P → P
 none_of None e h = h
 none_of (Some x) e h = absurd cc

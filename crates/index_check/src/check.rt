@@ -24,8 +24,8 @@ use ubifs_base::Geometry;
 
 /// The rule on the index: from the root on, where the master says that it stands, each index node is intact, of its level, within
 /// the fanout, in a LEB that is marked as the index's by these properties of main LEBs, with keys between those of branches
-/// (`dbg_check_tnc` of Linux fs/ubifs). Answers its leaves and its nodes. Takes memory for them, for the nodes that wait, for
-/// a node, and for a LEB if something is wrong. Want of memory is told too where the nodes take more bytes than the main LEBs have.
+/// (`dbg_check_tnc` of Linux fs/ubifs). Answers its leaves and its nodes. Takes memory for them, for the nodes that wait, and for
+/// the bytes of a node, at most 5,148. Want of memory is told too where the nodes take more bytes than the main LEBs have.
 pub fn check_index<V: Volume>(
     alloc: Global,
     volume: &mut V,

@@ -63,8 +63,8 @@ fn room_behind(room: u64, len: u32) -> Option<u64>
     Some(room - taken)
 }
 
-// Takes a node with which nothing is wrong: tells its branch, and its leaves or the nodes that wait below it. The nodes of an index that take
-// more bytes than the main LEBs have are no sound one's: then want of memory is told.
+// Takes a node with which nothing is wrong: tells its branch, and its leaves or the nodes that wait below it. Want of memory is told where
+// the nodes that were taken have more bytes than the main LEBs, as those of no sound image do.
 fn take_node(wanted: &Wanted, node: &IdxNode, walk: &mut IndexWalk) -> Result<(), Memory>
     ensures { OnOk result (HasTaken (wanted_of wanted.now) (index_of node.now) walk.old walk.new) }
 {

@@ -1,6 +1,6 @@
 // An index node is read from a volume, or what stands in its place.
 
-ghost use Rattle.std.specs.Prelude.{◌≡◌, ◌^◌, ◌<◌, ℕ, IfOk, IfSome, IfNone, length};
+ghost use Rattle.std.specs.Prelude.{◌≡◌, ◌+◌, ◌^◌, ◌<◌, ◌≤◌, ℕ, IfOk, IfSome, IfNone, length};
 ghost use Rattle.ubifs_base.specs.NodeLaws.{IsBytes};
 ghost use Rattle.media_sys.specs.Index.{Index as AnIndexNode, index_of};
 ghost use Rattle.index_media.specs.Stored.{IsIndexNodeAt};
@@ -12,8 +12,11 @@ use image_check::type_byte;
 use media_sys::{Branch, IdxNode};
 use node_fields::u32_at;
 use std::alloc::Global;
-use ubi_volume::{AreaFault, Volume, read_leb};
+use ubi_volume::{AreaFault, Volume};
 use ubifs_base::Memory;
+
+// No index node has more bytes: a header, its number of branches and its level, and 256 branches.
+const MOST_BYTES: u32 = 28 + 20 * 256;
 
 /// The index node to which a branch leads; none where no intact one of its length stands there.
 pub(crate) fn read_node<V: Volume>(
@@ -35,45 +38,44 @@ pub(crate) fn read_node<V: Volume>(
     if branch.len > size - branch.offs {
         return Ok(None);
     }
+    if branch.len > MOST_BYTES {
+        return Ok(None);
+    }
     let mut bytes = vec![in alloc; 0; branch.len as usize]?;
     volume.read(branch.lnum, branch.offs, &mut bytes)?;
     let read = IdxNode::decode(alloc, &bytes)?;
     Ok(read)
 }
 
-// The length of the intact index node that stands at an offset of a LEB; none where none does.
-fn node_len_at(alloc: Global, leb: &[u8], offs: u32) -> Result<Option<u32>, Memory>
-    ensures found { IfOk result (λ read. IfSome read (IsIndexNodeIn leb.now offs)) }
-    ensures none { IfOk result (λ read. IfNone read ((len : ℕ) → IsIndexNodeIn leb.now offs len → ⊥)) }
+// The length of the intact index node with which bytes begin; none where they begin with none.
+fn node_len_in(alloc: Global, front: &[u8]) -> Result<Option<u32>, Memory>
+    ensures found { IfOk result (λ read. IfSome read (IsIndexNodeIn front.now 0)) }
+    ensures none { IfOk result (λ read. IfNone read ((len : ℕ) → IsIndexNodeIn front.now 0 len → ⊥)) }
 {
-    if offs as usize > leb.len() {
+    if front.len() < 24 {
         return Ok(None);
     }
-    let rest = leb.split_at(offs as usize).1;
-    if rest.len() < 24 {
+    let len = u32_at(front, 16);
+    if len as usize > front.len() {
         return Ok(None);
     }
-    let len = u32_at(rest, 16);
-    if len as usize > rest.len() {
-        return Ok(None);
-    }
-    let read = IdxNode::decode(alloc, rest.split_at(len as usize).0)?;
+    let read = IdxNode::decode(alloc, front.split_at(len as usize).0)?;
     let Some(_) = read else {
         return Ok(None);
     };
     Ok(Some(len))
 }
 
-// What is wrong where a branch leads, in the bytes of the LEB.
-fn lack_in(alloc: Global, leb: &[u8], branch: &Branch) -> Result<ValueMisfit, Memory>
-    requires { IsIndexNodeIn leb.now branch.now.offs branch.now.len → ⊥ }
-    ensures { IfOk result (λ misfit. LacksIndexNode (λ _. leb.now) branch.now (told_misfit misfit)) }
+// What is wrong where a branch leads, in the bytes that stand there.
+fn lack_in(alloc: Global, front: &[u8], branch: &Branch) -> Result<ValueMisfit, Memory>
+    requires { IsIndexNodeIn front.now 0 branch.now.len → ⊥ }
+    ensures { IfOk result (λ misfit. LacksIndexNode (λ _. front.now) (record branch.now { offs = 0 }) (told_misfit misfit)) }
 {
-    let there = node_len_at(alloc, leb, branch.offs)?;
+    let there = node_len_in(alloc, front)?;
     match there {
         None => Ok(ValueMisfit {
             wanted: 9,
-            found: type_byte(leb, branch.offs) as u64,
+            found: type_byte(front, 0) as u64,
         }),
         Some(len) => Ok(ValueMisfit {
             wanted: branch.len as u64,
@@ -82,21 +84,22 @@ fn lack_in(alloc: Global, leb: &[u8], branch: &Branch) -> Result<ValueMisfit, Me
     }
 }
 
-// The same, of the LEB of a volume that is read into the room that a LEB takes.
+// The same, of a volume, whose bytes are read into room for as many as a node can have, or for all that are left of the LEB.
 fn lack_read<V: Volume>(
     alloc: Global,
     volume: &mut V,
     branch: &Branch,
-    leb: &mut [u8],
+    front: &mut [u8],
 ) -> Result<ValueMisfit, AreaFault>
     requires lnum { branch.now.lnum < (V.state volume.old).leb_cnt }
-    requires whole { length leb.old ≡ (V.state volume.old).leb_size }
+    requires range { branch.now.offs + length front.old ≤ (V.state volume.old).leb_size }
+    requires far { length front.old < 5148 → branch.now.offs + length front.old ≡ (V.state volume.old).leb_size }
     requires none { (said : AnIndexNode) → IsIndexNodeAt (V.state volume.old).holds branch.now said → ⊥ }
     ensures lack { IfOk result (λ misfit. LacksIndexNode (V.state volume.old).holds branch.now (told_misfit misfit)) }
     ensures reads { OnlyReads (V.state volume.old) (V.state volume.new) result }
 {
-    read_leb(volume, branch.lnum, leb)?;
-    let misfit = lack_in(alloc, leb, branch)?;
+    volume.read(branch.lnum, branch.offs, front)?;
+    let misfit = lack_in(alloc, front, branch)?;
     Ok(misfit)
 }
 
@@ -110,12 +113,20 @@ pub(crate) fn read_lack<V: Volume>(
     ensures lack { IfOk result (λ misfit. LacksIndexNode (V.state volume.old).holds branch.now (told_misfit misfit)) }
     ensures reads { OnlyReads (V.state volume.old) (V.state volume.new) result }
 {
+    let size = volume.leb_size();
     if branch.lnum >= volume.leb_cnt() {
         return Ok(ValueMisfit {
             wanted: 9,
             found: 255,
         });
     }
-    let mut leb = vec![in alloc; 0; volume.leb_size() as usize]?;
-    lack_read(alloc, volume, branch, &mut leb)
+    if branch.offs > size {
+        return Ok(ValueMisfit {
+            wanted: 9,
+            found: 255,
+        });
+    }
+    let len = (size - branch.offs).min(MOST_BYTES);
+    let mut front = vec![in alloc; 0; len as usize]?;
+    lack_read(alloc, volume, branch, &mut front)
 }
