@@ -97,8 +97,9 @@ fn write_frozen(
     write_frozen(index, alloc, sqnum, rest)
 }
 
-/// Freezes an index, makes changes of it then, and writes what is frozen beside them. What stands at last is a row of the
-/// leaves from before the changes, in which each node that was clean is at its place. What is seen are the changes.
+/// Freezes an index, makes changes of it then, and writes what is frozen beside them. Where it is true, what is frozen is a
+/// placed row of the leaves from before the changes, in which each node that was clean has kept its place. What is seen are
+/// the changes. The bytes of each node are made and let go, so nothing is on a medium.
 pub fn commit_beside_changes(
     index: &mut PagedIndex,
     alloc: Global,

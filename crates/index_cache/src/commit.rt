@@ -42,7 +42,7 @@ impl PagedIndex {
     }
 
     /// The first dirty node of the frozen index, children before their parent. None exactly where all of the frozen index is
-    /// clean: then it is a row that stands on a medium.
+    /// clean: then it is a placed row, and stands on a medium if the bytes of each node were written there.
     pub fn next_dirty(&self) -> Option<DirtyNode>
         ensures first { option_map (λ found. found.node) result ≡ slice_get (dirty_of self.now) 0 }
         ensures next { IfSome result (λ found. IsNextNode self.now found.node) }

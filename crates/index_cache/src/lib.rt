@@ -1,8 +1,9 @@
 //! The index of a mounted volume: nodes in memory, each with its place on the volume while it is clean.
 //!
-//! A `PagedIndex` is a table of nodes and the root of the index that is seen. All nodes are kept: the load of a mount goes
-//! from the root down, and whatever is changed later adds nodes to the table. `specs/Loaded.antt` says what has to stand on
-//! a volume so that it can be loaded.
+//! A `PagedIndex` is a table of nodes and two roots: that of the index that is seen, and that of the one that a commit writes.
+//! All nodes are kept: the load of a mount goes from the root down, and whatever is changed later adds nodes to the table. A
+//! commit gives the dirty nodes of its index their places, and changes nothing else of them. `specs/Loaded.antt` says what
+//! has to stand on a volume so that it can be loaded.
 #![tactic(auto)]
 
 pub mod caller;

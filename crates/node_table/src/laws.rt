@@ -1,4 +1,4 @@
-// What stays where nodes are added.
+// What stays where nodes are added, and where a node gets its place.
 
 ghost use Rattle.std.specs.Prelude.{◌≡◌, ◌<◌, true, ℕ, List, Option, Some, length, slice_get};
 ghost use Rattle.index_media.specs.KeyedRow.{KeyedRow, all_clean, bare};
@@ -20,7 +20,7 @@ pub fn roots_stay()
     ensures dirty { (old new : List ANode) (root : Option ARoot) → IsAdded old new → IsRootIn old root → dirty_below new root ≡ dirty_below old root }
 {}
 
-/// Where all of a row is clean, it is a row that stands on a medium.
+/// Where all of a row is clean, it is a placed row: each of its nodes has a place.
 pub fn clean_rows_are_placed()
     ensures { (row : KeyedRow) → is_clean_row row ≡ true → row ≡ all_clean (placed_of row) }
 {}

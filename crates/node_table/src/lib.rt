@@ -1,7 +1,8 @@
 //! Nodes of an index in a table, named by number.
 //!
-//! A node has links: to leaves on the lowest level, and else to nodes that were added before it. No node is ever
-//! changed where it stands: a change adds nodes. So whoever holds a root goes on seeing its index, whatever is added.
+//! A node has links: to leaves on the lowest level, and else to nodes that were added before it. A change adds nodes,
+//! and none is changed where it stands but for its place, which a commit gives it once. So whoever holds a root goes on
+//! seeing its index, whatever is added, and the places that its nodes get.
 //! `specs/NodeView.antt` says what is seen of the nodes, from the first one on, and `specs/Sound.antt` what holds of each.
 #![tactic(auto)]
 
