@@ -27,8 +27,11 @@ dirty_of index = dirty_below index.table.nodes.items index.frozen
 abbrev pub fanout_of : PagedIndex → ℕ
 fanout_of index = index.table.fanout
 
--- an index keeps its nodes, the most children that they have, and what is frozen; other nodes may have come behind them
+-- an index keeps its nodes, the most children that they have, and what is frozen, with its places and its dirty nodes; other
+-- nodes may have come behind them
 pub record KeepsNodes (old new : PagedIndex) : Type 0 where
   pub added : IsAdded old.table.nodes.items new.table.nodes.items
   pub fanout : fanout_of new ≡ fanout_of old
   pub frozen : new.frozen ≡ old.frozen
+  pub frozen_tree : frozen_of new ≡ frozen_of old
+  pub dirty : dirty_of new ≡ dirty_of old

@@ -16,7 +16,7 @@ ghost use Rattle.node_table.specs.Exchange.{tree_without};
 ghost use Rattle.node_table.specs.NodeView.{tree_at, leaves_at};
 ghost use Rattle.node_table.specs.Staging.{IsSoundRoot};
 ghost use Rattle.ubifs_base.specs.Key.{IsKey};
-ghost use Rattle.index_cache.specs.Paged.{tree_of, leaves_of, fanout_of, KeepsNodes};
+ghost use Rattle.index_cache.specs.Paged.{tree_of, leaves_of, frozen_of, fanout_of, KeepsNodes};
 
 use crate::paged::PagedIndex;
 use index_media::a_range_removal_leaves_the_keys_of_branches;
@@ -37,6 +37,7 @@ impl PagedIndex {
         requires least { 3 ≤ fanout }
         requires most { fanout ≤ 256 }
         ensures tree { tree_of result ≡ no_more }
+        ensures frozen { frozen_of result ≡ no_more }
         ensures fanout { fanout_of result ≡ fanout }
     {
         PagedIndex {
@@ -211,6 +212,7 @@ impl PagedIndex {
         ensures fanout { fanout_of self.new ≡ fanout_of self.old }
         ensures root { self.new.root ≡ staged.root }
         ensures frozen { self.new.frozen ≡ self.old.frozen }
+        ensures kept { KeepsNodes self.old self.new }
     {
         self.root = staged.root;
     }

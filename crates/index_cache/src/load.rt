@@ -10,7 +10,7 @@ ghost use Rattle.node_table.specs.Staging.{row_before, AreLinksIn, IsAdded};
 ghost use Rattle.node_table.specs.declared.link.Link.TheVariants.{ToNode};
 ghost use Rattle.ubifs_base.specs.declared.key.Key.{Key as AKey};
 ghost use Rattle.index_cache.specs.Loaded.{IsRead, IsIndexOn, IsRowOn};
-ghost use Rattle.index_cache.specs.Paged.{tree_of, fanout_of};
+ghost use Rattle.index_cache.specs.Paged.{tree_of, frozen_of, fanout_of};
 
 use crate::paged::PagedIndex;
 use crate::reading::read_node;
@@ -130,8 +130,8 @@ fn load_among<V: Volume>(
 
 impl PagedIndex {
     /// Loads the index that stands on a volume, from the branch of its root on (`root_lnum`, `root_offs` and `root_len` of
-    /// `struct ubifs_mst_node`; its key is that of its first branch). All nodes are clean at their places. The volume is as it
-    /// was.
+    /// `struct ubifs_mst_node`; its key is that of its first branch). All nodes are clean at their places, and nothing is
+    /// frozen. The volume is as it was.
     ///
     /// `Memory` and `Volume` are the faults.
     pub fn at_root<V: Volume>(
@@ -142,6 +142,7 @@ impl PagedIndex {
     ) -> Result<PagedIndex, AreaFault>
         requires index { (placed : PlacedRow) × IsIndexOn (V.state volume.old) geo.now.fanout root.now placed }
         ensures loaded { (placed : PlacedRow) → IsIndexOn (V.state volume.old) geo.now.fanout root.now placed → IfOk result (λ made. tree_of made ≡ all_clean placed) }
+        ensures frozen { IfOk result (λ made. frozen_of made ≡ no_more) }
         ensures fanout { IfOk result (λ made. fanout_of made ≡ geo.now.fanout) }
         ensures reads { IsRead (V.state volume.old) (V.state volume.new) result }
     {
