@@ -3,6 +3,7 @@
 ghost use Rattle.std.specs.Prelude.{◌≡◌, true, IfOk, IfSome, IfNone, IsTrue, None, Option, length, option_map, slice_get};
 ghost use Rattle.index_media.specs.KeyedRow.{all_clean, bare};
 ghost use Rattle.index_media.specs.PlacedRow.{branches_of};
+ghost use Rattle.index_tree.specs.Levels.{levelled};
 ghost use Rattle.index_tree.specs.Shape.{fits};
 ghost use Rattle.media_sys.specs.Index.{in_order};
 ghost use Rattle.media_sys.specs.SystemNode.{index, written};
@@ -43,10 +44,13 @@ impl PagedIndex {
 
     /// The first dirty node of the frozen index, children before their parent. None exactly where all of the frozen index is
     /// clean: then it is a placed row, and stands on a medium if the bytes of each node were written there.
+    ///
+    /// Leaves stand as many levels below a node's children as its level says.
     pub fn next_dirty(&self) -> Option<DirtyNode>
         ensures first { option_map (λ found. found.node) result ≡ slice_get (dirty_of self.now) 0 }
         ensures next { IfSome result (λ found. IsNextNode self.now found.node) }
         ensures level { IfSome result (λ found. found.level ≡ (said_of self.now found.node).level) }
+        ensures levels { IfSome result (λ found. levelled found.level (bare (below_node self.now found.node)) ≡ true) }
         ensures len { IfSome result (λ found. found.len ≡ node_length (said_of self.now found.node)) }
         ensures none { IfNone result (frozen_of self.now ≡ all_clean (placed_of (frozen_of self.now))) }
     {
@@ -61,9 +65,10 @@ impl PagedIndex {
         }
     }
 
-    /// The level of a node; 0 where it isn't there.
+    /// The level of a node, as high as it stands above the leaves below it; 0 where it isn't there.
     fn level_of(&self, node: u64) -> u16
-        ensures { result ≡ (said_of self.now node).level }
+        ensures level { result ≡ (said_of self.now node).level }
+        ensures levels { levelled result (bare (below_node self.now node)) ≡ true }
     {
         match self.table.node_at(node) {
             None => 0,
