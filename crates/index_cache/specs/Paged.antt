@@ -1,10 +1,11 @@
 -- What is seen of an index.
-use Rattle.std.specs.Prelude.{◌≡◌, ℕ, List}
+use Rattle.std.specs.Prelude.{◌≡◌, ℕ, List, Option}
 use Rattle.index_tree.specs.declared.leaf.Leaf.{Leaf}
 use Rattle.index_media.specs.KeyedRow.{KeyedRow}
 use Rattle.node_table.specs.Dirty.{dirty_below}
 use Rattle.node_table.specs.NodeView.{tree_at, leaves_at}
-use Rattle.node_table.specs.Staging.{IsAdded}
+use Rattle.node_table.specs.Staging.{IsAdded, IsSoundRoot}
+use Rattle.node_table.specs.declared.node.Root.{Root}
 use Rattle.index_cache.specs.declared.paged.PagedIndex.{PagedIndex}
 
 -- its shape, with the keys of branches, and with places where nodes are clean
@@ -35,3 +36,10 @@ pub record KeepsNodes (old new : PagedIndex) : Type 0 where
   pub frozen : new.frozen ≡ old.frozen
   pub frozen_tree : frozen_of new ≡ frozen_of old
   pub dirty : dirty_of new ≡ dirty_of old
+
+-- an index keeps its two roots and the most children that its nodes have, and each root that was sound is sound still
+pub record KeepsRoots (old new : PagedIndex) : Type 0 where
+  pub root : new.root ≡ old.root
+  pub frozen : new.frozen ≡ old.frozen
+  pub fanout : fanout_of new ≡ fanout_of old
+  pub sound : (root : Option Root) → IsSoundRoot old.table.nodes.items root → IsSoundRoot new.table.nodes.items root

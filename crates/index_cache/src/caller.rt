@@ -68,6 +68,30 @@ pub fn adopt_both(
     Ok(())
 }
 
+/// Stages changes, gives the next dirty node of what is frozen a place, if there is one, and shows the changes then. What is seen
+/// are the changes, and what is frozen is as before, but for places.
+pub fn adopt_after_a_place(
+    index: &mut PagedIndex,
+    alloc: Global,
+    changes: &[Change],
+    lnum: u32,
+    offs: u32,
+) -> Result<(), Memory>
+    requires changes { AreChanges changes.now }
+    ensures tree { OnOk result (KeepsPlaces (changed_by (fanout_of index.old) changes.now (tree_of index.old)) (tree_of index.new)) }
+    ensures frozen { KeepsPlaces (frozen_of index.old) (frozen_of index.new) }
+{
+    places_are_kept();
+    let staged = index.stage(alloc, changes)?;
+    let Some(found) = index.next_dirty() else {
+        index.adopt(staged);
+        return Ok(());
+    };
+    index.place(found.node, lnum, offs);
+    index.adopt(staged);
+    Ok(())
+}
+
 /// Writes the dirty nodes of a frozen index one after another, each to the next of these places; true exactly where none
 /// is left. A place tells a LEB and an offset, and its length isn't looked at.
 ///

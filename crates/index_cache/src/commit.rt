@@ -8,11 +8,12 @@ ghost use Rattle.index_tree.specs.Shape.{fits};
 ghost use Rattle.media_sys.specs.Index.{in_order};
 ghost use Rattle.media_sys.specs.SystemNode.{index, written};
 ghost use Rattle.node_table.specs.Clean.{placed_of};
+ghost use Rattle.node_table.specs.NodeView.{tree_at};
 ghost use Rattle.node_table.specs.Placing.{with_place, IsPlacedRow, without_number};
 ghost use Rattle.node_table.specs.Staging.{IsSoundRoot};
 ghost use Rattle.node_table.specs.declared.node.Root.{Root as ARoot};
 ghost use Rattle.index_cache.specs.Commit.{IsNextNode, said_of, below_node, node_length, place_for};
-ghost use Rattle.index_cache.specs.Paged.{tree_of, frozen_of, dirty_of, fanout_of};
+ghost use Rattle.index_cache.specs.Paged.{tree_of, frozen_of, dirty_of, fanout_of, KeepsRoots};
 
 use crate::paged::PagedIndex;
 use crate::writing::{are_in_order, branch_to_node, index_node};
@@ -37,6 +38,7 @@ impl PagedIndex {
         ensures tree { tree_of self.new ≡ tree_of self.old }
         ensures nodes { self.new.table.nodes.items ≡ self.old.table.nodes.items }
         ensures root { self.new.frozen ≡ self.old.root }
+        ensures seen { self.new.root ≡ self.old.root }
         ensures fanout { fanout_of self.new ≡ fanout_of self.old }
     {
         self.frozen = self.root;
@@ -115,16 +117,17 @@ impl PagedIndex {
         }
     }
 
-    /// Gives the next dirty node its place on the medium: in this LEB, from this offset on, as long as it is. The frozen index
-    /// and the one that is seen are as before, but that this node has its place. No other node's place changes.
+    /// Gives the next dirty node its place on the medium: in this LEB, from this offset on, as long as it is. Below each root
+    /// stands what stood there, but that this node has its place: so does the frozen index, the one that is seen, and what is
+    /// staged, which may be adopted then. No other node's place changes.
     pub fn place(&mut self, node: u64, lnum: u32, offs: u32)
         requires next { IsNextNode self.old node }
         ensures nodes { self.new.table.nodes.items ≡ with_place node (place_for lnum offs (said_of self.old node)) self.old.table.nodes.items }
         ensures frozen { IsPlacedRow (place_for lnum offs (said_of self.old node)) (below_node self.old node) (frozen_of self.old) (frozen_of self.new) }
         ensures tree { IsPlacedRow (place_for lnum offs (said_of self.old node)) (below_node self.old node) (tree_of self.old) (tree_of self.new) }
+        ensures trees { (root : Option ARoot) → IsPlacedRow (place_for lnum offs (said_of self.old node)) (below_node self.old node) (tree_at self.old.table.nodes.items root) (tree_at self.new.table.nodes.items root) }
         ensures dirty { dirty_of self.new ≡ without_number node (dirty_of self.old) }
-        ensures roots { (root : Option ARoot) → IsSoundRoot self.old.table.nodes.items root → IsSoundRoot self.new.table.nodes.items root }
-        ensures fanout { fanout_of self.new ≡ fanout_of self.old }
+        ensures kept { KeepsRoots self.old self.new }
     {
         let len = self.len_of(node);
         self.table.set_place(node, NodePlace { lnum, offs, len });
