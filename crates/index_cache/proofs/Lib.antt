@@ -2,4 +2,5 @@ pub mod Placed
 pub mod Links
 pub mod Roots
 pub mod Written
+pub mod DirtyCounted
 pub mod Hand

@@ -9,6 +9,7 @@
 pub mod caller;
 mod calls;
 mod commit;
+mod counting;
 mod load;
 mod paged;
 mod reading;
