@@ -2,6 +2,7 @@ pub mod Firsts
 pub mod Frames
 pub mod Kept
 pub mod Members
+pub mod NamedBuds
 pub mod ReadBuds
 pub mod SoundBuds
 pub mod TextFirsts

@@ -49,14 +49,15 @@ abbrev pub IsFirstFound : (Wrong → Type 0) → Option BudWrong → Type 0
 IsFirstFound IsWrong None = (at : Wrong) → IsWrong at → ⊥
 IsFirstFound IsWrong (Some found) = IsFirstWrong IsWrong (wrong_told found)
 
-abbrev pub first_of_both : BudWrong → Option BudWrong → Option BudWrong
-first_of_both a None = Some a
-first_of_both a (Some b) = if comes_before (wrong_told b) (wrong_told a) then Some b else Some a
+-- of one and, if it is there, another, that which comes first
+abbrev pub sooner_wrong : BudWrong → Option BudWrong → Option BudWrong
+sooner_wrong a None = Some a
+sooner_wrong a (Some b) = if comes_before (wrong_told b) (wrong_told a) then Some b else Some a
 
 -- of two, if they are there, that which comes first
 abbrev pub first_of_two : Option BudWrong → Option BudWrong → Option BudWrong
 first_of_two None b = b
-first_of_two (Some a) b = first_of_both a b
+first_of_two (Some a) b = sooner_wrong a b
 
 -- what is wrong at a node of a text: it may not stand there, or needs a feature
 pub record IsWrongNode (leb : List ℕ) (lnum : ℕ) (found : Found) (at : Wrong) : Type 0 where

@@ -5,20 +5,24 @@ ghost use Rattle.std.specs.List.{AllByRecursion};
 ghost use Rattle.ubifs_base.specs.RawOf.{raw_of};
 ghost use Rattle.ubi_volume.specs.Geometry.{IsGeometryOf};
 ghost use Rattle.ubi_volume.specs.Volume.{Keeps, SameShape};
+ghost use Rattle.bud_log.specs.Buds.{buds_of};
 ghost use Rattle.journal_scan.specs.Journal.{IsJournalRead, IsReadable};
 ghost use Rattle.sound_image.specs.Breaches.{IsWrongInBuds};
 ghost use Rattle.sound_image.specs.Buds.{HasBuds, IsSoundBud, bud_text};
+ghost use Rattle.sound_image.specs.Log.{NamesMain};
 ghost use Rattle.sound_image.specs.Wrong.{IsFirstWrong};
 ghost use Rattle.sound_image.specs.declared.rule.Rule.TheVariants as rules;
 ghost use Rattle.image_check.specs.Told.{HasCheckCause, IsBreachOf, IsNoVolumeFault, StaysSureCheck, TellsBreach};
 ghost use Rattle.bud_check.specs.Findings.{IsBudPlace, IsWrongTexts, breach_told};
 
 use crate::bud_wrong::{BudMisfit, BudWrong};
+use crate::named_buds::named_buds;
 use crate::reads::read_buds;
 use crate::texts::first_in_texts;
 use bud_log::HeadAt;
 use image_check::CheckFault;
 use journal_scan::{BudText, JournalRead, read_journal};
+use media_sys::RefNode;
 use sound_image::{Breach, Rule};
 use std::alloc::Global;
 use ubi_volume::{AreaFault, Volume};
@@ -26,9 +30,31 @@ use ubifs_base::Geometry;
 
 /// The rule on buds (`HasBuds` of crate sound_image): up to its tail each bud has leaf nodes and padding, and neither a node nor the
 /// tail needs a feature that isn't known here (`replay_bud` of Linux fs/ubifs). The buds are those that the log's references
-/// name, in the log's order. Answers what they say, as a mount reads it. `Unsound` tells what is wrong first: a feature, or the type of a
-/// node that may not stand there, where 1 is wanted. Takes memory for the bytes of all buds.
+/// name, in the log's order. Each reference names a place of a main LEB: the rule on the log asks it. Answers what the buds say, as a
+/// mount reads it. `Unsound` tells what is wrong first: a feature, or the type of a node that may not stand there, where 1 is wanted.
+/// Takes memory for the bytes of all buds.
 pub fn check_buds<V: Volume>(
+    alloc: Global,
+    volume: &mut V,
+    geometry: &Geometry,
+    references: &[RefNode],
+) -> Result<JournalRead, CheckFault>
+    requires geometry { IsGeometryOf (raw_of geometry.now) (V.state volume.old) }
+    requires named { AllByRecursion (NamesMain (raw_of geometry.now)) references.now }
+    ensures met { IfOk result (λ read. (journal : IsJournalRead (map (bud_text (V.state volume.old).holds) (buds_of references.now)) read) × HasBuds (V.state volume.old).holds (buds_of references.now) journal.reads) }
+    ensures broken { IfErr result (TellsBreach (IsBreachOf rules.Buds (IsFirstWrong (IsWrongInBuds (V.state volume.old).holds (buds_of references.now))))) }
+    ensures keeps { Keeps (V.state volume.old) (V.state volume.new) × SameShape (V.state volume.old) (V.state volume.new) }
+    ensures cause { HasCheckCause (V.state volume.old).faults (V.state volume.new).faults result }
+    ensures sure { StaysSureCheck (V.state volume.old) (V.state volume.new) result }
+{
+    match named_buds(alloc, references) {
+        Ok(buds) => check_places(alloc, volume, geometry, &buds),
+        Err(_fault) => Err(CheckFault::Memory),
+    }
+}
+
+// The same of buds that were named.
+fn check_places<V: Volume>(
     alloc: Global,
     volume: &mut V,
     geometry: &Geometry,
