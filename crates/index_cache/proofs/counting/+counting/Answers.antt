@@ -7,7 +7,7 @@ use Rattle.node_table.specs.NodeView.{views, row_of, children_in}
 use Rattle.node_table.specs.declared.link.Link.{Link}
 use Rattle.node_table.proofs.Cleaning.{placed_list, dirty_list}
 use Rattle.node_table.proofs.DirtyLists.{dirty_opened, dirty_past}
-use Rattle.node_table.proofs.Rows.{row_size, linked_size}
+use Rattle.node_table.proofs.Rows.{row_size}
 use Rattle.index_cache.proofs.DirtyCounted.{both_counted, one_more, both_most, one_most, none_most}
 use Rattle.index_cache.proofs.counting.+counting.Goals as goal
 
