@@ -141,12 +141,15 @@ IsWrongNode parts at =
     (x : Placed) × ((IsOneOf x parts.nodes × (change_of x.node ≡ None)) ⊎ (IsOneOf x parts.copies × (IsCopy parts x → ⊥)))
     × (at ≡ record { lnum = x.lnum; offs = x.offs; misfit = differs (key_words (node_key x.node)).0 0 })
 
--- a recovered leaf doesn't show what stands at its place, or shows what one before it shows, or what is out of its place
+-- one of these leaves, which show this tree, shows what is out of its place, or what one before it shows
+abbrev pub IsOutOfPlace : List Kept → Tree → Kept → Type 0
+IsOutOfPlace kept tree x =
+    IsTrue (is_misfit tree (shown_by x))
+    ⊎ ((before : List Kept) × (behind : List Kept) × (kept ≡ before ++ (x ∷ behind)) × IsTrue (list_any (λ y. shows_same (shown_by y) (shown_by x)) before))
+
+-- a recovered leaf doesn't show what stands at its place, or is out of its place
 abbrev pub IsWrongThere : (ℕ → List ℕ) → Parts → Kept → Type 0
-IsWrongThere contents parts x =
-    (ShowsItsNode contents x → ⊥)
-    ⊎ (IsTrue (is_misfit (tree_found parts) (shown_by x))
-    ⊎ ((before : List Kept) × (behind : List Kept) × ((recovered_of parts).kept ≡ before ++ (x ∷ behind)) × IsTrue (list_any (λ y. shows_same (shown_by y) (shown_by x)) before)))
+IsWrongThere contents parts x = (ShowsItsNode contents x → ⊥) ⊎ IsOutOfPlace (recovered_of parts).kept (tree_found parts) x
 
 -- a leaf that is found shows what one before it shows
 abbrev pub IsRepeated : Parts → Wrong → Type 0
@@ -170,15 +173,19 @@ IsWrongInTree contents master parts at =
     ⊎ (((leaf : Leaf) × IsOneOf leaf (empty_names parts) × (at ≡ record { lnum = leaf.lnum; offs = leaf.offs; misfit = differs 0 0 }))
     ⊎ ((inode_at (tree_found parts) 1 ≡ None) × (at ≡ record { lnum = master.root_lnum; offs = master.root_offs; misfit = differs 1 0 }))))))
 
--- a leaf shows an inode that is no directory and has other links than names, or none
-pub record IsWrongLink (parts : Parts) (at : Wrong) : Type 0 where
+-- one of these leaves, which show this tree, shows an inode that is no directory and has other links than names, or none
+pub record IsWrongLinkOf (kept : List Kept) (tree : Tree) (at : Wrong) : Type 0 where
   pub x : Kept
-  pub one : IsOneOf x (recovered_of parts).kept
+  pub one : IsOneOf x kept
   pub ino : ℕ
   pub inode : Inode
   pub shows : shown_by x ≡ Some (SetInode ino inode)
-  pub other : IsFalse (has_its_links (tree_found parts) (ino, inode))
-  pub is : IsAtNode x (differs (length (names_of (tree_found parts) ino)) inode.nlink) at
+  pub other : IsFalse (has_its_links tree (ino, inode))
+  pub is : IsAtNode x (differs (length (names_of tree ino)) inode.nlink) at
+
+-- a recovered leaf does
+abbrev pub IsWrongLink : Parts → Wrong → Type 0
+IsWrongLink parts at = IsWrongLinkOf (recovered_of parts).kept (tree_found parts) at
 
 -- The committed leaves and the orphans are read, and among the leaves after recovery one is wrong first.
 pub record IsBrokenLeaf (contents : ℕ → List ℕ) (image : Image) (at : Wrong) : Type 0 where

@@ -47,11 +47,15 @@ abbrev pub IsWrongAmong : (ℕ → List ℕ) → RawGeometry → List Lprop → 
 IsWrongAmong contents geo props leaf others =
     (IsSoundLeaf contents geo props leaf → ⊥) ⊎ IsFalse (list_all (λ (other : Leaf). is_apart (stretch_of (branch_to leaf)) (branch_to other)) others)
 
--- A leaf after recovery is not sound, or overlaps another; or one can't be read.
-pub record IsWrongLeaf (contents : ℕ → List ℕ) (geo : RawGeometry) (props : List Lprop) (parts : Parts) (at : Wrong) : Type 0 where
+-- One of these leaves is not sound, or overlaps another; or one is among those that can't be read.
+pub record IsWrongOfLeaves (contents : ℕ → List ℕ) (geo : RawGeometry) (props : List Lprop) (missing leaves : List Leaf) (at : Wrong) : Type 0 where
   pub leaf : Leaf
   pub lnum : at.lnum ≡ leaf.lnum
   pub offs : at.offs ≡ leaf.offs
-  pub wrong : IsOneOf leaf (missing_leaves parts)
-      ⊎ ((before : List Leaf) × (behind : List Leaf) × (leaves_recovered parts ≡ before ++ (leaf ∷ behind)) × IsWrongAmong contents geo props leaf (before ++ behind))
+  pub wrong : IsOneOf leaf missing
+      ⊎ ((before : List Leaf) × (behind : List Leaf) × (leaves ≡ before ++ (leaf ∷ behind)) × IsWrongAmong contents geo props leaf (before ++ behind))
   pub misfit : IsLeafMisfit contents leaf at.misfit
+
+-- Of the leaves after recovery.
+abbrev pub IsWrongLeaf : (ℕ → List ℕ) → RawGeometry → List Lprop → Parts → Wrong → Type 0
+IsWrongLeaf contents geo props parts at = IsWrongOfLeaves contents geo props (missing_leaves parts) (leaves_recovered parts) at

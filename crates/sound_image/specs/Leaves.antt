@@ -70,9 +70,9 @@ names_nothing named x = by x.found
     by None = false
     by (Some found) = not (in_bud named x.leaf) && (not (is_shown (shown found.node)) && same_leaf x.leaf (kept_at found).leaf)
 
--- whether two entries have the same directory and name
+-- whether two entries, which are no attributes, have the same directory and name
 abbrev pub have_same_name : LeafNode → LeafNode → Bool
-have_same_name (entry a) (entry b) = (a.dir == b.dir) && is_same_name a.name b.name
+have_same_name (entry a) (entry b) = not a.attribute && not b.attribute && ((a.dir == b.dir) && is_same_name a.name b.name)
 have_same_name a b = false
 
 -- whether one of some committed leaves has a node that can be read, with this node's name
