@@ -3,7 +3,7 @@ use Rattle.std.proofs.Common.{◌≡◌, ℕ, max, fold, map, cond, Bool, true, 
 use Rattle.std.specs.Prelude.{◌==◌, not, is_some}
 use Rattle.ubifs_base.specs.Key.{key_words}
 use Rattle.ubifs_base.specs.R5.{r5_of}
-use Rattle.ubifs_base.specs.declared.key.Key.TheVariants.{Dent, Xent}
+use Rattle.ubifs_base.specs.declared.key.Key.TheVariants.{Dent, Ino, Xent}
 use Rattle.media_leaf.specs.LeafNode.{LeafNode, inode, block, entry, truncation}
 use Rattle.media_leaf.specs.declared.dent_node.DentNode.{DentNode}
 use Rattle.media_leaf.specs.declared.ino_node.InoNode.{InoNode}
@@ -14,11 +14,11 @@ use Rattle.journal_scan.specs.Content.{content_of, number_told, told}
 use Rattle.journal_scan.specs.declared.journal_node.JournalNode.{JournalNode}
 use Rattle.journal_scan.specs.declared.node_content.NodeContent.TheVariants.{Inode, Entry, Unknown}
 
-inode_number : (node : InoNode) (linked known : Bool) → number_told (cond known (Inode node.ino linked) (Unknown node.ino linked)) ≡ node.ino
+inode_number : (node : InoNode) (linked known : Bool) → number_told (cond known (Inode node.ino linked) (Unknown (Ino node.ino) linked)) ≡ node.ino
 inode_number node linked true = refl
 inode_number node linked false = refl
 
-entry_number : (node : DentNode) (linked attribute : Bool) → number_told (cond attribute (Unknown node.dir true) (Entry node.dir node.name linked)) ≡ (key_words (cond attribute (Xent node.dir (r5_of node.name)) (Dent node.dir (r5_of node.name)))).0
+entry_number : (node : DentNode) (linked attribute : Bool) → number_told (cond attribute (Unknown (Xent node.dir (r5_of node.name)) true) (Entry node.dir node.name linked)) ≡ (key_words (cond attribute (Xent node.dir (r5_of node.name)) (Dent node.dir (r5_of node.name)))).0
 entry_number node linked true = refl
 entry_number node linked false = refl
 

@@ -14,7 +14,7 @@ use crate::node_content::NodeContent;
 use media_leaf::{DentNode, InoNode, TrunNode, one_node};
 use node_fields::u32_at;
 use std::alloc::Global;
-use ubifs_base::{Memory, NodeType};
+use ubifs_base::{Key, Memory, NodeType, r5};
 
 // What a leaf node of a type says, of which the bytes are all.
 pub(crate) fn read_content(
@@ -41,7 +41,7 @@ const KEY_END: usize = 32;
 
 // What is told where there is no node.
 const NO_NODE: NodeContent = NodeContent::Unknown {
-    ino: 0,
+    key: Key::Ino { ino: 0 },
     linked: true,
 };
 
@@ -64,7 +64,10 @@ fn content_of_inode(node: &InoNode) -> NodeContent
     if has_kind(node.mode) {
         NodeContent::Inode { ino, linked }
     } else {
-        NodeContent::Unknown { ino, linked }
+        NodeContent::Unknown {
+            key: Key::Ino { ino },
+            linked,
+        }
     }
 }
 
@@ -119,7 +122,10 @@ fn content_of_entry(node: DentNode) -> NodeContent
 {
     if node.attribute {
         return NodeContent::Unknown {
-            ino: node.dir,
+            key: Key::Xent {
+                ino: node.dir,
+                hash: r5(node.name.as_slice()),
+            },
             linked: true,
         };
     }

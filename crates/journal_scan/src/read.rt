@@ -2,6 +2,7 @@
 
 ghost use Rattle.std.specs.Prelude.{◌≡◌, List, map, IfOk, OnOk};
 ghost use Rattle.std.specs.List.{AllByRecursion};
+ghost use Rattle.ubifs_base.specs.Key.{key_words};
 ghost use Rattle.leaf_map.specs.Kept.{Placed, node_key};
 ghost use Rattle.leaf_map.specs.Recovered.{highest_key, in_order};
 ghost use Rattle.journal_scan.specs.Content.{highest_told, number_told, told};
@@ -14,7 +15,7 @@ use crate::journal_read::JournalRead;
 use crate::leaves::read_bud;
 use crate::node_content::NodeContent;
 use std::alloc::Global;
-use ubifs_base::{JournalHead, Memory};
+use ubifs_base::{JournalHead, Key, Memory};
 
 /// What the LEBs that a log names say, which stand in the order in which the log first names them. The error is want of
 /// memory.
@@ -61,7 +62,17 @@ fn number_told(content: &NodeContent) -> u32
         NodeContent::Block { ino, .. } => *ino,
         NodeContent::Entry { dir, .. } => *dir,
         NodeContent::Truncation { ino, .. } => *ino,
-        NodeContent::Unknown { ino, .. } => *ino,
+        NodeContent::Unknown { key, .. } => number_of(key),
+    }
+}
+
+// The inode number of a key.
+fn number_of(key: &Key) -> u32
+    ensures { result ≡ (key_words key.now).0 }
+{
+    match *key {
+        Key::Ino { ino } | Key::Block { ino, .. } | Key::Xent { ino, .. } => ino,
+        Key::Dent { dir, .. } => dir,
     }
 }
 

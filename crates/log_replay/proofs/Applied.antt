@@ -2,6 +2,8 @@
 use Rattle.std.proofs.Common.{Bool, true, false, cond, not, List, [], ◌∷◌, map, sym, subst}
 use Rattle.std.specs.Prelude.{◌==◌, is_some}
 use Rattle.std.specs.List.{AllByRecursion}
+use Rattle.ubifs_base.specs.R5.{r5_of}
+use Rattle.ubifs_base.specs.declared.key.Key.TheVariants.{Ino, Xent}
 use Rattle.media_leaf.specs.LeafNode.{LeafNode, IsLeaf, inode, block, entry, truncation}
 use Rattle.change_nodes.specs.Nodes.{bits_of, kind_of_bits}
 use Rattle.leaf_map.specs.Kept.{Placed}
@@ -25,9 +27,9 @@ either x true a b h k = h
 either x false a b h k = k
 
 has_key : (x : Placed) (node : LeafNode) → IsLeaf node → HasBlockKey (with_content x (content_of node))
-has_key x (inode node) leaf = either x (is_some (kind_of_bits (bits_of node.mode))) (Inode node.ino (not (node.nlink == 0))) (Unknown node.ino (not (node.nlink == 0))) tt tt
+has_key x (inode node) leaf = either x (is_some (kind_of_bits (bits_of node.mode))) (Inode node.ino (not (node.nlink == 0))) (Unknown (Ino node.ino) (not (node.nlink == 0))) tt tt
 has_key x (block node) leaf = leaf.block_fits
-has_key x (entry node) leaf = either x node.attribute (Unknown node.dir true) (Entry node.dir node.name (not (node.inum == 0))) tt tt
+has_key x (entry node) leaf = either x node.attribute (Unknown (Xent node.dir (r5_of node.name)) true) (Entry node.dir node.name (not (node.inum == 0))) tt tt
 has_key x (truncation node) leaf = tt
 
 have_keys : (xs : List Placed) → AllByRecursion (λ x. IsLeaf x.node) xs → AllByRecursion HasBlockKey (map told xs)

@@ -8,7 +8,7 @@ use Rattle.std.specs.Ordering.{nat_cmp}
 use Rattle.std.proofs.lemmas.Bool.{eq-eqb, false≢true}
 use Rattle.ubifs_base.specs.R5.{r5_of}
 use Rattle.ubifs_base.specs.declared.key.Key.{Key}
-use Rattle.ubifs_base.specs.declared.key.Key.TheVariants.{Dent}
+use Rattle.ubifs_base.specs.declared.key.Key.TheVariants.{Dent, Ino, Xent}
 use Rattle.media_leaf.specs.LeafNode.{LeafNode, inode, block, entry, truncation}
 use Rattle.media_leaf.specs.declared.dent_node.DentNode.{DentNode}
 use Rattle.media_leaf.specs.declared.ino_node.InoNode.{InoNode}
@@ -41,7 +41,7 @@ number_of (Some (SetInode ino set)) = ino
 number_of other = 0
 
 inode_told : (node : InoNode) (ino : ℕ) (set : AnInode) (k : Option Kind) → option_map (λ kind. SetInode node.ino (inode_of node kind)) k ≡ Some (SetInode ino set)
-    → cond (is_some k) (Inode node.ino (not (node.nlink == 0))) (Unknown node.ino (not (node.nlink == 0))) ≡ Inode ino (is_linked (Some (SetInode ino set)))
+    → cond (is_some k) (Inode node.ino (not (node.nlink == 0))) (Unknown (Ino node.ino) (not (node.nlink == 0))) ≡ Inode ino (is_linked (Some (SetInode ino set)))
 inode_told node ino set None e = absurd cc
 inode_told node ino set (Some kind) e = ap (λ (i : ℕ). Inode i (not (node.nlink == 0))) (ap number_of e) ∙ ap (λ (b : Bool). Inode ino b) (ap is_linked e)
 
@@ -83,11 +83,11 @@ no_set node change (Some kind) e h = false≢true (sym h ∙ sym (ap tested e))
 -- the name that is shown
 abbrev name_told : Option Change → NodeContent
 name_told (Some (SetEntry e)) = Entry e.dir e.name true
-name_told other = Unknown 0 true
+name_told other = Unknown (Ino 0) true
 
 entry_told : (node : DentNode) (q : AnEntry) (a z : Bool) (k : Option Kind) → (node.inum == 0) ≡ z
     → cond a None (cond z (Some (DropEntry node.dir node.name)) (option_map (λ kind. SetEntry (record { dir = node.dir; name = node.name; ino = node.inum; kind = kind })) k)) ≡ Some (SetEntry q)
-    → cond a (Unknown node.dir true) (Entry node.dir node.name (not (node.inum == 0))) ≡ Entry q.dir q.name true
+    → cond a (Unknown (Xent node.dir (r5_of node.name)) true) (Entry node.dir node.name (not (node.inum == 0))) ≡ Entry q.dir q.name true
 entry_told node q true z k h e = absurd cc
 entry_told node q false true k h e = absurd cc
 entry_told node q false false None h e = absurd cc
@@ -102,7 +102,7 @@ content_entry (truncation node) q e = absurd cc
 -- the block that is shown
 abbrev block_told : Option Change → NodeContent
 block_told (Some (SetBlock ino number bytes)) = Block ino number
-block_told other = Unknown 0 true
+block_told other = Unknown (Ino 0) true
 
 pub content_block : (node : LeafNode) (ino number : ℕ) (bytes : List ℕ) → shown node ≡ Some (SetBlock ino number bytes) → content_of node ≡ Block ino number
 content_block (inode node) ino number bytes e = absurd (no_set node (SetBlock ino number bytes) (kind_of_bits (bits_of node.mode)) e refl)

@@ -8,7 +8,7 @@ use Rattle.std.specs.Ordering.{nat_cmp}
 use Rattle.std.proofs.lemmas.Bool.{false≢true}
 use Rattle.ubifs_base.specs.R5.{r5_of}
 use Rattle.ubifs_base.specs.declared.key.Key.{Key}
-use Rattle.ubifs_base.specs.declared.key.Key.TheVariants.{Ino, Block, Dent}
+use Rattle.ubifs_base.specs.declared.key.Key.TheVariants.{Ino, Block, Dent, Xent}
 use Rattle.media_leaf.specs.LeafNode.{LeafNode, IsLeaf, inode, block, entry, truncation}
 use Rattle.media_leaf.specs.declared.dent_node.DentNode.{DentNode}
 use Rattle.media_leaf.specs.declared.ino_node.InoNode.{InoNode}
@@ -234,14 +234,14 @@ ByChange (Some (DropEntry dir name)) place s t = DropsName (dir, name) s t
 ByChange (Some (SetBlock ino number bytes)) place s t = SetsBlock ino (leaf_at (Block ino number) place) s t
 ByChange (Some (CutBlocks ino old_size new_size)) place s t = CutsBlocks ino new_size s t
 
-inode_does : (node : InoNode) (place : Place) (s t : Standing) (z : Bool) (k : Option Kind) → DoesBy (cond (is_some k) (InodeNode node.ino (not z)) (Unknown node.ino (not z))) place s t
+inode_does : (node : InoNode) (place : Place) (s t : Standing) (z : Bool) (k : Option Kind) → DoesBy (cond (is_some k) (InodeNode node.ino (not z)) (Unknown (Ino node.ino) (not z))) place s t
     → ByChange (cond z (Some (DropInode node.ino)) (option_map (λ kind. SetInode node.ino (inode_of node kind)) k)) place s t
 inode_does node place s t true (Some kind) d = d
 inode_does node place s t true None d = d
 inode_does node place s t false (Some kind) d = d
 inode_does node place s t false None d = d
 
-entry_does : (node : DentNode) (place : Place) (s t : Standing) (a z : Bool) (k : Option Kind) → is_some k ≡ true → DoesBy (cond a (Unknown node.dir true) (EntryNode node.dir node.name (not z))) place s t
+entry_does : (node : DentNode) (place : Place) (s t : Standing) (a z : Bool) (k : Option Kind) → is_some k ≡ true → DoesBy (cond a (Unknown (Xent node.dir (r5_of node.name)) true) (EntryNode node.dir node.name (not z))) place s t
     → ByChange (cond a None (cond z (Some (DropEntry node.dir node.name)) (option_map (λ kind. SetEntry (record { dir = node.dir; name = node.name; ino = node.inum; kind = kind })) k))) place s t
 entry_does node place s t true z k h d = d
 entry_does node place s t false true k h d = d

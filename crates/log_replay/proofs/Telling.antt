@@ -5,7 +5,7 @@ use Rattle.std.specs.Option.{option_map}
 use Rattle.std.proofs.lemmas.Bool.{false≢true}
 use Rattle.ubifs_base.specs.R5.{r5_of}
 use Rattle.ubifs_base.specs.declared.key.Key.{Key}
-use Rattle.ubifs_base.specs.declared.key.Key.TheVariants.{Dent, Xent}
+use Rattle.ubifs_base.specs.declared.key.Key.TheVariants.{Dent, Ino, Xent}
 use Rattle.media_leaf.specs.LeafNode.{LeafNode, IsLeaf, inode, block, entry, truncation}
 use Rattle.media_leaf.specs.declared.dent_node.DentNode.{DentNode}
 use Rattle.media_leaf.specs.declared.ino_node.InoNode.{InoNode}
@@ -30,12 +30,12 @@ abbrev pub if_set : Bool → Key → Option Key
 if_set true key = Some key
 if_set false key = None
 
-inode_key : (node : InoNode) (l : Bool) (k : Option Kind) → key_told (cond (is_some k) (Inode node.ino l) (Unknown node.ino l)) ≡ if_set (is_shown (option_map (λ kind. SetInode node.ino (inode_of node kind)) k)) (node_key (inode node))
+inode_key : (node : InoNode) (l : Bool) (k : Option Kind) → key_told (cond (is_some k) (Inode node.ino l) (Unknown (Ino node.ino) l)) ≡ if_set (is_shown (option_map (λ kind. SetInode node.ino (inode_of node kind)) k)) (node_key (inode node))
 inode_key node l None = refl
 inode_key node l (Some kind) = refl
 
 entry_key : (node : DentNode) (a z : Bool) (k : Option Kind) → is_some k ≡ true
-    → key_told (cond a (Unknown node.dir true) (Entry node.dir node.name (not z)))
+    → key_told (cond a (Unknown (Xent node.dir (r5_of node.name)) true) (Entry node.dir node.name (not z)))
     ≡ if_set (is_shown (cond a None (cond z (Some (DropEntry node.dir node.name)) (option_map (λ kind. SetEntry (record { dir = node.dir; name = node.name; ino = node.inum; kind = kind })) k)))) (cond a (Xent node.dir (r5_of node.name)) (Dent node.dir (r5_of node.name)))
 entry_key node true z k h = refl
 entry_key node false true k h = refl

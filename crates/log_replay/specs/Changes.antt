@@ -5,6 +5,7 @@ use Rattle.std.specs.Option.{MatchOption}
 use Rattle.std.specs.Ordering.{nat_cmp}
 use Rattle.ubifs_base.specs.declared.key.Key.{Key}
 use Rattle.ubifs_base.specs.declared.key.Key.TheVariants.{Ino, Block, Dent}
+use Rattle.ubifs_base.specs.Key.{key_words}
 use Rattle.ubifs_base.specs.R5.{r5_of}
 use Rattle.index_tree.specs.declared.leaf.Leaf.{Leaf}
 use Rattle.index_tree.specs.Order.{key_rank, of_rank, placed}
@@ -108,8 +109,8 @@ DoesBy (BlockNode ino number) place s t = SetsBlock ino (leaf_at (Block ino numb
 DoesBy (Entry dir name true) place s t = SetsName (dir, name) (leaf_at (Dent dir (r5_of name)) place) s t
 DoesBy (Entry dir name false) place s t = DropsName (dir, name) s t
 DoesBy (Truncation ino size) place s t = CutsBlocks ino size s t
-DoesBy (Unknown ino true) place s t = t ≡ s
-DoesBy (Unknown ino false) place s t = DropsInode ino s t
+DoesBy (Unknown key true) place s t = t ≡ s
+DoesBy (Unknown key false) place s t = DropsInode (key_words key).0 s t
 
 -- what a node makes of them
 abbrev pub Does : JournalNode → Standing → Standing → Type 0
@@ -124,4 +125,4 @@ HasBlockKey node = by node.content
     by (Inode ino linked) = Unit {0}
     by (Entry dir name linked) = Unit {0}
     by (Truncation ino size) = Unit {0}
-    by (Unknown ino linked) = Unit {0}
+    by (Unknown key linked) = Unit {0}

@@ -37,7 +37,7 @@ NotesBy (Entry dir name true) place s t = NotesName (dir, name) (leaf_at (Dent d
 NotesBy (Entry dir name false) place s t = t ≡ s
 NotesBy (Block ino number) place s t = t ≡ s
 NotesBy (Truncation ino size) place s t = t ≡ s
-NotesBy (Unknown ino linked) place s t = t ≡ s
+NotesBy (Unknown key linked) place s t = t ≡ s
 
 -- what is kept of a leaf
 abbrev pub Notes : JournalNode → Standing → Standing → Type 0

@@ -19,7 +19,7 @@ key_told (Block ino number) = Some (BlockKey ino number)
 key_told (Entry dir name true) = Some (Dent dir (r5_of name))
 key_told (Entry dir name false) = None
 key_told (Truncation ino size) = None
-key_told (Unknown ino linked) = None
+key_told (Unknown key linked) = None
 
 -- whether a node sets this inode, this block, or this name
 abbrev pub is_inode_told : ℕ → NodeContent → Bool
@@ -41,7 +41,7 @@ is_same_told (Block ino number) other = is_block_told ino number other
 is_same_told (Entry dir name true) other = is_name_told dir name other
 is_same_told (Entry dir name false) other = false
 is_same_told (Truncation ino size) other = false
-is_same_told (Unknown ino linked) other = false
+is_same_told (Unknown key linked) other = false
 
 -- whether a node makes this leaf
 abbrev pub is_at_leaf : Leaf → JournalNode → Bool

@@ -10,6 +10,7 @@ ghost use Rattle.log_replay.specs.Standing.{leaf_at};
 
 use crate::index_calls::{put, take};
 use crate::standing::Standing;
+use crate::thing::number_of;
 use fs_model::OrderedName;
 use index_tree::Leaf;
 use journal_scan::{JournalNode, NodeContent};
@@ -67,8 +68,8 @@ pub(crate) fn apply(alloc: Global, standing: &mut Standing, node: JournalNode) -
             Ok(())
         }
         NodeContent::Unknown { linked: true, .. } => Ok(()),
-        NodeContent::Unknown { ino, linked: false } => {
-            drop_inode(standing, ino);
+        NodeContent::Unknown { key, linked: false } => {
+            drop_inode(standing, number_of(&key));
             Ok(())
         }
     }

@@ -2,7 +2,6 @@
 
 ghost use Rattle.std.specs.Prelude.{◌≡◌, ◌+◌, ◌≤◌, length, map, IfOk};
 ghost use Rattle.std.specs.List.{AllByRecursion};
-ghost use Rattle.ubifs_base.specs.Key.{key_words};
 ghost use Rattle.index_tree.specs.Shape.{contents, shape_weight};
 ghost use Rattle.index_tree.specs.Tree.{shape};
 ghost use Rattle.leaf_map.specs.Parts.{Parts};
@@ -28,10 +27,11 @@ use crate::read_leaf::ReadLeaf;
 use crate::reading::read_leaves;
 use crate::replayed::Replayed;
 use crate::settling::{drop_owned, settle};
+use crate::thing::number_of;
 use index_tree::Index;
 use journal_scan::{BudText, JournalNode, read_journal};
 use std::alloc::Global;
-use ubifs_base::{Key, Memory};
+use ubifs_base::Memory;
 
 /// The index after the nodes of the journal and without the orphans that are listed and have no links, given the index of
 /// the leaves that were found, what is said of each of these in order, and the nodes in order of number. `Memory` consumes
@@ -93,15 +93,6 @@ fn highest_of(leaves: &[CommittedLeaf]) -> u32
         most = most.max(number_of(&leaf.leaf.key));
     }
     most
-}
-
-fn number_of(key: &Key) -> u32
-    ensures { result ≡ (key_words key.now).0 }
-{
-    match *key {
-        Key::Ino { ino } | Key::Block { ino, .. } | Key::Xent { ino, .. } => ino,
-        Key::Dent { dir, .. } => dir,
-    }
 }
 
 // The leaves where they are found, and those of them that may stand at their copies after all.

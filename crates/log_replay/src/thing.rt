@@ -1,6 +1,7 @@
 // Which leaf a node makes.
 
 ghost use Rattle.std.specs.Prelude.{◌≡◌};
+ghost use Rattle.ubifs_base.specs.Key.{key_words};
 ghost use Rattle.index_tree.specs.Order.{key_rank};
 ghost use Rattle.index_tree.specs.Removal.{same_leaf};
 ghost use Rattle.fs_model.specs.Path.{is_same_name};
@@ -26,6 +27,16 @@ pub(crate) fn rank(key: &Key) -> u128
         Key::Block { ino, block } => ino as u128 * FIRST + KIND + block as u128,
         Key::Dent { dir, hash } => dir as u128 * FIRST + 2 * KIND + hash as u128,
         Key::Xent { ino, hash } => ino as u128 * FIRST + 3 * KIND + hash as u128,
+    }
+}
+
+// The inode number of a key.
+pub(crate) fn number_of(key: &Key) -> u32
+    ensures { result ≡ (key_words key.now).0 }
+{
+    match *key {
+        Key::Ino { ino } | Key::Block { ino, .. } | Key::Xent { ino, .. } => ino,
+        Key::Dent { dir, .. } => dir,
     }
 }
 
