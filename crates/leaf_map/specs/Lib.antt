@@ -5,6 +5,7 @@ pub mod InOrder
 pub mod Kept
 pub mod LastChange
 pub mod LeafMap
+pub mod Lost
 pub mod Parts
 pub mod Recovered
 pub mod Shown

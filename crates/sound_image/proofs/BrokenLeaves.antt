@@ -12,11 +12,12 @@ use Rattle.small_areas.specs.MasterLaws.{OneNode, OneText}
 use Rattle.index_tree.specs.Shape.{contents as leaves_in}
 use Rattle.index_tree.specs.declared.leaf.Leaf.{Leaf}
 use Rattle.index_media.specs.PlacedRow.{are_disjoint, branch_to, is_apart, node_end, plain, stretch_of}
+use Rattle.leaf_map.specs.Lost.{missing_leaves}
 use Rattle.leaf_map.specs.Parts.{Committed, Parts}
 use Rattle.sound_image.specs.Breaches.{IsBrokenLeaf}
 use Rattle.sound_image.specs.Image.{Image, parts_of}
 use Rattle.sound_image.specs.LeafBreaches.{IsWrongLeaf}
-use Rattle.sound_image.specs.Leaves.{HasLeaves, IsSoundLeaf, leaves_recovered, missing_leaves}
+use Rattle.sound_image.specs.Leaves.{HasLeaves, IsSoundLeaf, leaves_recovered}
 use Rattle.sound_image.specs.Wrong.{Wrong}
 use Rattle.sound_image.proofs.Lists.{all_at, none_of, test_at, two_true}
 use Rattle.sound_image.proofs.OneReads.{OneLeaf, one_committed, one_list_of_orphans}

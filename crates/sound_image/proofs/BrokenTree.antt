@@ -18,11 +18,11 @@ use Rattle.fs_model.specs.Proper.{has_kind, same_kind}
 use Rattle.change_nodes.specs.Nodes.{change_of}
 use Rattle.leaf_map.specs.Kept.{Kept, Placed, shown_by}
 use Rattle.leaf_map.specs.LeafMap.{are_apart, shows_same}
+use Rattle.leaf_map.specs.Lost.{empty_names}
 use Rattle.leaf_map.specs.Parts.{Parts}
 use Rattle.leaf_map.specs.Recovered.{recovered_of, tree_found}
 use Rattle.leaf_map.specs.Shown.{inodes_of, with_inode}
 use Rattle.sound_image.specs.Breaches.{IsCommittedTwice, IsWrongInTree, IsWrongLink, IsWrongNode, IsWrongThere, is_misfit}
-use Rattle.sound_image.specs.Leaves.{empty_names}
 use Rattle.sound_image.specs.Tree.{HasLinks, HasTree, IsCopy, ShowsItsNode, has_its_links, is_in_place, is_named_well}
 use Rattle.sound_image.specs.Wrong.{IsOneOf, Wrong}
 use Rattle.sound_image.proofs.Lists.{all_at, each_at, none_of, one_more, test_at, two_true}

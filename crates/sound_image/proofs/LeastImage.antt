@@ -30,10 +30,11 @@ use Rattle.bud_log.specs.LogText.{LogText}
 use Rattle.change_nodes.specs.Nodes.{change_of}
 use Rattle.leaf_map.specs.Kept.{Placed}
 use Rattle.leaf_map.specs.SpaceFound.{space_found}
+use Rattle.leaf_map.specs.Lost.{missing_leaves}
 use Rattle.leaf_map.specs.Recovered.{tree_found}
 use Rattle.sound_image.specs.Image.{Image, named_by, parts_of}
 use Rattle.sound_image.specs.Index.{HasIndex}
-use Rattle.sound_image.specs.Leaves.{HasItsNode, HasLeaves, IsPlacedIn, IsSoundLeaf, leaves_recovered, missing_leaves}
+use Rattle.sound_image.specs.Leaves.{HasItsNode, HasLeaves, IsPlacedIn, IsSoundLeaf, leaves_recovered}
 use Rattle.sound_image.specs.OrphanLists.{HasOrphanNodes}
 use Rattle.sound_image.specs.Properties.{is_marked_index, is_unmarked, prop_of}
 use Rattle.sound_image.specs.Space.{committed_bytes}

@@ -14,11 +14,12 @@ use Rattle.fs_model.specs.declared.inode.Inode.{Inode}
 use Rattle.fs_model.specs.Files.{inode_at}
 use Rattle.leaf_map.specs.Kept.{Kept, shown_by}
 use Rattle.leaf_map.specs.LeafMap.{shows_same}
+use Rattle.leaf_map.specs.Lost.{empty_names, missing_leaves}
 use Rattle.leaf_map.specs.Parts.{Parts}
 use Rattle.leaf_map.specs.Recovered.{leaves_found, recovered_of, tree_found}
 use Rattle.sound_image.specs.Breaches.{IsFirstBreach, IsWrongInTree, is_misfit, number_of}
 use Rattle.sound_image.specs.Image.{Image, parts_of}
-use Rattle.sound_image.specs.Leaves.{HasItsNode, HasLeaves, IsSoundLeaf, empty_names, leaves_recovered, missing_leaves}
+use Rattle.sound_image.specs.Leaves.{HasItsNode, HasLeaves, IsSoundLeaf, leaves_recovered}
 use Rattle.sound_image.specs.OrphanLists.{HasOrphanLists}
 use Rattle.sound_image.specs.Rules.{MeetsBefore}
 use Rattle.sound_image.specs.Worked.{HasRootFile, file_placed, least_geometry, least_image, least_master, least_props, root_leaf}

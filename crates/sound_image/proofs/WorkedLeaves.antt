@@ -16,12 +16,13 @@ use Rattle.index_tree.specs.declared.leaf.Leaf.{Leaf}
 use Rattle.index_media.specs.PlacedRow.{branch_to}
 use Rattle.index_media.specs.Stored.{IsIndexNodeAt}
 use Rattle.leaf_map.specs.Kept.{Placed}
+use Rattle.leaf_map.specs.Lost.{missing_leaves}
 use Rattle.sound_image.specs.Breaches.{IsFirstBreach}
 use Rattle.sound_image.specs.Frames.{IsKnownAt}
 use Rattle.sound_image.specs.Image.{Image, parts_of}
 use Rattle.sound_image.specs.IndexBreaches.{IsWanted, LacksIndexNode, NodeWanted, index_misfit, root_wanted}
 use Rattle.sound_image.specs.LeafBreaches.{HasLeafNodeOf, IsLeafMisfit, IsWrongLeaf}
-use Rattle.sound_image.specs.Leaves.{IsPlaceOf, IsPlacedIn, IsSoundLeaf, leaves_recovered, missing_leaves}
+use Rattle.sound_image.specs.Leaves.{IsPlaceOf, IsPlacedIn, IsSoundLeaf, leaves_recovered}
 use Rattle.sound_image.specs.Worked.{IsLeastWith, LacksItsLeaf, least_branch, least_geometry, least_image, least_master, least_props, root_leaf, unmarked_props}
 use Rattle.sound_image.specs.Wrong.{IsFirstWrong, Misfit, Wrong, differs, type_byte}
 use Rattle.sound_image.specs.declared.breach.Breach.TheVariants.{Damaged}

@@ -25,12 +25,13 @@ use Rattle.fs_model.specs.declared.inode.Kind.TheVariants.{Dir, File}
 use Rattle.fs_model.specs.Proper.{names_of}
 use Rattle.change_nodes.specs.Nodes.{change_of, inode_of}
 use Rattle.leaf_map.specs.Kept.{Kept, Placed, shown_by}
+use Rattle.leaf_map.specs.Lost.{missing_leaves}
 use Rattle.leaf_map.specs.Parts.{Parts}
 use Rattle.leaf_map.specs.Recovered.{recovered_of, tree_found}
 use Rattle.sound_image.specs.Breaches.{IsFirstBreach, IsWrongLink}
 use Rattle.sound_image.specs.Image.{Image, parts_of}
 use Rattle.sound_image.specs.Index.{HasIndex}
-use Rattle.sound_image.specs.Leaves.{HasItsNode, HasLeaves, IsSoundLeaf, leaves_recovered, missing_leaves}
+use Rattle.sound_image.specs.Leaves.{HasItsNode, HasLeaves, IsSoundLeaf, leaves_recovered}
 use Rattle.sound_image.specs.Properties.{is_marked_index, prop_of}
 use Rattle.sound_image.specs.Rules.{MeetsBefore}
 use Rattle.sound_image.specs.Space.{committed_bytes}

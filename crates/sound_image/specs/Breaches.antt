@@ -43,6 +43,7 @@ use Rattle.fs_model.specs.Files.{Tree, inode_at}
 use Rattle.fs_model.specs.Proper.{has_kind, names_of}
 use Rattle.leaf_map.specs.Kept.{Kept, Placed, node_key, shown_by}
 use Rattle.leaf_map.specs.LeafMap.{shows_same}
+use Rattle.leaf_map.specs.Lost.{empty_names}
 use Rattle.leaf_map.specs.Parts.{Committed, Parts}
 use Rattle.leaf_map.specs.Recovered.{leaves_found, recovered_of, tree_found}
 use Rattle.sound_image.specs.Buds.{MayStandInBud}
@@ -50,7 +51,7 @@ use Rattle.sound_image.specs.Frames.{NeedsFeature}
 use Rattle.sound_image.specs.Image.{Image, parts_of}
 use Rattle.sound_image.specs.IndexBreaches.{IsWrongIndex}
 use Rattle.sound_image.specs.LeafBreaches.{IsWrongLeaf}
-use Rattle.sound_image.specs.Leaves.{AreCommitted, empty_names}
+use Rattle.sound_image.specs.Leaves.{AreCommitted}
 use Rattle.sound_image.specs.LogBreaches.{IsBrokenLog}
 use Rattle.sound_image.specs.Properties.{prop_of}
 use Rattle.sound_image.specs.PropertyBreaches.{IsWrongProperty}

@@ -13,9 +13,10 @@ use Rattle.media_sys.specs.declared.feature.Feature.{Feature}
 use Rattle.leb_scan.specs.Text.{leaf_type}
 use Rattle.index_tree.specs.declared.leaf.Leaf.{Leaf}
 use Rattle.index_media.specs.PlacedRow.{branch_to, is_apart, stretch_of}
+use Rattle.leaf_map.specs.Lost.{missing_leaves}
 use Rattle.leaf_map.specs.Parts.{Parts}
 use Rattle.sound_image.specs.Frames.{IsKnownAt, NeedsFeature}
-use Rattle.sound_image.specs.Leaves.{IsSoundLeaf, leaves_recovered, missing_leaves}
+use Rattle.sound_image.specs.Leaves.{IsSoundLeaf, leaves_recovered}
 use Rattle.sound_image.specs.Wrong.{IsOneOf, Misfit, Wrong, differs, needs, type_byte}
 
 -- the type of the nodes of a key

@@ -15,9 +15,9 @@ use Rattle.change_nodes.specs.Nodes.{change_of}
 use Rattle.leaf_map.specs.Allowed.{IsOwnNode}
 use Rattle.leaf_map.specs.Kept.{Kept, Placed, kept_at, shown, shown_by}
 use Rattle.leaf_map.specs.LeafMap.{are_apart}
+use Rattle.leaf_map.specs.Lost.{empty_names}
 use Rattle.leaf_map.specs.Parts.{Parts, is_shown, own_node}
 use Rattle.leaf_map.specs.Recovered.{leaves_found, recovered_of, tree_found}
-use Rattle.sound_image.specs.Leaves.{empty_names}
 
 -- what a leaf is told to be is what stands at its place, and it shows an inode of a known kind, a block or a name
 pub record ShowsItsNode (contents : ℕ → List ℕ) (x : Kept) : Type 0 where
