@@ -1,0 +1,12 @@
+mod AppliedTold
+mod FoundTold
+mod LostTold
+mod MovedTold
+mod Moving
+mod Pairs
+mod Putting
+mod RepeatedTold
+mod Rough
+mod Seeing
+mod Telling
+mod Whole

@@ -1,0 +1,10 @@
+pub mod Applied
+pub mod Found
+pub mod Lost
+pub mod Moved
+pub mod Named
+pub mod Recovery
+pub mod Repeated
+pub mod Seen
+pub mod Things
+pub mod Told

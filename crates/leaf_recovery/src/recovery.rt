@@ -1,0 +1,85 @@
+// What a mount makes of what it has read.
+
+ghost use Rattle.std.specs.Prelude.{◌≡◌, IfOk};
+ghost use Rattle.leaf_map.specs.Parts.{Parts};
+ghost use Rattle.leaf_recovery.specs.Applied.{leaves_left_told};
+ghost use Rattle.leaf_recovery.specs.Recovery.{empty_names_told, missing_told, recovered_told, repeated_told};
+ghost use Rattle.leaf_recovery.specs.Told.{AreTold, IsRecoveredFrom};
+
+use crate::applied::apply_nodes;
+use crate::copies::spare_copies;
+use crate::found::find_leaves;
+use crate::lost::{empty_leaves, spare_names, unnamed_leaves};
+use crate::moved::move_leaves;
+use crate::orphans::drop_listed;
+use crate::recovered_leaf::{RecoveredLeaf, RecoveredLeaves};
+use crate::repeated::repeated_leaves;
+use journal_scan::JournalNode;
+use log_replay::CommittedLeaf;
+use media_sys::RefNode;
+use std::alloc::Global;
+use ubifs_base::Memory;
+
+/// What recovery makes of the committed leaves in order with what stands at the place of each, the references of the log, the nodes
+/// of the journal in order of number, the collector's copies in order of the log, and the list of orphans (Hunter 2008, "The journal";
+/// `ubifs_replay_journal` of Linux fs/ubifs). Nothing is asked of them but that they are told of nodes of the grammar. It takes
+/// memory for a fixed multiple of what is given; the error is want of it. For each node and each copy all leaves are looked at, and
+/// for each leaf all references; where there is no node and no copy, a leaf takes a look-up in a map.
+pub fn recover(
+    alloc: Global,
+    committed: &[CommittedLeaf],
+    references: &[RefNode],
+    nodes: &[JournalNode],
+    copies: &[JournalNode],
+    listed: &[u32],
+) -> Result<RecoveredLeaves, Memory>
+    ensures { IfOk result (λ made. (parts : Parts) → AreTold parts committed.now references.now nodes.now copies.now listed.now → IsRecoveredFrom parts made) }
+{
+    let made = recover_told(alloc, committed, references, nodes, copies, listed)?;
+    Ok(made)
+}
+
+// The same by what is told.
+fn recover_told(
+    alloc: Global,
+    committed: &[CommittedLeaf],
+    references: &[RefNode],
+    nodes: &[JournalNode],
+    copies: &[JournalNode],
+    listed: &[u32],
+) -> Result<RecoveredLeaves, Memory>
+    ensures kept { IfOk result (λ made. made.kept.items ≡ recovered_told references.now committed.now nodes.now copies.now listed.now) }
+    ensures missing { IfOk result (λ made. made.missing.items ≡ missing_told references.now committed.now nodes.now copies.now) }
+    ensures empty { IfOk result (λ made. made.empty.items ≡ empty_names_told references.now committed.now nodes.now copies.now) }
+    ensures repeated { IfOk result (λ made. made.repeated.items ≡ repeated_told references.now committed.now copies.now) }
+{
+    let spare = spare_copies(alloc, references, committed, copies)?;
+    let found = find_leaves(alloc, references, committed, nodes, spare)?;
+    let repeated = repeated_leaves(alloc, found.leaves.as_slice())?;
+    let empty = empty_leaves(alloc, found.lost.as_slice())?;
+    let names = spare_names(alloc, references, committed, found.leaves.as_slice(), nodes)?;
+    let missing = unnamed_leaves(alloc, found.lost.as_slice(), names)?;
+    let left = leaves_left(alloc, found.leaves, nodes, listed)?;
+    let kept = move_leaves(alloc, references, copies, left)?;
+    Ok(RecoveredLeaves {
+        kept,
+        missing,
+        empty,
+        repeated,
+    })
+}
+
+// The leaves after the nodes, without the listed orphans.
+fn leaves_left(
+    alloc: Global,
+    found: Vec<RecoveredLeaf>,
+    nodes: &[JournalNode],
+    listed: &[u32],
+) -> Result<Vec<RecoveredLeaf>, Memory>
+    ensures { IfOk result (λ left. left.items ≡ leaves_left_told found.items nodes.now listed.now) }
+{
+    let mut kept = found;
+    apply_nodes(alloc, &mut kept, nodes)?;
+    drop_listed(&mut kept, listed);
+    Ok(kept)
+}
