@@ -1,0 +1,9 @@
+mod Backwards
+mod Firsts
+mod Levels
+mod PlaceFirst
+mod PlacesRight
+mod SeenLeaves
+mod SeenSoFar
+mod LinkFirst
+mod Trees

@@ -1,0 +1,32 @@
+-- The kinds of the inodes that leaves show.
+use Rattle.std.specs.Prelude.{ℕ, ◌+◌, List, [], ◌∷◌, Option, Some, None, cond}
+use Rattle.std.specs.BTreeMap.{is_at}
+use Rattle.std.specs.Ordering.{nat_cmp}
+use Rattle.fs_model.specs.declared.inode.Kind.{Kind}
+use Rattle.tree_check.specs.declared.shown_leaf.Shown.{Shown}
+use Rattle.tree_check.specs.declared.shown_leaf.Shown.TheVariants.{Inode}
+use Rattle.tree_check.specs.declared.shown_leaf.ShownLeaf.{ShownLeaf}
+
+-- the kind of an inode, if a leaf shows this inode, and else what is said
+abbrev pub with_kind : Shown → ℕ → Option Kind → Option Kind
+with_kind (Inode ino kind links) q other = cond (is_at (nat_cmp ino) q) (Some kind) other
+with_kind shown q other = other
+
+-- the kind that the first of some leaves shows for an inode, and else what is said
+abbrev pub kind_over : List ShownLeaf → ℕ → Option Kind → Option Kind
+kind_over [] q other = other
+kind_over (x ∷ leaves) q other = with_kind x.shown q (kind_over leaves q other)
+
+-- the kind of an inode, if leaves show it
+abbrev pub kind_in : List ShownLeaf → ℕ → Option Kind
+kind_in leaves q = kind_over leaves q None
+
+-- how many inodes a leaf shows
+abbrev pub inode_count : Shown → ℕ
+inode_count (Inode ino kind links) = 1
+inode_count shown = 0
+
+-- how many leaves show an inode
+abbrev pub inodes_in : List ShownLeaf → ℕ
+inodes_in [] = 0
+inodes_in (x ∷ leaves) = inode_count x.shown + inodes_in leaves
