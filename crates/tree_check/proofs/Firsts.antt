@@ -6,7 +6,7 @@ use Rattle.sound_image.specs.Wrong.{IsOneOf, Wrong}
 use Rattle.image_check.specs.WrongValues.{IsFirstOf, sooner_of, wrong_at}
 use Rattle.image_check.specs.FirstLaws.{first_alone, first_of_both, first_same}
 use Rattle.image_check.specs.declared.wrong_value.WrongValue.{WrongValue}
-use Rattle.tree_check.specs.LinkFindings.{first_of}
+use Rattle.tree_check.specs.LinkFindings.{soonest_of}
 use Rattle.tree_check.specs.Told.{AreShownBy, IsShownBy}
 use Rattle.tree_check.specs.declared.shown_leaf.ShownLeaf.{ShownLeaf}
 
@@ -72,11 +72,11 @@ own_first : (w : Option WrongValue) → IsFirstOf (IsOwn w) w
 own_first None = λ at own. let e = own.1 in absurd cc
 own_first (Some d) = first_alone (IsOwn (Some d)) d (d, refl, refl) (λ at own. let e = own.1 in let same : own.0 ≡ d = cc in own.2 ∙ ap wrong_at same)
 
-pub first_over : (wrongs : List (Option WrongValue)) (now : Option WrongValue) (P : Wrong → Type 0) → IsFirstOf P now → IsFirstOf (λ at. P at ⊎ IsFoundAmong wrongs at) (first_of now wrongs)
+pub first_over : (wrongs : List (Option WrongValue)) (now : Option WrongValue) (P : Wrong → Type 0) → IsFirstOf P now → IsFirstOf (λ at. P at ⊎ IsFoundAmong wrongs at) (soonest_of now wrongs)
 first_over [] now P h = first_same P (λ at. P at ⊎ IsFoundAmong [] at) now (λ at p. inl p) (λ at k. elim k [ inl p ↦ p | inr found ↦ absurd (none_of (Some found.0) found.1) ]) h
 first_over (w ∷ wrongs) now P h =
     let Q : Wrong → Type 0 = λ at. P at ⊎ IsOwn w at in
-    first_same (λ at. Q at ⊎ IsFoundAmong wrongs at) (λ at. P at ⊎ IsFoundAmong (w ∷ wrongs) at) (first_of (sooner_of now w) wrongs)
+    first_same (λ at. Q at ⊎ IsFoundAmong wrongs at) (λ at. P at ⊎ IsFoundAmong (w ∷ wrongs) at) (soonest_of (sooner_of now w) wrongs)
     (λ at k. elim k [
       | inl front ↦ elim front [ inl p ↦ inl p | inr own ↦ inr (own.0, ([], wrongs, ap (λ (z : Option WrongValue). z ∷ wrongs) own.1), own.2) ]
       | inr found ↦ inr (found.0, one_more (Some found.0) w wrongs found.1, found.2)

@@ -4,23 +4,16 @@ use Rattle.std.specs.Prelude.{◌==◌, ◌||◌, ◌&&◌, not, map, cond}
 use Rattle.std.specs.List.{list_any}
 use Rattle.std.proofs.lemmas.Bool.{and_parts, and_from, cases_Bool, eq-eqb, eqb-true, not_from_false, or_cases, or_left, or_right}
 use Rattle.tree_check.specs.declared.link.Link.{Link}
-use Rattle.tree_check.specs.Reach.{children_in, mem, reaches}
+use Rattle.tree_check.specs.Reach.{inodes_below, mem, reaches}
+use Rattle.tree_check.proofs.TestLaws.{eqb_swap, same_tests}
 
 -- so many steps reach these; an entry of one that is reached leads to one that is, or its directory is of the last level; and all of that are reached
 pub record IsLevel (links : List Link) (steps : ℕ) (reached : ℕ → Bool) (level : List ℕ) : Type 0 where
   pub exact : (q : ℕ) → reached q ≡ reaches links steps q
-  pub closed : (d q : ℕ) → reached d ≡ true → mem q (children_in links d) ≡ true → (reached q ≡ true) ⊎ (mem d level ≡ true)
+  pub closed : (d q : ℕ) → reached d ≡ true → mem q (inodes_below links d) ≡ true → (reached q ≡ true) ⊎ (mem d level ≡ true)
   pub inside : (q : ℕ) → mem q level ≡ true → reached q ≡ true
 
 -- ---- tests
-same_bools : (a b : Bool) → (a ≡ true → b ≡ true) → (b ≡ true → a ≡ true) → a ≡ b
-same_bools true b h k = sym (h refl)
-same_bools false true h k = k refl
-same_bools false false h k = refl
-
-pub eqb_swap : (a b : ℕ) → (a == b) ≡ (b == a)
-eqb_swap a b = same_bools (a == b) (b == a) (λ e. eq-eqb b a (sym (eqb-true a b e))) (λ e. eq-eqb a b (sym (eqb-true b a e)))
-
 pub any_weaken : {X : Type 0} (p q : X → Bool) → ((x : X) → p x ≡ true → q x ≡ true) → (xs : List X) → list_any p xs ≡ true → list_any q xs ≡ true
 any_weaken p q h [] e = absurd cc
 any_weaken p q h (x ∷ xs) e = elim (or_cases (p x) (list_any p xs) e) [
@@ -44,27 +37,27 @@ any_one p (y ∷ xs) e = elim (or_cases (p y) (list_any p xs) e) [
 ]
 
 -- ---- entries that lead to an inode
-child_more : (l : Link) (links : List Link) (d q : ℕ) → mem q (children_in links d) ≡ true → mem q (children_in (l ∷ links) d) ≡ true
+child_more : (l : Link) (links : List Link) (d q : ℕ) → mem q (inodes_below links d) ≡ true → mem q (inodes_below (l ∷ links) d) ≡ true
 child_more l links d q h = by (l.dir == d)
   where
     by : (b : Bool) → mem q (map (λ (link : Link). link.ino) (cond b (l ∷ filter (λ link. link.dir == d) links) (filter (λ link. link.dir == d) links))) ≡ true
-    by true = or_right (l.ino == q) (mem q (children_in links d)) h
+    by true = or_right (l.ino == q) (mem q (inodes_below links d)) h
     by false = h
 
-child_here : (l : Link) (links : List Link) (q : ℕ) → l.ino ≡ q → mem q (children_in (l ∷ links) l.dir) ≡ true
+child_here : (l : Link) (links : List Link) (q : ℕ) → l.ino ≡ q → mem q (inodes_below (l ∷ links) l.dir) ≡ true
 child_here l links q e =
     let P : Bool → Type 0 = λ b. mem q (map (λ (link : Link). link.ino) (cond b (l ∷ filter (λ link. link.dir == l.dir) links) (filter (λ link. link.dir == l.dir) links))) ≡ true in
-    subst P (sym (eq-eqb l.dir l.dir refl)) (or_left (l.ino == q) (mem q (children_in links l.dir)) (eq-eqb l.ino q e))
+    subst P (sym (eq-eqb l.dir l.dir refl)) (or_left (l.ino == q) (mem q (inodes_below links l.dir)) (eq-eqb l.ino q e))
 
-pub edge_in : (p : ℕ → Bool) (links : List Link) (q : ℕ) → list_any (λ link. p link.dir) (filter (λ link. link.ino == q) links) ≡ true → (d : ℕ) × (mem q (children_in links d) ≡ true) × (p d ≡ true)
+pub edge_in : (p : ℕ → Bool) (links : List Link) (q : ℕ) → list_any (λ link. p link.dir) (filter (λ link. link.ino == q) links) ≡ true → (d : ℕ) × (mem q (inodes_below links d) ≡ true) × (p d ≡ true)
 edge_in p [] q e = absurd cc
 edge_in p (l ∷ links) q e = by (edge_in p links q) (l.ino == q) refl e
   where
-    more : ((d : ℕ) × (mem q (children_in links d) ≡ true) × (p d ≡ true)) → (d : ℕ) × (mem q (children_in (l ∷ links) d) ≡ true) × (p d ≡ true)
+    more : ((d : ℕ) × (mem q (inodes_below links d) ≡ true) × (p d ≡ true)) → (d : ℕ) × (mem q (inodes_below (l ∷ links) d) ≡ true) × (p d ≡ true)
     more r = (r.0, child_more l links r.0 q r.1, r.2)
 
-    by : (list_any (λ link. p link.dir) (filter (λ link. link.ino == q) links) ≡ true → (d : ℕ) × (mem q (children_in links d) ≡ true) × (p d ≡ true)) → (b : Bool) → (l.ino == q) ≡ b
-        → list_any (λ (link : Link). p link.dir) (cond b (l ∷ filter (λ link. link.ino == q) links) (filter (λ link. link.ino == q) links)) ≡ true → (d : ℕ) × (mem q (children_in (l ∷ links) d) ≡ true) × (p d ≡ true)
+    by : (list_any (λ link. p link.dir) (filter (λ link. link.ino == q) links) ≡ true → (d : ℕ) × (mem q (inodes_below links d) ≡ true) × (p d ≡ true)) → (b : Bool) → (l.ino == q) ≡ b
+        → list_any (λ (link : Link). p link.dir) (cond b (l ∷ filter (λ link. link.ino == q) links) (filter (λ link. link.ino == q) links)) ≡ true → (d : ℕ) × (mem q (inodes_below (l ∷ links) d) ≡ true) × (p d ≡ true)
     by rec true f k = elim (or_cases (p l.dir) (list_any (λ (link : Link). p link.dir) (filter (λ link. link.ino == q) links)) k) [
       | inl here ↦ (l.dir, child_here l links q (eqb-true l.ino q f), here)
       | inr rest ↦ more (rec rest)
@@ -83,14 +76,14 @@ above_here p l links q e h =
     let P : Bool → Type 0 = λ b. list_any (λ (link : Link). p link.dir) (cond b (l ∷ filter (λ link. link.ino == q) links) (filter (λ link. link.ino == q) links)) ≡ true in
     subst P (sym (eq-eqb l.ino q e)) (or_left (p l.dir) (list_any (λ (link : Link). p link.dir) (filter (λ link. link.ino == q) links)) h)
 
-pub edge_out : (p : ℕ → Bool) (links : List Link) (d q : ℕ) → mem q (children_in links d) ≡ true → p d ≡ true → list_any (λ link. p link.dir) (filter (λ link. link.ino == q) links) ≡ true
+pub edge_out : (p : ℕ → Bool) (links : List Link) (d q : ℕ) → mem q (inodes_below links d) ≡ true → p d ≡ true → list_any (λ link. p link.dir) (filter (λ link. link.ino == q) links) ≡ true
 edge_out p [] d q e h = absurd cc
 edge_out p (l ∷ links) d q e h = by (λ k. edge_out p links d q k h) (l.dir == d) refl e
   where
-    by : (mem q (children_in links d) ≡ true → list_any (λ link. p link.dir) (filter (λ link. link.ino == q) links) ≡ true) → (b : Bool) → (l.dir == d) ≡ b
+    by : (mem q (inodes_below links d) ≡ true → list_any (λ link. p link.dir) (filter (λ link. link.ino == q) links) ≡ true) → (b : Bool) → (l.dir == d) ≡ b
         → mem q (map (λ (link : Link). link.ino) (cond b (l ∷ filter (λ link. link.dir == d) links) (filter (λ link. link.dir == d) links))) ≡ true
         → list_any (λ link. p link.dir) (filter (λ link. link.ino == q) (l ∷ links)) ≡ true
-    by rec true f k = elim (or_cases (l.ino == q) (mem q (children_in links d)) k) [
+    by rec true f k = elim (or_cases (l.ino == q) (mem q (inodes_below links d)) k) [
       | inl here ↦ above_here p l links q (eqb-true l.ino q here) (subst (λ z. p z ≡ true) (sym (eqb-true l.dir d f)) h)
       | inr rest ↦ above_more p l links q (rec rest)
     ]
@@ -129,10 +122,10 @@ level_start links was reached level none r l = record {
     root : (q : ℕ) → reached q ≡ (q == 1)
     root q = whole q ∙ eqb_swap 1 q
 
-pub level_next : (links : List Link) (steps : ℕ) (reached new : ℕ → Bool) (children : ℕ → List ℕ) (level next : List ℕ) → ((d : ℕ) → children d ≡ children_in links d) → IsLevel links steps reached level
+pub level_next : (links : List Link) (steps : ℕ) (reached new : ℕ → Bool) (children : ℕ → List ℕ) (level next : List ℕ) → ((d : ℕ) → children d ≡ inodes_below links d) → IsLevel links steps reached level
     → ((q : ℕ) → new q ≡ (reached q || list_any (λ d. mem q (children d)) level)) → ((q : ℕ) → mem q next ≡ (list_any (λ d. mem q (children d)) level && not (reached q))) → IsLevel links (suc steps) new next
 level_next links steps reached new children level next same before r l = record {
-  exact = λ q. same_bools (new q) (reaches links (suc steps) q) (there q) (back q);
+  exact = λ q. same_tests (new q) (reaches links (suc steps) q) (there q) (back q);
   closed = shut;
   inside = λ q h. r q ∙ or_right (reached q) (list_any (λ d. mem q (children d)) level) (and_parts (list_any (λ d. mem q (children d)) level) (not (reached q)) (sym (l q) ∙ h)).0;
 }
@@ -149,7 +142,7 @@ level_next links steps reached new children level next same before r l = record 
     reached_new : (q : ℕ) → reached q ≡ true → new q ≡ true
     reached_new q h = r q ∙ or_left (reached q) (list_any (λ d. mem q (children d)) level) h
 
-    led_new : (d q : ℕ) → mem d level ≡ true → mem q (children_in links d) ≡ true → new q ≡ true
+    led_new : (d q : ℕ) → mem d level ≡ true → mem q (inodes_below links d) ≡ true → new q ≡ true
     led_new d q h k = r q ∙ or_right (reached q) (list_any (λ d. mem q (children d)) level) (one_any (λ d. mem q (children d)) level d h (ap (mem q) (same d) ∙ k))
 
     back : (q : ℕ) → reaches links (suc steps) q ≡ true → new q ≡ true
@@ -160,7 +153,7 @@ level_next links steps reached new children level next same before r l = record 
           elim (before.closed d.0 q (before.exact d.0 ∙ d.2) d.1) [ inl old ↦ reached_new q old | inr last ↦ led_new d.0 q last d.1 ]
     ]
 
-    shut : (d q : ℕ) → new d ≡ true → mem q (children_in links d) ≡ true → (new q ≡ true) ⊎ (mem d next ≡ true)
+    shut : (d q : ℕ) → new d ≡ true → mem q (inodes_below links d) ≡ true → (new q ≡ true) ⊎ (mem d next ≡ true)
     shut d q h k = elim (cases_Bool (reached d)) [
       | inl old ↦ elim (before.closed d q old k) [ inl known ↦ inl (reached_new q known) | inr last ↦ inl (led_new d q last k) ]
       | inr not_yet ↦ elim (or_cases (reached d) (list_any (λ e. mem d (children e)) level) (sym (r d) ∙ h)) [
@@ -183,6 +176,6 @@ settled links steps reached level h none (suc n) q k = by (settled links steps r
     ]
 
 pub level_end : (links : List Link) (steps all : ℕ) (reached : ℕ → Bool) (level : List ℕ) → IsLevel links steps reached level → level ≡ [] → steps ≤ all → (q : ℕ) → reached q ≡ reaches links all q
-level_end links steps all reached level h none le q = same_bools (reached q) (reaches links all q)
+level_end links steps all reached level h none le q = same_tests (reached q) (reaches links all q)
     (λ e. let n : (all - steps) + steps ≡ all = omega (arith, le) in subst (λ m. reaches links m q ≡ true) n (steps_up links (all - steps) steps q (sym (h.exact q) ∙ e)))
     (settled links steps reached level h none all q)

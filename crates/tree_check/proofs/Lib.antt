@@ -1,9 +1,11 @@
 mod Backwards
 mod Firsts
 mod Levels
+mod LinkFirst
 mod PlaceFirst
 mod PlacesRight
-mod SeenLeaves
+mod SeenMore
 mod SeenSoFar
-mod LinkFirst
+mod Telling
+mod TestLaws
 mod Trees

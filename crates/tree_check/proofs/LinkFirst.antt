@@ -1,6 +1,6 @@
 -- The first inode whose links are wrong.
 use Rattle.std.proofs.Common.{◌≡◌, ◌⊎◌, ℕ, Bool, true, false, List, [], ◌∷◌, length, Option, Some, None, refl, sym, ap, subst, ◌∙◌, inl, inr}
-use Rattle.std.specs.Prelude.{◌||◌, ◌&&◌, ◌==◌, nat_lt, map, if◌then◌else◌}
+use Rattle.std.specs.Prelude.{◌||◌, ◌&&◌, ◌==◌, nat_lt, map, if◌then◌else◌, IfSome}
 use Rattle.std.specs.List.{list_all}
 use Rattle.std.proofs.lemmas.Bool.{and_from, cases_Bool}
 use Rattle.fs_model.specs.declared.change.Change.{Change}
@@ -20,11 +20,12 @@ use Rattle.image_check.specs.declared.wrong_value.WrongValue.{WrongValue}
 use Rattle.tree_check.specs.declared.shown_leaf.Shown.{Shown}
 use Rattle.tree_check.specs.declared.shown_leaf.Shown.TheVariants as shows
 use Rattle.tree_check.specs.declared.shown_leaf.ShownLeaf.{ShownLeaf}
-use Rattle.tree_check.specs.LinkFindings.{are_right, first_of, link_wrong, wrong_link}
-use Rattle.tree_check.specs.Links.{count_to, links_in}
-use Rattle.tree_check.specs.Told.{AreShownBy, IsShownBy, told}
+use Rattle.tree_check.specs.LinkFindings.{are_right, soonest_of, link_wrong, wrong_link}
+use Rattle.tree_check.specs.Links.{count_to, links_shown}
+use Rattle.tree_check.specs.Told.{AreShownBy, IsShownBy, shown_told}
 use Rattle.tree_check.proofs.Firsts.{IsFoundAmong, first_over, kept_of, map_one, one_map, one_more, told_of}
-use Rattle.tree_check.proofs.Trees.{as_told, names_told}
+use Rattle.tree_check.proofs.TestLaws.{told_all}
+use Rattle.tree_check.proofs.Trees.{names_told}
 
 -- what is wrong at a leaf
 abbrev at_link : Tree → Kept → ℕ → Inode → Wrong
@@ -43,9 +44,11 @@ same_place tree names same x leaf h ino inode = rw (same ino, h.lnum, h.offs) re
 link_told : (tree : Tree) (names : ℕ → ℕ) → ((q : ℕ) → names q ≡ length (names_of tree q)) → (x : Kept) (leaf : ShownLeaf) → IsShownBy x leaf → (ino : ℕ) (inode : Inode) → shown_by x ≡ Some (SetInode ino inode) → has_its_links tree (ino, inode) ≡ false
     → wrong_link names leaf ≡ Some (place names leaf ino inode)
 link_told tree names same x leaf h ino inode shown other =
-    let e : told (Some (SetInode ino inode)) ≡ Some leaf.shown = subst (λ c. told c ≡ Some leaf.shown) shown h.shown in
-    as_told (λ t. link_wrong names leaf t ≡ Some (place names leaf ino inode)) (shows.Inode ino inode.kind inode.nlink) leaf.shown e
-    (let wrong = same_right tree names same ino inode ∙ other in ap (λ b. if b then None else Some (place names leaf ino inode)) wrong)
+    let e : shown_told (Some (SetInode ino inode)) ≡ Some leaf.shown = subst (λ c. shown_told c ≡ Some leaf.shown) shown h.shown in
+    let P : Shown → Type 0 = λ t. link_wrong names leaf t ≡ Some (place names leaf ino inode) in
+    let wrong = same_right tree names same ino inode ∙ other in
+    let is : shows.Inode ino inode.kind inode.nlink ≡ leaf.shown = cc in
+    subst P is (ap (λ b. if b then None else Some (place names leaf ino inode)) wrong)
 
 -- ---- and back
 pub record IsLinkAt (tree : Tree) (x : Kept) (names : ℕ → ℕ) (leaf : ShownLeaf) (d : WrongValue) : Type 0 where
@@ -56,27 +59,23 @@ pub record IsLinkAt (tree : Tree) (x : Kept) (names : ℕ → ℕ) (leaf : Shown
   is : d ≡ place names leaf ino inode
 
 link_back : (tree : Tree) (names : ℕ → ℕ) → ((q : ℕ) → names q ≡ length (names_of tree q)) → (x : Kept) (leaf : ShownLeaf) (d : WrongValue) → IsShownBy x leaf → wrong_link names leaf ≡ Some d → IsLinkAt tree x names leaf d
-link_back tree names same x leaf d h wrong = by (shown_by x) refl leaf.shown h.shown wrong
+link_back tree names same x leaf d h wrong = told_all (λ c s. shown_by x ≡ c → link_wrong names leaf s ≡ Some d → IsLinkAt tree x names leaf d) all (shown_by x) leaf.shown h.shown refl wrong
   where
     test : (ino : ℕ) (inode : Inode) → shown_by x ≡ Some (SetInode ino inode) → (b : Bool) → are_right inode.kind inode.nlink (names ino) ≡ b → (if b then None else Some (place names leaf ino inode)) ≡ Some d → IsLinkAt tree x names leaf d
     test ino inode shown true e k = absurd cc
     test ino inode shown false e k = let same_d : d ≡ place names leaf ino inode = cc in record { ino = ino; inode = inode; shows = shown; other = sym (same_right tree names same ino inode) ∙ e; is = same_d }
 
-    by : (c : Option Change) → shown_by x ≡ c → (s : Shown) → told c ≡ Some s → link_wrong names leaf s ≡ Some d → IsLinkAt tree x names leaf d
-    by (Some (SetInode ino inode)) shown s e = as_told (λ t. link_wrong names leaf t ≡ Some d → IsLinkAt tree x names leaf d) (shows.Inode ino inode.kind inode.nlink) s e (test ino inode shown (are_right inode.kind inode.nlink (names ino)) refl)
-    by None shown s e = as_told (λ t. link_wrong names leaf t ≡ Some d → IsLinkAt tree x names leaf d) shows.Nothing s e (λ k. absurd cc)
-    by (Some (SetBlock ino number bytes)) shown s e = as_told (λ t. link_wrong names leaf t ≡ Some d → IsLinkAt tree x names leaf d) (shows.Block ino number) s e (λ k. absurd cc)
-    by (Some (SetEntry n)) shown s e = as_told (λ t. link_wrong names leaf t ≡ Some d → IsLinkAt tree x names leaf d) (shows.Entry n.dir n.name n.ino n.kind) s e (λ k. absurd cc)
-    by (Some (DropEntry dir name)) shown s e = as_told (λ t. link_wrong names leaf t ≡ Some d → IsLinkAt tree x names leaf d) (shows.Deletion dir name) s e (λ k. absurd cc)
-    by (Some (CutBlocks ino old_size new_size)) shown s e = as_told (λ t. link_wrong names leaf t ≡ Some d → IsLinkAt tree x names leaf d) (shows.Truncation ino new_size) s e (λ k. absurd cc)
-    by (Some (DropInode ino)) shown s e = absurd cc
+    all : (c : Option Change) → IfSome (shown_told c) (λ s. shown_by x ≡ c → link_wrong names leaf s ≡ Some d → IsLinkAt tree x names leaf d)
+    all (Some (SetInode ino inode)) = λ shown k. test ino inode shown (are_right inode.kind inode.nlink (names ino)) refl k
+    all (Some (DropInode ino)) = tt
+    all c = λ shown k. absurd cc
 
 -- ---- the first of them
-pub link_first : (leaves : List ShownLeaf) (names : ℕ → ℕ) → ((q : ℕ) → names q ≡ count_to (links_in leaves) q) → (kept : List Kept) (highest : ℕ) → AreShownBy kept leaves
-    → IsFirstOf (IsWrongLinkOf kept (tree_of kept highest)) (first_of None (map (wrong_link names) leaves))
+pub link_first : (leaves : List ShownLeaf) (names : ℕ → ℕ) → ((q : ℕ) → names q ≡ count_to (links_shown leaves) q) → (kept : List Kept) (highest : ℕ) → AreShownBy kept leaves
+    → IsFirstOf (IsWrongLinkOf kept (tree_of kept highest)) (soonest_of None (map (wrong_link names) leaves))
 link_first leaves names counted kept highest h =
     let tree = tree_of kept highest in
-    first_same (λ at. ⊥ ⊎ IsFoundAmong (map (wrong_link names) leaves) at) (IsWrongLinkOf kept tree) (first_of None (map (wrong_link names) leaves)) to from
+    first_same (λ at. ⊥ ⊎ IsFoundAmong (map (wrong_link names) leaves) at) (IsWrongLinkOf kept tree) (soonest_of None (map (wrong_link names) leaves)) to from
     (first_over (map (wrong_link names) leaves) None (λ at. ⊥) (λ at none. none))
   where
     same : (q : ℕ) → names q ≡ length (names_of (tree_of kept highest) q)

@@ -25,43 +25,40 @@ use Rattle.image_check.specs.declared.wrong_value.WrongValue.{WrongValue}
 use Rattle.tree_check.specs.declared.shown_leaf.Shown.{Shown}
 use Rattle.tree_check.specs.declared.shown_leaf.ShownLeaf.{ShownLeaf}
 use Rattle.tree_check.specs.Facts.{AreFactsOf, Facts, is_kind, is_misplaced}
-use Rattle.tree_check.specs.Kinds.{inodes_in}
-use Rattle.tree_check.specs.LinkFindings.{first_of}
-use Rattle.tree_check.specs.Places.{IsWrongPlace, is_wrong_behind, number_shown, place_of, wrong_if, wrong_root, wrongs_behind}
+use Rattle.tree_check.specs.Kinds.{inodes_shown}
+use Rattle.tree_check.specs.LinkFindings.{soonest_of}
+use Rattle.tree_check.specs.Places.{IsOutOfPlaceAt, is_wrong_behind, number_shown, misplaced_at, wrong_if, wrong_root, wrongs_behind}
 use Rattle.tree_check.specs.Seen.{cuts_block, same_block, same_inode, same_name, same_told}
-use Rattle.tree_check.specs.Told.{AreShownBy, IsShownBy, told}
+use Rattle.tree_check.specs.Told.{AreShownBy, IsShownBy, shown_told}
 use Rattle.tree_check.proofs.Firsts.{IsFoundAmong, first_over, head_or, none_of, one_more}
+use Rattle.tree_check.proofs.TestLaws.{told_all}
 use Rattle.tree_check.proofs.Trees.{climbs_told, has_kind_told, inodes_told, kinds_told, names_told}
 
--- ---- what holds of each change holds of what is told
-pub told_all : (P : Option Change → Shown → Type 0) → ((c : Option Change) → IfSome (told c) (P c)) → (c : Option Change) (s : Shown) → told c ≡ Some s → P c s
-told_all P all c s e = subst (λ (o : Option Shown). IfSome o (P c)) e (all c)
-
 -- ---- the same is shown
-goes_inode : (ino : ℕ) (inode : Inode) (c : Option Change) → IfSome (told c) (λ s. goes (SetInode ino inode) c ≡ same_inode ino s)
+goes_inode : (ino : ℕ) (inode : Inode) (c : Option Change) → IfSome (shown_told c) (λ s. goes (SetInode ino inode) c ≡ same_inode ino s)
 goes_inode ino inode (Some (DropInode n)) = tt
 goes_inode ino inode c = refl
 
-goes_entry : (dir : ℕ) (name : List ℕ) (ino : ℕ) (kind : Kind) (c : Option Change) → IfSome (told c) (λ s. goes (SetEntry (record { dir = dir; name = name; ino = ino; kind = kind })) c ≡ same_name dir name s)
+goes_entry : (dir : ℕ) (name : List ℕ) (ino : ℕ) (kind : Kind) (c : Option Change) → IfSome (shown_told c) (λ s. goes (SetEntry (record { dir = dir; name = name; ino = ino; kind = kind })) c ≡ same_name dir name s)
 goes_entry dir name ino kind (Some (DropInode n)) = tt
 goes_entry dir name ino kind c = refl
 
-goes_name : (dir : ℕ) (name : List ℕ) (c : Option Change) → IfSome (told c) (λ s. goes (DropEntry dir name) c ≡ same_name dir name s)
+goes_name : (dir : ℕ) (name : List ℕ) (c : Option Change) → IfSome (shown_told c) (λ s. goes (DropEntry dir name) c ≡ same_name dir name s)
 goes_name dir name (Some (DropInode n)) = tt
 goes_name dir name c = refl
 
-goes_block : (ino number : ℕ) (bytes : List ℕ) (c : Option Change) → IfSome (told c) (λ s. goes (SetBlock ino number bytes) c ≡ same_block ino number s)
+goes_block : (ino number : ℕ) (bytes : List ℕ) (c : Option Change) → IfSome (shown_told c) (λ s. goes (SetBlock ino number bytes) c ≡ same_block ino number s)
 goes_block ino number bytes (Some (DropInode n)) = tt
 goes_block ino number bytes c = refl
 
-goes_cut : (ino old_size new_size : ℕ) (c : Option Change) → IfSome (told c) (λ s. goes (CutBlocks ino old_size new_size) c ≡ cuts_block ino new_size s)
+goes_cut : (ino old_size new_size : ℕ) (c : Option Change) → IfSome (shown_told c) (λ s. goes (CutBlocks ino old_size new_size) c ≡ cuts_block ino new_size s)
 goes_cut ino old_size new_size (Some (DropInode n)) = tt
 goes_cut ino old_size new_size c = refl
 
-same_shown : (a b : Option Change) (s t : Shown) → told a ≡ Some s → told b ≡ Some t → shows_same a b ≡ same_told s t
+same_shown : (a b : Option Change) (s t : Shown) → shown_told a ≡ Some s → shown_told b ≡ Some t → shows_same a b ≡ same_told s t
 same_shown a b s t e f = told_all (λ c z. shows_same c b ≡ same_told z t) all a s e
   where
-    all : (c : Option Change) → IfSome (told c) (λ z. shows_same c b ≡ same_told z t)
+    all : (c : Option Change) → IfSome (shown_told c) (λ z. shows_same c b ≡ same_told z t)
     all None = refl
     all (Some (SetInode ino inode)) = told_all (λ c z. goes (SetInode ino inode) c ≡ same_inode ino z) (goes_inode ino inode) b t f
     all (Some (SetEntry n)) = told_all (λ c z. goes (SetEntry n) c ≡ same_name n.dir n.name z) (goes_entry n.dir n.name n.ino n.kind) b t f
@@ -70,7 +67,7 @@ same_shown a b s t e f = told_all (λ c z. shows_same c b ≡ same_told z t) all
     all (Some (CutBlocks ino old_size new_size)) = told_all (λ c z. goes (CutBlocks ino old_size new_size) c ≡ cuts_block ino new_size z) (goes_cut ino old_size new_size) b t f
     all (Some (DropInode ino)) = tt
 
-any_told : (before : List Kept) (shown : List ShownLeaf) → AreShownBy before shown → (c : Option Change) (s : Shown) → told c ≡ Some s → list_any (λ y. shows_same (shown_by y) c) before ≡ list_any (λ (y : ShownLeaf). same_told y.shown s) shown
+any_told : (before : List Kept) (shown : List ShownLeaf) → AreShownBy before shown → (c : Option Change) (s : Shown) → shown_told c ≡ Some s → list_any (λ y. shows_same (shown_by y) c) before ≡ list_any (λ (y : ShownLeaf). same_told y.shown s) shown
 any_told [] [] h c s e = refl
 any_told [] (leaf ∷ shown) h c s e = absurd h
 any_told (x ∷ before) [] h c s e = absurd h
@@ -86,13 +83,13 @@ facts_of_tree : (kept : List Kept) (highest : ℕ) (leaves : List ShownLeaf) (fa
 facts_of_tree kept highest leaves facts h f = record {
   kind = λ q k. has_kind_told kept highest leaves h q k ∙ ap (λ (o : Option Kind). option_map_or (λ kind. same_kind kind k) o false) (sym (f.kind q));
   names = λ q. names_told kept highest leaves h q ∙ sym (f.names q);
-  reached = λ q. ap (λ n. climbs (tree_of kept highest) n q) (inodes_told kept leaves h) ∙ climbs_told kept highest leaves h (inodes_in leaves) q ∙ sym (f.reached q);
+  reached = λ q. ap (λ n. climbs (tree_of kept highest) n q) (inodes_told kept leaves h) ∙ climbs_told kept highest leaves h (inodes_shown leaves) q ∙ sym (f.reached q);
 }
 
-misfit_told : (tree : Tree) (facts : Facts) → FactsOfTree tree facts → (c : Option Change) (s : Shown) → told c ≡ Some s → is_misfit tree c ≡ is_misplaced facts s
+misfit_told : (tree : Tree) (facts : Facts) → FactsOfTree tree facts → (c : Option Change) (s : Shown) → shown_told c ≡ Some s → is_misfit tree c ≡ is_misplaced facts s
 misfit_told tree facts f = told_all (λ c s. is_misfit tree c ≡ is_misplaced facts s) all
   where
-    all : (c : Option Change) → IfSome (told c) (λ s. is_misfit tree c ≡ is_misplaced facts s)
+    all : (c : Option Change) → IfSome (shown_told c) (λ s. is_misfit tree c ≡ is_misplaced facts s)
     all (Some (SetInode ino inode)) =
         ap (λ n. not (not (is_dir inode.kind) || ((ino == 1) || ((n == 1) && climbs tree (length tree.inodes) ino))) || ((ino == 1) && not (has_kind tree 1 Dir))) (f.names ino)
         ∙ ap (λ r. not (not (is_dir inode.kind) || ((ino == 1) || ((facts.names ino == 1) && r))) || ((ino == 1) && not (has_kind tree 1 Dir))) (f.reached ino)
@@ -115,11 +112,11 @@ number_is : (x : Kept) (c : Option Change) → shown_by x ≡ c → number_of x 
 unfolding number_by
 number_is x c e = rw (sym e) refl
 
-number_told : (number : ℕ) (c : Option Change) (s : Shown) → told c ≡ Some s → number_by number c ≡ number_shown number s
+number_told : (number : ℕ) (c : Option Change) (s : Shown) → shown_told c ≡ Some s → number_by number c ≡ number_shown number s
 unfolding number_by
 number_told number = told_all (λ c s. number_by number c ≡ number_shown number s) all
   where
-    all : (c : Option Change) → IfSome (told c) (λ s. number_by number c ≡ number_shown number s)
+    all : (c : Option Change) → IfSome (shown_told c) (λ s. number_by number c ≡ number_shown number s)
     all (Some (DropInode ino)) = tt
     all (Some (SetEntry n)) = refl
     all (Some (SetInode ino inode)) = refl
@@ -132,7 +129,7 @@ number_told number = told_all (λ c s. number_by number c ≡ number_shown numbe
 abbrev at_leaf : Kept → Wrong
 at_leaf x = record { lnum = x.leaf.lnum; offs = x.leaf.offs; misfit = differs (number_of x) 0 }
 
-place_told : (x : Kept) (leaf : ShownLeaf) → IsShownBy x leaf → wrong_at (place_of leaf) ≡ at_leaf x
+place_told : (x : Kept) (leaf : ShownLeaf) → IsShownBy x leaf → wrong_at (misplaced_at leaf) ≡ at_leaf x
 place_told x leaf h =
     let n = number_is x (shown_by x) refl ∙ number_told (key_words x.leaf.key).0 (shown_by x) leaf.shown h.shown in
     let m : number_shown leaf.number leaf.shown ≡ number_of x = ap (λ k. number_shown k leaf.shown) h.number ∙ sym n in
@@ -171,17 +168,17 @@ found_out all tree facts f before (x ∷ kept) shown (leaf ∷ leaves) hb hk par
     ]
 
     test : (b : Bool) → is_wrong_behind facts shown leaf ≡ b → wrong_if b leaf ≡ Some d → IsPlacedWrong all tree d
-    test true e k = let same : place_of leaf ≡ d = cc in record { x = x; one = (before, kept, parts); out = out e; is = ap wrong_at (sym same) ∙ place_told x leaf hk.0 }
+    test true e k = let same : misplaced_at leaf ≡ d = cc in record { x = x; one = (before, kept, parts); out = out e; is = ap wrong_at (sym same) ∙ place_told x leaf hk.0 }
     test false e k = absurd cc
 
 -- ---- and back
 record IsToldAt (wrongs : List (Option WrongValue)) (x : Kept) : Type 0 where
   leaf : ShownLeaf
   told : IsShownBy x leaf
-  one : IsOneOf (Some (place_of leaf)) wrongs
+  one : IsOneOf (Some (misplaced_at leaf)) wrongs
 
 told_more : (w : Option WrongValue) (wrongs : List (Option WrongValue)) (x : Kept) → IsToldAt wrongs x → IsToldAt (w ∷ wrongs) x
-told_more w wrongs x t = record { leaf = t.leaf; told = t.told; one = one_more (Some (place_of t.leaf)) w wrongs t.one }
+told_more w wrongs x t = record { leaf = t.leaf; told = t.told; one = one_more (Some (misplaced_at t.leaf)) w wrongs t.one }
 
 told_here : (b : Bool) (leaf : ShownLeaf) (wrongs : List (Option WrongValue)) (x : Kept) → IsShownBy x leaf → b ≡ true → IsToldAt (wrong_if b leaf ∷ wrongs) x
 told_here b leaf wrongs x h e =
@@ -225,10 +222,10 @@ none_mapped None e = refl
 none_mapped (Some i) e = absurd cc
 
 pub place_first : (leaves : List ShownLeaf) (facts : Facts) (root : ℕ × ℕ) → AreFactsOf leaves facts → (kept : List Kept) (highest : ℕ) → AreShownBy kept leaves
-    → IsFirstOf (IsWrongPlace kept (tree_of kept highest) root) (first_of (wrong_root (facts.kind 1) root) (wrongs_behind facts [] leaves))
+    → IsFirstOf (IsOutOfPlaceAt kept (tree_of kept highest) root) (soonest_of (wrong_root (facts.kind 1) root) (wrongs_behind facts [] leaves))
 place_first leaves facts root are kept highest h =
-    first_same (λ at. ((facts.kind 1 ≡ None) × (at ≡ record { lnum = root.0; offs = root.1; misfit = differs 1 0 })) ⊎ IsFoundAmong (wrongs_behind facts [] leaves) at) (IsWrongPlace kept (tree_of kept highest) root)
-    (first_of (wrong_root (facts.kind 1) root) (wrongs_behind facts [] leaves)) to from
+    first_same (λ at. ((facts.kind 1 ≡ None) × (at ≡ record { lnum = root.0; offs = root.1; misfit = differs 1 0 })) ⊎ IsFoundAmong (wrongs_behind facts [] leaves) at) (IsOutOfPlaceAt kept (tree_of kept highest) root)
+    (soonest_of (wrong_root (facts.kind 1) root) (wrongs_behind facts [] leaves)) to from
     (first_over (wrongs_behind facts [] leaves) (wrong_root (facts.kind 1) root) (λ at. (facts.kind 1 ≡ None) × (at ≡ record { lnum = root.0; offs = root.1; misfit = differs 1 0 })) (root_first (facts.kind 1) root))
   where
     f : FactsOfTree (tree_of kept highest) facts
@@ -237,19 +234,19 @@ place_first leaves facts root are kept highest h =
     kind_there : option_map (λ (i : Inode). i.kind) (inode_at (tree_of kept highest) 1) ≡ facts.kind 1
     kind_there = kinds_told kept leaves h 1 ∙ sym (are.kind 1)
 
-    to : (at : Wrong) → ((facts.kind 1 ≡ None) × (at ≡ record { lnum = root.0; offs = root.1; misfit = differs 1 0 })) ⊎ IsFoundAmong (wrongs_behind facts [] leaves) at → IsWrongPlace kept (tree_of kept highest) root at
+    to : (at : Wrong) → ((facts.kind 1 ≡ None) × (at ≡ record { lnum = root.0; offs = root.1; misfit = differs 1 0 })) ⊎ IsFoundAmong (wrongs_behind facts [] leaves) at → IsOutOfPlaceAt kept (tree_of kept highest) root at
     to at (inl missing) = inr (none_mapped (inode_at (tree_of kept highest) 1) (kind_there ∙ missing.0), missing.1)
     to at (inr found) =
         let r = found_out kept (tree_of kept highest) facts f [] kept [] leaves tt h refl found.0 found.1 in
         inl (r.x, r.one, r.out, found.2 ∙ r.is)
 
     there : (at : Wrong) (x : Kept) → at ≡ at_leaf x → IsToldAt (wrongs_behind facts [] leaves) x → IsFoundAmong (wrongs_behind facts [] leaves) at
-    there at x e t = (place_of t.leaf, t.one, e ∙ sym (place_told x t.leaf t.told))
+    there at x e t = (misplaced_at t.leaf, t.one, e ∙ sym (place_told x t.leaf t.told))
 
     told_out : (x : Kept) → IsOneOf x kept → IsOutOfPlace kept (tree_of kept highest) x → IsToldAt (wrongs_behind facts [] leaves) x
     told_out x one (inl misfit) = misfit_found (tree_of kept highest) facts f kept [] leaves h x one misfit
     told_out x one (inr (before, behind, parts, repeated)) = repeat_found facts [] before behind x [] leaves tt (subst (λ ks. AreShownBy ks leaves) parts h) repeated
 
-    from : (at : Wrong) → IsWrongPlace kept (tree_of kept highest) root at → ((facts.kind 1 ≡ None) × (at ≡ record { lnum = root.0; offs = root.1; misfit = differs 1 0 })) ⊎ IsFoundAmong (wrongs_behind facts [] leaves) at
+    from : (at : Wrong) → IsOutOfPlaceAt kept (tree_of kept highest) root at → ((facts.kind 1 ≡ None) × (at ≡ record { lnum = root.0; offs = root.1; misfit = differs 1 0 })) ⊎ IsFoundAmong (wrongs_behind facts [] leaves) at
     from at (inl (x, one, out, is)) = inr (there at x is (told_out x one out))
     from at (inr (none, is)) = inl (sym kind_there ∙ ap (option_map (λ (i : Inode). i.kind)) none, is)

@@ -22,12 +22,12 @@ use Rattle.sound_image.specs.Breaches.{IsOutOfPlace, is_misfit, number_of}
 use Rattle.sound_image.specs.Tree.{is_in_place, is_named_well}
 use Rattle.sound_image.specs.Wrong.{IsOneOf, Wrong, differs}
 use Rattle.image_check.specs.WrongValues.{IsFirstOf}
-use Rattle.tree_check.specs.Places.{AreInPlace, IsWrongPlace}
+use Rattle.tree_check.specs.Places.{AreInPlace, IsOutOfPlaceAt}
 use Rattle.tree_check.proofs.Firsts.{one_more}
 
 -- nothing is wrong with these leaves
 abbrev NoneIsWrong : List Kept → Tree → ℕ × ℕ → Type 0
-NoneIsWrong kept tree root = (at : Wrong) → IsWrongPlace kept tree root at → ⊥
+NoneIsWrong kept tree root = (at : Wrong) → IsOutOfPlaceAt kept tree root at → ⊥
 
 no_leaf : (kept : List Kept) (tree : Tree) (root : ℕ × ℕ) → NoneIsWrong kept tree root → (x : Kept) → IsOneOf x kept → IsOutOfPlace kept tree x → ⊥
 no_leaf kept tree root none x one out = none (record { lnum = x.leaf.lnum; offs = x.leaf.offs; misfit = differs (number_of x) 0 }) (inl (x, one, out, refl))
@@ -123,7 +123,7 @@ all_apart kept tree root none first (x ∷ rest) parts =
     and_from (list_all (λ y. not (shows_same (shown_by x) (shown_by y))) rest) (are_apart rest) (apart_behind kept tree root none first [] rest x parts)
     (all_apart kept tree root none (first ++ x ∷ []) rest (parts ∙ (let e : first ++ (x ∷ rest) ≡ (first ++ x ∷ []) ++ rest = simp append_assoc in e)))
 
-pub places_right : (kept : List Kept) (highest : ℕ) (root : ℕ × ℕ) → IsFirstOf (IsWrongPlace kept (tree_of kept highest) root) None → AreInPlace kept (tree_of kept highest)
+pub places_right : (kept : List Kept) (highest : ℕ) (root : ℕ × ℕ) → IsFirstOf (IsOutOfPlaceAt kept (tree_of kept highest) root) None → AreInPlace kept (tree_of kept highest)
 places_right kept highest root none = record {
   apart = all_apart kept (tree_of kept highest) root none [] kept refl;
   root = root_kind kept kept (tree_of kept highest) root none (λ x one. one) (λ missing. none (record { lnum = root.0; offs = root.1; misfit = differs 1 0 }) (inr (missing, refl)));

@@ -11,9 +11,9 @@ use Rattle.tree_check.specs.declared.facts.TreeFacts.{TreeFacts}
 use Rattle.tree_check.specs.declared.shown_leaf.Shown.{Shown}
 use Rattle.tree_check.specs.declared.shown_leaf.Shown.TheVariants.{Inode, Entry}
 use Rattle.tree_check.specs.declared.shown_leaf.ShownLeaf.{ShownLeaf}
-use Rattle.tree_check.specs.Kinds.{inodes_in, kind_in}
+use Rattle.tree_check.specs.Kinds.{inodes_shown, kind_shown}
 use Rattle.tree_check.specs.LinkFindings.{count_at}
-use Rattle.tree_check.specs.Links.{count_to, links_in}
+use Rattle.tree_check.specs.Links.{count_to, links_shown}
 use Rattle.tree_check.specs.Reach.{has, reaches}
 
 -- the kind of each inode, how many entries name each, and which are reached from the root
@@ -27,9 +27,9 @@ facts_in facts = record { kind = get nat_cmp facts.kinds; names = count_at facts
 
 -- they are those of the tree that leaves show
 pub record AreFactsOf (leaves : List ShownLeaf) (facts : Facts) : Type 0 where
-  pub kind : (q : ℕ) → facts.kind q ≡ kind_in leaves q
-  pub names : (q : ℕ) → facts.names q ≡ count_to (links_in leaves) q
-  pub reached : (q : ℕ) → facts.reached q ≡ reaches (links_in leaves) (inodes_in leaves) q
+  pub kind : (q : ℕ) → facts.kind q ≡ kind_shown leaves q
+  pub names : (q : ℕ) → facts.names q ≡ count_to (links_shown leaves) q
+  pub reached : (q : ℕ) → facts.reached q ≡ reaches (links_shown leaves) (inodes_shown leaves) q
 
 -- whether an inode is there and of this kind
 abbrev pub is_kind : Facts → ℕ → Kind → Bool

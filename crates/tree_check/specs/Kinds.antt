@@ -18,8 +18,8 @@ kind_over [] q other = other
 kind_over (x ∷ leaves) q other = with_kind x.shown q (kind_over leaves q other)
 
 -- the kind of an inode, if leaves show it
-abbrev pub kind_in : List ShownLeaf → ℕ → Option Kind
-kind_in leaves q = kind_over leaves q None
+abbrev pub kind_shown : List ShownLeaf → ℕ → Option Kind
+kind_shown leaves q = kind_over leaves q None
 
 -- how many inodes a leaf shows
 abbrev pub inode_count : Shown → ℕ
@@ -27,6 +27,6 @@ inode_count (Inode ino kind links) = 1
 inode_count shown = 0
 
 -- how many leaves show an inode
-abbrev pub inodes_in : List ShownLeaf → ℕ
-inodes_in [] = 0
-inodes_in (x ∷ leaves) = inode_count x.shown + inodes_in leaves
+abbrev pub inodes_shown : List ShownLeaf → ℕ
+inodes_shown [] = 0
+inodes_shown (x ∷ leaves) = inode_count x.shown + inodes_shown leaves

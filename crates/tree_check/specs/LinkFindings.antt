@@ -27,5 +27,5 @@ abbrev pub wrong_link : (ℕ → ℕ) → ShownLeaf → Option WrongValue
 wrong_link names leaf = link_wrong names leaf leaf.shown
 
 -- the first of some places that are there
-abbrev pub first_of : Option WrongValue → List (Option WrongValue) → Option WrongValue
-first_of now wrongs = fold sooner_of now wrongs
+abbrev pub soonest_of : Option WrongValue → List (Option WrongValue) → Option WrongValue
+soonest_of now wrongs = fold sooner_of now wrongs

@@ -22,12 +22,12 @@ abbrev pub entries_over : List ShownLeaf → LinkMap → LinkMap
 entries_over [] entries = entries
 entries_over (x ∷ leaves) entries = with_link x.shown (entries_over leaves entries)
 
-abbrev pub entries_in : List ShownLeaf → LinkMap
-entries_in leaves = entries_over leaves []
+abbrev pub entries_shown : List ShownLeaf → LinkMap
+entries_shown leaves = entries_over leaves []
 
 -- what they lead to, in order
-abbrev pub links_in : List ShownLeaf → List Link
-links_in leaves = values_of (entries_in leaves)
+abbrev pub links_shown : List ShownLeaf → List Link
+links_shown leaves = values_of (entries_shown leaves)
 
 -- how many lead to an inode
 abbrev pub count_to : List Link → ℕ → ℕ

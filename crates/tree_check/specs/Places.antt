@@ -19,8 +19,8 @@ use Rattle.tree_check.specs.declared.shown_leaf.ShownLeaf.{ShownLeaf}
 
 -- One of these leaves, which show this tree, shows what is out of its place, or what one before it shows, and the inode number by which it
 -- is named is wanted; or there is no inode 1, which is wrong at this place.
-abbrev pub IsWrongPlace : List Kept → Tree → ℕ × ℕ → Wrong → Type 0
-IsWrongPlace kept tree root at =
+abbrev pub IsOutOfPlaceAt : List Kept → Tree → ℕ × ℕ → Wrong → Type 0
+IsOutOfPlaceAt kept tree root at =
     ((x : Kept) × IsOneOf x kept × IsOutOfPlace kept tree x × IsAtNode x (differs (number_of x) 0) at)
     ⊎ ((inode_at tree 1 ≡ None) × (at ≡ record { lnum = root.0; offs = root.1; misfit = differs 1 0 }))
 
@@ -38,8 +38,8 @@ number_shown number (Entry dir name ino kind) = ino
 number_shown number other = number
 
 -- what is wrong at a leaf, if that is
-abbrev pub place_of : ShownLeaf → WrongValue
-place_of leaf = record { lnum = leaf.lnum; offs = leaf.offs; wanted = number_shown leaf.number leaf.shown; found = 0 }
+abbrev pub misplaced_at : ShownLeaf → WrongValue
+misplaced_at leaf = record { lnum = leaf.lnum; offs = leaf.offs; wanted = number_shown leaf.number leaf.shown; found = 0 }
 
 -- whether a leaf behind others shows what is out of its place, or what one of those shows
 abbrev pub is_wrong_behind : Facts → List ShownLeaf → ShownLeaf → Bool
@@ -47,7 +47,7 @@ is_wrong_behind facts before leaf = is_misplaced facts leaf.shown || list_any (�
 
 -- and is then wrong
 abbrev pub wrong_if : Bool → ShownLeaf → Option WrongValue
-wrong_if wrong leaf = if wrong then Some (place_of leaf) else None
+wrong_if wrong leaf = if wrong then Some (misplaced_at leaf) else None
 
 -- what is wrong at leaves that stand behind others
 abbrev pub wrongs_behind : Facts → List ShownLeaf → List ShownLeaf → List (Option WrongValue)

@@ -16,8 +16,8 @@ abbrev pub has : BTreeMap ℕ Bool → ℕ → Bool
 has set q = is_some (get nat_cmp set q)
 
 -- what the entries of a directory lead to
-abbrev pub children_in : List Link → ℕ → List ℕ
-children_in links d = map (λ link. link.ino) (filter (λ link. link.dir == d) links)
+abbrev pub inodes_below : List Link → ℕ → List ℕ
+inodes_below links d = map (λ link. link.ino) (filter (λ link. link.dir == d) links)
 
 -- whether so many steps down from the root lead to a number, or fewer
 abbrev pub reaches : List Link → ℕ → ℕ → Bool

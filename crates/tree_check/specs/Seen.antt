@@ -5,7 +5,7 @@ use Rattle.std.specs.Option.{option_map_or}
 use Rattle.std.specs.Ordering.{nat_cmp}
 use Rattle.fs_model.specs.Files.{name_cmp, pair_cmp}
 use Rattle.fs_model.specs.Path.{is_same_name}
-use Rattle.tree_check.specs.declared.seen.Seen.{Seen}
+use Rattle.tree_check.specs.declared.seen_leaves.SeenLeaves.{SeenLeaves}
 use Rattle.tree_check.specs.declared.shown_leaf.Shown.{Shown}
 use Rattle.tree_check.specs.declared.shown_leaf.Shown.TheVariants.{Inode, Entry, Deletion, Block, Truncation, Nothing}
 
@@ -43,8 +43,8 @@ same_told (Truncation ino size) other = cuts_block ino size other
 same_told Nothing other = false
 
 -- whether one of these truncations cuts a block off
-abbrev pub is_cut : BTreeMap ℕ ℕ → ℕ → ℕ → Bool
-is_cut cuts ino block = option_map_or (λ size. nat_le size (4096 * block)) (get nat_cmp cuts ino) false
+abbrev pub is_cut_off : BTreeMap ℕ ℕ → ℕ → ℕ → Bool
+is_cut_off cuts ino block = option_map_or (λ size. nat_le size (4096 * block)) (get nat_cmp cuts ino) false
 
 -- the lesser of a size and another, if that is there
 abbrev pub least_at : Option ℕ → ℕ → ℕ
@@ -52,8 +52,8 @@ least_at None size = size
 least_at (Some least) size = min size least
 
 -- whether what was seen makes this obsolete
-abbrev pub is_seen : Seen → Shown → Bool
+abbrev pub is_seen : SeenLeaves → Shown → Bool
 is_seen seen (Inode ino kind links) = is_some (get nat_cmp seen.inodes ino)
 is_seen seen (Entry dir name ino kind) = is_some (get name_cmp seen.names (dir, name))
-is_seen seen (Block ino block) = is_some (get pair_cmp seen.blocks (ino, block)) || is_cut seen.cuts ino block
+is_seen seen (Block ino block) = is_some (get pair_cmp seen.blocks (ino, block)) || is_cut_off seen.cuts ino block
 is_seen seen other = false

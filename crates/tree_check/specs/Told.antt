@@ -9,21 +9,21 @@ use Rattle.tree_check.specs.declared.shown_leaf.Shown.TheVariants.{Inode, Entry,
 use Rattle.tree_check.specs.declared.shown_leaf.ShownLeaf.{ShownLeaf}
 
 -- what a leaf shows is told so; no leaf shows an inode that goes
-abbrev pub told : Option Change → Option Shown
-told None = Some Nothing
-told (Some (changes.SetInode ino inode)) = Some (Inode ino inode.kind inode.nlink)
-told (Some (changes.SetEntry e)) = Some (Entry e.dir e.name e.ino e.kind)
-told (Some (changes.DropEntry dir name)) = Some (Deletion dir name)
-told (Some (changes.SetBlock ino number bytes)) = Some (Block ino number)
-told (Some (changes.CutBlocks ino old_size new_size)) = Some (Truncation ino new_size)
-told (Some (changes.DropInode ino)) = None
+abbrev pub shown_told : Option Change → Option Shown
+shown_told None = Some Nothing
+shown_told (Some (changes.SetInode ino inode)) = Some (Inode ino inode.kind inode.nlink)
+shown_told (Some (changes.SetEntry e)) = Some (Entry e.dir e.name e.ino e.kind)
+shown_told (Some (changes.DropEntry dir name)) = Some (Deletion dir name)
+shown_told (Some (changes.SetBlock ino number bytes)) = Some (Block ino number)
+shown_told (Some (changes.CutBlocks ino old_size new_size)) = Some (Truncation ino new_size)
+shown_told (Some (changes.DropInode ino)) = None
 
 -- this is told of a leaf: its place, the number in its key, and what it shows
 pub record IsShownBy (x : Kept) (leaf : ShownLeaf) : Type 0 where
   pub lnum : leaf.lnum ≡ x.leaf.lnum
   pub offs : leaf.offs ≡ x.leaf.offs
   pub number : leaf.number ≡ (key_words x.leaf.key).0
-  pub shown : told (shown_by x) ≡ Some leaf.shown
+  pub shown : shown_told (shown_by x) ≡ Some leaf.shown
 
 -- of each leaf, in order
 abbrev pub AreShownBy : List Kept → List ShownLeaf → Type 0

@@ -3,7 +3,7 @@
 ghost use Rattle.std.specs.Prelude.{◌≡◌, ◌==◌, ◌++◌, ◌∷◌, [], ℕ, IfOk, OnOk, cond};
 ghost use Rattle.std.specs.BTreeMap.{is_at};
 ghost use Rattle.std.specs.Ordering.{nat_cmp};
-ghost use Rattle.tree_check.specs.Reach.{children_at, children_in, with_child};
+ghost use Rattle.tree_check.specs.Reach.{children_at, inodes_below, with_child};
 
 use crate::link::Link;
 use std::alloc::Global;
@@ -12,7 +12,7 @@ use ubifs_base::Memory;
 
 /// The inodes that the entries of each directory name.
 pub(crate) fn children_of(alloc: Global, links: &[Link]) -> Result<BTreeMap<u32, Vec<u32>>, Memory>
-    ensures { IfOk result (λ children. (d : ℕ) → children_at children d ≡ children_in links.now d) }
+    ensures { IfOk result (λ children. (d : ℕ) → children_at children d ≡ inodes_below links.now d) }
 {
     let mut children = BTreeMap::new(alloc);
     let mut left = links;

@@ -5,7 +5,7 @@ ghost use Rattle.std.specs.BTreeMap.{get};
 ghost use Rattle.std.specs.Ordering.{nat_cmp};
 ghost use Rattle.fs_model.specs.Path.{is_dir};
 ghost use Rattle.fs_model.specs.Proper.{same_kind};
-ghost use Rattle.tree_check.specs.Kinds.{inodes_in, kind_in, with_kind};
+ghost use Rattle.tree_check.specs.Kinds.{inodes_shown, kind_shown, with_kind};
 
 use crate::shown_leaf::{Shown, ShownLeaf};
 use fs_model::Kind;
@@ -15,7 +15,7 @@ use ubifs_base::Memory;
 
 /// The kind of each inode that leaves show. Of leaves that show one inode the first counts.
 pub(crate) fn kinds_of(alloc: Global, leaves: &[ShownLeaf]) -> Result<BTreeMap<u32, Kind>, Memory>
-    ensures { IfOk result (λ kinds. (q : ℕ) → get nat_cmp kinds q ≡ kind_in leaves.now q) }
+    ensures { IfOk result (λ kinds. (q : ℕ) → get nat_cmp kinds q ≡ kind_shown leaves.now q) }
 {
     let mut kinds = BTreeMap::new(alloc);
     let mut left = leaves;
@@ -39,7 +39,7 @@ fn set_kind(kinds: &mut BTreeMap<u32, Kind>, shown: &Shown) -> Result<(), Memory
 
 /// How many leaves show an inode.
 pub(crate) fn count_inodes(leaves: &[ShownLeaf]) -> usize
-    ensures { result ≡ inodes_in leaves.now }
+    ensures { result ≡ inodes_shown leaves.now }
 {
     let mut count = 0;
     for leaf in leaves {

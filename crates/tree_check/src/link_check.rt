@@ -5,7 +5,7 @@ ghost use Rattle.leaf_map.specs.Kept.{Kept};
 ghost use Rattle.leaf_map.specs.Shown.{tree_of};
 ghost use Rattle.sound_image.specs.Breaches.{IsWrongLinkOf};
 ghost use Rattle.image_check.specs.WrongValues.{IsFirstOf};
-ghost use Rattle.tree_check.specs.LinkFindings.{are_right, count_at, first_of, wrong_link};
+ghost use Rattle.tree_check.specs.LinkFindings.{are_right, count_at, soonest_of, wrong_link};
 ghost use Rattle.tree_check.specs.Told.{AreShownBy};
 
 use crate::counts::counts_of;
@@ -32,7 +32,7 @@ pub fn first_wrong_link(alloc: Global, leaves: &[ShownLeaf]) -> Result<Option<Wr
 
 // The first inode whose links are wrong, where each has so many names.
 fn first_link(counts: &BTreeMap<u32, u64>, leaves: &[ShownLeaf]) -> Option<WrongValue>
-    ensures { result ≡ first_of None (map (wrong_link (count_at counts.now)) leaves.now) }
+    ensures { result ≡ soonest_of None (map (wrong_link (count_at counts.now)) leaves.now) }
 {
     let mut first = None;
     let mut left = leaves;

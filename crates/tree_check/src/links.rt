@@ -2,7 +2,7 @@
 
 ghost use Rattle.std.specs.Prelude.{◌≡◌, IfOk, OnOk};
 ghost use Rattle.std.specs.Map.{values_of};
-ghost use Rattle.tree_check.specs.Links.{entries_in, links_in, with_link};
+ghost use Rattle.tree_check.specs.Links.{entries_shown, links_shown, with_link};
 
 use crate::link::Link;
 use crate::shown_leaf::{Shown, ShownLeaf};
@@ -13,7 +13,7 @@ use ubifs_base::{Memory, Name};
 
 /// What the entries of leaves lead to, in order of directory and name. Of leaves that show one name the first counts.
 pub(crate) fn links_of(alloc: Global, leaves: &[ShownLeaf]) -> Result<Vec<Link>, Memory>
-    ensures { IfOk result (λ links. links.items ≡ links_in leaves.now) }
+    ensures { IfOk result (λ links. links.items ≡ links_shown leaves.now) }
 {
     let entries = entries_of(alloc, leaves)?;
     let links = entries.into_values().collect(alloc)?;
@@ -25,7 +25,7 @@ fn entries_of(
     alloc: Global,
     leaves: &[ShownLeaf],
 ) -> Result<BTreeMap<(u32, OrderedName), Link>, Memory>
-    ensures { IfOk result (λ entries. entries.entries ≡ entries_in leaves.now) }
+    ensures { IfOk result (λ entries. entries.entries ≡ entries_shown leaves.now) }
 {
     let mut entries = BTreeMap::new(alloc);
     let mut left = leaves;

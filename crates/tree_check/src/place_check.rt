@@ -5,14 +5,14 @@ ghost use Rattle.leaf_map.specs.Kept.{Kept};
 ghost use Rattle.leaf_map.specs.Shown.{tree_of};
 ghost use Rattle.image_check.specs.WrongValues.{IsFirstOf};
 ghost use Rattle.tree_check.specs.Facts.{facts_in, is_misplaced};
-ghost use Rattle.tree_check.specs.LinkFindings.{first_of};
-ghost use Rattle.tree_check.specs.Places.{IsWrongPlace, number_shown, place_of, wrong_if, wrong_root, wrongs_behind};
+ghost use Rattle.tree_check.specs.LinkFindings.{soonest_of};
+ghost use Rattle.tree_check.specs.Places.{IsOutOfPlaceAt, number_shown, misplaced_at, wrong_if, wrong_root, wrongs_behind};
 ghost use Rattle.tree_check.specs.Seen.{is_seen, same_told};
 ghost use Rattle.tree_check.specs.Told.{AreShownBy};
 ghost use Rattle.tree_check.specs.declared.shown_leaf.Shown.{Shown as AShown};
 
 use crate::facts::{TreeFacts, facts_of, is_misplaced};
-use crate::seen::{Seen, nothing_seen, see};
+use crate::seen_leaves::{SeenLeaves, nothing_seen, see};
 use crate::shown_leaf::{Shown, ShownLeaf};
 use image_check::{WrongValue, sooner};
 use std::alloc::Global;
@@ -30,7 +30,7 @@ pub fn first_out_of_place(
     leaves: &[ShownLeaf],
     root: (u32, u32),
 ) -> Result<Option<WrongValue>, Memory>
-    ensures { IfOk result (λ found. (kept : List Kept) (highest : ℕ) → AreShownBy kept leaves.now → IsFirstOf (IsWrongPlace kept (tree_of kept highest) root) found) }
+    ensures { IfOk result (λ found. (kept : List Kept) (highest : ℕ) → AreShownBy kept leaves.now → IsFirstOf (IsOutOfPlaceAt kept (tree_of kept highest) root) found) }
 {
     let facts = facts_of(alloc, leaves)?;
     let missing = missing_root(&facts, root);
@@ -60,7 +60,7 @@ fn first_misplaced(
     leaves: &[ShownLeaf],
     found: Option<WrongValue>,
 ) -> Result<Option<WrongValue>, Memory>
-    ensures { IfOk result (λ first. first ≡ first_of found (wrongs_behind (facts_in facts.now) [] leaves.now)) }
+    ensures { IfOk result (λ first. first ≡ soonest_of found (wrongs_behind (facts_in facts.now) [] leaves.now)) }
 {
     let mut seen = nothing_seen(alloc);
     let mut first = found;
@@ -75,7 +75,7 @@ fn first_misplaced(
 // What is wrong with a leaf, where this was shown before it.
 fn misplaced(
     facts: &TreeFacts,
-    seen: &mut Seen,
+    seen: &mut SeenLeaves,
     leaf: &ShownLeaf,
 ) -> Result<Option<WrongValue>, Memory>
     ensures wrong { IfOk result (λ wrong. wrong ≡ wrong_if (is_misplaced (facts_in facts.now) leaf.now.shown || is_seen seen.old leaf.now.shown) leaf.now) }
@@ -83,14 +83,14 @@ fn misplaced(
 {
     let was = see(seen, &leaf.shown)?;
     if is_misplaced(facts, &leaf.shown) || was {
-        return Ok(Some(place_of(leaf)));
+        return Ok(Some(misplaced_at(leaf)));
     }
     Ok(None)
 }
 
 // What is wrong at a leaf that is out of its place.
-fn place_of(leaf: &ShownLeaf) -> WrongValue
-    ensures { result ≡ place_of leaf.now }
+fn misplaced_at(leaf: &ShownLeaf) -> WrongValue
+    ensures { result ≡ misplaced_at leaf.now }
 {
     WrongValue {
         lnum: leaf.lnum,

@@ -5,7 +5,7 @@ ghost use Rattle.std.specs.Option.{option_map_or};
 ghost use Rattle.std.specs.BTreeMap.{get, is_at};
 ghost use Rattle.std.specs.Ordering.{nat_cmp};
 ghost use Rattle.fs_model.specs.Files.{name_cmp, pair_cmp};
-ghost use Rattle.tree_check.specs.Seen.{is_cut, is_seen, is_cut_by, least_at, cuts_block, same_block, same_inode, same_name, same_told};
+ghost use Rattle.tree_check.specs.Seen.{is_cut_off, is_seen, is_cut_by, least_at, cuts_block, same_block, same_inode, same_name, same_told};
 ghost use Rattle.tree_check.specs.declared.shown_leaf.Shown.{Shown as AShown};
 
 use crate::links::name_key;
@@ -17,7 +17,7 @@ use ubifs_base::{Memory, Name};
 
 /// The inodes, names and blocks that leaves showed, and to how many bytes they truncated inodes at least.
 #[derive(Drop)]
-pub(crate) struct Seen {
+pub(crate) struct SeenLeaves {
     pub(crate) inodes: BTreeMap<u32, bool>,
     pub(crate) names: BTreeMap<(u32, OrderedName), bool>,
     pub(crate) blocks: BTreeMap<(u32, u32), bool>,
@@ -25,13 +25,13 @@ pub(crate) struct Seen {
 }
 
 /// Nothing was shown. Takes no memory.
-pub(crate) fn nothing_seen(alloc: Global) -> Seen
+pub(crate) fn nothing_seen(alloc: Global) -> SeenLeaves
     ensures inodes { result.inodes.entries ≡ [] }
     ensures names { result.names.entries ≡ [] }
     ensures blocks { result.blocks.entries ≡ [] }
     ensures cuts { result.cuts.entries ≡ [] }
 {
-    Seen {
+    SeenLeaves {
         inodes: BTreeMap::new(alloc),
         names: BTreeMap::new(alloc),
         blocks: BTreeMap::new(alloc),
@@ -40,7 +40,7 @@ pub(crate) fn nothing_seen(alloc: Global) -> Seen
 }
 
 /// Whether the same was shown before; it is from now on.
-pub(crate) fn see(seen: &mut Seen, shown: &Shown) -> Result<bool, Memory>
+pub(crate) fn see(seen: &mut SeenLeaves, shown: &Shown) -> Result<bool, Memory>
     ensures was { IfOk result (λ was. was ≡ is_seen seen.old shown.now) }
     ensures noted { OnOk result ((s : AShown) → is_seen seen.new s ≡ (is_seen seen.old s || same_told shown.now s)) }
 {
@@ -60,14 +60,14 @@ pub(crate) fn see(seen: &mut Seen, shown: &Shown) -> Result<bool, Memory>
     }
 }
 
-fn see_inode(seen: &mut Seen, ino: u32) -> Result<bool, Memory>
+fn see_inode(seen: &mut SeenLeaves, ino: u32) -> Result<bool, Memory>
     ensures was { IfOk result (λ was. was ≡ is_some (get nat_cmp seen.old.inodes ino)) }
     ensures noted { OnOk result ((s : AShown) → is_seen seen.new s ≡ (is_seen seen.old s || same_inode ino s)) }
 {
     note(&mut seen.inodes, ino)
 }
 
-fn see_name(seen: &mut Seen, dir: u32, name: &Name) -> Result<bool, Memory>
+fn see_name(seen: &mut SeenLeaves, dir: u32, name: &Name) -> Result<bool, Memory>
     ensures was { IfOk result (λ was. was ≡ is_some (get name_cmp seen.old.names (dir, name.now))) }
     ensures noted { OnOk result ((s : AShown) → is_seen seen.new s ≡ (is_seen seen.old s || same_name dir name.now s)) }
 {
@@ -76,15 +76,15 @@ fn see_name(seen: &mut Seen, dir: u32, name: &Name) -> Result<bool, Memory>
     Ok(was)
 }
 
-fn see_block(seen: &mut Seen, ino: u32, block: u32) -> Result<bool, Memory>
-    ensures was { IfOk result (λ was. was ≡ (is_some (get pair_cmp seen.old.blocks (ino, block)) || is_cut seen.old.cuts ino block)) }
+fn see_block(seen: &mut SeenLeaves, ino: u32, block: u32) -> Result<bool, Memory>
+    ensures was { IfOk result (λ was. was ≡ (is_some (get pair_cmp seen.old.blocks (ino, block)) || is_cut_off seen.old.cuts ino block)) }
     ensures noted { OnOk result ((s : AShown) → is_seen seen.new s ≡ (is_seen seen.old s || same_block ino block s)) }
 {
     let was = note(&mut seen.blocks, (ino, block))?;
-    Ok(was || is_cut(&seen.cuts, ino, block))
+    Ok(was || is_cut_off(&seen.cuts, ino, block))
 }
 
-fn see_cut(seen: &mut Seen, ino: u32, size: u64) -> Result<(), Memory>
+fn see_cut(seen: &mut SeenLeaves, ino: u32, size: u64) -> Result<(), Memory>
     ensures { OnOk result ((s : AShown) → is_seen seen.new s ≡ (is_seen seen.old s || cuts_block ino size s)) }
 {
     note_cut(&mut seen.cuts, ino, size)
@@ -101,7 +101,7 @@ fn note<K: Ord + Drop>(set: &mut BTreeMap<K, bool>, key: K) -> Result<bool, Memo
 
 // Notes to how many bytes an inode was truncated; the fewest count.
 fn note_cut(cuts: &mut BTreeMap<u32, u64>, ino: u32, size: u64) -> Result<(), Memory>
-    ensures { OnOk result ((q block : ℕ) → is_cut cuts.new q block ≡ (is_cut cuts.old q block || is_cut_by ino size q block)) }
+    ensures { OnOk result ((q block : ℕ) → is_cut_off cuts.new q block ≡ (is_cut_off cuts.old q block || is_cut_by ino size q block)) }
 {
     let least = least_at(cuts, ino, size);
     cuts.insert(ino, least)?;
@@ -119,8 +119,8 @@ fn least_at(cuts: &BTreeMap<u32, u64>, ino: u32, size: u64) -> u64
 }
 
 // Whether a truncation cuts a block off.
-fn is_cut(cuts: &BTreeMap<u32, u64>, ino: u32, block: u32) -> bool
-    ensures { result ≡ is_cut cuts.now ino block }
+fn is_cut_off(cuts: &BTreeMap<u32, u64>, ino: u32, block: u32) -> bool
+    ensures { result ≡ is_cut_off cuts.now ino block }
 {
     match cuts.get(&ino) {
         Some(size) => *size <= 4096 * block as u64,

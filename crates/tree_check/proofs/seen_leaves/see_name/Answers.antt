@@ -2,8 +2,8 @@ use Rattle.std.proofs.Common.{◌≡◌, ℕ, List, subst}
 use Rattle.std.specs.Prelude.{◌||◌, is_some}
 use Rattle.std.specs.BTreeMap.{get, is_at}
 use Rattle.fs_model.specs.Files.{name_cmp}
-use Rattle.tree_check.proofs.SeenLeaves.{name_noted}
-use Rattle.tree_check.proofs.seen.see_name.Goals as goal
+use Rattle.tree_check.proofs.SeenMore.{name_noted}
+use Rattle.tree_check.proofs.seen_leaves.see_name.Goals as goal
 
 pub returns-clause-was : goal.returns-clause-was
 returns-clause-was c =

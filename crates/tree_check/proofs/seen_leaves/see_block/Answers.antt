@@ -1,5 +1,5 @@
-use Rattle.tree_check.proofs.SeenLeaves.{block_noted}
-use Rattle.tree_check.proofs.seen.see_block.Goals as goal
+use Rattle.tree_check.proofs.SeenMore.{block_noted}
+use Rattle.tree_check.proofs.seen_leaves.see_block.Goals as goal
 
 pub returns-then-was-clause-noted : goal.returns-then-was-clause-noted
 returns-then-was-clause-noted c = block_noted c.args.seen.now c.args.ino c.args.block c.note.new.set c.in_ok-was.ensures.noted
