@@ -1,0 +1,9 @@
+pub mod Members
+pub mod Firsts
+pub mod Ordered
+pub mod Contents
+pub mod SameLeaves
+pub mod Lengths
+pub mod Stored
+pub mod Kept
+pub mod JudgedLeaves

@@ -1,0 +1,7 @@
+pub mod FalseNodes
+pub mod Judged
+pub mod ShownBy
+pub mod Sources
+pub mod Spots
+pub mod Stored
+pub mod Told

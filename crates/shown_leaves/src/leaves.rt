@@ -1,0 +1,183 @@
+// What leaves show, and which of them don't show what stands at their places.
+
+ghost use Rattle.std.specs.Prelude.{◌≡◌, ◌↔◌, IfOk, IsTrue, List, Some};
+ghost use Rattle.std.specs.Option.{option_map};
+ghost use Rattle.leaf_map.specs.Kept.{Kept};
+ghost use Rattle.ubi_volume.specs.Volume.{Keeps, SameShape};
+ghost use Rattle.ubi_volume.specs.Faults.{HasAreaCause, StaysSureArea};
+ghost use Rattle.image_check.specs.WrongValues.{IsFirstOf};
+ghost use Rattle.shown_leaves.specs.ShownBy.{AreShownBy, IsShownBy};
+ghost use Rattle.shown_leaves.specs.Sources.{AreSourced, IsSourced, IsUnlike, IsUnlikeIn, StandsAtLeaf};
+ghost use Rattle.shown_leaves.specs.Judged.{is_in_place, judged_of, name_number};
+ghost use Rattle.shown_leaves.specs.Stored.{stored};
+
+use crate::key_order::number_of;
+use crate::reading::read_node;
+use crate::shown::{is_leaf_shown, shown_of};
+use crate::shown_leaf::{Shown, ShownLeaf};
+use crate::shown_leaves::ShownLeaves;
+use crate::sourced_leaf::SourcedLeaf;
+use crate::standing_in::stand_in;
+use crate::stored_node::{StoredNode, is_same_node};
+use image_check::{WrongValue, sooner};
+use media_leaf::one_node;
+use std::alloc::Global;
+use ubi_volume::{AreaFault, Volume};
+
+// What a leaf shows, and what is wrong if it doesn't show what stands at its place.
+#[derive(Drop)]
+struct JudgedLeaf {
+    leaf: ShownLeaf,
+    unlike: Option<WrongValue>,
+}
+
+/// What leaves of a recovered index show (the node table of ubifs-media.h), and the first of them that doesn't show what stands at its
+/// place: an inode of a known kind, a block or a name (`dbg_check_filesystem` of Linux fs/ubifs reads each leaf's node). Each leaf's
+/// node stands where it was read; without a source it is what stands in for it. A leaf that stands where its node was read takes one
+/// read, another one two. Places may lie outside the volume. Takes memory for a node's bytes and for what is shown.
+pub fn read_shown<V: Volume>(
+    alloc: Global,
+    volume: &mut V,
+    leaves: &[SourcedLeaf],
+) -> Result<ShownLeaves, AreaFault>
+    ensures shown { IfOk result (λ made. (kept : List Kept) → AreSourced (V.state volume.old).holds kept leaves.now → AreShownBy kept made.leaves.items) }
+    ensures unlike { IfOk result (λ made. (kept : List Kept) → AreSourced (V.state volume.old).holds kept leaves.now → IsFirstOf (IsUnlikeIn (V.state volume.old).holds kept) made.unlike) }
+    ensures keeps { Keeps (V.state volume.old) (V.state volume.new) × SameShape (V.state volume.old) (V.state volume.new) }
+    ensures cause { HasAreaCause (V.state volume.old).faults (V.state volume.new).faults result }
+    ensures sure { StaysSureArea (V.state volume.old) (V.state volume.new) result }
+{
+    let mut shown = Vec::new(alloc);
+    let mut unlike = None;
+    let mut left = leaves;
+    'reading: while let Some((leaf, rest)) = left.split_first() {
+        let one = judge_leaf(alloc, volume, leaf)?;
+        unlike = sooner(unlike, one.unlike);
+        shown.push(one.leaf)?;
+        left = rest;
+    }
+    Ok(ShownLeaves {
+        leaves: shown,
+        unlike,
+    })
+}
+
+// One leaf.
+fn judge_leaf<V: Volume>(
+    alloc: Global,
+    volume: &mut V,
+    leaf: &SourcedLeaf,
+) -> Result<JudgedLeaf, AreaFault>
+    ensures judged { IfOk result (λ one. (x : Kept) → IsSourced (V.state volume.old).holds x leaf.now → IsShownBy x one.leaf × IsFirstOf (IsUnlike (V.state volume.old).holds x) one.unlike) }
+    ensures keeps { Keeps (V.state volume.old) (V.state volume.new) }
+    ensures shape { SameShape (V.state volume.old) (V.state volume.new) }
+    ensures cause { HasAreaCause (V.state volume.old).faults (V.state volume.new).faults result }
+    ensures sure { StaysSureArea (V.state volume.old) (V.state volume.new) result }
+{
+    let Some(node) = source_node(alloc, volume, leaf)? else {
+        return Ok(judged(leaf, Shown::Nothing, false));
+    };
+    let stands = stands_there(alloc, volume, leaf, &node)?;
+    Ok(judged(leaf, shown_of(node), stands))
+}
+
+// The node of a leaf, from where it was read, or what stands in for it.
+fn source_node<V: Volume>(
+    alloc: Global,
+    volume: &mut V,
+    leaf: &SourcedLeaf,
+) -> Result<Option<StoredNode>, AreaFault>
+    ensures node { IfOk result (λ found. (x : Kept) → IsSourced (V.state volume.old).holds x leaf.now → option_map stored found ≡ Some x.node) }
+    ensures keeps { Keeps (V.state volume.old) (V.state volume.new) }
+    ensures shape { SameShape (V.state volume.old) (V.state volume.new) }
+    ensures cause { HasAreaCause (V.state volume.old).faults (V.state volume.new).faults result }
+    ensures sure { StaysSureArea (V.state volume.old) (V.state volume.new) result }
+{
+    one_node();
+    let Some(source) = leaf.source else {
+        return Ok(stand_in(alloc, &leaf.leaf.key));
+    };
+    read_node(alloc, volume, source.lnum, source.offs, source.len)
+}
+
+// Whether a leaf's node stands at the leaf's place.
+fn stands_there<V: Volume>(
+    alloc: Global,
+    volume: &mut V,
+    leaf: &SourcedLeaf,
+    node: &StoredNode,
+) -> Result<bool, AreaFault>
+    ensures stands { IfOk result (λ stands. (x : Kept) → IsSourced (V.state volume.old).holds x leaf.now → stored node.now ≡ x.node → IsTrue stands ↔ StandsAtLeaf (V.state volume.old).holds x.leaf x.node) }
+    ensures keeps { Keeps (V.state volume.old) (V.state volume.new) }
+    ensures shape { SameShape (V.state volume.old) (V.state volume.new) }
+    ensures cause { HasAreaCause (V.state volume.old).faults (V.state volume.new).faults result }
+    ensures sure { StaysSureArea (V.state volume.old) (V.state volume.new) result }
+{
+    one_node();
+    if is_in_place(leaf) {
+        return Ok(true);
+    }
+    let Some(there) = read_node(
+        alloc,
+        volume,
+        leaf.leaf.lnum,
+        leaf.leaf.offs,
+        leaf.leaf.len,
+    )? else {
+        return Ok(false);
+    };
+    Ok(is_same_node(&there, node))
+}
+
+// Whether a leaf stands where its node was read.
+fn is_in_place(leaf: &SourcedLeaf) -> bool
+    ensures { result ≡ is_in_place leaf.now }
+{
+    match &leaf.source {
+        Some(source) => {
+            source.lnum == leaf.leaf.lnum
+                && source.offs == leaf.leaf.offs
+                && source.len == leaf.leaf.len
+        }
+        None => false,
+    }
+}
+
+// What a leaf shows, whose node shows this and stands at its place or doesn't.
+fn judged(leaf: &SourcedLeaf, shown: Shown, stands: bool) -> JudgedLeaf
+    ensures { result ≡ judged_of leaf.now shown stands }
+{
+    let number = number_of(&leaf.leaf.key);
+    let unlike = if stands && is_leaf_shown(&shown) {
+        None
+    } else {
+        Some(WrongValue {
+            lnum: leaf.leaf.lnum,
+            offs: leaf.leaf.offs,
+            wanted: name_number(number, &shown) as u64,
+            found: 0,
+        })
+    };
+    JudgedLeaf {
+        leaf: ShownLeaf {
+            lnum: leaf.leaf.lnum,
+            offs: leaf.leaf.offs,
+            number,
+            shown,
+        },
+        unlike,
+    }
+}
+
+// The number by which a leaf is named: of an entry that of its inode, and else that in its key.
+fn name_number(number: u32, shown: &Shown) -> u32
+    ensures { result ≡ name_number number shown.now }
+{
+    match shown {
+        Shown::Entry { ino, .. } => *ino,
+        Shown::Inode { .. }
+        | Shown::Deletion { .. }
+        | Shown::Block { .. }
+        | Shown::Truncation { .. }
+        | Shown::Nothing => number,
+    }
+}
