@@ -1,20 +1,24 @@
 -- A node of a table as an index node of the medium.
-use Rattle.std.proofs.Common.{◌≡◌, ℕ, ◌≤◌, List, [], ◌∷◌, length, refl, ap, sym, ◌∙◌, subst, arith}
-use Rattle.std.specs.Prelude.{Bool, Option, None, Some, Result, Ok, Err, IfOk, IsTrue, map, slice_get}
+use Rattle.std.proofs.Common.{◌≡◌, ℕ, ◌+◌, ◌-◌, ◌≤◌, true, List, [], ◌∷◌, length, refl, ap, sym, ◌∙◌, subst, arith, inl, inr}
+use Rattle.std.specs.Prelude.{Bool, nat_lt, Option, None, Some, Result, Ok, Err, IfOk, IsTrue, map, slice_get}
 use Rattle.std.specs.List.{AllByRecursion}
+use Rattle.std.proofs.lemmas.Bool.{lt-ltb}
+use Rattle.std.proofs.lemmas.List.Elements.{All-get_or}
+use Rattle.std.proofs.lemmas.Option.{slice_get_cases}
 use Rattle.ubifs_base.specs.Key.{IsKey}
 use Rattle.ubifs_base.specs.declared.key.Key.{Key}
 use Rattle.ubifs_base.specs.declared.memory.Memory.{Memory}
-use Rattle.index_tree.specs.Shape.{count, leaf, done}
+use Rattle.index_tree.specs.Levels.{levelled}
+use Rattle.index_tree.specs.Shape.{Shape, count, leaf, node, done, is_whole}
 use Rattle.index_media.specs.InsertionSound.{AreKeys, fit_node}
 use Rattle.index_media.specs.KeyedRow.{KeyedRow, no_more, leaf_in, node_in, bare}
 use Rattle.index_media.specs.PlacedRow.{Stretch, plain, branch_to, branches_of}
 use Rattle.media_sys.specs.Index.{IsIdxNode, in_order}
 use Rattle.media_sys.specs.declared.branch.Branch.{Branch}
 use Rattle.node_table.specs.Clean.{node_branch, placed_of}
-use Rattle.node_table.specs.NodeView.{NodeView, views, view_of, row_of, node_before, tree_at}
+use Rattle.node_table.specs.NodeView.{NodeView, views, view_of, row_of, node_before, children_in, tree_at}
 use Rattle.node_table.specs.Pruning.{place_in}
-use Rattle.node_table.specs.Sound.{IsSoundView}
+use Rattle.node_table.specs.Sound.{IsSoundView, AreSoundViews}
 use Rattle.node_table.specs.declared.link.Link.{Link}
 use Rattle.node_table.specs.declared.link.Link.TheVariants.{ToLeaf, ToNode}
 use Rattle.node_table.specs.declared.node.Root.{Root}
@@ -62,6 +66,12 @@ few_links f seen n most s =
     let counted = branches_counted (row_of seen n.links.items) in
     omega (arith, fit, long, counted, most)
 
+pub few_children : (f : ℕ) (seen : List NodeView) (n : TableNode) → IsSoundView f (view_of seen n) → length (branches_of (placed_of (row_of seen n.links.items))) ≤ f
+few_children f seen n s =
+    let fit = (fit_node f (bare (row_of seen n.links.items)) done s.0).most in
+    let counted = branches_counted (row_of seen n.links.items) in
+    omega (arith, fit, counted)
+
 -- what a node says is an index node
 pub says_node : (f level : ℕ) (v : NodeView) (branches : List Branch) → f ≤ 256 → IsSoundView f v → branches ≡ branches_of (placed_of v.children) → IsTrue (in_order None branches)
     → IsIdxNode (record { level = level; branches = branches })
@@ -83,6 +93,38 @@ pub root_branch : (nodes : List TableNode) (o : Option Root) (root : Root) (bran
 root_branch nodes o root branch e b =
     ap (λ (x : Branch). Some x) b
     ∙ sym (ap (λ r. slice_get (branches_of (placed_of (tree_at nodes r))) 0) e ∙ ap (λ (bs : List Branch). slice_get bs 0) (node_first root.key (slice_get (views nodes) root.number) no_more))
+
+-- the index below a root is one: a root alone, or nothing, with all leaves on one level
+before_bare : (key : Key) (o : Option NodeView) → bare (node_before key o no_more) ≡ node (bare (children_in o)) done
+before_bare key None = refl
+before_bare key (Some v) = refl
+
+pub root_whole : (nodes : List TableNode) (o : Option Root) → is_whole (bare (tree_at nodes o)) ≡ true
+root_whole nodes None = refl
+root_whole nodes (Some root) = ap is_whole (before_bare root.key (slice_get (views nodes) root.number))
+
+below_levelled : (f : ℕ) (seen : List NodeView) (number : ℕ) → AreSoundViews f seen → (level : ℕ) × (levelled level (bare (children_in (slice_get seen number))) ≡ true)
+below_levelled f seen number sound = elim ((slice_get_cases seen number).1) [
+  | inl (v, there, e, got) ↦
+      let own = All-get_or (λ w. IsSoundView f w) seen number v there sound in
+      (v.level, ap (λ o. levelled v.level (bare (children_in o))) e ∙ (subst (λ w. IsSoundView f w) got own).1)
+  | inr (past, e) ↦ (0, ap (λ o. levelled 0 (bare (children_in o))) e)
+]
+
+over_level : (level : ℕ) (children : Shape) → levelled level children ≡ true → levelled (level + 1) (node children done) ≡ true
+over_level level children h =
+    let same : level + 1 - 1 ≡ level = omega arith in
+    let above : nat_lt 0 (level + 1) ≡ true = lt-ltb 0 (level + 1) (omega arith) in
+    let below : levelled (level + 1 - 1) children ≡ true = ap (λ n. levelled n children) same ∙ h in
+    rw (above, below) refl
+
+pub root_levelled : (f : ℕ) (nodes : List TableNode) (o : Option Root) → AreSoundViews f (views nodes) → (level : ℕ) × (levelled level (bare (tree_at nodes o)) ≡ true)
+root_levelled f nodes None sound = (0, refl)
+root_levelled f nodes (Some root) sound =
+    let below = below_levelled f (views nodes) root.number sound in (
+      below.0 + 1,
+      ap (levelled (below.0 + 1)) (before_bare root.key (slice_get (views nodes) root.number)) ∙ over_level below.0 (bare (children_in (slice_get (views nodes) root.number))) below.1,
+    )
 
 -- a placed row has the shape of the row that it places
 pub plain_placed : (row : KeyedRow) → plain (placed_of row) ≡ bare row

@@ -1,12 +1,12 @@
 // What a commit does with an index: it freezes it, and writes its dirty nodes, children before their parent.
 
-ghost use Rattle.std.specs.Prelude.{◌≡◌, true, IfOk, IfSome, IfNone, IsTrue, None, Option, length, option_map, slice_get};
+ghost use Rattle.std.specs.Prelude.{◌≡◌, ◌≤◌, ℕ, true, IfOk, IfSome, IfNone, IsTrue, None, Option, length, option_map, slice_get};
 ghost use Rattle.index_media.specs.KeyedRow.{all_clean, bare};
 ghost use Rattle.index_media.specs.PlacedRow.{branches_of};
 ghost use Rattle.index_tree.specs.Levels.{levelled};
-ghost use Rattle.index_tree.specs.Shape.{fits};
+ghost use Rattle.index_tree.specs.Shape.{fits, is_whole};
 ghost use Rattle.media_sys.specs.Index.{in_order};
-ghost use Rattle.media_sys.specs.SystemNode.{index, written};
+ghost use Rattle.media_sys.specs.SystemNode.{IsSystemNode, index, written};
 ghost use Rattle.node_table.specs.Clean.{placed_of};
 ghost use Rattle.node_table.specs.NodeView.{tree_at};
 ghost use Rattle.node_table.specs.Placing.{with_place, IsPlacedRow, without_number};
@@ -54,6 +54,7 @@ impl PagedIndex {
         ensures level { IfSome result (λ found. found.level ≡ (said_of self.now found.node).level) }
         ensures levels { IfSome result (λ found. levelled found.level (bare (below_node self.now found.node)) ≡ true) }
         ensures len { IfSome result (λ found. found.len ≡ node_length (said_of self.now found.node)) }
+        ensures most { IfSome result (λ found. length (said_of self.now found.node).branches ≤ fanout_of self.now) }
         ensures none { IfNone result (frozen_of self.now ≡ all_clean (placed_of (frozen_of self.now))) }
     {
         clean_rows_are_placed();
@@ -71,6 +72,7 @@ impl PagedIndex {
     fn level_of(&self, node: u64) -> u16
         ensures level { result ≡ (said_of self.now node).level }
         ensures levels { levelled result (bare (below_node self.now node)) ≡ true }
+        ensures most { length (said_of self.now node).branches ≤ fanout_of self.now }
     {
         match self.table.node_at(node) {
             None => 0,
@@ -103,6 +105,7 @@ impl PagedIndex {
         requires room { length out.old ≡ node_length (said_of self.now node) }
         ensures order { IfOk result (λ done. done ≡ in_order None (said_of self.now node).branches) }
         ensures spelling { IfOk result (λ done. IsTrue done → out.new ≡ written sqnum 0 (index (said_of self.now node))) }
+        ensures grammar { IfOk result (λ done. IsTrue done → IsSystemNode out.new sqnum 0 (index (said_of self.now node))) }
     {
         match self.table.node_at(node) {
             None => Err(Memory),
@@ -133,11 +136,14 @@ impl PagedIndex {
         self.table.set_place(node, NodePlace { lnum, offs, len });
     }
 
-    /// The branch to the root of the frozen index; none where that is empty. While the root is dirty, it leads nowhere.
+    /// The branch to the root of the frozen index; none where that is empty. While the root is dirty, it leads nowhere. The
+    /// frozen index is one: a root alone or nothing, of nodes with 1 to `fanout` children, with all leaves on one level.
     pub fn frozen_branch(&self) -> Option<Branch>
         ensures first { result ≡ slice_get (branches_of (placed_of (frozen_of self.now))) 0 }
         ensures sound { IsSoundRoot self.now.table.nodes.items self.now.frozen }
         ensures fits { fits (fanout_of self.now) (bare (frozen_of self.now)) ≡ true }
+        ensures whole { is_whole (bare (frozen_of self.now)) ≡ true }
+        ensures levels { (level : ℕ) × (levelled level (bare (frozen_of self.now)) ≡ true) }
     {
         self.table.trees_fit();
         match self.frozen {
