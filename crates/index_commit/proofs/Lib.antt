@@ -1,0 +1,5 @@
+pub mod Standing
+pub mod Laid
+pub mod Whole
+pub mod Lebs
+pub mod Committed

@@ -1,0 +1,100 @@
+use Rattle.std.proofs.Common.{rules, refl, ap, ◌∙◌, arith, length}
+use Rattle.std.specs.Prelude.{Option, Some}
+use Rattle.ubifs_base.specs.Geometry.{index_nodes_per_leb}
+use Rattle.ubifs_base.specs.RawOf.{raw_of}
+use Rattle.index_cache.specs.Paged.{dirty_of}
+use Rattle.index_commit.specs.Answers.{IsIndexNotFailed}
+use Rattle.index_commit.specs.Written.{IsHeadAfter}
+use Rattle.index_commit.specs.declared.index_at.IndexHead.{IndexHead}
+use Rattle.index_commit.proofs.Laid.{index_none, index_then, taken_fewer}
+use Rattle.index_commit.proofs.Lebs.{both_standing, both_worked, fits_then, geometry_then, givable_then, head_behind, if_ok, none_standing, one_standing, one_worked}
+use Rattle.index_commit.proofs.writing.+write_lebs.Goals as goal
+
+pub returns-then-is_none-clause-standing : goal.returns-then-is_none-clause-standing
+returns-then-is_none-clause-standing g t c = λ done. none_standing (g.V.Volume.state c.args.volume.now) c.args.lebs.now c.args.index.now
+
+pub returns-then-is_none-clause-index : goal.returns-then-is_none-clause-index
+returns-then-is_none-clause-index g t c = index_none c.places_are_kept.ensures.none c.args.index.now c.args.sqnum.now
+
+pub returns-in_err-offs-clause-standing : goal.returns-in_err-offs-clause-standing
+returns-in_err-offs-clause-standing g t c = λ failed.
+    let a = g.V.Volume.state c.args.volume.now in
+    let b = g.V.Volume.state c.write_leb.new.volume in
+    let lnum = c.in-Some.lnum.now in
+    let rest = c.in-Some.rest.now in
+    let is = c.in-Some.ensures.cases.0 in
+    let apart = (givable_then a.leb_cnt a.leb_cnt lnum rest c.args.lebs.now refl is c.requires.lebs).1 in
+    let other : IsIndexNotFailed c.write_leb.result = search (rules, failed) in
+    one_standing a b lnum rest c.args.lebs.now c.args.index.now c.write_leb.new.index is apart c.write_leb.ensures.works (c.write_leb.ensures.standing other)
+
+pub returns-in_err-offs-clause-works : goal.returns-in_err-offs-clause-works
+returns-in_err-offs-clause-works g t c =
+    one_worked (g.V.Volume.state c.args.volume.now) (g.V.Volume.state c.write_leb.new.volume) c.in-Some.lnum.now c.in-Some.rest.now c.args.lebs.now c.in-Some.ensures.cases.0 c.write_leb.ensures.works
+
+pub write_lebs-requires : goal.write_lebs-requires
+write_lebs-requires g t c κs within =
+    let a = g.V.Volume.state c.args.volume.now in
+    let b = g.V.Volume.state c.write_leb.new.volume in
+    let geo = c.args.geometry.now in
+    let lnum = c.in-Some.lnum.now in
+    let rest = c.in-Some.rest.now in
+    let is = c.in-Some.ensures.cases.0 in
+    let long = ap length is in
+    let made = c.in_ok-offs.ensures in
+    let old = dirty_of c.args.index.now in
+    let new = dirty_of c.write_leb.new.index in
+    let fewer = taken_fewer c.places_are_kept.ensures.fewer made.index.nodes old new made.index.taken in
+    let number = made.index.number in
+    let most = c.requires.number in (
+      omega (arith, long, c.decreases),
+      (
+        within,
+        (
+          geometry_then (raw_of geo) a b made.answer.shape c.requires.geometry,
+          (
+            made.index.kept.roots.fanout ∙ c.requires.fanout,
+            (
+              (givable_then a.leb_cnt b.leb_cnt lnum rest c.args.lebs.now made.answer.shape.leb_cnt is c.requires.lebs).2,
+              (omega (arith, fewer, number, most), (made.len ∙ c.requires.whole, fits_then (index_nodes_per_leb (raw_of geo)) (length old) (length new) new lnum rest c.args.lebs.now is c.requires.fits refl made.all)),
+            ),
+          ),
+        ),
+      ),
+    )
+
+pub returns-clause-head : goal.returns-clause-head
+returns-clause-head g t c =
+    let a = g.V.Volume.state c.args.volume.now in
+    let b = g.V.Volume.state c.write_leb.new.volume in
+    let d = g.V.Volume.state c.write_lebs.new.volume in
+    let lnum = c.in-Some.lnum.now in
+    let rest = c.in-Some.rest.now in
+    let is = c.in-Some.ensures.cases.0 in
+    let apart = (givable_then a.leb_cnt a.leb_cnt lnum rest c.args.lebs.now refl is c.requires.lebs).1 in
+    let offs = c.in_ok-offs.offs in
+    let now : Option IndexHead = Some (record { lnum = lnum; offs = offs }) in
+    if_ok (λ found. IsHeadAfter d rest (dirty_of c.write_leb.new.index) now found) (λ found. IsHeadAfter d c.args.lebs.now (dirty_of c.args.index.now) c.args.head found) c.write_lebs.result
+    (λ found h. head_behind b d lnum offs rest c.args.lebs.now (dirty_of c.args.index.now) (dirty_of c.write_leb.new.index) c.args.head now found is apart c.write_lebs.ensures.works
+    c.write_lebs.ensures.answer.shape refl c.in_ok-offs.ensures.end h) c.write_lebs.ensures.head
+
+pub returns-clause-standing : goal.returns-clause-standing
+returns-clause-standing g t c = λ other.
+    let a = g.V.Volume.state c.args.volume.now in
+    let b = g.V.Volume.state c.write_leb.new.volume in
+    let d = g.V.Volume.state c.write_lebs.new.volume in
+    let lnum = c.in-Some.lnum.now in
+    let rest = c.in-Some.rest.now in
+    let is = c.in-Some.ensures.cases.0 in
+    let apart = (givable_then a.leb_cnt a.leb_cnt lnum rest c.args.lebs.now refl is c.requires.lebs).1 in
+    both_standing a b d lnum rest c.args.lebs.now c.args.index.now c.write_leb.new.index c.write_lebs.new.index is apart c.write_leb.ensures.works c.write_lebs.ensures.works (c.in_ok-offs.ensures.standing tt)
+    (c.write_lebs.ensures.standing other)
+
+pub returns-clause-index : goal.returns-clause-index
+returns-clause-index g t c =
+    index_then c.places_are_kept.ensures.both c.args.index.now c.write_leb.new.index c.write_lebs.new.index c.args.sqnum.now c.write_leb.new.sqnum c.write_lebs.new.sqnum c.in_ok-offs.ensures.index
+    c.write_lebs.ensures.index
+
+pub returns-clause-works : goal.returns-clause-works
+returns-clause-works g t c =
+    both_worked (g.V.Volume.state c.args.volume.now) (g.V.Volume.state c.write_leb.new.volume) (g.V.Volume.state c.write_lebs.new.volume) c.in-Some.lnum.now c.in-Some.rest.now c.args.lebs.now
+    c.in-Some.ensures.cases.0 c.write_leb.ensures.works c.write_lebs.ensures.works

@@ -1,0 +1,26 @@
+use Rattle.std.proofs.Common.{◌≡◌, ◌%◌, ℕ, take, ap, sym, ◌∙◌, subst, arith, length-take-le}
+use Rattle.index_commit.specs.Written.{IsLebPut}
+use Rattle.index_commit.proofs.Lebs.{leb_put, none_put, one_works}
+use Rattle.index_commit.proofs.writing.put_leb.Goals as goal
+
+pub returns-then-used-eq0-clause-put : goal.returns-then-used-eq0-clause-put
+returns-then-used-eq0-clause-put g c =
+    let s = g.V.Volume.state c.args.volume.now in
+    let P : ℕ → Type 0 = λ n. IsLebPut s s c.args.lnum (take n c.args.leb.now) n 0 in
+    subst P (sym c.if-used-eq0.true) (none_put s c.args.lnum 0 c.args.leb.now)
+
+pub returns-clause-put : goal.returns-clause-put
+returns-clause-put g c =
+    let a = g.V.Volume.state c.args.volume.now in
+    let b = g.V.Volume.state c.change.new.self in
+    let end = c.in_units-end.result in
+    let leb = c.fill_unit.new.leb in
+    let fits = c.in_units-end.ensures.fits in
+    let size = c.fill_unit.ensures.size in
+    let whole = c.requires.whole in
+    let unit : b.min_io ≡ c.args.geometry.now.min_io = c.change.ensures.shape.min_io ∙ sym c.requires.geometry.min_io in
+    leb_put a b c.args.lnum c.args.used end _ (take c.args.used c.args.leb.now) _ (take end leb) c.fill_unit.ensures.front c.in_ok-change.ensures.done c.change.ensures.works
+    (length-take-le end leb (omega (arith, fits, size, whole))) (ap (λ (n : ℕ). end % n) unit ∙ c.in_units-end.ensures.whole)
+
+pub returns-clause-works : goal.returns-clause-works
+returns-clause-works g c = one_works (g.V.Volume.state c.args.volume.now) (g.V.Volume.state c.change.new.self) c.args.lnum _ c.change.ensures.works

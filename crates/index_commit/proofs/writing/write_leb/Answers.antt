@@ -1,0 +1,52 @@
+use Rattle.std.proofs.Common.{◌≡◌, ◌+◌, ◌/◌, ◌≤◌, [], ℕ, length, take, ap, ◌∙◌, subst, arith, length-take-le}
+use Rattle.std.specs.Prelude.{◌⊎◌}
+use Rattle.ubifs_base.specs.Geometry.{index_nodes_per_leb}
+use Rattle.ubifs_base.specs.RawOf.{raw_of}
+use Rattle.index_cache.specs.Paged.{dirty_of}
+use Rattle.index_commit.proofs.Lebs.{leb_full, leb_standing, leb_used}
+use Rattle.index_commit.proofs.writing.write_leb.Goals as goal
+
+pub returns-in_err-laid-clause-standing : goal.returns-in_err-laid-clause-standing
+returns-in_err-laid-clause-standing g c =
+    let laid = c.lay_nodes-laid in
+    λ failed. leb_standing (g.V.Volume.state c.args.volume.now) (g.V.Volume.state c.put_leb.new.volume) c.args.lnum c.index_node_len-room.result laid.new.used c.in_ok-end.end c.args.sqnum.now laid.new.sqnum
+    c.args.index.now laid.new.index (take laid.new.used laid.new.leb) laid.ensures.laid c.in_ok-end.ensures.put
+
+pub returns-clause-all : goal.returns-clause-all
+returns-clause-all g c =
+    let laid = c.lay_nodes-laid in
+    let room = c.index_node_len-room.result in
+    let room_is = c.index_node_len-room.ensures in
+    let geo = c.args.geometry.now in
+    let fits = laid.ensures.fits in
+    let len = laid.ensures.len in
+    let a = c.args.index.now in
+    let b = laid.new.index in
+    let each : length c.args.leb.now / room ≡ index_nodes_per_leb (raw_of geo) = ap (λ (n : ℕ). n / room) c.requires.whole ∙ ap (λ (n : ℕ). geo.leb_size / n) room_is in
+    let P : ℕ → Type 0 = λ n. (dirty_of b ≡ []) ⊎ (length (dirty_of b) + n ≤ length (dirty_of a)) in
+    subst P each (
+    leb_full c.places_are_kept.ensures.fewer c.args.lnum room (length c.args.leb.now) laid.new.used c.args.sqnum.now laid.new.sqnum a b (take laid.new.used laid.new.leb) (omega (arith, room_is))
+    (length-take-le laid.new.used laid.new.leb (omega (arith, fits, len))) laid.ensures.laid c.in_ok-laid.ensures.all
+    )
+
+pub returns-clause-end : goal.returns-clause-end
+returns-clause-end g c =
+    let laid = c.lay_nodes-laid in
+    let room = c.index_node_len-room.result in
+    let room_is = c.index_node_len-room.ensures in
+    let geo = c.args.geometry.now in
+    let fits = laid.ensures.fits in
+    let len = laid.ensures.len in
+    let fanout = geo.in_range.fanout.1 in
+    let least = geo.in_range.leb_size.0 in
+    let whole = c.requires.whole in
+    c.in_ok-end.ensures.put.ended (
+    leb_used c.args.lnum room (length c.args.leb.now) laid.new.used c.args.sqnum.now laid.new.sqnum c.args.index.now laid.new.index (take laid.new.used laid.new.leb) (omega (arith, room_is))
+    (omega (arith, room_is, fanout, least, whole)) (length-take-le laid.new.used laid.new.leb (omega (arith, fits, len))) c.requires.some laid.ensures.laid c.in_ok-laid.ensures.all
+    )
+
+pub returns-clause-standing : goal.returns-clause-standing
+returns-clause-standing g c =
+    let laid = c.lay_nodes-laid in
+    λ done. leb_standing (g.V.Volume.state c.args.volume.now) (g.V.Volume.state c.put_leb.new.volume) c.args.lnum c.index_node_len-room.result laid.new.used c.in_ok-end.end c.args.sqnum.now laid.new.sqnum
+    c.args.index.now laid.new.index (take laid.new.used laid.new.leb) laid.ensures.laid c.in_ok-end.ensures.put

@@ -1,0 +1,12 @@
+-- The LEBs that a commit is given.
+use Rattle.std.specs.Prelude.{◌≡◌, ◌⊎◌, ◌<◌, ℕ, List, [], ◌∷◌, ⊤}
+
+-- the LEB is one of these
+abbrev pub IsGiven : List ℕ → ℕ → Type 0
+IsGiven [] k = ⊥
+IsGiven (lnum ∷ lebs) k = (k ≡ lnum) ⊎ IsGiven lebs k
+
+-- LEBs of a volume of so many, no two of them the same
+abbrev pub AreGivable : ℕ → List ℕ → Type 0
+AreGivable leb_cnt [] = ⊤
+AreGivable leb_cnt (lnum ∷ lebs) = (lnum < leb_cnt) × (IsGiven lebs lnum → ⊥) × AreGivable leb_cnt lebs

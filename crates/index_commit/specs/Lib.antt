@@ -1,0 +1,4 @@
+pub mod Lebs
+pub mod Standing
+pub mod Answers
+pub mod Written

@@ -1,0 +1,16 @@
+//! A commit of the index: what is frozen of it is written to free LEBs, and stands on the volume then.
+//!
+//! The dirty nodes go out one by one, children before their parent, a full node's room for each, into one LEB after another. A
+//! LEB's nodes are laid into a buffer, and the LEB is replaced by one change. A node has its place once it is laid, so its parent
+//! may follow in the same LEB. The invariant is that each clean node stands in the volume with the bytes that are laid so
+//! far in place of the LEB that they are for. Where the volume doesn't fail, they are written, whatever else ends the call.
+#![tactic(auto)]
+
+mod index_at;
+mod index_fault;
+mod laying;
+mod writing;
+
+pub use crate::index_at::{IndexAt, IndexHead};
+pub use crate::index_fault::IndexFault;
+pub use crate::writing::write_index;
