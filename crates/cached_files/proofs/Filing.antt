@@ -11,6 +11,9 @@ use Rattle.page_cache.specs.Pages.{Pages, is_page, is_current, pages_of, ticket_
 use Rattle.cached_files.specs.declared.kept.Kept.{Kept}
 use Rattle.cached_files.specs.Alike.{IsAlike}
 use Rattle.cached_files.specs.Calls.{GrowsBy, SureGoes}
+use Rattle.cached_files.specs.CutLaws.{Puts-none}
+use Rattle.cached_files.specs.Cuts.{PutsSeen, ValuesOf}
+use Rattle.cached_files.proofs.Cutting.{seen_then}
 use Rattle.cached_files.specs.CallLaws.{Goes-none, Goes-then, Goes-within, Sure-none, Sure-then}
 use Rattle.cached_files.specs.Present.{DirtyPages, IsKept, present, has_dirty, dirty_of_others}
 use Rattle.cached_files.proofs.Putting.{same-none, same-then}
@@ -81,6 +84,7 @@ pub record Filing (x y : Outlook) (old now : BackingState) (kept still : Kept) (
   pub goes : Goes (2 * done) old now
   pub grows : GrowsBy 0 old now kept still
   pub closed : now.closed ≤ old.closed
+  pub cut : PutsSeen old now kept
   pub sure : SureGoes x y old now
 
 tickets_count : (es : DirtyPages) → length (map ticket_of es) ≡ length es
@@ -102,15 +106,16 @@ filing_begins x old kept ino left is paid all = record {
   goes = Goes-none old;
   grows = omega arith;
   closed = omega arith;
+  cut = Puts-none (ValuesOf (present old.tree kept).tree) old.journal;
   sure = Sure-none x old;
 }
 
 -- one page more was put
-pub filing_more : (x y z : Outlook) (old now new : BackingState) (kept still after : Kept) (ino : ℕ) (ticket : Ticket) (rest : List Ticket) (put : Bool) → Filing x y old now kept still ino (ticket ∷ rest)
+pub filing_more : (x y z : Outlook) (old now new : BackingState) (kept still after : Kept) (ino : ℕ) (ticket : Ticket) (rest : List Ticket) (put : Bool) → IsKept old.tree kept → Filing x y old now kept still ino (ticket ∷ rest)
     → IsKept new.tree after → IsAlike (present now.tree still) (present new.tree after) → length after.pages.dirty ≤ new.space.credits → new.space.credits + length still.pages.dirty ≡ now.space.credits + length after.pages.dirty
     → put ≡ is_current still.pages ticket → after.pages ≡ cond put (without_dirty still.pages ticket.ino ticket.block) still.pages → after.inodes ≡ still.inodes → after.handles ≡ still.handles
-    → Goes 2 now new → GrowsBy 0 now new still after → new.closed ≤ now.closed → SureGoes y z now new → Filing x z old new kept after ino rest
-filing_more x y z old now new kept still after ino ticket rest put w fits same paid issued current pages inodes handles goes grows closed sure =
+    → Goes 2 now new → GrowsBy 0 now new still after → new.closed ≤ now.closed → PutsSeen now new still → SureGoes y z now new → Filing x z old new kept after ino rest
+filing_more x y z old now new kept still after ino ticket rest put is w fits same paid issued current pages inodes handles goes grows closed cut sure =
     let first = first_of still.pages.dirty ino ticket rest w.tickets in
     let was : put ≡ true = current ∙ first.current in
     let left : after.pages ≡ without_dirty still.pages ticket.ino ticket.block = rw was at pages in
@@ -129,6 +134,7 @@ filing_more x y z old now new kept still after ino ticket rest put w fits same p
       goes = let more : 2 * w.done + 2 ≡ 2 * (w.done + 1) = omega arith in subst (λ k. Goes k old new) more (Goes-then (2 * w.done) 2 old now new w.goes goes);
       grows = let before = w.grows in omega (arith, before, grows);
       closed = let before = w.closed in omega (arith, before, closed);
+      cut = seen_then old now new kept still is w.fits w.same w.cut cut;
       sure = Sure-then x y z old now new w.sure sure;
     }
 

@@ -4,6 +4,8 @@ pub mod Besides
 pub mod Clean
 pub mod Counts
 pub mod Covers
+pub mod CutValues
+pub mod Cutting
 pub mod Dropping
 pub mod Encoding
 pub mod Ending
@@ -17,8 +19,10 @@ pub mod MakingRoom
 pub mod Nodes
 pub mod Overlays
 pub mod PagePuts
+pub mod PlaceValues
 pub mod Putting
 pub mod Reading
 pub mod Throughs
+pub mod TicketCut
 pub mod Written
 pub mod WrittenAlike

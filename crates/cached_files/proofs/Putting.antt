@@ -30,6 +30,9 @@ use Rattle.page_cache.specs.declared.ticket.Ticket.{Ticket}
 use Rattle.cached_files.specs.declared.kept.Kept.{Kept}
 use Rattle.cached_files.specs.Present.{DirtyPages, with_page, present, has_dirty, IsKept, FitsClean, FitsFile, FitsPages, page_of, filled, bytes_before_end}
 use Rattle.cached_files.specs.CallLaws.{Goes-none, Goes-then, Sure-none, Sure-then}
+use Rattle.cached_files.specs.CutLaws.{Puts-none}
+use Rattle.cached_files.specs.Cuts.{PutsSeen, ValuesOf}
+use Rattle.cached_files.proofs.Cutting.{seen_then}
 use Rattle.cached_files.proofs.Clean.{all_found, all_removed, clean_put}
 use Rattle.cached_files.proofs.Covers.{other_ends, page_cases}
 use Rattle.cached_files.proofs.Ends.{insert_ends, insert_other_ends, filled_ends}
@@ -43,7 +46,7 @@ trimmed-zeros : (n : ℕ) → trimmed (replicate n 0) ≡ []
 trimmed-zeros zero = refl
 trimmed-zeros (suc n) = rw (trimmed-zeros n) refl
 
-trimmed-filled : (bytes : List ℕ) (n : ℕ) → trimmed (bytes ++ replicate n 0) ≡ trimmed bytes
+pub trimmed-filled : (bytes : List ℕ) (n : ℕ) → trimmed (bytes ++ replicate n 0) ≡ trimmed bytes
 trimmed-filled [] n = trimmed-zeros n
 trimmed-filled (byte ∷ bytes) n = ap (λ z. before_zeros byte z) (trimmed-filled bytes n)
 
@@ -427,16 +430,17 @@ pub record Written (x y : Outlook) (old now : BackingState) (kept still : Kept) 
   pub goes : Goes (2 * (length kept.pages.dirty - left)) old now
   pub grows : GrowsBy 0 old now kept still
   pub closed : now.closed ≤ old.closed
+  pub cut : PutsSeen old now kept
   pub sure : SureGoes x y old now
 
 pub written_begins : (x : Outlook) (old : BackingState) (kept : Kept) (n : ℕ) → IsKept old.tree kept → length kept.pages.dirty ≤ old.space.credits → n ≡ length kept.pages.dirty → Written x x old old kept kept n
 written_begins x old kept n is paid same =
     let zero_more : 2 * (length kept.pages.dirty - n) ≡ 0 = omega (arith, same) in
-    record { fits = is; same = same-none (present old.tree kept); paid = paid; issued = refl; count = sym same; few = omega (arith, same); goes = subst (λ k. Goes k old old) (sym zero_more) (Goes-none old); grows = omega arith; closed = omega arith; sure = Sure-none x old }
+    record { fits = is; same = same-none (present old.tree kept); paid = paid; issued = refl; count = sym same; few = omega (arith, same); goes = subst (λ k. Goes k old old) (sym zero_more) (Goes-none old); grows = omega arith; closed = omega arith; cut = Puts-none (ValuesOf (present old.tree kept).tree) old.journal; sure = Sure-none x old }
 
-pub written_more : (x y z : Outlook) (old now new : BackingState) (kept still after : Kept) (left next : ℕ) → Written x y old now kept still left → next + 1 ≡ left → IsKept new.tree after
-    → IsAlike (present now.tree still) (present new.tree after) → length after.pages.dirty ≤ new.space.credits → new.space.credits + length still.pages.dirty ≡ now.space.credits + length after.pages.dirty → after.pages.dirty ≡ drop 1 still.pages.dirty → Goes 2 now new → GrowsBy 0 now new still after → new.closed ≤ now.closed → SureGoes y z now new → Written x z old new kept after next
-written_more x y z old now new kept still after left next w one fits same paid issued pages goes grows closed sure =
+pub written_more : (x y z : Outlook) (old now new : BackingState) (kept still after : Kept) (left next : ℕ) → IsKept old.tree kept → Written x y old now kept still left → next + 1 ≡ left → IsKept new.tree after
+    → IsAlike (present now.tree still) (present new.tree after) → length after.pages.dirty ≤ new.space.credits → new.space.credits + length still.pages.dirty ≡ now.space.credits + length after.pages.dirty → after.pages.dirty ≡ drop 1 still.pages.dirty → Goes 2 now new → GrowsBy 0 now new still after → new.closed ≤ now.closed → PutsSeen now new still → SureGoes y z now new → Written x z old new kept after next
+written_more x y z old now new kept still after left next is w one fits same paid issued pages goes grows closed cut sure =
     let n : length after.pages.dirty ≡ length still.pages.dirty - 1 = ap (λ dirty. length dirty) pages ∙ length-drop 1 still.pages.dirty in
     let count = w.count in
     let few = w.few in
@@ -451,6 +455,7 @@ written_more x y z old now new kept still after left next w one fits same paid i
       goes = subst (λ k. Goes k old new) more (Goes-then (2 * (length kept.pages.dirty - left)) 2 old now new w.goes goes);
       grows = let before = w.grows in omega (arith, before, grows);
       closed = let before = w.closed in omega (arith, before, closed);
+      cut = seen_then old now new kept still is w.fits w.same w.cut cut;
       sure = Sure-then x y z old now new w.sure sure;
     }
 

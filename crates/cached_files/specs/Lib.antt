@@ -4,3 +4,5 @@ pub mod Follow
 pub mod PagePut
 pub mod Present
 pub mod CallLaws
+pub mod Cuts
+pub mod CutLaws

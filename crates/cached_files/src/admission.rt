@@ -3,8 +3,10 @@
 ghost use Rattle.std.specs.Prelude.{◌≡◌, ◌⊎◌, ◌+◌, ◌*◌, ◌≤◌, [], length, Some, Ok, OnOk, OnErr, IfErr};
 ghost use Rattle.fs_model.specs.Backing.{Goes, HasCause, IsModest, KeepsFiles, granted};
 ghost use Rattle.fs_model.specs.Cover.{needed, room_for};
+ghost use Rattle.fs_model.specs.Journal.{Leaves};
 ghost use Rattle.cached_files.specs.Alike.{IsAlike};
 ghost use Rattle.cached_files.specs.Calls.{GrowsBy, HasCommitted, HasMadeRoom, IsCoveredAtLast, IsCoveredBy, IsWithoutRoom, SureGoes, TellsMode, WasCovered, added_or_failed, added_or_refused};
+ghost use Rattle.cached_files.specs.Cuts.{PutsSeen};
 ghost use Rattle.cached_files.specs.Present.{IsKept, present};
 
 use crate::commits::commit;
@@ -39,6 +41,7 @@ pub fn admit<B: Backing>(
     ensures covered { needed (B.state backing.old).space need.now ≤ room_for (B.state backing.old).geometry (B.state backing.old).space need.now
         → (result ≡ Ok tt) × (B.state backing.new ≡ granted (B.state backing.old) need.now) × (kept.new ≡ kept.old) }
     ensures refused { IfErr result (IsWithoutRoom (B.state backing.old) (B.state backing.new) kept.new need.now) }
+    ensures cut { PutsSeen (B.state backing.old) (B.state backing.new) kept.old }
     ensures goes { Goes (2 * length kept.old.pages.dirty) (B.state backing.old) (B.state backing.new) }
     ensures grows { GrowsBy (added_or_refused 0 2 result) (B.state backing.old) (B.state backing.new) kept.old kept.new }
     ensures closed { (B.state backing.new).closed ≤ (B.state backing.old).closed }
@@ -71,6 +74,7 @@ fn admit_again<B: Backing>(
     ensures tested { OnOk result (IsCoveredAtLast (B.state backing.old) (B.state backing.new) kept.old need.now 0) }
     ensures inodes { OnOk result (kept.new.inodes ≡ []) }
     ensures refused { IfErr result (IsWithoutRoom (B.state backing.old) (B.state backing.new) kept.new need.now) }
+    ensures cut { PutsSeen (B.state backing.old) (B.state backing.new) kept.old }
     ensures goes { Goes (2 * length kept.old.pages.dirty) (B.state backing.old) (B.state backing.new) }
     ensures grows { GrowsBy (added_or_refused 0 2 result) (B.state backing.old) (B.state backing.new) kept.old kept.new }
     ensures closed { (B.state backing.new).closed ≤ (B.state backing.old).closed }
@@ -101,6 +105,7 @@ pub fn make_room<B: Backing>(
     ensures inodes { OnOk result (kept.new.inodes ≡ []) }
     ensures done { OnOk result (HasCommitted (B.state backing.new)) }
     ensures room { OnOk result (HasMadeRoom (B.state backing.old) (B.state backing.new) kept.old) }
+    ensures cut { PutsSeen (B.state backing.old) (B.state backing.new) kept.old }
     ensures goes { Goes (2 * length kept.old.pages.dirty) (B.state backing.old) (B.state backing.new) }
     ensures grows { GrowsBy (added_or_failed 0 2 result) (B.state backing.old) (B.state backing.new) kept.old kept.new }
     ensures closed { (B.state backing.new).closed ≤ (B.state backing.old).closed }
@@ -116,6 +121,7 @@ pub fn make_room<B: Backing>(
 // Syncs; the files stay.
 fn sync_all<B: Backing>(backing: &mut B) -> Result<(), StoreFault>
     ensures files { KeepsFiles (B.state backing.old) (B.state backing.new) }
+    ensures cut { Leaves (B.state backing.old).journal (B.state backing.new).journal [] }
     ensures goes { Goes 0 (B.state backing.old) (B.state backing.new) }
     ensures cause { HasCause (B.state backing.old) (B.state backing.new) result }
     ensures mode { TellsMode (B.state backing.new) result }

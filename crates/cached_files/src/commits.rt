@@ -1,7 +1,8 @@
 // A commit, from its start to its end.
 
-ghost use Rattle.std.specs.Prelude.{◌≡◌, ◌-◌, true, None, is_some, IfOk, OnOk};
+ghost use Rattle.std.specs.Prelude.{◌≡◌, ◌-◌, [], true, None, is_some, IfOk, OnOk};
 ghost use Rattle.fs_model.specs.Backing.{Goes, HasCause, KeepsFiles};
+ghost use Rattle.fs_model.specs.Journal.{Leaves};
 ghost use Rattle.cached_files.specs.Calls.{HasCommitted, SureGoes, TellsMode};
 
 use fs_model::{Backing, Started, Stepped, StoreFault};
@@ -10,6 +11,7 @@ use fs_model::{Backing, Started, Stepped, StoreFault};
 pub fn commit<B: Backing>(backing: &mut B) -> Result<(), StoreFault>
     ensures done { OnOk result (HasCommitted (B.state backing.new)) }
     ensures files { KeepsFiles (B.state backing.old) (B.state backing.new) }
+    ensures cut { Leaves (B.state backing.old).journal (B.state backing.new).journal [] }
     ensures goes { Goes 0 (B.state backing.old) (B.state backing.new) }
     ensures cause { HasCause (B.state backing.old) (B.state backing.new) result }
     ensures mode { TellsMode (B.state backing.new) result }
@@ -31,6 +33,7 @@ fn finish<B: Backing>(backing: &mut B) -> Result<(), StoreFault>
     ensures ended { OnOk result ((B.state backing.new).journal.running ≡ None) }
     ensures nodes { OnOk result ((B.state backing.new).journal.nodes ≡ (B.state backing.old).journal.later) }
     ensures files { KeepsFiles (B.state backing.old) (B.state backing.new) }
+    ensures cut { Leaves (B.state backing.old).journal (B.state backing.new).journal [] }
     ensures goes { Goes 0 (B.state backing.old) (B.state backing.new) }
     ensures cause { HasCause (B.state backing.old) (B.state backing.new) result }
     ensures mode { TellsMode (B.state backing.new) result }
@@ -52,6 +55,7 @@ fn step<B: Backing>(backing: &mut B) -> Result<u64, StoreFault>
     ensures running { OnOk result ((B.state backing.new).journal.running ≡ (B.state backing.old).journal.running) }
     ensures later { OnOk result ((B.state backing.new).journal.later ≡ (B.state backing.old).journal.later) }
     ensures files { KeepsFiles (B.state backing.old) (B.state backing.new) }
+    ensures cut { Leaves (B.state backing.old).journal (B.state backing.new).journal [] }
     ensures goes { Goes 0 (B.state backing.old) (B.state backing.new) }
     ensures cause { HasCause (B.state backing.old) (B.state backing.new) result }
     ensures mode { TellsMode (B.state backing.new) result }

@@ -28,8 +28,8 @@ pub use crate::groups::{apply_group, put_group};
 pub use crate::handles::Handles;
 pub use crate::kept::Kept;
 pub use crate::law::{
-    alike_files_are_the_same, clean_files_are_those_of_the_backing, groups_leave_files_alike,
-    present_files_are_sound, written_files_stay_alike,
+    a_cut_leaves_what_was_put, alike_files_are_the_same, clean_files_are_those_of_the_backing,
+    groups_leave_files_alike, present_files_are_sound, written_files_stay_alike,
 };
 pub use crate::orphans::drop_orphan;
 pub use crate::put::{put_oldest, put_ticket, write_back, write_back_file};

@@ -27,6 +27,7 @@ pub fn drop_orphan<B: Backing>(backing: &mut B, kept: &mut Kept, ino: u32) -> Re
     ensures issued { (B.state backing.new).space.credits + length kept.old.pages.dirty ≡ (B.state backing.old).space.credits + length kept.new.pages.dirty }
     ensures same { OnErr result (kept.new ≡ kept.old) }
     ensures files { OnErr result (KeepsFiles (B.state backing.old) (B.state backing.new)) }
+    ensures journal { (B.state backing.new).journal ≡ (B.state backing.old).journal }
     ensures goes { Goes 0 (B.state backing.old) (B.state backing.new) }
     ensures grows { GrowsBy 0 (B.state backing.old) (B.state backing.new) kept.old kept.new }
     ensures orphans { next_orphans (B.state backing.new) ≤ next_orphans (B.state backing.old) }

@@ -8,6 +8,7 @@ ghost use Rattle.page_cache.specs.Pages.{dirty_at, is_current, pages_of, without
 ghost use Rattle.fs_model.specs.Backing.{Goes, HasCause};
 ghost use Rattle.cached_files.specs.Alike.{IsAlike};
 ghost use Rattle.cached_files.specs.Calls.{GrowsBy, SureGoes, TellsMode, added_or_failed};
+ghost use Rattle.cached_files.specs.Cuts.{PutsSeen};
 ghost use Rattle.cached_files.specs.PagePut.{IsPutOrKept, page_at};
 ghost use Rattle.cached_files.specs.Present.{IsKept, dirty_of_others, has_dirty, present, page_of, filled};
 
@@ -38,6 +39,7 @@ pub fn put_ticket<B: Backing>(
     ensures handles { kept.new.handles ≡ kept.old.handles }
     ensures err { OnErr result (kept.new ≡ kept.old) }
     ensures placed { is_current kept.old.pages ticket.now ≡ true → (page : _) → page_at kept.old ticket.now.ino ticket.now.block ≡ Some page → IsPutOrKept (B.state backing.old) (B.state backing.new) page result }
+    ensures cut { PutsSeen (B.state backing.old) (B.state backing.new) kept.old }
     ensures goes { Goes 2 (B.state backing.old) (B.state backing.new) }
     ensures grows { GrowsBy (added_or_failed 0 2 result) (B.state backing.old) (B.state backing.new) kept.old kept.new }
     ensures closed { (B.state backing.new).closed ≤ (B.state backing.old).closed }
@@ -73,6 +75,7 @@ pub fn put_oldest<B: Backing>(
     ensures put { IfOk result (λ put. put ≡ nat_lt 0 (length kept.old.pages.dirty)) }
     ensures pages { OnOk result (kept.new.pages.dirty ≡ drop 1 kept.old.pages.dirty) }
     ensures err { OnErr result (kept.new ≡ kept.old) }
+    ensures cut { PutsSeen (B.state backing.old) (B.state backing.new) kept.old }
     ensures goes { Goes 2 (B.state backing.old) (B.state backing.new) }
     ensures grows { GrowsBy (added_or_failed 0 2 result) (B.state backing.old) (B.state backing.new) kept.old kept.new }
     ensures closed { (B.state backing.new).closed ≤ (B.state backing.old).closed }
@@ -104,6 +107,7 @@ pub fn write_back_file<B: Backing>(
     ensures others { dirty_of_others kept.new.pages.dirty ino ≡ dirty_of_others kept.old.pages.dirty ino }
     ensures inodes { kept.new.inodes ≡ kept.old.inodes }
     ensures handles { kept.new.handles ≡ kept.old.handles }
+    ensures cut { PutsSeen (B.state backing.old) (B.state backing.new) kept.old }
     ensures goes { Goes (2 * length (pages_of kept.old.pages.dirty ino)) (B.state backing.old) (B.state backing.new) }
     ensures grows { GrowsBy (added_or_failed 0 2 result) (B.state backing.old) (B.state backing.new) kept.old kept.new }
     ensures closed { (B.state backing.new).closed ≤ (B.state backing.old).closed }
@@ -133,6 +137,7 @@ pub fn write_back<B: Backing>(
     ensures issued { (B.state backing.new).space.credits + length kept.old.pages.dirty ≡ (B.state backing.old).space.credits + length kept.new.pages.dirty }
     ensures pages { OnOk result (kept.new.pages.dirty ≡ []) }
     ensures inodes { OnOk result (kept.new.inodes ≡ []) }
+    ensures cut { PutsSeen (B.state backing.old) (B.state backing.new) kept.old }
     ensures goes { Goes (2 * length kept.old.pages.dirty) (B.state backing.old) (B.state backing.new) }
     ensures grows { GrowsBy (added_or_failed 0 2 result) (B.state backing.old) (B.state backing.new) kept.old kept.new }
     ensures closed { (B.state backing.new).closed ≤ (B.state backing.old).closed }

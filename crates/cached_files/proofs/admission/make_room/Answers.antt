@@ -1,4 +1,5 @@
 use Rattle.std.proofs.Common.{◌+◌, ◌*◌, ◌∙◌, arith, length, rules}
+use Rattle.cached_files.proofs.Cutting.{nothing_then}
 use Rattle.cached_files.proofs.Growing.{none_put}
 use Rattle.cached_files.proofs.MakingRoom.{on_ok, all_put}
 use Rattle.cached_files.specs.CallLaws.{Goes-then, Goes-within}
@@ -41,3 +42,21 @@ returns-clause-grows g c =
     let synced = g.B.Backing.state c.sync_all.new.backing in
     let new = g.B.Backing.state c.commit.new.backing in
     none_put _ (g.B.Backing.state c.args.backing.now) put new c.args.kept.now c.write_back.new.kept c.in_ok-write_back.ensures.grows (Goes-then 0 0 put synced new c.sync_all.ensures.goes c.commit.ensures.goes)
+
+pub returns-in_err-sync_all-clause-cut : goal.returns-in_err-sync_all-clause-cut
+returns-in_err-sync_all-clause-cut g c =
+    nothing_then (g.B.Backing.state c.args.backing.now) (g.B.Backing.state c.write_back.new.backing) (g.B.Backing.state c.sync_all.new.backing) c.args.kept.now c.write_back.ensures.cut c.sync_all.ensures.cut
+
+pub returns-clause-cut : goal.returns-clause-cut
+returns-clause-cut g c =
+    let old = g.B.Backing.state c.args.backing.now in
+    let put = g.B.Backing.state c.write_back.new.backing in
+    let synced = g.B.Backing.state c.sync_all.new.backing in
+    nothing_then old synced (g.B.Backing.state c.commit.new.backing) c.args.kept.now (nothing_then old put synced c.args.kept.now c.write_back.ensures.cut c.sync_all.ensures.cut) c.commit.ensures.cut
+
+pub returns-in_err-sync_all-clause-goes : goal.returns-in_err-sync_all-clause-goes
+returns-in_err-sync_all-clause-goes g c =
+    let old = g.B.Backing.state c.args.backing.now in
+    let synced = g.B.Backing.state c.sync_all.new.backing in
+    let n = 2 * length c.args.kept.now.pages.dirty in
+    Goes-within (n + 0) n old synced (omega arith) (Goes-then n 0 old (g.B.Backing.state c.write_back.new.backing) synced c.write_back.ensures.goes c.sync_all.ensures.goes)

@@ -2,6 +2,8 @@ use Rattle.std.proofs.Common.{rules, arith, ◌+◌, sym, ◌*◌, length}
 use Rattle.fs_model.specs.declared.space.Grant.{Grant}
 use Rattle.cached_files.specs.Present.{present}
 use Rattle.cached_files.proofs.Applied.{built_alike, bytes_alike, names_alike, alike_put}
+use Rattle.cached_files.specs.CutLaws.{Puts-with}
+use Rattle.cached_files.proofs.Cutting.{group_then}
 use Rattle.cached_files.proofs.Growing.{admitted_failed, grows_on, not_admitted}
 use Rattle.cached_files.proofs.MakingRoom.{put_refused}
 use Rattle.cached_files.specs.CallLaws.{Covered-then, Goes-then, Goes-within, fewer_closed}
@@ -81,3 +83,24 @@ returns-in-Ok-clause-closed g c = let first = c.admit.ensures.closed in let seco
 
 pub returns-in-Err-clause-closed : goal.returns-in-Err-clause-closed
 returns-in-Err-clause-closed g c = let first = c.admit.ensures.closed in let second = c.put_group.ensures.closed in omega (arith, first, second)
+
+pub returns-in_err-admit-clause-cut : goal.returns-in_err-admit-clause-cut
+returns-in_err-admit-clause-cut g c =
+    let old = g.B.Backing.state c.args.backing.now in
+    Puts-with (present old.tree c.args.kept.now).tree c.args.group.now old.journal (g.B.Backing.state c.admit.new.backing).journal c.admit.ensures.cut
+
+pub returns-in-Ok-clause-cut : goal.returns-in-Ok-clause-cut
+returns-in-Ok-clause-cut g c =
+    let old = g.B.Backing.state c.args.backing.now in
+    let now = g.B.Backing.state c.admit.new.backing in
+    let proper = c.present_files_are_sound.ensures.proper old.tree c.args.kept.now c.requires.kept in
+    let later = c.present_files_are_sound.ensures.proper now.tree c.admit.new.kept c.admit.ensures.kept in
+    group_then old now (g.B.Backing.state c.put_group.new.backing) c.args.kept.now c.admit.new.kept c.args.group.now c.requires.kept c.admit.ensures.kept proper later c.requires.names c.admit.ensures.same c.admit.ensures.cut c.put_group.ensures.cut
+
+pub returns-in-Err-clause-cut : goal.returns-in-Err-clause-cut
+returns-in-Err-clause-cut g c =
+    let old = g.B.Backing.state c.args.backing.now in
+    let now = g.B.Backing.state c.admit.new.backing in
+    let proper = c.present_files_are_sound.ensures.proper old.tree c.args.kept.now c.requires.kept in
+    let later = c.present_files_are_sound.ensures.proper now.tree c.admit.new.kept c.admit.ensures.kept in
+    group_then old now (g.B.Backing.state c.put_group.new.backing) c.args.kept.now c.admit.new.kept c.args.group.now c.requires.kept c.admit.ensures.kept proper later c.requires.names c.admit.ensures.same c.admit.ensures.cut c.put_group.ensures.cut

@@ -1,4 +1,5 @@
 use Rattle.std.proofs.Common.{sym, ◌∙◌}
+use Rattle.cached_files.specs.CutLaws.{Puts-none}
 use Rattle.cached_files.proofs.Putting.{oldest_put, oldest_left, none_dirty}
 use Rattle.cached_files.proofs.put.put_oldest.Goals as goal
 
@@ -12,3 +13,6 @@ returns-in-Some-clause-pages g c =
 
 pub returns-in-None-clause-put : goal.returns-in-None-clause-put
 returns-in-None-clause-put g c = none_dirty c.args.kept.now.pages (sym c.oldest.ensures ∙ c.in-None.is)
+
+pub returns-in-None-clause-cut : goal.returns-in-None-clause-cut
+returns-in-None-clause-cut g c = Puts-none _ (g.B.Backing.state c.args.backing.now).journal

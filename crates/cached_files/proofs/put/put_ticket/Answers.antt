@@ -1,8 +1,10 @@
 use Rattle.std.proofs.Common.{Bool, rules, is_some, ap, sym, ◌∙◌}
 use Rattle.fs_model.specs.Backing.{page_group}
 use Rattle.cached_files.specs.CallLaws.{Goes-put}
+use Rattle.cached_files.specs.CutLaws.{Puts-none}
 use Rattle.cached_files.proofs.Growing.{page_done, page_failed}
 use Rattle.cached_files.proofs.PagePuts.{put_done, put_failed, put_none, same_node}
+use Rattle.cached_files.proofs.TicketCut.{ticket_cut}
 use Rattle.cached_files.proofs.Putting.{at_ticket, putting_of, cleaned, AfterPut, after_put, is_file_page}
 use Rattle.cached_files.proofs.put.put_ticket.Given.{Over}
 use Rattle.cached_files.proofs.put.put_ticket.Goals as goal
@@ -87,3 +89,20 @@ returns-in_err-put_page-clause-grows g c =
 pub returns-clause-grows : goal.returns-clause-grows
 returns-clause-grows g c =
     page_done (g.B.Backing.state c.args.backing.now) (g.B.Backing.state c.put_page.new.self) c.args.kept.now (record c.args.kept.now { pages = c.mark_clean.new.self }) c.in_ok-put_page.ensures.goes c.in_ok-put_page.ensures.ok.credits (made g c).issued
+
+pub returns-in_err-page-clause-cut : goal.returns-in_err-page-clause-cut
+returns-in_err-page-clause-cut g c = Puts-none _ (g.B.Backing.state c.args.backing.now).journal
+
+pub returns-in_err-put_page-clause-cut : goal.returns-in_err-put_page-clause-cut
+returns-in_err-put_page-clause-cut g c =
+    let old = g.B.Backing.state c.args.backing.now in
+    let o = at_ticket c.args.kept.now.pages c.args.ticket.now (sym c.is_current.ensures ∙ c.if-not-is_current.false) in
+    let p = putting_of old.tree c.args.kept.now c.args.ticket.now o c.requires.kept in
+    ticket_cut old (g.B.Backing.state c.put_page.new.self) c.args.kept.now c.args.ticket.now c.in_ok-page.page c.put_page.result o p c.requires.kept c.dirty-dirty.ensures.cache.dirty_once (c.in_ok-page.ensures p.inode o.page p.found o.found) c.put_page.ensures.cut
+
+pub returns-clause-cut : goal.returns-clause-cut
+returns-clause-cut g c =
+    let old = g.B.Backing.state c.args.backing.now in
+    let o = at_ticket c.args.kept.now.pages c.args.ticket.now (sym c.is_current.ensures ∙ c.if-not-is_current.false) in
+    let p = putting_of old.tree c.args.kept.now c.args.ticket.now o c.requires.kept in
+    ticket_cut old (g.B.Backing.state c.put_page.new.self) c.args.kept.now c.args.ticket.now c.in_ok-page.page c.put_page.result o p c.requires.kept c.dirty-dirty.ensures.cache.dirty_once (c.in_ok-page.ensures p.inode o.page p.found o.found) c.put_page.ensures.cut

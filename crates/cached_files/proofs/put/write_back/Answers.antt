@@ -5,6 +5,7 @@ use Rattle.fs_model.specs.Files.{Files}
 use Rattle.cached_files.specs.Alike.{IsAlike}
 use Rattle.cached_files.specs.Present.{IsKept, present}
 use Rattle.cached_files.specs.CallLaws.{Goes-then, Goes-within, Sure-then}
+use Rattle.cached_files.proofs.Cutting.{seen_then}
 use Rattle.cached_files.proofs.Growing.{failed_on}
 use Rattle.cached_files.proofs.Putting.{written_more, let_go, let_go_still, none_left}
 use Rattle.cached_files.proofs.put.write_back.Goals as goal
@@ -13,7 +14,7 @@ pub loop-left-preserved : goal.loop-left-preserved
 loop-left-preserved g c =
     let some = c.loop-left-test.true in
     written_more (g.B.Backing.outlook c.args.backing.now) (g.B.Backing.outlook c.loop-left.backing) (g.B.Backing.outlook c.put_oldest.new.backing) (g.B.Backing.state c.args.backing.now) (g.B.Backing.state c.loop-left.backing) (g.B.Backing.state c.put_oldest.new.backing) c.args.kept.now c.loop-left.kept c.put_oldest.new.kept
-    c.loop-left.left (c.loop-left.left - 1) c.loop-left.invariant (omega (arith, some)) c.put_oldest.ensures.kept c.put_oldest.ensures.same c.put_oldest.ensures.paid c.put_oldest.ensures.issued c.in_ok-put_oldest.ensures.pages c.put_oldest.ensures.goes c.in_ok-put_oldest.ensures.grows c.put_oldest.ensures.closed c.put_oldest.ensures.sure
+    c.loop-left.left (c.loop-left.left - 1) c.requires.kept c.loop-left.invariant (omega (arith, some)) c.put_oldest.ensures.kept c.put_oldest.ensures.same c.put_oldest.ensures.paid c.put_oldest.ensures.issued c.in_ok-put_oldest.ensures.pages c.put_oldest.ensures.goes c.in_ok-put_oldest.ensures.grows c.put_oldest.ensures.closed c.put_oldest.ensures.cut c.put_oldest.ensures.sure
 
 pub returns-in_err-put_oldest-clause-goes : goal.returns-in_err-put_oldest-clause-goes
 returns-in_err-put_oldest-clause-goes g c =
@@ -56,3 +57,11 @@ pub returns-in_err-put_oldest-clause-grows : goal.returns-in_err-put_oldest-clau
 returns-in_err-put_oldest-clause-grows g c =
     let f = failed_on Bool (Unit {0}) c.in_err-put_oldest.field-0.0 (g.B.Backing.state c.args.backing.now) (g.B.Backing.state c.loop-left.backing) (g.B.Backing.state c.put_oldest.new.backing) c.args.kept.now c.loop-left.kept c.put_oldest.new.kept c.loop-left.invariant.grows c.in_err-put_oldest.ensures.grows in
     search (rules, f)
+
+pub returns-in_err-put_oldest-clause-cut : goal.returns-in_err-put_oldest-clause-cut
+returns-in_err-put_oldest-clause-cut g c =
+    let w = c.loop-left.invariant in
+    seen_then (g.B.Backing.state c.args.backing.now) (g.B.Backing.state c.loop-left.backing) (g.B.Backing.state c.put_oldest.new.backing) c.args.kept.now c.loop-left.kept c.requires.kept w.fits w.same w.cut c.put_oldest.ensures.cut
+
+pub returns-clause-cut : goal.returns-clause-cut
+returns-clause-cut g c = c.loop-left.invariant.cut

@@ -1,0 +1,92 @@
+-- What a cut may leave of calls, one place of the tree at a time: an inode, an entry or a block.
+use Rattle.std.specs.Prelude.{◌≡◌, ◌⊎◌, ℕ, true, Option, List, [], ◌∷◌, ◌++◌, map}
+use Rattle.std.specs.List.{AllByRecursion}
+use Rattle.std.specs.Map.{keys_of}
+use Rattle.fs_model.specs.declared.change.Change.{Change}
+use Rattle.fs_model.specs.declared.inode.Inode.{Inode}
+use Rattle.fs_model.specs.declared.inode.Entry.{Entry}
+use Rattle.fs_model.specs.Change.{apply}
+use Rattle.fs_model.specs.Files.{Tree, inode_at, entry_at, block_at, name_cmp}
+use Rattle.fs_model.specs.Journal.{Journal, Medium, Leaves, MayLeave, IsJournalOf, base_head}
+use Rattle.fs_model.specs.Orphan.{without_nameless}
+use Rattle.fs_model.specs.Proper.{ascends}
+use Rattle.fs_model.specs.Recovery.{as_replayed}
+use Rattle.fs_model.specs.Same.{trimmed}
+use Rattle.fs_laws.specs.Forgotten.{IsInOrder}
+use Rattle.fs_model.specs.Backing.{BackingState}
+use Rattle.cached_files.specs.declared.kept.Kept.{Kept}
+use Rattle.cached_files.specs.Present.{present}
+
+-- a place of a tree: that of an inode by number, of an entry by directory and name, or of a block by inode and number
+pub data TreePlace : Type 0 where
+  InodeAt : (ino : ℕ) → TreePlace
+  EntryAt : (dir : ℕ) (name : List ℕ) → TreePlace
+  BlockAt : (ino block : ℕ) → TreePlace
+
+-- what stands at a place, where nothing is a value too; of a block the bytes up to the last that isn't zero
+pub data Value : Type 0 where
+  AnInode : (found : Option Inode) → Value
+  AnEntry : (found : Option Entry) → Value
+  ABlock : (bytes : List ℕ) → Value
+
+abbrev pub value_at : Tree → TreePlace → Value
+value_at tree (InodeAt ino) = AnInode (inode_at tree ino)
+value_at tree (EntryAt dir name) = AnEntry (entry_at tree dir name)
+value_at tree (BlockAt ino block) = ABlock (trimmed (block_at tree.blocks ino block))
+
+-- some values, at each place
+abbrev pub Values : Type 1
+Values = TreePlace → Value → Type 0
+
+-- the values of a tree, with what has no name or without it
+abbrev pub ValuesOf : Tree → Values
+ValuesOf tree place value = (value ≡ value_at tree place) ⊎ (value ≡ value_at (without_nameless tree) place)
+
+-- the values of a tree, and of what a group makes of it
+abbrev pub ValuesWith : Tree → List Change → Values
+ValuesWith tree group place value = ValuesOf tree place value ⊎ ValuesOf (apply tree group) place value
+
+-- each value of a tree is one of a tree that a cut might leave of this journal, or one of these
+abbrev pub HasValues : Journal → Values → Tree → Type 0
+HasValues journal values tree = (place : TreePlace) → ((before : Tree) × MayLeave journal before × (value_at tree place ≡ value_at before place)) ⊎ values place (value_at tree place)
+
+-- inodes, blocks and entries in order of key
+pub record IsOrdered (tree : Tree) : Type 0 where
+  pub in_order : IsInOrder tree
+  pub entries : ascends name_cmp (keys_of tree.entries) ≡ true
+
+-- a tree with a group replayed on it
+abbrev pub replayed_on : Tree → List Change → Tree
+replayed_on tree group = apply tree (map as_replayed group)
+
+-- on whichever tree a group is replayed, each value that changes by it is one of these
+abbrev pub GivesOnly : Values → List Change → Type 0
+GivesOnly values group = (tree : Tree) (place : TreePlace) → IsOrdered tree → (value_at (replayed_on tree group) place ≡ value_at tree place) ⊎ values place (value_at (replayed_on tree group) place)
+
+-- A cut leaves of calls groups that they put, and each value of these is one of those.
+pub record PutsOnly (values : Values) (old new : Journal) : Type 0 where
+  pub puts : List (ℕ × List Change)
+  pub gives : AllByRecursion (λ put. GivesOnly values put.1) puts
+  pub cut : Leaves old new puts
+
+-- A cut leaves of calls first groups that they put of pages, each value of which is one of a tree, and then this group or none, whose values are those of the tree or of what the group makes of it.
+pub record PutsWith (tree : Tree) (group : List Change) (old new : Journal) : Type 0 where
+  pub pages : List (ℕ × List Change)
+  pub gives : AllByRecursion (λ put. GivesOnly (ValuesOf tree) put.1) pages
+  pub last : List (ℕ × List Change)
+  pub whole : (last ≡ []) ⊎ (last ≡ (base_head, group) ∷ [])
+  pub makes : AllByRecursion (λ put. GivesOnly (ValuesWith tree group) put.1) last
+  pub cut : Leaves old new (pages ++ last)
+
+-- what a call leaves of pages has the values of the files that callers saw before it
+abbrev pub PutsSeen : BackingState → BackingState → Kept → Type 0
+PutsSeen old new kept = PutsOnly (ValuesOf (present old.tree kept).tree) old.journal new.journal
+
+-- and then of a group those of what it makes of them
+abbrev pub PutsSeenWith : BackingState → BackingState → Kept → List Change → Type 0
+PutsSeenWith old new kept group = PutsWith (present old.tree kept).tree group old.journal new.journal
+
+-- a journal as it always is, whose committed tree is in order of key
+pub record IsOrderedJournal (tree : Tree) (medium : Medium) : Type 0 where
+  pub journal : IsJournalOf tree medium
+  pub committed : IsOrdered medium.committed
