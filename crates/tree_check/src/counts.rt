@@ -1,6 +1,6 @@
 // How many entries name an inode.
 
-ghost use Rattle.std.specs.Prelude.{◌≡◌, ◌+◌, ◌==◌, ◌^◌, ◌<◌, ℕ, IfOk, OnOk, unwrap_or, cond};
+ghost use Rattle.std.specs.Prelude.{◌≡◌, ℕ, IfOk, unwrap_or};
 ghost use Rattle.std.specs.BTreeMap.{get};
 ghost use Rattle.std.specs.Ordering.{nat_cmp};
 ghost use Rattle.tree_check.specs.Links.{count_to};

@@ -1,11 +1,11 @@
 // What the tree that leaves show says of inode numbers.
 
-ghost use Rattle.std.specs.Prelude.{◌≡◌, ◌&&◌, ◌==◌, ◌||◌, not, ℕ, None, IfOk};
-ghost use Rattle.fs_model.specs.declared.inode.Kind.TheVariants.{Dir};
+ghost use Rattle.std.specs.Prelude.{◌≡◌, IfOk};
 ghost use Rattle.tree_check.specs.Facts.{AreFactsOf, facts_in, is_kind, is_misplaced, is_misplaced_inode};
 
 use crate::counts::counts_of;
 use crate::kinds::{count_inodes, is_dir, is_same_kind, kinds_of};
+use crate::link::ROOT;
 use crate::links::links_of;
 use crate::map_reads::{count_at, is_in};
 use crate::reach::reached_in;
@@ -14,8 +14,6 @@ use fs_model::Kind;
 use std::alloc::Global;
 use std::collections::BTreeMap;
 use ubifs_base::Memory;
-
-const ROOT: u32 = 1;
 
 /// The kind of each inode, how many entries name each, and which are reached from the root.
 #[derive(Drop)]

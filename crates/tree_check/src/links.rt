@@ -1,7 +1,6 @@
 // The entries that leaves show.
 
 ghost use Rattle.std.specs.Prelude.{◌≡◌, IfOk, OnOk};
-ghost use Rattle.std.specs.Map.{values_of};
 ghost use Rattle.tree_check.specs.Links.{entries_shown, links_shown, with_link};
 
 use crate::link::Link;

@@ -1,12 +1,9 @@
 // What is read of maps by inode number.
 
-ghost use Rattle.std.specs.Prelude.{◌≡◌, is_some, unwrap_or, Some, nat_eq};
+ghost use Rattle.std.specs.Prelude.{◌≡◌, is_some, unwrap_or};
 ghost use Rattle.std.specs.BTreeMap.{get};
 ghost use Rattle.std.specs.Ordering.{nat_cmp};
-ghost use Rattle.std.specs.Option.{option_map_or};
-ghost use Rattle.fs_model.specs.Proper.{same_kind};
 
-use fs_model::Kind;
 use std::collections::BTreeMap;
 
 /// How often an inode was counted.

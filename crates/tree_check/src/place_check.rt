@@ -1,6 +1,6 @@
 // What is out of its place in the tree.
 
-ghost use Rattle.std.specs.Prelude.{◌≡◌, ℕ, ◌||◌, [], List, None, IfOk, OnOk};
+ghost use Rattle.std.specs.Prelude.{◌≡◌, ℕ, ◌||◌, [], List, IfOk, OnOk};
 ghost use Rattle.leaf_map.specs.Kept.{Kept};
 ghost use Rattle.leaf_map.specs.Shown.{tree_of};
 ghost use Rattle.image_check.specs.WrongValues.{IsFirstOf};
@@ -12,13 +12,12 @@ ghost use Rattle.tree_check.specs.Told.{AreShownBy};
 ghost use Rattle.tree_check.specs.declared.shown_leaf.Shown.{Shown as AShown};
 
 use crate::facts::{TreeFacts, facts_of, is_misplaced};
+use crate::link::ROOT;
 use crate::seen_leaves::{SeenLeaves, nothing_seen, see};
 use crate::shown_leaf::{Shown, ShownLeaf};
 use image_check::{WrongValue, sooner};
 use std::alloc::Global;
 use ubifs_base::Memory;
-
-const ROOT: u32 = 1;
 
 /// What is out of its place first among leaves (`dbg_check_filesystem` of Linux fs/ubifs): a leaf that shows the inode, name or block of
 /// one before it; inode 1, which is no directory; a directory that isn't the root, and has not one name or isn't reached from the root;

@@ -1,19 +1,14 @@
 // Which inodes are reached from the root.
 
-ghost use Rattle.std.specs.Prelude.{◌≡◌, ◌||◌, ◌&&◌, ◌==◌, ℕ, [], not, true, is_some, IfOk, OnOk};
-ghost use Rattle.std.specs.List.{list_any};
-ghost use Rattle.std.specs.BTreeMap.{get};
-ghost use Rattle.std.specs.Ordering.{nat_cmp};
+ghost use Rattle.std.specs.Prelude.{◌≡◌, ◌||◌, ◌&&◌, ◌==◌, ℕ, not, IfOk, OnOk};
 ghost use Rattle.tree_check.specs.Reach.{children_at, has, leads, mem, reaches};
 
 use crate::children::children_of;
-use crate::link::Link;
+use crate::link::{Link, ROOT};
 use crate::map_reads::is_in;
 use std::alloc::Global;
 use std::collections::BTreeMap;
 use ubifs_base::Memory;
-
-const ROOT: u32 = 1;
 
 /// The numbers that so many steps down from the root reach, or fewer: level by level, each number once.
 pub(crate) fn reached_in(

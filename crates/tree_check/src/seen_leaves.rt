@@ -1,7 +1,6 @@
 // What leaves showed so far.
 
-ghost use Rattle.std.specs.Prelude.{◌≡◌, ◌||◌, ◌*◌, nat_le, ℕ, [], is_some, IfOk, OnOk, min};
-ghost use Rattle.std.specs.Option.{option_map_or};
+ghost use Rattle.std.specs.Prelude.{◌≡◌, ◌||◌, ℕ, [], is_some, IfOk, OnOk};
 ghost use Rattle.std.specs.BTreeMap.{get, is_at};
 ghost use Rattle.std.specs.Ordering.{nat_cmp};
 ghost use Rattle.fs_model.specs.Files.{name_cmp, pair_cmp};
