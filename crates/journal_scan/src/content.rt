@@ -16,12 +16,9 @@ use node_fields::u32_at;
 use std::alloc::Global;
 use ubifs_base::{Key, Memory, NodeType, r5};
 
-// What a leaf node of a type says, of which the bytes are all.
-pub(crate) fn read_content(
-    alloc: Global,
-    kind: NodeType,
-    bytes: &[u8],
-) -> Result<NodeContent, Memory>
+/// What is told of the leaf node of this type that the bytes are, all of them; if they are none, what is told says nothing. Takes
+/// memory for an entry's name. The error is want of memory.
+pub fn read_content(alloc: Global, kind: NodeType, bytes: &[u8]) -> Result<NodeContent, Memory>
     ensures { IfOk result (λ content. (sqnum group : ℕ) (node : LeafNode) → IsLeafNode bytes.now sqnum group node → kind ≡ leaf_type node → content ≡ content_of node) }
 {
     match kind {

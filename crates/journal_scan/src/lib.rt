@@ -17,6 +17,7 @@ mod node_content;
 mod read;
 
 pub use crate::bud_text::BudText;
+pub use crate::content::read_content;
 pub use crate::journal_node::JournalNode;
 pub use crate::journal_read::JournalRead;
 pub use crate::laws::{groups_are_whole, leaves_are_joined, nodes_have_places};
