@@ -22,12 +22,13 @@ use Rattle.journal_scan.specs.Content.{content_of, number_told, told}
 use Rattle.journal_scan.specs.declared.journal_node.JournalNode.{JournalNode}
 use Rattle.journal_scan.specs.declared.node_content.NodeContent.{NodeContent}
 use Rattle.journal_scan.specs.declared.node_content.NodeContent.TheVariants.{Inode, Block, Entry, Truncation, Unknown}
+use Rattle.log_replay.specs.Things.{key_told}
 use Rattle.sound_image.specs.Wrong.{IsOneOf, Wrong, differs}
 use Rattle.image_check.specs.FirstLaws.{first_same}
 use Rattle.image_check.specs.WrongValues.{IsFirstOf, sooner_of, wrong_at}
 use Rattle.image_check.specs.declared.wrong_value.WrongValue.{WrongValue}
 use Rattle.shown_leaves.specs.FalseNodes.{IsUnchanging, wrong_node}
-use Rattle.shown_leaves.specs.Told.{is_unchanging, unchanging_told, wrong_told}
+use Rattle.shown_leaves.specs.Told.{is_unchanging, unchanging_told, wrong_node_told}
 use Rattle.shown_leaves.proofs.Firsts.{IsTold, IsToldIn, first_told}
 use Rattle.shown_leaves.proofs.Members.{all_at, map_of_one, one_of_map}
 use Rattle.shown_leaves.proofs.Ordered.{in_order_one, one_in_order}
@@ -59,7 +60,7 @@ number_is (entry node) = entry_number node (not (node.inum == 0)) node.attribute
 number_is (truncation node) = refl
 
 -- what is told to be wrong at a node is wrong there
-pub wrong_is : (x : Placed) → wrong_at (wrong_told (told x)) ≡ wrong_node x
+pub wrong_is : (x : Placed) → wrong_at (wrong_node_told (told x)) ≡ wrong_node x
 wrong_is x = ap (λ (n : ℕ). record { lnum = x.lnum; offs = x.offs; misfit = differs n 0 }) (number_is x.node)
 
 -- ---- whether it says a change
@@ -104,17 +105,36 @@ first_unchanging placed items o leaves e is =
         let r = one_of_map told y (in_order placed) one in
         let x = r.0 in
         let there = one_in_order x placed r.1 in
-        let t = some_told (is_unchanging (content_of x.node)) (wrong_told (told x)) w (ap unchanging_told (sym r.2) ∙ tell) in
+        let t = some_told (is_unchanging (content_of x.node)) (wrong_node_told (told x)) w (ap unchanging_told (sym r.2) ∙ tell) in
         (x, there, none_of_false (change_of x.node) (sym (unchanging_is x.node (all_at (λ (z : Placed). IsLeaf z.node) x placed leaves there)) ∙ t.0), is ∙ ap wrong_at (sym t.1) ∙ wrong_is x)
 
     from : (at : Wrong) → IsUnchanging placed at → IsToldIn unchanging_told (map told (in_order placed)) at
     from at (x, one, none, is) =
         let leaf = all_at (λ (z : Placed). IsLeaf z.node) x placed leaves one in
         let yes : is_unchanging (content_of x.node) ≡ true = unchanging_is x.node leaf ∙ ap (λ (c : Option Change). not (is_some c)) none in
-        (told x, map_of_one told x (in_order placed) (in_order_one x placed one), (wrong_told (told x), ap (λ (b : Bool). cond b (Some (wrong_told (told x))) None) yes, is ∙ sym (wrong_is x)))
+        (told x, map_of_one told x (in_order placed) (in_order_one x placed one), (wrong_node_told (told x), ap (λ (b : Bool). cond b (Some (wrong_node_told (told x))) None) yes, is ∙ sym (wrong_is x)))
 
 -- ---- the key of the leaf that it makes
 -- the key, if something is set
 abbrev pub if_set : Bool → Key → Option Key
 if_set true key = Some key
 if_set false key = None
+
+inode_key : (node : InoNode) (l : Bool) (k : Option Kind) → key_told (cond (is_some k) (Inode node.ino l) (Unknown node.ino l)) ≡ if_set (is_shown (option_map (λ kind. SetInode node.ino (inode_of node kind)) k)) (node_key (inode node))
+inode_key node l None = refl
+inode_key node l (Some kind) = refl
+
+entry_key : (node : DentNode) (a z : Bool) (k : Option Kind) → is_some k ≡ true
+    → key_told (cond a (Unknown node.dir true) (Entry node.dir node.name (not z)))
+    ≡ if_set (is_shown (cond a None (cond z (Some (DropEntry node.dir node.name)) (option_map (λ kind. SetEntry (record { dir = node.dir; name = node.name; ino = node.inum; kind = kind })) k)))) (cond a (Xent node.dir (r5_of node.name)) (Dent node.dir (r5_of node.name)))
+entry_key node true z k h = refl
+entry_key node false true k h = refl
+entry_key node false false None h = absurd (false≢true h)
+entry_key node false false (Some kind) h = refl
+
+-- a node's key is told if it sets something
+pub told_key : (node : LeafNode) → IsLeaf node → key_told (content_of node) ≡ if_set (is_shown (shown node)) (node_key node)
+told_key (inode node) leaf = inode_key node (not (node.nlink == 0)) (kind_of_bits (bits_of node.mode))
+told_key (block node) leaf = refl
+told_key (entry node) leaf = entry_key node node.attribute (node.inum == 0) (kind_of_type node.kind) (known node.kind leaf.kind_known)
+told_key (truncation node) leaf = refl

@@ -19,10 +19,10 @@ use Rattle.sound_image.specs.Wrong.{IsOneOf, Wrong, differs}
 use Rattle.image_check.specs.FirstLaws.{first_alone, first_of_both, first_same}
 use Rattle.image_check.specs.WrongValues.{IsFirstOf, sooner_of, wrong_at}
 use Rattle.image_check.specs.declared.wrong_value.WrongValue.{WrongValue}
-use Rattle.shown_leaves.specs.Judged.{is_in_place, judged_of, name_number, unlike_told}
+use Rattle.shown_leaves.specs.Judged.{is_at_source, judged_of, name_number, unlike_told}
 use Rattle.shown_leaves.specs.ShownBy.{AreShownBy, IsShownBy, is_shown_told, told}
-use Rattle.shown_leaves.specs.Sources.{AreSourced, IsReadFrom, IsSource, IsSourced, IsUnlike, IsUnlikeIn, StandsAtLeaf, bytes_of}
-use Rattle.shown_leaves.specs.Stored.{IsStoredIn, stored}
+use Rattle.shown_leaves.specs.Sources.{AreSourced, IsReadFrom, HasSource, IsSourced, IsUnlike, IsUnlikeIn, StandsAtLeaf, bytes_of}
+use Rattle.shown_leaves.specs.Stored.{IsStoredIn, leaf_node}
 use Rattle.shown_leaves.specs.declared.shown_leaf.Shown.{Shown}
 use Rattle.shown_leaves.specs.declared.shown_leaf.ShownLeaf.{ShownLeaf}
 use Rattle.shown_leaves.specs.declared.sourced_leaf.Source.{Source}
@@ -49,31 +49,31 @@ stands_from contents source node from placed =
 
 -- what is read there is the leaf's node
 pub source_is : IsOneNode → (contents : ℕ → List ℕ) → ((k : ℕ) → IsBytes (contents k)) → (x : Kept) (leaf : SourcedLeaf) (source : Source) (found : Option StoredNode) → leaf.source ≡ Some source → IsStoredIn (bytes_from contents source) found
-    → IsSourced contents x leaf → option_map stored found ≡ Some x.node
+    → IsSourced contents x leaf → option_map leaf_node found ≡ Some x.node
 source_is one contents fits x leaf source found is read sourced =
-    let from : IsSource contents x (Some source) = subst (IsSource contents x) is sourced.source in
+    let from : HasSource contents x (Some source) = subst (HasSource contents x) is sourced.source in
     let node = from.0 in
     let there = stands_from contents source node from.1 from.2 in
     read_is one (bytes_from contents source) node.sqnum node.group node.node found (part_bytes source.offs source.len (contents source.lnum) (fits source.lnum)) there read ∙ ap (λ (n : LeafNode). Some n) from.3
 
 -- without one, what stands in for it
-pub stand_in_is : (contents : ℕ → List ℕ) (x : Kept) (leaf : SourcedLeaf) (found : Option StoredNode) → leaf.source ≡ None → option_map stored found ≡ stand_in leaf.leaf.key → IsSourced contents x leaf → option_map stored found ≡ Some x.node
+pub stand_in_is : (contents : ℕ → List ℕ) (x : Kept) (leaf : SourcedLeaf) (found : Option StoredNode) → leaf.source ≡ None → option_map leaf_node found ≡ stand_in leaf.leaf.key → IsSourced contents x leaf → option_map leaf_node found ≡ Some x.node
 stand_in_is contents x leaf found is made sourced =
-    let from : IsSource contents x None = subst (IsSource contents x) is sourced.source in
+    let from : HasSource contents x None = subst (HasSource contents x) is sourced.source in
     made ∙ ap (λ (l : Leaf). stand_in l.key) sourced.is ∙ from
 
 -- ---- whether it stands at its place
 -- where a leaf stands at its source
-pub in_place : (contents : ℕ → List ℕ) (x : Kept) (leaf : SourcedLeaf) → is_in_place leaf ≡ true → IsSourced contents x leaf → StandsAtLeaf contents x.leaf x.node
+pub in_place : (contents : ℕ → List ℕ) (x : Kept) (leaf : SourcedLeaf) → is_at_source leaf ≡ true → IsSourced contents x leaf → StandsAtLeaf contents x.leaf x.node
 in_place contents x leaf here sourced = by leaf.source refl
   where
     by : (o : Option Source) → leaf.source ≡ o → StandsAtLeaf contents x.leaf x.node
-    by None e = let f = sym here ∙ ap (λ (o : Option Source). is_in_place (record leaf { source = o })) e in absurd cc
+    by None e = let f = sym here ∙ ap (λ (o : Option Source). is_at_source (record leaf { source = o })) e in absurd cc
     by (Some source) e =
-        let same = sym (ap (λ (o : Option Source). is_in_place (record leaf { source = o })) e) ∙ here in
+        let same = sym (ap (λ (o : Option Source). is_at_source (record leaf { source = o })) e) ∙ here in
         let p = and_parts (source.lnum == leaf.leaf.lnum) ((source.offs == leaf.leaf.offs) && (source.len == leaf.leaf.len)) same in
         let q = and_parts (source.offs == leaf.leaf.offs) (source.len == leaf.leaf.len) p.1 in
-        let from : IsSource contents x (Some source) = subst (IsSource contents x) e sourced.source in
+        let from : HasSource contents x (Some source) = subst (HasSource contents x) e sourced.source in
         let node = from.0 in
         let P : LeafNode → Type 0 = λ n. IsLeafNode (bytes_from contents source) node.sqnum node.group n in
         let there = subst P from.3 (stands_from contents source node from.1 from.2) in
@@ -92,13 +92,13 @@ stands_not contents x leaf none is (s, g, h) =
 
 -- where a node is read, it does if that is the same
 pub stands_if : IsOneNode → (contents : ℕ → List ℕ) → ((k : ℕ) → IsBytes (contents k)) → (x : Kept) (leaf : SourcedLeaf) (there node : StoredNode) (same : Bool) → IsStoredIn (bytes_of contents leaf.leaf) (Some there) → leaf.leaf ≡ x.leaf
-    → stored node ≡ x.node → (IsTrue same ↔ (stored there ≡ stored node)) → IsTrue same ↔ StandsAtLeaf contents x.leaf x.node
+    → leaf_node node ≡ x.node → (IsTrue same ↔ (leaf_node there ≡ leaf_node node)) → IsTrue same ↔ StandsAtLeaf contents x.leaf x.node
 stands_if one contents fits x leaf there node same (s, g, h) is named tests =
-    let P : Leaf → Type 0 = λ l. IsLeafNode (bytes_of contents l) s g (stored there) in
+    let P : Leaf → Type 0 = λ l. IsLeafNode (bytes_of contents l) s g (leaf_node there) in
     let here = subst P is h in
     let Q : LeafNode → Type 0 = λ n. IsLeafNode (bytes_of contents x.leaf) s g n in (
       (λ yes. (s, g, subst Q (tests.0 yes ∙ named) here)),
-      (λ stands. tests.1 ((one (bytes_of contents x.leaf) s g stands.0 stands.1 (stored there) x.node (part_bytes x.leaf.offs x.leaf.len (contents x.leaf.lnum) (fits x.leaf.lnum)) here stands.2).2 ∙ sym named)),
+      (λ stands. tests.1 ((one (bytes_of contents x.leaf) s g stands.0 stands.1 (leaf_node there) x.node (part_bytes x.leaf.offs x.leaf.len (contents x.leaf.lnum) (fits x.leaf.lnum)) here stands.2).2 ∙ sym named)),
     )
 
 -- ---- what is told of it
@@ -169,7 +169,7 @@ placed_moved a b node e h =
 pub sourced_moved : (a b : ℕ → List ℕ) → ((k : ℕ) → b k ≡ a k) → (x : Kept) (leaf : SourcedLeaf) → IsSourced a x leaf → IsSourced b x leaf
 sourced_moved a b e x leaf h = record { is = h.is; source = by leaf.source h.source }
   where
-    by : (o : Option Source) → IsSource a x o → IsSource b x o
+    by : (o : Option Source) → HasSource a x o → HasSource b x o
     by None s = s
     by (Some source) s = (s.0, s.1, placed_moved a b s.0 (e s.0.lnum) s.2, s.3)
 
@@ -183,7 +183,7 @@ pub judged_moved : (a b : ℕ → List ℕ) → ((k : ℕ) → b k ≡ a k) → 
 judged_moved a b e x leaf unlike h = record {
   shows = h.shows;
   first = first_same (IsUnlike a x) (IsUnlike b x) unlike
-    (λ at w. ((λ s. w.0 (shows_moved b a (λ k. sym (e k)) x s)), w.1)) (λ at w. ((λ s. w.0 (shows_moved a b e x s)), w.1)) h.first;
+      (λ at w. ((λ s. w.0 (shows_moved b a (λ k. sym (e k)) x s)), w.1)) (λ at w. ((λ s. w.0 (shows_moved a b e x s)), w.1)) h.first;
 }
 
 -- ---- one leaf after another

@@ -7,3 +7,5 @@ pub mod Lengths
 pub mod Stored
 pub mod Kept
 pub mod JudgedLeaves
+pub mod CopiedNodes
+pub mod TwoKinds

@@ -10,7 +10,7 @@ use Rattle.media_leaf.specs.declared.data_node.DataNode.{DataNode}
 use Rattle.media_leaf.specs.declared.dent_node.DentNode.{DentNode}
 use Rattle.media_leaf.specs.declared.ino_node.InoNode.{InoNode}
 use Rattle.media_leaf.specs.declared.trun_node.TrunNode.{TrunNode}
-use Rattle.shown_leaves.specs.Stored.{IsStoredIn, stored}
+use Rattle.shown_leaves.specs.Stored.{IsStoredIn, leaf_node}
 use Rattle.shown_leaves.specs.declared.stored_node.StoredNode.{StoredNode}
 
 -- ---- which node
@@ -39,9 +39,9 @@ pub part_bytes : (offs len : ℕ) (leb : List ℕ) → IsBytes leb → IsBytes (
 part_bytes offs len leb fits = taken_byte len (drop offs leb) (bytes_behind offs leb fits)
 
 -- where a node stands, it is what is read
-pub read_is : IsOneNode → (bytes : List ℕ) (s g : ℕ) (node : LeafNode) (found : Option StoredNode) → IsBytes bytes → IsLeafNode bytes s g node → IsStoredIn bytes found → option_map stored found ≡ Some node
+pub read_is : IsOneNode → (bytes : List ℕ) (s g : ℕ) (node : LeafNode) (found : Option StoredNode) → IsBytes bytes → IsLeafNode bytes s g node → IsStoredIn bytes found → option_map leaf_node found ≡ Some node
 read_is one bytes s g node None fits h read = absurd (read s g node h)
-read_is one bytes s g node (Some there) fits h (t, k, is) = ap (λ (n : LeafNode). Some n) (one bytes t k s g (stored there) node fits is h).2
+read_is one bytes s g node (Some there) fits h (t, k, is) = ap (λ (n : LeafNode). Some n) (one bytes t k s g (leaf_node there) node fits is h).2
 
 -- what isn't there is none
 pub none_is : {X : Type 0} (o : Option X) (P : Type 0) → o ≡ None → IfNone o P → P

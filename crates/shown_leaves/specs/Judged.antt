@@ -10,8 +10,8 @@ use Rattle.shown_leaves.specs.declared.sourced_leaf.Source.{Source}
 use Rattle.shown_leaves.specs.declared.sourced_leaf.SourcedLeaf.{SourcedLeaf}
 
 -- whether a leaf stands where its node was read
-abbrev pub is_in_place : SourcedLeaf → Bool
-is_in_place leaf = by leaf.source
+abbrev pub is_at_source : SourcedLeaf → Bool
+is_at_source leaf = by leaf.source
   where
     by : Option Source → Bool
     by None = false

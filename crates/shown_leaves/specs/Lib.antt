@@ -1,3 +1,4 @@
+pub mod Copies
 pub mod FalseNodes
 pub mod Judged
 pub mod ShownBy

@@ -18,14 +18,14 @@ pub record IsReadFrom (source : Source) (node : Placed) : Type 0 where
   pub len : node.len ≡ source.len
 
 -- a leaf's node stands where it was read; without a source it is what stands in for it
-abbrev pub IsSource : (ℕ → List ℕ) → Kept → Option Source → Type 0
-IsSource contents x (Some source) = (node : Placed) × IsReadFrom source node × IsPlacedIn contents node × (node.node ≡ x.node)
-IsSource contents x None = stand_in x.leaf.key ≡ Some x.node
+abbrev pub HasSource : (ℕ → List ℕ) → Kept → Option Source → Type 0
+HasSource contents x (Some source) = (node : Placed) × IsReadFrom source node × IsPlacedIn contents node × (node.node ≡ x.node)
+HasSource contents x None = stand_in x.leaf.key ≡ Some x.node
 
 -- this is a leaf, and where its node was read
 pub record IsSourced (contents : ℕ → List ℕ) (x : Kept) (leaf : SourcedLeaf) : Type 0 where
   pub is : leaf.leaf ≡ x.leaf
-  pub source : IsSource contents x leaf.source
+  pub source : HasSource contents x leaf.source
 
 -- each of these leaves, in order
 abbrev pub AreSourced : (ℕ → List ℕ) → List Kept → List SourcedLeaf → Type 0

@@ -10,15 +10,15 @@ use Rattle.shown_leaves.specs.declared.stored_node.StoredNode.{StoredNode}
 use Rattle.shown_leaves.specs.declared.stored_node.StoredNode.TheVariants.{Inode, Block, Entry, Truncation}
 
 -- the node that was read
-abbrev pub stored : StoredNode → LeafNode
-stored (Inode node) = inode node
-stored (Block node) = block node
-stored (Entry node) = entry node
-stored (Truncation node) = truncation node
+abbrev pub leaf_node : StoredNode → LeafNode
+leaf_node (Inode node) = inode node
+leaf_node (Block node) = block node
+leaf_node (Entry node) = entry node
+leaf_node (Truncation node) = truncation node
 
 -- these bytes are this node, or none
 abbrev pub IsStoredIn : List ℕ → Option StoredNode → Type 0
-IsStoredIn bytes (Some node) = (sqnum : ℕ) × (group : ℕ) × IsLeafNode bytes sqnum group (stored node)
+IsStoredIn bytes (Some node) = (sqnum : ℕ) × (group : ℕ) × IsLeafNode bytes sqnum group (leaf_node node)
 IsStoredIn bytes None = (sqnum group : ℕ) (node : LeafNode) → IsLeafNode bytes sqnum group node → ⊥
 
 -- whether two nodes say the same, field by field

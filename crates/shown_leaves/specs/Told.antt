@@ -12,9 +12,9 @@ is_unchanging (Unknown ino true) = true
 is_unchanging other = false
 
 -- a node's place, where the inode number of its key is wanted
-abbrev pub wrong_told : JournalNode → WrongValue
-wrong_told x = record { lnum = x.lnum; offs = x.offs; wanted = number_told x.content; found = 0 }
+abbrev pub wrong_node_told : JournalNode → WrongValue
+wrong_node_told x = record { lnum = x.lnum; offs = x.offs; wanted = number_told x.content; found = 0 }
 
 -- what is wrong with a node if it says no change
 abbrev pub unchanging_told : JournalNode → Option WrongValue
-unchanging_told x = if is_unchanging x.content then Some (wrong_told x) else None
+unchanging_told x = if is_unchanging x.content then Some (wrong_node_told x) else None

@@ -8,8 +8,8 @@ ghost use Rattle.ubi_volume.specs.Faults.{HasAreaCause, StaysSureArea};
 ghost use Rattle.image_check.specs.WrongValues.{IsFirstOf};
 ghost use Rattle.shown_leaves.specs.ShownBy.{AreShownBy, IsShownBy};
 ghost use Rattle.shown_leaves.specs.Sources.{AreSourced, IsSourced, IsUnlike, IsUnlikeIn, StandsAtLeaf};
-ghost use Rattle.shown_leaves.specs.Judged.{is_in_place, judged_of, name_number};
-ghost use Rattle.shown_leaves.specs.Stored.{stored};
+ghost use Rattle.shown_leaves.specs.Judged.{is_at_source, judged_of, name_number};
+ghost use Rattle.shown_leaves.specs.Stored.{leaf_node};
 
 use crate::key_order::number_of;
 use crate::reading::read_node;
@@ -86,7 +86,7 @@ fn source_node<V: Volume>(
     volume: &mut V,
     leaf: &SourcedLeaf,
 ) -> Result<Option<StoredNode>, AreaFault>
-    ensures node { IfOk result (λ found. (x : Kept) → IsSourced (V.state volume.old).holds x leaf.now → option_map stored found ≡ Some x.node) }
+    ensures node { IfOk result (λ found. (x : Kept) → IsSourced (V.state volume.old).holds x leaf.now → option_map leaf_node found ≡ Some x.node) }
     ensures keeps { Keeps (V.state volume.old) (V.state volume.new) }
     ensures shape { SameShape (V.state volume.old) (V.state volume.new) }
     ensures cause { HasAreaCause (V.state volume.old).faults (V.state volume.new).faults result }
@@ -106,31 +106,26 @@ fn stands_there<V: Volume>(
     leaf: &SourcedLeaf,
     node: &StoredNode,
 ) -> Result<bool, AreaFault>
-    ensures stands { IfOk result (λ stands. (x : Kept) → IsSourced (V.state volume.old).holds x leaf.now → stored node.now ≡ x.node → IsTrue stands ↔ StandsAtLeaf (V.state volume.old).holds x.leaf x.node) }
+    ensures stands { IfOk result (λ stands. (x : Kept) → IsSourced (V.state volume.old).holds x leaf.now → leaf_node node.now ≡ x.node → IsTrue stands ↔ StandsAtLeaf (V.state volume.old).holds x.leaf x.node) }
     ensures keeps { Keeps (V.state volume.old) (V.state volume.new) }
     ensures shape { SameShape (V.state volume.old) (V.state volume.new) }
     ensures cause { HasAreaCause (V.state volume.old).faults (V.state volume.new).faults result }
     ensures sure { StaysSureArea (V.state volume.old) (V.state volume.new) result }
 {
     one_node();
-    if is_in_place(leaf) {
+    if is_at_source(leaf) {
         return Ok(true);
     }
-    let Some(there) = read_node(
-        alloc,
-        volume,
-        leaf.leaf.lnum,
-        leaf.leaf.offs,
-        leaf.leaf.len,
-    )? else {
+    let Some(there) = read_node(alloc, volume, leaf.leaf.lnum, leaf.leaf.offs, leaf.leaf.len)?
+    else {
         return Ok(false);
     };
     Ok(is_same_node(&there, node))
 }
 
 // Whether a leaf stands where its node was read.
-fn is_in_place(leaf: &SourcedLeaf) -> bool
-    ensures { result ≡ is_in_place leaf.now }
+fn is_at_source(leaf: &SourcedLeaf) -> bool
+    ensures { result ≡ is_at_source leaf.now }
 {
     match &leaf.source {
         Some(source) => {

@@ -6,7 +6,7 @@ ghost use Rattle.leaf_map.specs.Kept.{shown};
 ghost use Rattle.leaf_map.specs.Parts.{is_shown};
 ghost use Rattle.media_leaf.specs.LeafNode.{inode, block, entry, truncation};
 ghost use Rattle.shown_leaves.specs.ShownBy.{is_shown_told, told};
-ghost use Rattle.shown_leaves.specs.Stored.{stored};
+ghost use Rattle.shown_leaves.specs.Stored.{leaf_node};
 
 use crate::shown_leaf::Shown;
 use crate::stored_node::StoredNode;
@@ -15,7 +15,7 @@ use media_leaf::{DataNode, DentNode, InoNode, TrunNode};
 
 // What a node shows.
 pub(crate) fn shown_of(node: StoredNode) -> Shown
-    ensures { told (shown (stored node)) ≡ Some result }
+    ensures { told (shown (leaf_node node)) ≡ Some result }
 {
     match node {
         StoredNode::Inode { node } => inode_shown(&node),

@@ -5,7 +5,7 @@ ghost use Rattle.std.specs.Option.{option_map};
 ghost use Rattle.media_leaf.specs.LeafNode.{inode, block};
 ghost use Rattle.change_nodes.specs.Nodes.{gone_inode, inode_node};
 ghost use Rattle.leaf_map.specs.Recovered.{stand_in};
-ghost use Rattle.shown_leaves.specs.Stored.{stored};
+ghost use Rattle.shown_leaves.specs.Stored.{leaf_node};
 
 use crate::stored_node::StoredNode;
 use media_leaf::{DataNode, InoNode};
@@ -17,7 +17,7 @@ const FILE_MODE: u32 = 0o100000;
 
 // What stands in for the node of a key: an inode without links, or a block without a byte. A name can't be told.
 pub(crate) fn stand_in(alloc: Global, key: &Key) -> Option<StoredNode>
-    ensures { option_map stored result ≡ stand_in key.now }
+    ensures { option_map leaf_node result ≡ stand_in key.now }
 {
     match *key {
         Key::Ino { ino } => Some(gone_inode(alloc, ino)),
@@ -27,7 +27,7 @@ pub(crate) fn stand_in(alloc: Global, key: &Key) -> Option<StoredNode>
 }
 
 fn gone_inode(alloc: Global, ino: u32) -> StoredNode
-    ensures { stored result ≡ inode (inode_node ino gone_inode) }
+    ensures { leaf_node result ≡ inode (inode_node ino gone_inode) }
 {
     StoredNode::Inode {
         node: InoNode {
@@ -50,7 +50,7 @@ fn gone_inode(alloc: Global, ino: u32) -> StoredNode
 }
 
 fn empty_block(alloc: Global, ino: u32, number: u32) -> StoredNode
-    ensures { stored result ≡ block (record { ino = ino; block = number; bytes = [] }) }
+    ensures { leaf_node result ≡ block (record { ino = ino; block = number; bytes = [] }) }
 {
     StoredNode::Block {
         node: DataNode {

@@ -2,7 +2,7 @@
 
 ghost use Rattle.std.specs.Prelude.{◌≡◌, ◌↔◌, IsTrue};
 ghost use Rattle.media_leaf.specs.LeafNode.{inode, block, entry, truncation};
-ghost use Rattle.shown_leaves.specs.Stored.{is_same_block, is_same_entry, is_same_inode, is_same_truncation, stored};
+ghost use Rattle.shown_leaves.specs.Stored.{is_same_block, is_same_entry, is_same_inode, is_same_truncation, leaf_node};
 
 use media_leaf::{DataNode, DentNode, InoNode, TrunNode};
 
@@ -17,7 +17,7 @@ pub(crate) enum StoredNode {
 
 // Whether two nodes say the same.
 pub(crate) fn is_same_node(one: &StoredNode, other: &StoredNode) -> bool
-    ensures { IsTrue result ↔ (stored one.now ≡ stored other.now) }
+    ensures { IsTrue result ↔ (leaf_node one.now ≡ leaf_node other.now) }
 {
     match one {
         StoredNode::Inode { node } => is_inode(node, other),
@@ -28,7 +28,7 @@ pub(crate) fn is_same_node(one: &StoredNode, other: &StoredNode) -> bool
 }
 
 fn is_inode(node: &InoNode, other: &StoredNode) -> bool
-    ensures { IsTrue result ↔ (inode node.now ≡ stored other.now) }
+    ensures { IsTrue result ↔ (inode node.now ≡ leaf_node other.now) }
 {
     match other {
         StoredNode::Inode { node: there } => is_same_inode(node, there),
@@ -39,7 +39,7 @@ fn is_inode(node: &InoNode, other: &StoredNode) -> bool
 }
 
 fn is_block(node: &DataNode, other: &StoredNode) -> bool
-    ensures { IsTrue result ↔ (block node.now ≡ stored other.now) }
+    ensures { IsTrue result ↔ (block node.now ≡ leaf_node other.now) }
 {
     match other {
         StoredNode::Block { node: there } => is_same_block(node, there),
@@ -50,7 +50,7 @@ fn is_block(node: &DataNode, other: &StoredNode) -> bool
 }
 
 fn is_entry(node: &DentNode, other: &StoredNode) -> bool
-    ensures { IsTrue result ↔ (entry node.now ≡ stored other.now) }
+    ensures { IsTrue result ↔ (entry node.now ≡ leaf_node other.now) }
 {
     match other {
         StoredNode::Entry { node: there } => is_same_entry(node, there),
@@ -61,7 +61,7 @@ fn is_entry(node: &DentNode, other: &StoredNode) -> bool
 }
 
 fn is_truncation(node: &TrunNode, other: &StoredNode) -> bool
-    ensures { IsTrue result ↔ (truncation node.now ≡ stored other.now) }
+    ensures { IsTrue result ↔ (truncation node.now ≡ leaf_node other.now) }
 {
     match other {
         StoredNode::Truncation { node: there } => is_same_truncation(node, there),

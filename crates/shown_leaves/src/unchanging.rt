@@ -8,7 +8,7 @@ ghost use Rattle.leaf_map.specs.Recovered.{in_order};
 ghost use Rattle.journal_scan.specs.Content.{number_told, told};
 ghost use Rattle.image_check.specs.WrongValues.{IsFirstOf, sooner_of};
 ghost use Rattle.shown_leaves.specs.FalseNodes.{IsUnchanging};
-ghost use Rattle.shown_leaves.specs.Told.{unchanging_told, wrong_told};
+ghost use Rattle.shown_leaves.specs.Told.{unchanging_told, wrong_node_told};
 
 use image_check::{WrongValue, sooner};
 use journal_scan::{JournalNode, NodeContent};
@@ -48,7 +48,7 @@ fn unchanging(node: &JournalNode) -> Option<WrongValue>
 
 // A node's place, where the inode number of its key is wanted.
 pub(crate) fn wrong_node(node: &JournalNode) -> WrongValue
-    ensures { result ≡ wrong_told node.now }
+    ensures { result ≡ wrong_node_told node.now }
 {
     WrongValue {
         lnum: node.lnum,

@@ -16,8 +16,8 @@ reading-preserved g c =
     record {
       kept = kept_next old now new i.kept c.judge_leaf.ensures.keeps c.judge_leaf.ensures.shape c.in_ok-one.ensures.cause (sure_of_area now new c.judge_leaf.result c.judge_leaf.ensures.sure);
       told = λ kept sourced. told_next old.holds kept c.reading.left.now c.in-Some.rest.now leaf c.reading.shown.items c.push.new.self.items one.leaf c.reading.unlike one.unlike c.sooner-unlike.result c.in-Some.ensures.cases.0 c.in_ok-push.ensures.items c.sooner-unlike.ensures
-        (λ x s. let j = c.in_ok-one.ensures.judged x (sourced_moved old.holds now.holds same x leaf s) in judged_moved now.holds old.holds (λ k. sym (same k)) x one.leaf one.unlike (record { shows = j.0; first = j.1 }))
-        (i.told kept sourced);
+          (λ x s. let j = c.in_ok-one.ensures.judged x (sourced_moved old.holds now.holds same x leaf s) in judged_moved now.holds old.holds (λ k. sym (same k)) x one.leaf one.unlike (record { shows = j.0; first = j.1 }))
+          (i.told kept sourced);
     }
 
 pub returns-clause-shown : goal.returns-clause-shown
