@@ -18,8 +18,8 @@ use Rattle.node_table.specs.NodeView.{tree_at}
 use Rattle.ubi_volume.specs.Frame.{Elsewhere, IsSameLeb}
 use Rattle.ubi_volume.specs.Geometry.{IsGeometryOf}
 use Rattle.ubi_volume.specs.FrameLaws.{IsSameLeb-none, IsSameLeb-then, Only-same, Works-more, Works-none, Works-on, Works-then}
-use Rattle.ubi_volume.specs.Volume.{VolumeState, IsChanged, Only, SameShape, UnderWay, WorksOn}
-use Rattle.ubi_volume.specs.VolumeLaws.{Leaves-more}
+use Rattle.ubi_volume.specs.Volume.{VolumeState, IsChanged, Keeps, Only, SameShape, UnderWay, WorksOn}
+use Rattle.ubi_volume.specs.VolumeLaws.{Leaves-keeps, Leaves-more, Leaves-then}
 use Rattle.index_cache.specs.Paged.{dirty_of}
 use Rattle.index_cache.specs.declared.paged.PagedIndex.{PagedIndex}
 use Rattle.index_commit.specs.Lebs.{AreGivable, IsGiven}
@@ -230,6 +230,14 @@ pub keeps_indexes : DependsOnItsLebs → (old new : VolumeState) (lebs : List �
 keeps_indexes depends old new lebs works fanout root placed stored all =
     Leaves-more old new (Elsewhere old (IsGiven lebs)) (λ c. IsStoredIndex c fanout root placed)
     (λ c left. depends old.holds c fanout root placed (All-weaker (IsSettledOutside old lebs) (λ k. c k ≡ old.holds k) (λ k h. h.1 (c k) (left k h.0)) (lebs_of placed) all) stored) works.time
+
+-- after a call that keeps all
+pub kept_indexes_then : DependsOnItsLebs → (a b d : VolumeState) (lebs : List ℕ) → Keeps a b → KeepsOtherIndexes b d lebs → KeepsOtherIndexes a d lebs
+kept_indexes_then depends a b d lebs keeps works = λ fanout root placed stored all.
+    let P : (ℕ → List ℕ) → Type 0 = λ c. IsStoredIndex c fanout root placed in
+    let same = All-weaker (IsSettledOutside a lebs) (λ k. b.holds k ≡ a.holds k) (λ k h. keeps.holds k) (lebs_of placed) all in
+    let settled = All-weaker (IsSettledOutside a lebs) (IsSettledOutside b lebs) (λ k h. (h.0, λ c left. h.1 c ((keeps.left k c).0 left) ∙ sym (keeps.holds k))) (lebs_of placed) all in
+    Leaves-then a b d P P P (λ c h. h) (λ c h. h) (Leaves-keeps a b P keeps) (works fanout root placed (depends a.holds b.holds fanout root placed same stored) settled)
 
 -- ---- the LEBs that are left
 pub givable_then : (n m : ℕ) (lnum : ℕ) (lebs all : List ℕ) → m ≡ n → all ≡ lnum ∷ lebs → AreGivable n all → (lnum < n) × (IsGiven lebs lnum → ⊥) × AreGivable m lebs

@@ -3,3 +3,4 @@ pub mod Laid
 pub mod Whole
 pub mod Lebs
 pub mod Committed
+pub mod Changes

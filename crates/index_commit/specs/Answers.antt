@@ -1,9 +1,16 @@
 -- Why a commit of the index ends without its root.
 use Rattle.std.specs.Prelude.{◌≡◌, ◌⊎◌, ◌<◌, ◌≤◌, ℕ, Result, Err, Ok, ⊤}
 use Rattle.ubifs_base.specs.Faults.{IsCause}
+use Rattle.ubi_volume.specs.declared.fault.AreaFault.{AreaFault}
+use Rattle.ubi_volume.specs.declared.fault.AreaFault.TheVariants as areas
 use Rattle.ubi_volume.specs.Volume.{VolumeState, SameShape}
 use Rattle.index_commit.specs.declared.index_fault.IndexFault.{IndexFault}
 use Rattle.index_commit.specs.declared.index_fault.IndexFault.TheVariants.{Memory, Full, EqualKeys, Volume}
+
+-- the fault of a call that reads the index, as that of a commit
+abbrev pub index_fault : AreaFault → IndexFault
+index_fault areas.Memory = Memory
+index_fault (areas.Volume count) = Volume count
 
 -- the call didn't answer that the volume failed
 abbrev pub IsIndexNotFailed : {T : Type 0} → Result T IndexFault → Type 0

@@ -4,7 +4,7 @@ ghost use Rattle.std.specs.Prelude.{◌≡◌};
 
 use std::alloc::{AllocError, AllocFailed};
 use thiserror::Error;
-use ubi_volume::VolFault;
+use ubi_volume::{AreaFault, VolFault};
 use ubifs_base::Memory;
 
 /// Why an index wasn't written.
@@ -63,5 +63,19 @@ impl From<AllocError> for IndexFault {
 
     fn from(_fault: AllocError) -> IndexFault {
         IndexFault::Memory
+    }
+}
+
+impl From<AreaFault> for IndexFault {
+    ghost use Rattle.std.specs.Prelude.{◌≡◌};
+    ghost use Rattle.index_commit.specs.Answers.{index_fault};
+
+    ghost from_gives = { λ fault e. e ≡ index_fault fault };
+
+    fn from(fault: AreaFault) -> IndexFault {
+        match fault {
+            AreaFault::Memory => IndexFault::Memory,
+            AreaFault::Volume { count } => IndexFault::Volume { count },
+        }
     }
 }

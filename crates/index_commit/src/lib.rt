@@ -6,11 +6,14 @@
 //! far in place of the LEB that they are for. Where the volume doesn't fail, they are written, whatever else ends the call.
 #![tactic(auto)]
 
+pub mod caller;
 mod index_at;
 mod index_fault;
+mod laws;
 mod laying;
 mod writing;
 
 pub use crate::index_at::{IndexAt, IndexHead};
 pub use crate::index_fault::IndexFault;
+pub use crate::laws::changes_keep_what_stands;
 pub use crate::writing::write_index;

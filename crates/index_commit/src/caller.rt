@@ -1,0 +1,63 @@
+// A caller of a commit, proved from the contracts of the calls alone.
+
+ghost use Rattle.std.specs.Prelude.{◌≡◌, ◌<◌, ◌^◌, ℕ, All, IfOk};
+ghost use Rattle.ubifs_base.specs.Key.{IsKey};
+ghost use Rattle.ubifs_base.specs.RawOf.{raw_of};
+ghost use Rattle.index_tree.specs.Order.{placed};
+ghost use Rattle.index_tree.specs.Shape.{contents};
+ghost use Rattle.index_media.specs.KeyedRow.{KeyedRow, bare};
+ghost use Rattle.index_media.specs.PlacedRow.{PlacedRow, lebs_of, plain};
+ghost use Rattle.ubi_volume.specs.Geometry.{IsGeometryOf};
+ghost use Rattle.index_cache.specs.Loaded.{IsIndexOn};
+ghost use Rattle.index_commit.specs.Lebs.{AreGivable, IsGiven};
+ghost use Rattle.index_commit.specs.Written.{IsRootOf, KeepsOtherIndexes};
+
+use crate::index_at::IndexAt;
+use crate::index_fault::IndexFault;
+use crate::laws::changes_keep_what_stands;
+use crate::writing::write_index;
+use index_cache::PagedIndex;
+use index_media::{an_index_depends_on_its_lebs_alone, an_insertion_goes_by_the_keys_of_branches};
+use index_tree::Leaf;
+use media_sys::Branch;
+use node_table::places_are_kept;
+use std::alloc::Global;
+use ubi_volume::Volume;
+use ubifs_base::Geometry;
+
+// More dirty nodes than this don't fit into memory.
+const MOST_NODES: u64 = 1 << 62;
+
+/// Loads the index that stands on a volume, puts a leaf, and writes the index to these LEBs, in which no node of the loaded one
+/// stands. After Ok the index with the leaf stands on the volume. The index before stands in what a cut at any moment
+/// leaves, if a cut before left nothing else of its LEBs.
+pub fn put_and_commit<V: Volume>(
+    alloc: Global,
+    volume: &mut V,
+    geometry: &Geometry,
+    root: &Branch,
+    leaf: Leaf,
+    lebs: &[u32],
+    sqnum: &mut u64,
+) -> Result<IndexAt, IndexFault>
+    requires geometry { IsGeometryOf (raw_of geometry.now) (V.state volume.old) }
+    requires index { (row : PlacedRow) × IsIndexOn (V.state volume.old) geometry.now.fanout root.now row × All (λ k. IsGiven lebs.now k → ⊥) (lebs_of row) }
+    requires lebs { AreGivable (V.state volume.old).leb_cnt lebs.now }
+    requires key { IsKey leaf.key }
+    requires number { sqnum.old < 2 ^ 63 }
+    ensures leaves { (row : PlacedRow) → IsIndexOn (V.state volume.old) geometry.now.fanout root.now row
+        → IfOk result (λ at. (now : KeyedRow) × (contents (bare now) ≡ placed leaf (contents (plain row))) × IsRootOf (V.state volume.new).holds geometry.now.fanout now at.root) }
+    ensures old_stays { KeepsOtherIndexes (V.state volume.old) (V.state volume.new) lebs.now }
+{
+    an_index_depends_on_its_lebs_alone();
+    an_insertion_goes_by_the_keys_of_branches();
+    changes_keep_what_stands();
+    places_are_kept();
+    let mut index = PagedIndex::at_root(alloc, volume, geometry, root)?;
+    index.insert(alloc, leaf)?;
+    index.freeze();
+    if index.dirty_nodes() > MOST_NODES {
+        return Err(IndexFault::Memory);
+    }
+    write_index(alloc, volume, geometry, &mut index, lebs, sqnum)
+}
