@@ -1,6 +1,6 @@
 -- What holds of clean nodes still does after a change, and what stands on a volume is loaded so.
-use Rattle.std.proofs.Common.{◌≡◌, ℕ, ◌+◌, ◌-◌, ◌<◌, ◌≤◌, true, false, List, [], ◌∷◌, ◌++◌, length, refl, ap, sym, ◌∙◌, subst, arith, inl, inr, map}
-use Rattle.std.specs.Prelude.{◌==◌, nat_le, nat_lt, Option, None, Some, All}
+use Rattle.std.proofs.Common.{◌≡◌, ℕ, ◌+◌, ◌-◌, true, List, [], ◌∷◌, ◌++◌, length, refl, ap, sym, subst, arith, inl, inr, map}
+use Rattle.std.specs.Prelude.{◌==◌, nat_le, nat_lt, Option, None, All}
 use Rattle.std.proofs.lemmas.Bool.{and_from, cases_Bool, eq-eqb, lt-ltb}
 use Rattle.std.proofs.lemmas.Bool.Decides.{nat_tests}
 use Rattle.std.proofs.lemmas.List.Elements.{All-cons, All-head, All-nil, All-tail}
@@ -11,13 +11,13 @@ use Rattle.index_tree.specs.RangeRemoval.{in_range, within_range}
 use Rattle.index_tree.specs.Removal.{holds, same_leaf}
 use Rattle.index_tree.specs.Shape.{Shape, contents, count, fits, left_half, lone}
 use Rattle.index_tree.specs.declared.leaf.Leaf.{Leaf}
-use Rattle.index_media.specs.Insertion.{first_key, inserted_by_keys, keyed_back, keyed_front, keyed_parted, lowered, starts_by, with_leaf_by_keys}
+use Rattle.index_media.specs.Insertion.{inserted_by_keys, keyed_back, keyed_front, keyed_parted, lowered, starts_by, with_leaf_by_keys}
 use Rattle.index_media.specs.InsertionLaws.{clean_bare}
 use Rattle.index_media.specs.InsertionSound.{fit_node}
 use Rattle.index_media.specs.KeyedRange.{place_without_range, pruned_by_keys, without_range_by_keys}
 use Rattle.index_media.specs.KeyedRemoval.{keyed_collapsed, keyed_tidied, removed_by_keys, replaced_by_keys, without_leaf_by_keys}
 use Rattle.index_media.specs.KeyedRow.{KeyedRow, no_more, leaf_in, node_in, all_clean, bare}
-use Rattle.index_media.specs.PlacedRow.{PlacedRow, ended, leaf_at, node_at, Stretch, all_nodes, branches_of, lebs_of, plain, stretch_of}
+use Rattle.index_media.specs.PlacedRow.{PlacedRow, ended, leaf_at, node_at, Stretch, all_nodes, branches_of, lebs_of, plain}
 use Rattle.index_media.specs.Stored.{AreStored, IsIndexNodeAt}
 use Rattle.media_sys.specs.declared.branch.Branch.{Branch}
 use Rattle.node_table.specs.Changing.{changed}

@@ -1,4 +1,4 @@
-use Rattle.std.proofs.Common.{◌≡◌, ◌++◌, true, ℕ, [], ap, sym, ◌∙◌, subst, append-nil}
+use Rattle.std.proofs.Common.{◌≡◌, true, ℕ, [], ap, sym, ◌∙◌, subst, append-nil}
 use Rattle.index_tree.specs.Order.{placed}
 use Rattle.index_tree.specs.Shape.{Shape, contents, fits}
 use Rattle.index_media.specs.KeyedRow.{KeyedRow, all_clean, bare}
