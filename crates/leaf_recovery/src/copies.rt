@@ -55,9 +55,7 @@ fn is_original(references: &[RefNode], copy: &JournalNode, leaf: &CommittedLeaf)
     ensures { result ≡ is_original_told references.now copy.now leaf.now }
 {
     match &leaf.found {
-        Some(node) => {
-            shows(&node.content, &copy.content) && is_own(references, &leaf.leaf, node)
-        }
+        Some(node) => shows(&node.content, &copy.content) && is_own(references, &leaf.leaf, node),
         None => false,
     }
 }

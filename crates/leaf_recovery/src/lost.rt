@@ -194,7 +194,7 @@ fn reads_name(references: &[RefNode], content: &NodeContent, leaf: &CommittedLea
     ensures { result ≡ reads_name_told references.now content.now leaf.now }
 {
     match &leaf.found {
-        Some(node) => { is_of_name(&node.content, content) && !in_bud(references, &leaf.leaf) }
+        Some(node) => is_of_name(&node.content, content) && !in_bud(references, &leaf.leaf),
         None => false,
     }
 }

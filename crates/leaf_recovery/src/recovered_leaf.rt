@@ -21,9 +21,10 @@ pub struct RecoveredLeaf {
     pub source: Option<Place>,
 }
 
-/// What recovery makes of what a mount has read: the leaves; the committed leaves of names that can't be found and that the journal
-/// hasn't replaced; those of them whose node is there and names no inode; and, of the leaves that are found before any node is applied,
-/// those that show the inode, block or name of one before them.
+/// What recovery makes of what a mount has read: the leaves after it; the committed leaves of names of which neither the node nor a
+/// copy can be read, if the journal has no other name left for them; those whose node is there and names no inode, if the journal
+/// hasn't that name; and, of the leaves that are found before any node is applied, those that show the inode, block or name of one
+/// before them.
 #[derive(Debug, Drop)]
 pub struct RecoveredLeaves {
     pub kept: Vec<RecoveredLeaf>,
