@@ -1,4 +1,11 @@
-//! Which of the leaves after recovery is out of its place first, and which link count is wrong first?
+//! Which of the leaves after recovery shows what is out of its place first, and which inode has a wrong number of links first?
+//!
+//! Two rules of crate sound_image speak of the tree that leaves show: `HasTree` and `HasLinks`. [`first_out_of_place`] and
+//! [`first_wrong_link`] are handed what each leaf shows, and answer the first place that breaks the rule, or none. They are exact on any
+//! leaves, also on those of an image that somebody made to deceive. Maps by inode number and by name are built once, so that each
+//! leaf is then tested in a few look-ups. What is reached from the root is found downwards, level by level, each number once. The
+//! invariant: after n levels the numbers that n steps reach are marked, and an entry of a marked directory leads to a marked number,
+//! unless its directory is of the last level.
 #![tactic(auto)]
 
 mod children;
