@@ -1,5 +1,4 @@
 pub mod Firsts
-pub mod Frames
 pub mod Kept
 pub mod Members
 pub mod NamedBuds

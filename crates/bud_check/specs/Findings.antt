@@ -5,13 +5,12 @@ use Rattle.ubifs_base.specs.declared.node_type.NodeType.{NodeType}
 use Rattle.ubifs_base.specs.declared.node_type.NodeType.TheVariants as types
 use Rattle.ubifs_base.specs.declared.raw_geometry.RawGeometry.{RawGeometry}
 use Rattle.media_sys.specs.declared.feature.Feature.{Feature}
-use Rattle.media_sys.specs.declared.feature.Feature.TheVariants.{Compressed, Attributes}
 use Rattle.leb_scan.specs.declared.found.Found.{Found}
 use Rattle.bud_log.specs.declared.head_at.HeadAt.{HeadAt}
 use Rattle.journal_scan.specs.declared.bud_text.BudText.{BudText}
 use Rattle.sound_image.specs.Breaches.{IsWrongInBud}
 use Rattle.sound_image.specs.Buds.{MayStandInBud}
-use Rattle.sound_image.specs.Frames.{HasAttributes, IsCompressed, NeedsFeature}
+use Rattle.sound_image.specs.Frames.{NeedsFeature}
 use Rattle.sound_image.specs.Wrong.{IsFirstWrong, IsOneOf, Misfit, Wrong, comes_before, differs, needs}
 use Rattle.sound_image.specs.declared.breach.Breach.{Breach}
 use Rattle.sound_image.specs.declared.breach.Breach.TheVariants.{Feature as NeedsOne, Damaged}
@@ -19,12 +18,6 @@ use Rattle.sound_image.specs.declared.rule.Rule.TheVariants.{Buds}
 use Rattle.bud_check.specs.declared.bud_wrong.BudMisfit.{BudMisfit}
 use Rattle.bud_check.specs.declared.bud_wrong.BudMisfit.TheVariants.{Needs, Unwanted}
 use Rattle.bud_check.specs.declared.bud_wrong.BudWrong.{BudWrong}
-
--- a node of this type with this body needs a feature that isn't known here
-abbrev pub IsNeededBy : ℕ → List ℕ → Feature → Type 0
-IsNeededBy kind body what =
-    ((what ≡ Compressed) × (kind ≡ 1) × IsCompressed body)
-    ⊎ ((what ≡ Attributes) × ((kind ≡ 3) ⊎ ((kind ≡ 0) × HasAttributes body)))
 
 -- whether a node of this type may stand in a bud
 abbrev pub may_stand : NodeType → Bool

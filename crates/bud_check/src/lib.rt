@@ -8,7 +8,6 @@
 
 mod bud_wrong;
 mod check;
-mod features;
 mod first_wrong;
 mod named_buds;
 mod reads;

@@ -2,13 +2,12 @@
 
 ghost use Rattle.std.specs.Prelude.{◌≡◌, ◌<◌, ◌^◌, length};
 ghost use Rattle.std.specs.List.{AllByRecursion};
-ghost use Rattle.ubifs_base.specs.NodeType.{type_number as number_of};
 ghost use Rattle.journal_scan.specs.Journal.{IsReadable};
 ghost use Rattle.bud_check.specs.Findings.{IsFirstFound, IsWrongEnd, IsWrongNode, IsWrongText, IsWrongTexts, may_stand as is_allowed};
 
 use crate::bud_wrong::{BudMisfit, BudWrong};
-use crate::features::needed_feature;
 use crate::first_wrong::first_wrong;
+use image_check::{needed_feature, type_number};
 use journal_scan::BudText;
 use leb_scan::{Found, Scanner, one_text};
 use ubifs_base::NodeType;
@@ -97,25 +96,5 @@ fn may_stand(kind: NodeType) -> bool
         | NodeType::Index
         | NodeType::CommitStart
         | NodeType::Orphans => false,
-    }
-}
-
-// The number of a type, as a header has it.
-fn type_number(kind: NodeType) -> u8
-    ensures { result ≡ number_of kind }
-{
-    match kind {
-        NodeType::Inode => 0,
-        NodeType::Data => 1,
-        NodeType::Entry => 2,
-        NodeType::Attribute => 3,
-        NodeType::Truncation => 4,
-        NodeType::Padding => 5,
-        NodeType::Superblock => 6,
-        NodeType::Master => 7,
-        NodeType::Reference => 8,
-        NodeType::Index => 9,
-        NodeType::CommitStart => 10,
-        NodeType::Orphans => 11,
     }
 }

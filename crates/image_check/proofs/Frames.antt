@@ -15,7 +15,7 @@ use Rattle.ubifs_base.specs.declared.node_type.NodeType.{NodeType}
 use Rattle.ubifs_base.specs.declared.node_type.NodeType.TheVariants as types
 use Rattle.media_sys.specs.declared.feature.Feature.{Feature}
 use Rattle.sound_image.specs.Frames.{HasAttributes, HasFrameAt, IsCompressed, NeedsFeature}
-use Rattle.bud_check.specs.Findings.{IsNeededBy}
+use Rattle.image_check.specs.Needs.{IsNeededBy}
 
 -- a number within the front of the bytes
 number_front : (m n len : ℕ) (bytes : List ℕ) → n + m ≤ len → little_number m (drop n (take len bytes)) ≡ little_number m (drop n bytes)

@@ -2,6 +2,7 @@ pub mod Answered
 pub mod AreaLebs
 pub mod FirstOfAll
 pub mod ForeignNodes
+pub mod Frames
 pub mod Kept
 pub mod Latest
 pub mod OrphanArea

@@ -3,3 +3,4 @@ pub mod Firsts
 pub mod WrongValues
 pub mod FirstLaws
 pub mod PropertyWalk
+pub mod Needs

@@ -3,14 +3,15 @@
 ghost use Rattle.std.specs.Prelude.{◌≡◌, ◌<◌, ◌≤◌, ◌^◌, ◌↔◌, IfSome, IsTrue, Some, length};
 ghost use Rattle.media_sys.specs.declared.feature.Feature.{Feature as AFeature};
 ghost use Rattle.sound_image.specs.Frames.{HasAttributes, IsCompressed, NeedsFeature};
-ghost use Rattle.bud_check.specs.Findings.{IsNeededBy};
+ghost use Rattle.image_check.specs.Needs.{IsNeededBy};
 
 use byteorder::{ByteOrder, LittleEndian};
 use media_sys::Feature;
 use ubifs_base::unframe;
 
-/// The feature that isn't known here and that what stands at a place of a LEB needs; none where it needs none.
-pub(crate) fn needed_feature(leb: &[u8], place: u32) -> Option<Feature>
+/// The feature that isn't known here and that what stands at an offset of a LEB needs; none where it needs none: compressed data, or
+/// attributes (`struct ubifs_data_node` and `struct ubifs_ino_node` of ubifs-media.h). Takes no memory.
+pub fn needed_feature(leb: &[u8], place: u32) -> Option<Feature>
     requires { length leb.now < 2 ^ 32 }
     ensures some { IfSome result (NeedsFeature leb.now place) }
     ensures only { (what : AFeature) → NeedsFeature leb.now place what → result ≡ Some what }

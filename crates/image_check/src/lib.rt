@@ -7,6 +7,7 @@
 #![tactic(auto)]
 
 mod fault;
+mod features;
 mod laws;
 mod masters;
 mod orphan_lists;
@@ -18,10 +19,11 @@ mod told;
 mod wrong_value;
 
 pub use crate::fault::CheckFault;
+pub use crate::features::needed_feature;
 pub use crate::laws::{a_breach_is_first, the_sooner_of_both_is_first};
 pub use crate::masters::check_masters;
 pub use crate::orphan_lists::check_orphans;
-pub use crate::places::type_byte;
+pub use crate::places::{type_byte, type_number};
 pub use crate::properties::check_properties;
 pub use crate::superblock::check_superblock;
 pub use crate::wrong_value::{WrongValue, sooner};

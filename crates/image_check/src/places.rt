@@ -7,8 +7,8 @@ ghost use Rattle.image_check.specs.Firsts.{is_orphan_or_padding};
 
 use ubifs_base::NodeType;
 
-// The number of a type, as a header has it.
-pub(crate) fn type_number(kind: NodeType) -> u8
+/// The number of a type, as a header has it (`UBIFS_INO_NODE` to `UBIFS_ORPH_NODE` of ubifs-media.h).
+pub fn type_number(kind: NodeType) -> u8
     ensures { result ≡ type_number kind }
 {
     match kind {

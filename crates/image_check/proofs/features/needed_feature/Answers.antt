@@ -1,8 +1,8 @@
 use Rattle.std.proofs.Common.{ℕ, List, drop, sym, subst, arith}
 use Rattle.ubifs_base.specs.NodeLaws.{unframed-ok}
-use Rattle.bud_check.specs.Findings.{IsNeededBy}
-use Rattle.bud_check.proofs.Frames.{body_there, need_here, need_of, needs_by, no_need, read_head, read_none, some_need}
-use Rattle.bud_check.proofs.features.needed_feature.Goals as goal
+use Rattle.image_check.specs.Needs.{IsNeededBy}
+use Rattle.image_check.proofs.Frames.{body_there, need_here, need_of, needs_by, no_need, read_head, read_none, some_need}
+use Rattle.image_check.proofs.features.needed_feature.Goals as goal
 
 pub returns-in_default-clause-only : goal.returns-in_default-clause-only
 returns-in_default-clause-only c = λ what h.
