@@ -1,0 +1,13 @@
+pub mod Checked
+pub mod CommittedLeaves
+pub mod Copies
+pub mod Firsts
+pub mod Judged
+pub mod Kept
+pub mod NodeKeys
+pub mod Overlaps
+pub mod ReadBytes
+pub mod SoundLeaves
+pub mod Standings
+pub mod Sweeps
+pub mod WholeLeaves

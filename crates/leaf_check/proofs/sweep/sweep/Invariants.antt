@@ -1,0 +1,18 @@
+use Rattle.std.proofs.Common.{◌≡◌, ◌++◌, List, None, length}
+use Rattle.ubifs_base.specs.RawOf.{raw_of}
+use Rattle.index_tree.specs.declared.leaf.Leaf.{Leaf}
+use Rattle.sound_image.specs.Leaves.{IsSoundLeaf}
+use Rattle.leaf_check.proofs.Kept.{IsKept}
+use Rattle.leaf_check.proofs.Overlaps.{last_of}
+use Rattle.leaf_check.proofs.Sweeps.{SweptSoFar}
+use Rattle.leaf_check.proofs.sweep.sweep.Given as goal
+
+-- the leaves so far, the last of them, and those of them that are wrong
+abbrev pub invariant-sweeping : goal.invariant-sweeping
+invariant-sweeping g l =
+    IsKept (g.V.Volume.state l.fn.volume) (g.V.Volume.state l.volume) × (length l.buffer ≡ 4256)
+    × (done : List Leaf) × (done ++ l.left ≡ l.ordered) × (l.last ≡ last_of None done)
+    × SweptSoFar (IsSoundLeaf (g.V.Volume.state l.fn.volume).holds (raw_of l.geometry) l.props) done l.ordered l.wrong.items
+
+abbrev pub decreases-sweeping : goal.decreases-sweeping
+decreases-sweeping g l = length l.left

@@ -1,0 +1,48 @@
+// The node at a leaf's place is read from a volume.
+
+ghost use Rattle.std.specs.Prelude.{◌≡◌, ◌≤◌, IfNone, IfOk, IfSome, length};
+ghost use Rattle.ubi_volume.specs.Volume.{Keeps, SameShape};
+ghost use Rattle.ubi_volume.specs.Faults.{HasCause, StaysSure};
+ghost use Rattle.leaf_check.specs.LeafReads.{HasWholeLeaf, IsLeafRead};
+
+use crate::nodes::whole_leaf;
+use index_tree::Leaf;
+use leb_scan::Found;
+use ubi_volume::{VolFault, Volume};
+
+/// No leaf node has more bytes: an inode has 160, and at most a page of data.
+pub(crate) const MOST_BYTES: u32 = 160 + 4096;
+
+/// The leaf node that stands at a leaf's place with its length, if one does. The buffer, which has room for any leaf node, begins with
+/// its bytes then.
+pub(crate) fn read_node<V: Volume>(
+    volume: &mut V,
+    leaf: &Leaf,
+    buffer: &mut [u8],
+) -> Result<Option<Found>, VolFault>
+    requires { length buffer.old ≡ 4256 }
+    ensures len { length buffer.new ≡ length buffer.old }
+    ensures some { IfOk result (λ read. IfSome read (IsLeafRead (V.state volume.old).holds leaf.now buffer.new)) }
+    ensures none { IfOk result (λ read. IfNone read (HasWholeLeaf (V.state volume.old).holds leaf.now → ⊥)) }
+    ensures keeps { Keeps (V.state volume.old) (V.state volume.new) }
+    ensures shape { SameShape (V.state volume.old) (V.state volume.new) }
+    ensures cause { HasCause (V.state volume.old).faults (V.state volume.new).faults result }
+    ensures sure { StaysSure (V.state volume.old) (V.state volume.new) result }
+{
+    let size = volume.leb_size();
+    if leaf.lnum >= volume.leb_cnt() {
+        return Ok(None);
+    }
+    if leaf.offs > size {
+        return Ok(None);
+    }
+    if leaf.len > size - leaf.offs {
+        return Ok(None);
+    }
+    if leaf.len > MOST_BYTES {
+        return Ok(None);
+    }
+    let bytes = buffer.split_at_mut(leaf.len as usize).0;
+    volume.read(leaf.lnum, leaf.offs, bytes)?;
+    Ok(whole_leaf(bytes))
+}

@@ -1,0 +1,84 @@
+// Whether a leaf is sound.
+
+ghost use Rattle.std.specs.Prelude.{◌≡◌, ◌<◌, ◌^◌, ◌↔◌, IfOk, IsFalse, IsTrue, Some, length};
+ghost use Rattle.ubifs_base.specs.RawOf.{raw_of};
+ghost use Rattle.ubi_volume.specs.Volume.{Keeps, SameShape};
+ghost use Rattle.ubi_volume.specs.Faults.{HasCause, StaysSure};
+ghost use Rattle.media_leaf.specs.LeafNode.{LeafNode};
+ghost use Rattle.sound_image.specs.Leaves.{IsSoundLeaf};
+ghost use Rattle.sound_image.specs.Properties.{is_unmarked as is_no_index};
+ghost use Rattle.leaf_check.specs.LeafReads.{IsItsNode, IsWholeOf};
+
+use crate::keys::key_in;
+use crate::reading::read_node;
+use image_check::needed_feature;
+use index_tree::Leaf;
+use leb_scan::Found;
+use media_leaf::one_node;
+use media_lpt::Lprop;
+use ubi_volume::{VolFault, Volume};
+use ubifs_base::{Geometry, Key};
+
+/// Whether a leaf is sound: an intact node of its key and length stands at its place, needs no feature that isn't known here, and stands
+/// in a main LEB that isn't marked as the index's. The buffer has room for any leaf node.
+pub(crate) fn is_sound<V: Volume>(
+    volume: &mut V,
+    geometry: &Geometry,
+    props: &[Lprop],
+    leaf: &Leaf,
+    buffer: &mut [u8],
+) -> Result<bool, VolFault>
+    requires { length buffer.old ≡ 4256 }
+    ensures len { length buffer.new ≡ length buffer.old }
+    ensures yes { IfOk result (λ sound. IsTrue sound → IsSoundLeaf (V.state volume.old).holds (raw_of geometry.now) props.now leaf.now) }
+    ensures no { IfOk result (λ sound. IsFalse sound → IsSoundLeaf (V.state volume.old).holds (raw_of geometry.now) props.now leaf.now → ⊥) }
+    ensures keeps { Keeps (V.state volume.old) (V.state volume.new) }
+    ensures shape { SameShape (V.state volume.old) (V.state volume.new) }
+    ensures cause { HasCause (V.state volume.old).faults (V.state volume.new).faults result }
+    ensures sure { StaysSure (V.state volume.old) (V.state volume.new) result }
+{
+    let unmarked = is_unmarked(geometry, props, leaf.lnum);
+    let read = read_node(volume, leaf, buffer)?;
+    let Some(found) = read else {
+        return Ok(false);
+    };
+    if !unmarked {
+        return Ok(false);
+    }
+    Ok(is_its_node(leaf, found, buffer.split_at(found.len as usize).0))
+}
+
+// Whether the leaf node that the bytes are is that of the leaf, and needs no feature.
+fn is_its_node(leaf: &Leaf, found: Found, bytes: &[u8]) -> bool
+    requires node { (node : LeafNode) × IsWholeOf bytes.now found node }
+    requires len { length bytes.now < 2 ^ 32 }
+    ensures { IsTrue result ↔ IsItsNode bytes.now leaf.now }
+{
+    one_node();
+    if let Some(_what) = needed_feature(bytes, 0) {
+        return false;
+    }
+    is_key(key_in(found.kind, bytes), leaf.key)
+}
+
+// Whether a key was found, and is this.
+fn is_key(found: Option<Key>, key: Key) -> bool
+    ensures { IsTrue result ↔ found ≡ Some key }
+{
+    found == Some(key)
+}
+
+// Whether a LEB is a main LEB that isn't marked as the index's.
+fn is_unmarked(geometry: &Geometry, props: &[Lprop], lnum: u32) -> bool
+    ensures { result ≡ is_no_index (raw_of geometry.now) props.now lnum }
+{
+    let first = geometry.main_first();
+    if lnum < first {
+        return false;
+    }
+    let at = (lnum - first) as usize;
+    if at >= props.len() {
+        return false;
+    }
+    !props[at].index
+}
