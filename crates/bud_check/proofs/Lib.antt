@@ -1,3 +1,4 @@
+pub mod CleanBuds
 pub mod Firsts
 pub mod Kept
 pub mod Members

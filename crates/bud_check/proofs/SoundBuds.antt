@@ -10,11 +10,10 @@ use Rattle.ubifs_base.specs.declared.raw_geometry.RawGeometry.{RawGeometry}
 use Rattle.leb_scan.specs.Text.{nodes_of}
 use Rattle.leb_scan.specs.declared.found.Found.{Found}
 use Rattle.bud_log.specs.declared.head_at.HeadAt.{HeadAt}
-use Rattle.journal_scan.specs.Journal.{BudRead, IsBudRead, IsJournalRead, IsReadable}
+use Rattle.journal_scan.specs.Journal.{BudRead, IsBudRead, IsReadable}
 use Rattle.journal_scan.specs.declared.bud_text.BudText.{BudText}
-use Rattle.journal_scan.specs.declared.journal_read.JournalRead.{JournalRead}
 use Rattle.sound_image.specs.Breaches.{IsWrongInBuds}
-use Rattle.sound_image.specs.Buds.{HasBuds, IsSoundBud, MayStandInBud, bud_text}
+use Rattle.sound_image.specs.Buds.{IsSoundBud, MayStandInBud, bud_text}
 use Rattle.sound_image.specs.Frames.{IsKnownAt}
 use Rattle.sound_image.specs.Wrong.{IsFirstWrong, IsOneOf, Wrong, differs, needs}
 use Rattle.sound_image.specs.declared.breach.Breach.{Breach}
@@ -24,6 +23,8 @@ use Rattle.image_check.specs.Told.{HasCheckCause, IsBreachOf, IsNoVolumeFault, T
 use Rattle.image_check.specs.declared.fault.CheckFault.{CheckFault}
 use Rattle.image_check.specs.declared.fault.CheckFault.TheVariants.{Memory, Volume, Unsound}
 use Rattle.bud_check.specs.Findings.{IsBudPlace, IsInVolume, IsWrongText, IsWrongTexts, breach_told, may_stand, misfit_told, wrong_told}
+use Rattle.bud_check.specs.Found.{AreFoundBuds, IsFoundInTexts}
+use Rattle.bud_check.specs.declared.buds_found.BudsFound.{BudsFound}
 use Rattle.bud_check.specs.declared.bud_wrong.BudMisfit.{BudMisfit}
 use Rattle.bud_check.specs.declared.bud_wrong.BudMisfit.TheVariants.{Needs, Unwanted}
 use Rattle.bud_check.specs.declared.bud_wrong.BudWrong.{BudWrong}
@@ -122,15 +123,13 @@ in_volume geo leb_cnt [] more h = tt
 in_volume geo leb_cnt (bud ∷ buds) more h = let high = h.0.high in (omega (arith, high, more), in_volume geo leb_cnt buds more h.1)
 
 -- ---- what is judged of texts is judged of buds
-met_by : (contents : ℕ → List ℕ) (buds : List HeadAt) (r : Result JournalRead CheckFault) → IfOk r (λ read. (journal : IsJournalRead (map (bud_text contents) buds) read) × AllByRecursion IsSoundBud journal.reads)
-    → IfOk r (λ read. (journal : IsJournalRead (map (bud_text contents) buds) read) × HasBuds contents buds journal.reads)
-met_by contents buds (Ok read) h = (h.0, record { of_buds = h.0.of_buds; sound = h.1 })
+met_by : (contents : ℕ → List ℕ) (buds : List HeadAt) (r : Result BudsFound CheckFault) → IfOk r (IsFoundInTexts (map (bud_text contents) buds)) → IfOk r (AreFoundBuds contents buds)
+met_by contents buds (Ok found) h = record { journal = h.journal; rule = record { of_buds = h.journal.of_buds; sound = h.sound }; clean = h.clean }
 met_by contents buds (Err fault) h = tt
 
-pub buds_met : (contents : ℕ → List ℕ) (buds : List HeadAt) (texts : List BudText) (r : Result JournalRead CheckFault) → texts ≡ map (bud_text contents) buds
-    → IfOk r (λ read. (journal : IsJournalRead texts read) × AllByRecursion IsSoundBud journal.reads) → IfOk r (λ read. (journal : IsJournalRead (map (bud_text contents) buds) read) × HasBuds contents buds journal.reads)
+pub buds_met : (contents : ℕ → List ℕ) (buds : List HeadAt) (texts : List BudText) (r : Result BudsFound CheckFault) → texts ≡ map (bud_text contents) buds → IfOk r (IsFoundInTexts texts) → IfOk r (AreFoundBuds contents buds)
 buds_met contents buds texts r e h =
-    let P : List BudText → Type 0 = λ ts. IfOk r (λ read. (journal : IsJournalRead ts read) × AllByRecursion IsSoundBud journal.reads) in
+    let P : List BudText → Type 0 = λ ts. IfOk r (IsFoundInTexts ts) in
     met_by contents buds r (subst P e h)
 
 pub buds_broken : {T : Type 0} (contents : ℕ → List ℕ) (buds : List HeadAt) (texts : List BudText) (r : Result T CheckFault) → texts ≡ map (bud_text contents) buds

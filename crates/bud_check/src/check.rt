@@ -1,27 +1,29 @@
 // The check of buds.
 
-ghost use Rattle.std.specs.Prelude.{◌≡◌, IfErr, IfOk, map};
+ghost use Rattle.std.specs.Prelude.{◌≡◌, IfErr, IfOk};
 ghost use Rattle.std.specs.List.{AllByRecursion};
 ghost use Rattle.ubifs_base.specs.RawOf.{raw_of};
 ghost use Rattle.ubi_volume.specs.Geometry.{IsGeometryOf};
 ghost use Rattle.ubi_volume.specs.Volume.{Keeps, SameShape};
 ghost use Rattle.bud_log.specs.Buds.{buds_of};
-ghost use Rattle.journal_scan.specs.Journal.{IsJournalRead, IsReadable};
+ghost use Rattle.journal_scan.specs.Journal.{IsReadable};
 ghost use Rattle.sound_image.specs.Breaches.{IsWrongInBuds};
-ghost use Rattle.sound_image.specs.Buds.{HasBuds, IsSoundBud, bud_text};
 ghost use Rattle.sound_image.specs.Log.{NamesMain};
 ghost use Rattle.sound_image.specs.Wrong.{IsFirstWrong};
 ghost use Rattle.sound_image.specs.declared.rule.Rule.TheVariants as rules;
 ghost use Rattle.image_check.specs.Told.{HasCheckCause, IsBreachOf, IsNoVolumeFault, StaysSureCheck, TellsBreach};
 ghost use Rattle.bud_check.specs.Findings.{IsBudPlace, IsWrongTexts, breach_told};
+ghost use Rattle.bud_check.specs.Found.{AreFoundBuds, IsFoundInTexts};
 
 use crate::bud_wrong::{BudMisfit, BudWrong};
+use crate::buds_found::BudsFound;
+use crate::clean::are_clean;
 use crate::named_buds::named_buds;
 use crate::reads::read_buds;
 use crate::texts::first_in_texts;
 use bud_log::HeadAt;
 use image_check::CheckFault;
-use journal_scan::{BudText, JournalRead, read_journal};
+use journal_scan::{BudText, read_journal};
 use media_sys::RefNode;
 use sound_image::{Breach, Rule};
 use std::alloc::Global;
@@ -31,17 +33,17 @@ use ubifs_base::Geometry;
 /// The rule on buds (`HasBuds` of crate sound_image): up to its tail each bud has leaf nodes and padding, and neither a node nor the
 /// tail needs a feature that isn't known here (`replay_bud` of Linux fs/ubifs). The buds are those that the log's references
 /// name, in the log's order. Each reference names a place of a main LEB: the rule on the log asks it. Answers what the buds say, as a
-/// mount reads it. `Unsound` tells what is wrong first: a feature, or the type of a node that may not stand there, where 1 is wanted.
-/// Takes memory for the bytes of all buds.
+/// mount reads it, and whether none holds a node. `Unsound` tells what is wrong first: a feature, or the type of a node that may not
+/// stand there, where 1 is wanted. Takes memory for the bytes of all buds.
 pub fn check_buds<V: Volume>(
     alloc: Global,
     volume: &mut V,
     geometry: &Geometry,
     references: &[RefNode],
-) -> Result<JournalRead, CheckFault>
+) -> Result<BudsFound, CheckFault>
     requires geometry { IsGeometryOf (raw_of geometry.now) (V.state volume.old) }
     requires named { AllByRecursion (NamesMain (raw_of geometry.now)) references.now }
-    ensures met { IfOk result (λ read. (journal : IsJournalRead (map (bud_text (V.state volume.old).holds) (buds_of references.now)) read) × HasBuds (V.state volume.old).holds (buds_of references.now) journal.reads) }
+    ensures met { IfOk result (AreFoundBuds (V.state volume.old).holds (buds_of references.now)) }
     ensures broken { IfErr result (TellsBreach (IsBreachOf rules.Buds (IsFirstWrong (IsWrongInBuds (V.state volume.old).holds (buds_of references.now))))) }
     ensures keeps { Keeps (V.state volume.old) (V.state volume.new) × SameShape (V.state volume.old) (V.state volume.new) }
     ensures cause { HasCheckCause (V.state volume.old).faults (V.state volume.new).faults result }
@@ -59,10 +61,10 @@ fn check_places<V: Volume>(
     volume: &mut V,
     geometry: &Geometry,
     buds: &[HeadAt],
-) -> Result<JournalRead, CheckFault>
+) -> Result<BudsFound, CheckFault>
     requires geometry { IsGeometryOf (raw_of geometry.now) (V.state volume.old) }
     requires buds { AllByRecursion (IsBudPlace (raw_of geometry.now)) buds.now }
-    ensures met { IfOk result (λ read. (journal : IsJournalRead (map (bud_text (V.state volume.old).holds) buds.now) read) × HasBuds (V.state volume.old).holds buds.now journal.reads) }
+    ensures met { IfOk result (AreFoundBuds (V.state volume.old).holds buds.now) }
     ensures broken { IfErr result (TellsBreach (IsBreachOf rules.Buds (IsFirstWrong (IsWrongInBuds (V.state volume.old).holds buds.now)))) }
     ensures keeps { Keeps (V.state volume.old) (V.state volume.new) × SameShape (V.state volume.old) (V.state volume.new) }
     ensures cause { HasCheckCause (V.state volume.old).faults (V.state volume.new).faults result }
@@ -76,9 +78,9 @@ fn check_places<V: Volume>(
 }
 
 // What these texts say, or what is wrong first in them.
-fn judge(alloc: Global, texts: &[BudText]) -> Result<JournalRead, CheckFault>
+fn judge(alloc: Global, texts: &[BudText]) -> Result<BudsFound, CheckFault>
     requires { AllByRecursion IsReadable texts.now }
-    ensures met { IfOk result (λ read. (journal : IsJournalRead texts.now read) × AllByRecursion IsSoundBud journal.reads) }
+    ensures met { IfOk result (IsFoundInTexts texts.now) }
     ensures broken { IfErr result (TellsBreach (IsBreachOf rules.Buds (IsFirstWrong (IsWrongTexts texts.now)))) }
     ensures no_volume { IsNoVolumeFault result }
 {
@@ -88,7 +90,10 @@ fn judge(alloc: Global, texts: &[BudText]) -> Result<JournalRead, CheckFault>
         });
     }
     match read_journal(alloc, texts) {
-        Ok(read) => Ok(read),
+        Ok(read) => Ok(BudsFound {
+            read,
+            clean: are_clean(texts),
+        }),
         Err(_fault) => Err(CheckFault::Memory),
     }
 }
