@@ -24,8 +24,8 @@ use ubifs_base::Geometry;
 /// The rule on leaves (`HasLeaves` of crate sound_image) of the leaves of an index after recovery, and of those that nobody can read:
 /// each leaf has an intact node of its key and length, which needs no feature that isn't known here, in a main LEB that isn't marked as
 /// the index's by these properties; no two overlap; and none is missing (`dbg_walk_index` with `check_leaf` of Linux fs/ubifs).
-/// `Unsound` tells the first place: a feature, the type of the key's nodes and the byte that stands for a type, or both lengths. Leaves may come in any
-/// order. Takes memory for the leaves and for the missing ones, for 4,256 bytes, and for a LEB if something is wrong.
+/// `Unsound` tells the first place: a feature, the type of the key's nodes and the byte that stands for a type, or both lengths. Leaves
+/// may come in any order. Takes memory for the leaves and for the missing ones, for 4,256 bytes, and for a LEB if something is wrong.
 pub fn check_leaves<V: Volume>(
     alloc: Global,
     volume: &mut V,
