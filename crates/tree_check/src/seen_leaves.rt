@@ -9,7 +9,7 @@ ghost use Rattle.tree_check.specs.declared.shown_leaf.Shown.{Shown as AShown};
 
 use crate::links::name_key;
 use crate::shown_leaf::Shown;
-use fs_model::OrderedName;
+use fs_model::{BLOCK_SIZE, OrderedName};
 use std::alloc::Global;
 use std::collections::BTreeMap;
 use ubifs_base::{Memory, Name};
@@ -122,7 +122,7 @@ fn is_cut_off(cuts: &BTreeMap<u32, u64>, ino: u32, block: u32) -> bool
     ensures { result ≡ is_cut_off cuts.now ino block }
 {
     match cuts.get(&ino) {
-        Some(size) => *size <= 4096 * block as u64,
+        Some(size) => *size <= BLOCK_SIZE * block as u64,
         None => false,
     }
 }
