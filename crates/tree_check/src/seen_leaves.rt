@@ -25,10 +25,10 @@ pub(crate) struct SeenLeaves {
 
 /// Nothing was shown. Takes no memory.
 pub(crate) fn nothing_seen(alloc: Global) -> SeenLeaves
-    ensures inodes { result.inodes.entries ≡ [] }
-    ensures names { result.names.entries ≡ [] }
-    ensures blocks { result.blocks.entries ≡ [] }
-    ensures cuts { result.cuts.entries ≡ [] }
+    ensures no_inodes { result.inodes.entries ≡ [] }
+    ensures no_names { result.names.entries ≡ [] }
+    ensures no_blocks { result.blocks.entries ≡ [] }
+    ensures no_cuts { result.cuts.entries ≡ [] }
 {
     SeenLeaves {
         inodes: BTreeMap::new(alloc),

@@ -9,7 +9,7 @@ empty [] h = cc
 empty (x ∷ xs) h = absurd (omega (arith, h))
 
 pub telling-init : goal.telling-init
-telling-init c = seen_start (facts_in c.args.facts.now) c.args.leaves.now c.nothing_seen-seen.result c.args.found c.nothing_seen-seen.ensures.inodes c.nothing_seen-seen.ensures.names c.nothing_seen-seen.ensures.blocks c.nothing_seen-seen.ensures.cuts
+telling-init c = seen_start (facts_in c.args.facts.now) c.args.leaves.now c.nothing_seen-seen.result c.args.found c.nothing_seen-seen.ensures.no_inodes c.nothing_seen-seen.ensures.no_names c.nothing_seen-seen.ensures.no_blocks c.nothing_seen-seen.ensures.no_cuts
 
 pub telling-preserved : goal.telling-preserved
 telling-preserved c =
