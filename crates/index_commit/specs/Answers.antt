@@ -1,9 +1,12 @@
 -- Why a commit of the index ends without its root.
-use Rattle.std.specs.Prelude.{◌≡◌, ◌⊎◌, ◌<◌, ◌≤◌, ℕ, Result, Err, Ok, ⊤}
+use Rattle.std.specs.Prelude.{◌≡◌, ◌⊎◌, ◌<◌, ◌≤◌, ℕ, false, None, Result, Err, Ok, ⊤}
 use Rattle.ubifs_base.specs.Faults.{IsCause}
 use Rattle.ubi_volume.specs.declared.fault.AreaFault.{AreaFault}
 use Rattle.ubi_volume.specs.declared.fault.AreaFault.TheVariants as areas
 use Rattle.ubi_volume.specs.Volume.{VolumeState, SameShape}
+use Rattle.media_sys.specs.Index.{in_order}
+use Rattle.index_cache.specs.Commit.{IsNextNode, said_of}
+use Rattle.index_cache.specs.declared.paged.PagedIndex.{PagedIndex}
 use Rattle.index_commit.specs.declared.index_fault.IndexFault.{IndexFault}
 use Rattle.index_commit.specs.declared.index_fault.IndexFault.TheVariants.{Memory, Full, EqualKeys, Volume}
 
@@ -61,3 +64,11 @@ pub record IsIndexAnswered {T : Type 0} (old new : VolumeState) (result : Result
   pub shape : SameShape old new
   pub cause : HasIndexCause old.faults new.faults result
   pub sure : StaysSureIndex old new result
+
+-- Where it answers that two branches of a node have one key: the first node that is dirty now has, so no index node says its branches
+abbrev pub HasEqualKeys : {T : Type 0} → PagedIndex → Result T IndexFault → Type 0
+HasEqualKeys index (Ok x) = ⊤
+HasEqualKeys index (Err Memory) = ⊤
+HasEqualKeys index (Err (Full need given)) = ⊤
+HasEqualKeys index (Err EqualKeys) = (node : ℕ) × IsNextNode index node × (in_order None (said_of index node).branches ≡ false)
+HasEqualKeys index (Err (Volume count)) = ⊤

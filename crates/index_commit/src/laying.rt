@@ -4,7 +4,7 @@ ghost use Rattle.std.specs.Prelude.{◌≡◌, ◌⊎◌, ◌<◌, ◌≤◌, �
 ghost use Rattle.media_sys.specs.SystemNode.{IsSystemNode, index as index_node};
 ghost use Rattle.index_cache.specs.Commit.{IsNextNode, node_length, said_of};
 ghost use Rattle.index_cache.specs.Paged.{dirty_of, fanout_of};
-ghost use Rattle.index_commit.specs.Answers.{IsLayingFault};
+ghost use Rattle.index_commit.specs.Answers.{HasEqualKeys, IsLayingFault};
 ghost use Rattle.index_commit.specs.Written.{AreNodesLaid};
 
 use crate::index_fault::IndexFault;
@@ -28,6 +28,7 @@ fn lay_node(
     requires size { length room.old < 2 ^ 32 }
     ensures node { OnOk result (IsSystemNode (take (node_length (said_of index.now found.now.node)) room.new) sqnum 0 (index_node (said_of index.now found.now.node))) }
     ensures fault { IsLayingFault result }
+    ensures equal { HasEqualKeys index.now result }
     ensures len { length room.new ≡ length room.old }
 {
     let (node, gap) = room.split_at_mut(found.len as usize);
@@ -59,6 +60,7 @@ fn lay_next(
     ensures none { IfOk result (λ more. more ≡ false → dirty_of index.new ≡ []) }
     ensures fits { used.new ≤ length leb.old }
     ensures fault { IsLayingFault result }
+    ensures equal { HasEqualKeys index.new result }
     ensures len { length leb.new ≡ length leb.old }
 {
     places_are_kept();
@@ -97,6 +99,7 @@ pub(crate) fn lay_nodes(
     ensures all { OnOk result ((dirty_of index.new ≡ []) ⊎ (length leb.old < used.new + room)) }
     ensures fits { used.new ≤ length leb.old }
     ensures fault { IsLayingFault result }
+    ensures equal { HasEqualKeys index.new result }
     ensures len { length leb.new ≡ length leb.old }
 {
     places_are_kept();

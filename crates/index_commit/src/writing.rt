@@ -11,7 +11,7 @@ ghost use Rattle.ubi_volume.specs.Faults.{HasAnswer};
 ghost use Rattle.ubi_volume.specs.Geometry.{IsGeometryOf};
 ghost use Rattle.ubi_volume.specs.Volume.{Keeps};
 ghost use Rattle.index_cache.specs.Paged.{dirty_of, frozen_of, fanout_of};
-ghost use Rattle.index_commit.specs.Answers.{IsIndexNotFailed, IsNotFull, IsFullOf, IsIndexAnswered};
+ghost use Rattle.index_commit.specs.Answers.{HasEqualKeys, IsIndexNotFailed, IsNotFull, IsFullOf, IsIndexAnswered};
 ghost use Rattle.index_commit.specs.Lebs.{AreGivable};
 ghost use Rattle.index_commit.specs.Standing.{AreOutside};
 ghost use Rattle.index_commit.specs.Written.{AreStanding, IsHeadAfter, IsIndexAt, IsIndexTaken, IsLebPut, IsLebStanding, KeepsOtherIndexes, WorksInLebs, with_leb_bytes};
@@ -31,9 +31,10 @@ use ubifs_base::{Geometry, fill_gap};
 /// the next sequence number and as much room as a full one takes. Each LEB is replaced by one change, whatever it held, and
 /// nodes of the index that have places stay where they are.
 ///
-/// The LEBs of the volume that a node of the frozen index stands in may not be among those given. `Full` comes before
+/// The LEBs of the volume that a clean node of the frozen index stands in may not be among those given. `Full` comes before
 /// anything is written. After any fault but `Volume` all clean nodes stand on the volume, so the call may be made again, with
-/// other LEBs. Takes memory for the bytes of a LEB, and for one node at a time.
+/// other LEBs. After `Volume` the index may have places where nothing stands. Takes memory for the bytes of a LEB, and for one
+/// node at a time.
 pub fn write_index<V: Volume>(
     alloc: Global,
     volume: &mut V,
@@ -53,7 +54,8 @@ pub fn write_index<V: Volume>(
     ensures works { WorksInLebs (V.state volume.old) (V.state volume.new) lebs.now }
     ensures old_stays { KeepsOtherIndexes (V.state volume.old) (V.state volume.new) lebs.now }
     ensures answer { IsIndexAnswered (V.state volume.old) (V.state volume.new) result
-        × IsFullOf (Keeps (V.state volume.old) (V.state volume.new) × (index.new ≡ index.old)) (div_ceil (length (dirty_of index.old)) (index_nodes_per_leb (raw_of geometry.now))) (length lebs.now) result }
+        × IsFullOf (Keeps (V.state volume.old) (V.state volume.new) × (index.new ≡ index.old)) (div_ceil (length (dirty_of index.old)) (index_nodes_per_leb (raw_of geometry.now))) (length lebs.now) result
+        × HasEqualKeys index.new result }
 {
     an_index_depends_on_its_lebs_alone();
     places_are_kept();
@@ -95,6 +97,7 @@ fn write_lebs<V: Volume>(
     ensures works { WorksInLebs (V.state volume.old) (V.state volume.new) lebs.now }
     ensures answer { IsIndexAnswered (V.state volume.old) (V.state volume.new) result }
     ensures fault { IsNotFull result }
+    ensures equal { HasEqualKeys index.new result }
 {
     places_are_kept();
     if index.next_dirty().is_none() {
@@ -132,6 +135,7 @@ fn write_leb<V: Volume>(
     ensures works { WorksInLebs (V.state volume.old) (V.state volume.new) (lnum ∷ []) }
     ensures answer { IsIndexAnswered (V.state volume.old) (V.state volume.new) result }
     ensures fault { IsNotFull result }
+    ensures equal { HasEqualKeys index.new result }
     ensures len { length leb.new ≡ length leb.old }
 {
     places_are_kept();
