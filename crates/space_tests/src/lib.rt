@@ -4,6 +4,8 @@
 #![tactic(auto)]
 
 #[cfg(test)]
+mod image_space_tests;
+#[cfg(test)]
 mod lprops_tree_tests;
 #[cfg(test)]
 mod space_budget_tests;
