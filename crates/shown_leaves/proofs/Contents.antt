@@ -7,7 +7,7 @@ use Rattle.std.proofs.lemmas.Bool.{false≢true}
 use Rattle.ubifs_base.specs.Key.{key_words}
 use Rattle.ubifs_base.specs.R5.{r5_of}
 use Rattle.ubifs_base.specs.declared.key.Key.{Key}
-use Rattle.ubifs_base.specs.declared.key.Key.TheVariants.{Dent, Xent}
+use Rattle.ubifs_base.specs.declared.key.Key.TheVariants.{Dent, Ino, Xent}
 use Rattle.media_leaf.specs.LeafNode.{LeafNode, IsLeaf, inode, block, entry, truncation}
 use Rattle.media_leaf.specs.declared.dent_node.DentNode.{DentNode}
 use Rattle.media_leaf.specs.declared.ino_node.InoNode.{InoNode}
@@ -20,16 +20,15 @@ use Rattle.leaf_map.specs.Parts.{is_shown}
 use Rattle.leaf_map.specs.Recovered.{in_order}
 use Rattle.journal_scan.specs.Content.{content_of, number_told, told}
 use Rattle.journal_scan.specs.declared.journal_node.JournalNode.{JournalNode}
-use Rattle.journal_scan.specs.declared.node_content.NodeContent.{NodeContent}
-use Rattle.journal_scan.specs.declared.node_content.NodeContent.TheVariants.{Inode, Block, Entry, Truncation, Unknown}
+use Rattle.journal_scan.specs.declared.node_content.NodeContent.TheVariants.{Inode, Entry, Unknown}
 use Rattle.log_replay.specs.Things.{key_told}
-use Rattle.sound_image.specs.Wrong.{IsOneOf, Wrong, differs}
+use Rattle.sound_image.specs.Wrong.{Wrong, differs}
 use Rattle.image_check.specs.FirstLaws.{first_same}
 use Rattle.image_check.specs.WrongValues.{IsFirstOf, sooner_of, wrong_at}
 use Rattle.image_check.specs.declared.wrong_value.WrongValue.{WrongValue}
 use Rattle.shown_leaves.specs.FalseNodes.{IsUnchanging, wrong_node}
 use Rattle.shown_leaves.specs.Told.{is_unchanging, unchanging_told, wrong_node_told}
-use Rattle.shown_leaves.proofs.Firsts.{IsTold, IsToldIn, first_told}
+use Rattle.shown_leaves.proofs.Firsts.{IsToldIn, first_told}
 use Rattle.shown_leaves.proofs.Members.{all_at, map_of_one, one_of_map}
 use Rattle.shown_leaves.proofs.Ordered.{in_order_one, one_in_order}
 
@@ -45,11 +44,11 @@ known (suc (suc (suc (suc (suc (suc zero)))))) h = refl
 known (suc (suc (suc (suc (suc (suc (suc k))))))) h = absurd (omega (arith, h))
 
 -- ---- the inode number of its key
-inode_number : (node : InoNode) (linked known : Bool) → number_told (cond known (Inode node.ino linked) (Unknown node.ino linked)) ≡ node.ino
+inode_number : (node : InoNode) (linked known : Bool) → number_told (cond known (Inode node.ino linked) (Unknown (Ino node.ino) linked)) ≡ node.ino
 inode_number node linked true = refl
 inode_number node linked false = refl
 
-entry_number : (node : DentNode) (linked attribute : Bool) → number_told (cond attribute (Unknown node.dir true) (Entry node.dir node.name linked)) ≡ (key_words (cond attribute (Xent node.dir (r5_of node.name)) (Dent node.dir (r5_of node.name)))).0
+entry_number : (node : DentNode) (linked attribute : Bool) → number_told (cond attribute (Unknown (Xent node.dir (r5_of node.name)) true) (Entry node.dir node.name linked)) ≡ (key_words (cond attribute (Xent node.dir (r5_of node.name)) (Dent node.dir (r5_of node.name)))).0
 entry_number node linked true = refl
 entry_number node linked false = refl
 
@@ -65,14 +64,14 @@ wrong_is x = ap (λ (n : ℕ). record { lnum = x.lnum; offs = x.offs; misfit = d
 
 -- ---- whether it says a change
 inode_unchanging : (node : InoNode) (z : Bool) (k : Option Kind)
-    → is_unchanging (cond (is_some k) (Inode node.ino (not z)) (Unknown node.ino (not z))) ≡ not (is_some (cond z (Some (DropInode node.ino)) (option_map (λ kind. SetInode node.ino (inode_of node kind)) k)))
+    → is_unchanging (cond (is_some k) (Inode node.ino (not z)) (Unknown (Ino node.ino) (not z))) ≡ not (is_some (cond z (Some (DropInode node.ino)) (option_map (λ kind. SetInode node.ino (inode_of node kind)) k)))
 inode_unchanging node true None = refl
 inode_unchanging node true (Some kind) = refl
 inode_unchanging node false None = refl
 inode_unchanging node false (Some kind) = refl
 
 entry_unchanging : (node : DentNode) (a z : Bool) (k : Option Kind) → is_some k ≡ true
-    → is_unchanging (cond a (Unknown node.dir true) (Entry node.dir node.name (not z)))
+    → is_unchanging (cond a (Unknown (Xent node.dir (r5_of node.name)) true) (Entry node.dir node.name (not z)))
     ≡ not (is_some (cond a None (cond z (Some (DropEntry node.dir node.name)) (option_map (λ kind. SetEntry (record { dir = node.dir; name = node.name; ino = node.inum; kind = kind })) k))))
 entry_unchanging node true z k h = refl
 entry_unchanging node false true k h = refl
@@ -120,12 +119,12 @@ abbrev pub if_set : Bool → Key → Option Key
 if_set true key = Some key
 if_set false key = None
 
-inode_key : (node : InoNode) (l : Bool) (k : Option Kind) → key_told (cond (is_some k) (Inode node.ino l) (Unknown node.ino l)) ≡ if_set (is_shown (option_map (λ kind. SetInode node.ino (inode_of node kind)) k)) (node_key (inode node))
+inode_key : (node : InoNode) (l : Bool) (k : Option Kind) → key_told (cond (is_some k) (Inode node.ino l) (Unknown (Ino node.ino) l)) ≡ if_set (is_shown (option_map (λ kind. SetInode node.ino (inode_of node kind)) k)) (node_key (inode node))
 inode_key node l None = refl
 inode_key node l (Some kind) = refl
 
 entry_key : (node : DentNode) (a z : Bool) (k : Option Kind) → is_some k ≡ true
-    → key_told (cond a (Unknown node.dir true) (Entry node.dir node.name (not z)))
+    → key_told (cond a (Unknown (Xent node.dir (r5_of node.name)) true) (Entry node.dir node.name (not z)))
     ≡ if_set (is_shown (cond a None (cond z (Some (DropEntry node.dir node.name)) (option_map (λ kind. SetEntry (record { dir = node.dir; name = node.name; ino = node.inum; kind = kind })) k)))) (cond a (Xent node.dir (r5_of node.name)) (Dent node.dir (r5_of node.name)))
 entry_key node true z k h = refl
 entry_key node false true k h = refl

@@ -3,7 +3,7 @@ use Rattle.std.proofs.Common.{◌≡◌, ◌⊎◌, ℕ, ◌+◌, ◌≤◌, Boo
 use Rattle.std.specs.Prelude.{◌==◌, ◌↔◌, IsTrue, is_some}
 use Rattle.std.specs.List.{AllByRecursion, list_any}
 use Rattle.std.specs.Option.{option_map}
-use Rattle.std.proofs.lemmas.Bool.{and_from, and_parts, eq-eqb, eqb-true, false≢true}
+use Rattle.std.proofs.lemmas.Bool.{and_parts, eqb-true, false≢true}
 use Rattle.ubifs_base.specs.NodeLaws.{IsBytes}
 use Rattle.ubifs_base.specs.declared.key.Key.{Key}
 use Rattle.media_leaf.specs.LeafNode.{IsLeaf, IsLeafNode, LeafNode}
@@ -14,7 +14,7 @@ use Rattle.index_tree.specs.declared.leaf.Leaf.{Leaf}
 use Rattle.leaf_map.specs.Allowed.{IsOwnNode}
 use Rattle.leaf_map.specs.Kept.{Placed, kept_at, node_key, shown}
 use Rattle.leaf_map.specs.Parts.{Committed, Named, Parts, in_bud, is_own, is_shown, own_node}
-use Rattle.journal_scan.specs.Content.{content_of, told}
+use Rattle.journal_scan.specs.Content.{told}
 use Rattle.journal_scan.specs.declared.journal_node.JournalNode.{JournalNode}
 use Rattle.log_replay.specs.Replay.{told_committed}
 use Rattle.log_replay.specs.Things.{is_at_leaf, key_told}
@@ -24,7 +24,7 @@ use Rattle.sound_image.specs.Leaves.{IsPlacedIn}
 use Rattle.sound_image.specs.Tree.{IsCopy}
 use Rattle.sound_image.specs.Wrong.{IsOneOf, Wrong}
 use Rattle.image_check.specs.FirstLaws.{first_alone, first_of_both, first_same}
-use Rattle.image_check.specs.WrongValues.{IsFirstOf, sooner_of, wrong_at}
+use Rattle.image_check.specs.WrongValues.{IsFirstOf, sooner_of}
 use Rattle.image_check.specs.declared.wrong_value.WrongValue.{WrongValue}
 use Rattle.shown_leaves.specs.Copies.{AreCommittedTold, ArePartsTold, DecidesCopy, FoundStands, IsOwnAmong, IsOwnAt, has_own_told, is_lost_at}
 use Rattle.shown_leaves.specs.FalseNodes.{IsFalseCopy, wrong_node}

@@ -1,5 +1,5 @@
 -- Leaves whose nodes were read: what they show, and whether they show what stands at their places.
-use Rattle.std.proofs.Common.{◌≡◌, ◌⊎◌, ℕ, Bool, true, false, cond, not, ◌&&◌, List, [], ◌∷◌, ◌++◌, Option, Some, None, take, drop, length, ◌+◌, ◌≤◌, refl, ap, sym, subst, ◌∙◌, inl, inr, append-nil, append_assoc}
+use Rattle.std.proofs.Common.{◌≡◌, ◌⊎◌, ℕ, Bool, true, false, cond, ◌&&◌, List, [], ◌∷◌, ◌++◌, Option, Some, None, take, drop, length, ◌+◌, ◌≤◌, refl, ap, sym, subst, ◌∙◌, inl, inr, append-nil, append_assoc}
 use Rattle.std.specs.Prelude.{◌==◌, ◌↔◌, IsTrue}
 use Rattle.std.specs.Option.{option_map}
 use Rattle.std.proofs.lemmas.Bool.{and_from, and_parts, eqb-true, false≢true}
@@ -9,22 +9,22 @@ use Rattle.media_leaf.specs.LeafNode.{IsLeafNode, LeafNode}
 use Rattle.index_tree.specs.declared.leaf.Leaf.{Leaf}
 use Rattle.fs_model.specs.declared.change.Change.{Change}
 use Rattle.fs_model.specs.declared.change.Change.TheVariants as changes
-use Rattle.leaf_map.specs.Kept.{Kept, Placed, shown, shown_by}
+use Rattle.leaf_map.specs.Kept.{Kept, Placed, shown_by}
 use Rattle.leaf_map.specs.Parts.{is_shown}
 use Rattle.leaf_map.specs.Recovered.{stand_in}
-use Rattle.sound_image.specs.Breaches.{IsAtNode, number_of}
+use Rattle.sound_image.specs.Breaches.{number_of}
 use Rattle.sound_image.specs.Leaves.{IsPlacedIn}
 use Rattle.sound_image.specs.Tree.{ShowsItsNode}
-use Rattle.sound_image.specs.Wrong.{IsOneOf, Wrong, differs}
+use Rattle.sound_image.specs.Wrong.{Wrong, differs}
 use Rattle.image_check.specs.FirstLaws.{first_alone, first_of_both, first_same}
 use Rattle.image_check.specs.WrongValues.{IsFirstOf, sooner_of, wrong_at}
 use Rattle.image_check.specs.declared.wrong_value.WrongValue.{WrongValue}
-use Rattle.shown_leaves.specs.Judged.{is_at_source, judged_of, name_number, unlike_told}
-use Rattle.shown_leaves.specs.ShownBy.{AreShownBy, IsShownBy, is_shown_told, told}
+use Rattle.shown_leaves.specs.Judged.{is_at_source, is_shown_told, judged_of, name_number, unlike_told}
+use Rattle.tree_check.specs.Told.{AreShownBy, IsShownBy, shown_told}
 use Rattle.shown_leaves.specs.Sources.{AreSourced, IsReadFrom, HasSource, IsSourced, IsUnlike, IsUnlikeIn, StandsAtLeaf, bytes_of}
 use Rattle.shown_leaves.specs.Stored.{IsStoredIn, leaf_node}
-use Rattle.shown_leaves.specs.declared.shown_leaf.Shown.{Shown}
-use Rattle.shown_leaves.specs.declared.shown_leaf.ShownLeaf.{ShownLeaf}
+use Rattle.tree_check.specs.declared.shown_leaf.Shown.{Shown}
+use Rattle.tree_check.specs.declared.shown_leaf.ShownLeaf.{ShownLeaf}
 use Rattle.shown_leaves.specs.declared.sourced_leaf.Source.{Source}
 use Rattle.shown_leaves.specs.declared.sourced_leaf.SourcedLeaf.{SourcedLeaf}
 use Rattle.shown_leaves.specs.declared.stored_node.StoredNode.{StoredNode}
@@ -102,16 +102,16 @@ stands_if one contents fits x leaf there node same (s, g, h) is named tests =
     )
 
 -- ---- what is told of it
-shown_told : (c : Option Change) (s : Shown) → told c ≡ Some s → is_shown_told s ≡ is_shown c
-shown_told None s e = ap is_shown_told (sym (some_same _ s e))
-shown_told (Some (changes.SetInode ino inode)) s e = ap is_shown_told (sym (some_same _ s e))
-shown_told (Some (changes.SetEntry entry)) s e = ap is_shown_told (sym (some_same _ s e))
-shown_told (Some (changes.DropEntry dir name)) s e = ap is_shown_told (sym (some_same _ s e))
-shown_told (Some (changes.SetBlock ino number bytes)) s e = ap is_shown_told (sym (some_same _ s e))
-shown_told (Some (changes.CutBlocks ino old_size new_size)) s e = ap is_shown_told (sym (some_same _ s e))
-shown_told (Some (changes.DropInode ino)) s e = absurd cc
+is_shown_is : (c : Option Change) (s : Shown) → shown_told c ≡ Some s → is_shown_told s ≡ is_shown c
+is_shown_is None s e = ap is_shown_told (sym (some_same _ s e))
+is_shown_is (Some (changes.SetInode ino inode)) s e = ap is_shown_told (sym (some_same _ s e))
+is_shown_is (Some (changes.SetEntry entry)) s e = ap is_shown_told (sym (some_same _ s e))
+is_shown_is (Some (changes.DropEntry dir name)) s e = ap is_shown_told (sym (some_same _ s e))
+is_shown_is (Some (changes.SetBlock ino number bytes)) s e = ap is_shown_told (sym (some_same _ s e))
+is_shown_is (Some (changes.CutBlocks ino old_size new_size)) s e = ap is_shown_told (sym (some_same _ s e))
+is_shown_is (Some (changes.DropInode ino)) s e = absurd cc
 
-number_told : (x : Kept) (c : Option Change) (s : Shown) → shown_by x ≡ c → told c ≡ Some s → name_number (key_words x.leaf.key).0 s ≡ number_of x
+number_told : (x : Kept) (c : Option Change) (s : Shown) → shown_by x ≡ c → shown_told c ≡ Some s → name_number (key_words x.leaf.key).0 s ≡ number_of x
 number_told x None s f e = ap (name_number (key_words x.leaf.key).0) (sym (some_same _ s e)) ∙ rw f refl
 number_told x (Some (changes.SetInode ino inode)) s f e = ap (name_number (key_words x.leaf.key).0) (sym (some_same _ s e)) ∙ rw f refl
 number_told x (Some (changes.SetEntry entry)) s f e = ap (name_number (key_words x.leaf.key).0) (sym (some_same _ s e)) ∙ rw f refl
@@ -125,7 +125,7 @@ pub record IsWellJudged (contents : ℕ → List ℕ) (x : Kept) (leaf : ShownLe
   pub shows : IsShownBy x leaf
   pub first : IsFirstOf (IsUnlike contents x) unlike
 
-unlike_first : (contents : ℕ → List ℕ) (x : Kept) (leaf : SourcedLeaf) (s : Shown) (stands : Bool) → leaf.leaf ≡ x.leaf → told (shown_by x) ≡ Some s → (IsTrue stands ↔ StandsAtLeaf contents x.leaf x.node)
+unlike_first : (contents : ℕ → List ℕ) (x : Kept) (leaf : SourcedLeaf) (s : Shown) (stands : Bool) → leaf.leaf ≡ x.leaf → shown_told (shown_by x) ≡ Some s → (IsTrue stands ↔ StandsAtLeaf contents x.leaf x.node)
     → IsFirstOf (IsUnlike contents x) (unlike_told leaf s stands)
 unlike_first contents x leaf s stands is e tests = by (stands && is_shown_told s) refl
   where
@@ -141,13 +141,13 @@ unlike_first contents x leaf s stands is e tests = by (stands && is_shown_told s
     by true right =
         let p = and_parts stands (is_shown_told s) right in
         let there = tests.0 p.0 in
-        λ at wrong. wrong.0 (record { sqnum = there.0; group = there.1; is = there.2; shown = sym (shown_told (shown_by x) s e) ∙ p.1 })
+        λ at wrong. wrong.0 (record { sqnum = there.0; group = there.1; is = there.2; shown = sym (is_shown_is (shown_by x) s e) ∙ p.1 })
     by false right =
         first_alone (IsUnlike contents x) d
-        ((λ shows. (let yes : (stands && is_shown_told s) ≡ true = and_from stands (is_shown_told s) (tests.1 (shows.sqnum, shows.group, shows.is)) (shown_told (shown_by x) s e ∙ shows.shown) in false≢true (sym right ∙ yes))), here)
+        ((λ shows. (let yes : (stands && is_shown_told s) ≡ true = and_from stands (is_shown_told s) (tests.1 (shows.sqnum, shows.group, shows.is)) (is_shown_is (shown_by x) s e ∙ shows.shown) in false≢true (sym right ∙ yes))), here)
         (λ at wrong. wrong.1 ∙ sym here)
 
-pub judged_is : (contents : ℕ → List ℕ) (x : Kept) (leaf : SourcedLeaf) (s : Shown) (stands : Bool) → leaf.leaf ≡ x.leaf → told (shown_by x) ≡ Some s → (IsTrue stands ↔ StandsAtLeaf contents x.leaf x.node)
+pub judged_is : (contents : ℕ → List ℕ) (x : Kept) (leaf : SourcedLeaf) (s : Shown) (stands : Bool) → leaf.leaf ≡ x.leaf → shown_told (shown_by x) ≡ Some s → (IsTrue stands ↔ StandsAtLeaf contents x.leaf x.node)
     → IsWellJudged contents x (judged_of leaf s stands).leaf (judged_of leaf s stands).unlike
 judged_is contents x leaf s stands is e tests = record {
   shows = record {

@@ -1,16 +1,13 @@
 -- How many bytes a leaf node has, and what is read where none can stand.
-use Rattle.std.proofs.Common.{◌≡◌, ℕ, zero, suc, ◌+◌, ◌-◌, ◌<◌, ◌≤◌, List, [], ◌∷◌, ◌++◌, length, take, drop, min, refl, ap, sym, ◌∙◌, subst, inl, inr, arith, length-drop, Option, Some, None}
+use Rattle.std.proofs.Common.{◌≡◌, ℕ, ◌+◌, ◌-◌, ◌<◌, ◌≤◌, List, [], ◌∷◌, ◌++◌, length, take, drop, min, ap, sym, ◌∙◌, arith, length-drop, None}
 use Rattle.std.proofs.Math.Nat.{min-le_right}
 use Rattle.std.proofs.Math.Seq.{take-append_seam}
 use Rattle.std.proofs.lemmas.List.{length-append, length-take, take_min}
 use Rattle.ubifs_base.specs.Node.{node_bytes}
 use Rattle.node_fields.specs.Fields.{Field, Spells, total_width}
 use Rattle.node_fields.specs.FieldLaws.{reads_back, length-read}
-use Rattle.media_leaf.specs.Data.{data_fields}
-use Rattle.media_leaf.specs.Entry.{entry_fields, entry_tail}
-use Rattle.media_leaf.specs.Inode.{inode_fields}
+use Rattle.media_leaf.specs.Entry.{entry_tail}
 use Rattle.media_leaf.specs.LeafNode.{IsLeaf, IsLeafNode, LeafNode, inode, block, entry, truncation, fields_of, tail_of, type_of}
-use Rattle.media_leaf.specs.Truncation.{truncation_fields}
 use Rattle.shown_leaves.specs.Stored.{IsStoredIn}
 
 -- a header has 24 bytes

@@ -1,5 +1,5 @@
 -- Nodes in order of number are the same nodes.
-use Rattle.std.proofs.Common.{◌≡◌, ◌⊎◌, Bool, true, false, cond, List, [], ◌∷◌, inl, inr, refl, fold, nat_lt}
+use Rattle.std.proofs.Common.{◌≡◌, ◌⊎◌, Bool, true, false, cond, List, [], ◌∷◌, inl, inr, fold, nat_lt}
 use Rattle.leaf_map.specs.Kept.{Placed}
 use Rattle.leaf_map.specs.Recovered.{in_order, placed_node}
 use Rattle.sound_image.specs.Wrong.{IsOneOf}

@@ -1,7 +1,6 @@
 -- Leaves that are there twice.
-use Rattle.std.proofs.Common.{◌≡◌, ◌⊎◌, ℕ, Bool, true, false, cond, not, ◌&&◌, ◌||◌, List, [], ◌∷◌, ◌++◌, refl, ap, sym, subst, ◌∙◌, inl, inr, Option, Some, None, nat_lt, append_assoc, arith}
+use Rattle.std.proofs.Common.{◌≡◌, ◌⊎◌, ℕ, Bool, true, false, cond, ◌&&◌, ◌||◌, List, [], ◌∷◌, ◌++◌, refl, ap, sym, subst, ◌∙◌, inl, inr, Option, Some, None, append_assoc, arith}
 use Rattle.std.specs.Prelude.{◌==◌, IsTrue}
-use Rattle.std.specs.BTreeMap.{is_at}
 use Rattle.std.specs.BTreeSet.{BTreeSet}
 use Rattle.std.specs.Ordering.{is_eq, nat_cmp, ordering_then}
 use Rattle.std.specs.declared.cmp.Ordering.{Ordering}
@@ -124,11 +123,3 @@ twice_again done last first next e held h =
 -- and a new one
 pub twice_new : (done : List Leaf) (last : Leaf) (first : Option WrongValue) → holds last done ≡ false → IsFirstOf (IsTwiceIn done) first → IsFirstOf (IsTwiceIn (done ++ last ∷ [])) first
 twice_new done last first new h = first_same (IsTwiceIn done) (IsTwiceIn (done ++ last ∷ [])) first (λ at w. twice_of done last at (inl w)) (λ at w. elim (of_twice done last at w) [ inl old ↦ old | inr again ↦ absurd (false≢true (sym new ∙ again.0)) ]) h
-
--- what was told when a leaf was put there
-pub held_told : (new there : Bool) (r : Bool) → new ≡ not there → r ≡ there → not new ≡ r
-held_told new there r e f = ap not e ∙ by there ∙ sym f
-  where
-    by : (b : Bool) → not (not b) ≡ b
-    by true = refl
-    by false = refl

@@ -1,5 +1,5 @@
 -- Leaf nodes that were read: which node bytes are, and whether two are the same.
-use Rattle.std.proofs.Common.{◌≡◌, ℕ, zero, suc, ◌+◌, ◌<◌, ◌≤◌, List, [], ◌∷◌, Option, Some, None, IfNone, IfOk, Result, Ok, Err, take, drop, ap, sym, ◌∙◌, subst, inl, inr, arith, get_or-drop}
+use Rattle.std.proofs.Common.{◌≡◌, ℕ, zero, suc, ◌+◌, ◌<◌, ◌≤◌, List, [], ◌∷◌, Option, Some, None, IfNone, IfOk, Result, Ok, Err, take, drop, ap, sym, subst, inl, inr, arith, get_or-drop}
 use Rattle.std.specs.Prelude.{get_or}
 use Rattle.std.specs.Option.{option_map}
 use Rattle.std.proofs.lemmas.Bool.{cases_lt}

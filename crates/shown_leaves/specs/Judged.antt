@@ -1,13 +1,19 @@
 -- What is told of a leaf whose node was read.
-use Rattle.std.specs.Prelude.{ℕ, ◌==◌, ◌&&◌, Bool, false, if◌then◌else◌, Option, Some, None}
+use Rattle.std.specs.Prelude.{ℕ, ◌==◌, ◌&&◌, Bool, true, false, if◌then◌else◌, Option, Some, None}
 use Rattle.ubifs_base.specs.Key.{key_words}
 use Rattle.image_check.specs.declared.wrong_value.WrongValue.{WrongValue}
-use Rattle.shown_leaves.specs.ShownBy.{is_shown_told}
 use Rattle.shown_leaves.specs.declared.leaves.JudgedLeaf.{JudgedLeaf}
-use Rattle.shown_leaves.specs.declared.shown_leaf.Shown.{Shown}
-use Rattle.shown_leaves.specs.declared.shown_leaf.Shown.TheVariants.{Entry}
+use Rattle.tree_check.specs.declared.shown_leaf.Shown.{Shown}
+use Rattle.tree_check.specs.declared.shown_leaf.Shown.TheVariants.{Inode, Entry, Block}
 use Rattle.shown_leaves.specs.declared.sourced_leaf.Source.{Source}
 use Rattle.shown_leaves.specs.declared.sourced_leaf.SourcedLeaf.{SourcedLeaf}
+
+-- whether a leaf may stand for what is shown: an inode, a block or a name
+abbrev pub is_shown_told : Shown → Bool
+is_shown_told (Inode ino kind links) = true
+is_shown_told (Entry dir name ino kind) = true
+is_shown_told (Block ino number) = true
+is_shown_told other = false
 
 -- whether a leaf stands where its node was read
 abbrev pub is_at_source : SourcedLeaf → Bool

@@ -1,7 +1,6 @@
 pub mod Copies
 pub mod FalseNodes
 pub mod Judged
-pub mod ShownBy
 pub mod Sources
 pub mod Spots
 pub mod Stored

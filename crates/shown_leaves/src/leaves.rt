@@ -6,7 +6,7 @@ ghost use Rattle.leaf_map.specs.Kept.{Kept};
 ghost use Rattle.ubi_volume.specs.Volume.{Keeps, SameShape};
 ghost use Rattle.ubi_volume.specs.Faults.{HasAreaCause, StaysSureArea};
 ghost use Rattle.image_check.specs.WrongValues.{IsFirstOf};
-ghost use Rattle.shown_leaves.specs.ShownBy.{AreShownBy, IsShownBy};
+ghost use Rattle.tree_check.specs.Told.{AreShownBy, IsShownBy};
 ghost use Rattle.shown_leaves.specs.Sources.{AreSourced, IsSourced, IsUnlike, IsUnlikeIn, StandsAtLeaf};
 ghost use Rattle.shown_leaves.specs.Judged.{is_at_source, judged_of, name_number};
 ghost use Rattle.shown_leaves.specs.Stored.{leaf_node};
@@ -14,7 +14,6 @@ ghost use Rattle.shown_leaves.specs.Stored.{leaf_node};
 use crate::key_order::number_of;
 use crate::reading::read_node;
 use crate::shown::{is_leaf_shown, shown_of};
-use crate::shown_leaf::{Shown, ShownLeaf};
 use crate::shown_leaves::ShownLeaves;
 use crate::sourced_leaf::SourcedLeaf;
 use crate::standing_in::stand_in;
@@ -22,6 +21,7 @@ use crate::stored_node::{StoredNode, is_same_node};
 use image_check::{WrongValue, sooner};
 use media_leaf::one_node;
 use std::alloc::Global;
+use tree_check::{Shown, ShownLeaf};
 use ubi_volume::{AreaFault, Volume};
 
 // What a leaf shows, and what is wrong if it doesn't show what stands at its place.

@@ -1,6 +1,6 @@
 // A leaf node is read from a volume.
 
-ghost use Rattle.std.specs.Prelude.{◌≡◌, IfOk, take, drop};
+ghost use Rattle.std.specs.Prelude.{IfOk, take, drop};
 ghost use Rattle.ubi_volume.specs.Volume.{Keeps, SameShape};
 ghost use Rattle.ubi_volume.specs.Faults.{HasAreaCause, StaysSureArea};
 ghost use Rattle.shown_leaves.specs.Stored.{IsStoredIn};

@@ -3,19 +3,19 @@
 ghost use Rattle.std.specs.Prelude.{◌≡◌, Some};
 ghost use Rattle.change_nodes.specs.Nodes.{bits_of, kind_of_bits, kind_of_type};
 ghost use Rattle.leaf_map.specs.Kept.{shown};
-ghost use Rattle.leaf_map.specs.Parts.{is_shown};
 ghost use Rattle.media_leaf.specs.LeafNode.{inode, block, entry, truncation};
-ghost use Rattle.shown_leaves.specs.ShownBy.{is_shown_told, told};
+ghost use Rattle.tree_check.specs.Told.{shown_told};
+ghost use Rattle.shown_leaves.specs.Judged.{is_shown_told};
 ghost use Rattle.shown_leaves.specs.Stored.{leaf_node};
 
-use crate::shown_leaf::Shown;
 use crate::stored_node::StoredNode;
 use fs_model::Kind;
 use media_leaf::{DataNode, DentNode, InoNode, TrunNode};
+use tree_check::Shown;
 
 // What a node shows.
 pub(crate) fn shown_of(node: StoredNode) -> Shown
-    ensures { told (shown (leaf_node node)) ≡ Some result }
+    ensures { shown_told (shown (leaf_node node)) ≡ Some result }
 {
     match node {
         StoredNode::Inode { node } => inode_shown(&node),
@@ -26,7 +26,7 @@ pub(crate) fn shown_of(node: StoredNode) -> Shown
 }
 
 fn inode_shown(node: &InoNode) -> Shown
-    ensures { told (shown (inode node.now)) ≡ Some result }
+    ensures { shown_told (shown (inode node.now)) ≡ Some result }
 {
     match kind_of_mode(node.mode) {
         Some(kind) => Shown::Inode {
@@ -39,7 +39,7 @@ fn inode_shown(node: &InoNode) -> Shown
 }
 
 fn block_shown(node: &DataNode) -> Shown
-    ensures { told (shown (block node.now)) ≡ Some result }
+    ensures { shown_told (shown (block node.now)) ≡ Some result }
 {
     Shown::Block {
         ino: node.ino,
@@ -48,7 +48,7 @@ fn block_shown(node: &DataNode) -> Shown
 }
 
 fn entry_shown(node: DentNode) -> Shown
-    ensures { told (shown (entry node)) ≡ Some result }
+    ensures { shown_told (shown (entry node)) ≡ Some result }
 {
     if node.attribute {
         return Shown::Nothing;
@@ -71,7 +71,7 @@ fn entry_shown(node: DentNode) -> Shown
 }
 
 fn truncation_shown(node: TrunNode) -> Shown
-    ensures { told (shown (truncation node)) ≡ Some result }
+    ensures { shown_told (shown (truncation node)) ≡ Some result }
 {
     Shown::Truncation {
         ino: node.ino,

@@ -1,7 +1,6 @@
 // Committed leaves that are there twice.
 
 ghost use Rattle.std.specs.Prelude.{◌≡◌, not, map, IfOk, OnOk, ◌||◌};
-ghost use Rattle.index_tree.specs.Order.{leaf_rank};
 ghost use Rattle.leaf_map.specs.Parts.{Parts};
 ghost use Rattle.sound_image.specs.Breaches.{IsCommittedTwice};
 ghost use Rattle.image_check.specs.WrongValues.{IsFirstOf};
@@ -14,9 +13,9 @@ use std::alloc::Global;
 use std::collections::BTreeSet;
 use ubifs_base::Memory;
 
-/// The first of the committed leaves that has the key and the place of one before it (`dbg_check_idx_size` of Linux fs/ubifs counts
-/// such a leaf twice). The leaves are those of the committed index. The number in the leaf's key is wanted. The error is want of
-/// memory, of which a set of the leaves' places takes some for each leaf.
+/// The first of the committed leaves that has the key and the place of one before it (`dbg_check_key_order` of Linux fs/ubifs refuses
+/// two branches of one key with one name). The leaves are those of the committed index. The number in the leaf's key is wanted. The
+/// error is want of memory, of which a set of the leaves' places takes some for each leaf.
 pub fn first_twice(alloc: Global, leaves: &[Leaf]) -> Result<Option<WrongValue>, Memory>
     ensures first { IfOk result (λ first. (parts : Parts) → leaves.now ≡ map (λ x. x.leaf) parts.committed → IsFirstOf (IsCommittedTwice parts) first) }
 {

@@ -10,6 +10,7 @@ ghost use Rattle.image_check.specs.WrongValues.{IsFirstOf, sooner_of};
 ghost use Rattle.shown_leaves.specs.FalseNodes.{IsUnchanging};
 ghost use Rattle.shown_leaves.specs.Told.{unchanging_told, wrong_node_told};
 
+use crate::key_order::number_of;
 use image_check::{WrongValue, sooner};
 use journal_scan::{JournalNode, NodeContent};
 
@@ -53,20 +54,20 @@ pub(crate) fn wrong_node(node: &JournalNode) -> WrongValue
     WrongValue {
         lnum: node.lnum,
         offs: node.offs,
-        wanted: number_of(&node.content) as u64,
+        wanted: number_in(&node.content) as u64,
         found: 0,
     }
 }
 
 // The inode number of a node's key.
-fn number_of(content: &NodeContent) -> u32
+fn number_in(content: &NodeContent) -> u32
     ensures { result ≡ number_told content.now }
 {
     match content {
         NodeContent::Inode { ino, .. }
         | NodeContent::Block { ino, .. }
-        | NodeContent::Truncation { ino, .. }
-        | NodeContent::Unknown { ino, .. } => *ino,
+        | NodeContent::Truncation { ino, .. } => *ino,
         NodeContent::Entry { dir, .. } => *dir,
+        NodeContent::Unknown { key, .. } => number_of(key),
     }
 }

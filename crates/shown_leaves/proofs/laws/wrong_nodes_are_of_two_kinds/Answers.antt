@@ -1,4 +1,3 @@
-use Rattle.std.proofs.Common.{◌⊎◌, inl, inr}
 use Rattle.shown_leaves.proofs.TwoKinds.{kinds_of, of_kinds}
 use Rattle.shown_leaves.proofs.laws.wrong_nodes_are_of_two_kinds.Goals as goal
 

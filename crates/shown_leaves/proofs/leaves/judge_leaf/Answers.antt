@@ -1,9 +1,9 @@
-use Rattle.std.proofs.Common.{◌≡◌, ◌∙◌, ap, sym, subst, Some}
+use Rattle.std.proofs.Common.{◌≡◌, ◌∙◌, ap, sym, subst}
 use Rattle.std.specs.Option.{option_map}
 use Rattle.media_leaf.specs.LeafNode.{LeafNode}
 use Rattle.leaf_map.specs.Kept.{shown}
 use Rattle.image_check.specs.WrongValues.{IsFirstOf}
-use Rattle.shown_leaves.specs.ShownBy.{IsShownBy, told}
+use Rattle.tree_check.specs.Told.{IsShownBy, shown_told}
 use Rattle.shown_leaves.specs.Sources.{IsUnlike}
 use Rattle.shown_leaves.specs.Stored.{leaf_node}
 use Rattle.shown_leaves.specs.declared.leaves.JudgedLeaf.{JudgedLeaf}
@@ -20,7 +20,7 @@ returns-clause-judged g c x sourced =
     let kept = c.source_node.ensures.keeps.holds in
     let named : leaf_node c.in-Some.node ≡ x.node = some_same (leaf_node c.in-Some.node) x.node (sym (ap (option_map leaf_node) c.in-Some.is) ∙ c.in_ok-node.ensures.node x sourced) in
     let tests = c.in_ok-stands.ensures.stands x (sourced_moved old.holds now.holds kept x c.args.leaf.now sourced) named in
-    let j = judged_is old.holds x c.args.leaf.now c.shown_of.result c.in_ok-stands.stands sourced.is (ap (λ (n : LeafNode). told (shown n)) (sym named) ∙ c.shown_of.ensures) (
+    let j = judged_is old.holds x c.args.leaf.now c.shown_of.result c.in_ok-stands.stands sourced.is (ap (λ (n : LeafNode). shown_told (shown n)) (sym named) ∙ c.shown_of.ensures) (
       (λ yes. stands_moved now.holds old.holds (λ k. sym (kept k)) x.leaf x.node (tests.0 yes)),
       (λ stands. tests.1 (stands_moved old.holds now.holds kept x.leaf x.node stands)),
     ) in

@@ -1,9 +1,8 @@
-use Rattle.std.proofs.Common.{◌≡◌, ◌∙◌, ◌++◌, ◌∷◌, [], List, not, true, false, ap, sym, subst, rules, append_assoc, append-nil}
-use Rattle.index_tree.specs.Removal.{holds}
+use Rattle.std.proofs.Common.{◌∙◌, ◌++◌, ◌∷◌, [], List, ap, sym, subst, rules, append_assoc, append-nil}
 use Rattle.index_tree.specs.declared.leaf.Leaf.{Leaf}
 use Rattle.image_check.specs.WrongValues.{IsFirstOf}
 use Rattle.shown_leaves.proofs.Members.{no_left}
-use Rattle.shown_leaves.proofs.SameLeaves.{IsTwiceIn, held_told, seen_next, twice_again, twice_new}
+use Rattle.shown_leaves.proofs.SameLeaves.{IsTwiceIn, seen_next, twice_again, twice_new}
 use Rattle.shown_leaves.proofs.twice.first_twice.Goals as goal
 
 pub seeing-preserved-then-not-branch : goal.seeing-preserved-then-not-branch
