@@ -6,13 +6,12 @@ use Rattle.std.specs.Option.{option_map, option_map_or}
 use Rattle.std.proofs.lemmas.Bool.{and_from, and_parts, eqb-true, false≢true}
 use Rattle.media_lpt.specs.declared.leb_kind.LebKind.{LebKind}
 use Rattle.media_lpt.specs.declared.leb_kind.LebKind.TheVariants as kind
-use Rattle.index_tree.specs.Listing.{listed}
 use Rattle.store_model.specs.Events.{begin, below_of, Copying, end_at, end_commit, free_victim, move, offer, offered, role_after, role_then, with_items}
 use Rattle.store_model.specs.Heads.{with_copy}
 use Rattle.store_model.specs.Indexed.{AreBranchingsAt, committed_index, IsIndexed, IsIndexIn, IsNextIndexIn, last_index, unwritten_lebs}
 use Rattle.store_model.specs.Invariant.{AreApart, IsTaking}
 use Rattle.store_model.specs.Lebs.{emptied, has_node}
-use Rattle.store_model.specs.Legal.{are_distinct, FitHead, has_placed_children, IfRunning, KeepPlaces, rows_of}
+use Rattle.store_model.specs.Legal.{are_distinct, FitHead, has_placed_children, IfRunning, KeepPlaces}
 use Rattle.store_model.specs.Store.{At, Bud, Index, leaf, Leb, Moving, Next, Place, Store, View}
 use Rattle.store_model.specs.Texts.{text_in}
 use Rattle.store_model.proofs.LebEnds.{after_number, after_row, after_rows, all_places, ended_index, ended_store}
@@ -21,6 +20,7 @@ use Rattle.store_model.proofs.LebPuts.{head_role}
 use Rattle.store_model.proofs.LebRows.{has_row, numbers_kept, numbers_of, Row, rows, to_rows, victim_row}
 use Rattle.store_model.proofs.Places.{indexed, items_keep, KeepIndex, keep_through, last_same, later_index, nodes_stay}
 use Rattle.store_model.proofs.TextBytes.{freed_text}
+use Rattle.store_model.specs.WrittenNodes.{rows_of, written_nodes}
 
 -- ---- a commit's end
 then_number : (view : View) (leb : Leb) (role : LebKind) → (role_then view leb role).lnum ≡ leb.lnum
@@ -68,9 +68,9 @@ drop_all (n ∷ numbers) = drop_all numbers
 
 ended_indexed : (m : Store) (next : Next) → next.written ≡ length next.taken → AreApart m → IsTaking m (Some next) → IsIndexIn m.lebs (unwritten_lebs next) next.view → IsIndexIn (end_commit m (Some next)).lebs [] next.view
 ended_indexed m next all a t is = record {
-  nodes = nodes_stay m.lebs (end_commit m (Some next)).lebs [] test (listed view.shape) view.places (below_of [] (listed view.shape) view.places) stays
+  nodes = nodes_stay m.lebs (end_commit m (Some next)).lebs [] test (written_nodes view.shape) view.places (below_of [] (written_nodes view.shape) view.places) stays
       (both_all (λ (place : Place). has_node view.places place.lnum) (λ place. has_row kind.Index new place.lnum) (λ place. test place.lnum) (λ place h g. and_from (has_node view.places place.lnum) (has_row kind.Index new place.lnum) h g) view.places (all_places view.places) (ended_index m next t))
-      (subst (λ (u : List ℕ). AreBranchingsAt m.lebs u (listed view.shape) view.places (below_of [] (listed view.shape) view.places)) none is.nodes);
+      (subst (λ (u : List ℕ). AreBranchingsAt m.lebs u (written_nodes view.shape) view.places (below_of [] (written_nodes view.shape) view.places)) none is.nodes);
   apart = is.apart;
 }
   where

@@ -18,7 +18,7 @@ use Rattle.store_model.specs.Events.{after, after_part, all_places, Begin, clean
 use Rattle.store_model.specs.Indexed.{committed_index}
 use Rattle.store_model.specs.Invariant.{HasNextIndex, IsStore}
 use Rattle.store_model.specs.Lebs.{has_node, has_role, is_among, is_role, running_of, space_of, weight_of}
-use Rattle.store_model.specs.Legal.{are_distinct, CanStart, IsLegalEvent, KeepPlaces, nodes_of, rows_of}
+use Rattle.store_model.specs.Legal.{are_distinct, CanStart, IsLegalEvent, KeepPlaces, nodes_of}
 use Rattle.store_model.specs.Store.{Leb, Moving, Next, Place, Store, View}
 use Rattle.store_model.proofs.LebCounts.{count_rows, row_count}
 use Rattle.store_model.proofs.LebRows.{all_in, has_row, IsRowIn, numbers_kept, numbers_of, one_role, role_row, Row, rows, to_rows}
@@ -28,6 +28,7 @@ use Rattle.store_model.proofs.RecoveryCopies.{either_of}
 use Rattle.store_model.proofs.SettledSteps.{count_numbers, num_count}
 use Rattle.store_model.proofs.TakingStarts.{all_dirty, kept_pass, none_placed, places_taken}
 use Rattle.store_model.proofs.Weights.{ArePut, ArePutTo, changed, IsPutTo, offer_next, parts_put, self, selves}
+use Rattle.store_model.specs.WrittenNodes.{rows_of}
 
 -- ---- how many numbers pass a test
 pub num_less : (p q : ℕ → Bool) → ((n : ℕ) → p n ≡ true → q n ≡ true) → (numbers : List ℕ) → num_count p numbers ≤ num_count q numbers

@@ -13,7 +13,7 @@ use Rattle.store_model.specs.Indexed.{AreBranchingsAt, committed_index, IsBranch
 use Rattle.store_model.specs.Heads.{with_group}
 use Rattle.store_model.specs.Invariant.{AreApart, AreAtBuds, IsTaking}
 use Rattle.store_model.specs.Lebs.{changed_leb, freed, has_role, is_among, is_role}
-use Rattle.store_model.specs.Legal.{are_distinct, AreParts, FitHead, has_placed_children, IsPart, KeepPlaces, rows_of, StandsBelow}
+use Rattle.store_model.specs.Legal.{are_distinct, AreParts, FitHead, has_placed_children, IsPart, KeepPlaces, StandsBelow}
 use Rattle.store_model.specs.Store.{At, Bud, Index, leaf, Leb, Next, Place, Store, View}
 use Rattle.store_model.specs.Texts.{text_in}
 use Rattle.store_model.proofs.LebDrops.{dropped_store}
@@ -25,6 +25,7 @@ use Rattle.store_model.proofs.RecoveryCopies.{either_of}
 use Rattle.store_model.proofs.TextBytes.{freed_text}
 use Rattle.store_model.proofs.TextItems.{text_other}
 use Rattle.store_model.proofs.TextOpens.{opened}
+use Rattle.store_model.specs.WrittenNodes.{rows_of}
 
 -- ---- places that were kept twice
 through : (old : Index) (row : Shape) (place : Place) (rows : List Shape) (places : List (Option Place)) → KeepPlaces old rows places → StandsBelow row place rows places → StandsBelow row place (rows_of old.shape) old.places

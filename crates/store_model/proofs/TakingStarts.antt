@@ -15,7 +15,7 @@ use Rattle.fs_model.specs.Cover.{index_lebs}
 use Rattle.store_model.specs.Events.{all_places, clean_places, dirty_count, open_buds, start}
 use Rattle.store_model.specs.Invariant.{AreApart, AreAtBuds, IsTaking}
 use Rattle.store_model.specs.Lebs.{has_role, is_among, is_role, space_of}
-use Rattle.store_model.specs.Legal.{CanStart, KeepPlaces, rows_of, StandsBelow}
+use Rattle.store_model.specs.Legal.{CanStart, KeepPlaces, StandsBelow}
 use Rattle.store_model.specs.Store.{At, Bud, Place, Store}
 use Rattle.store_model.proofs.LebPuts.{last_passes}
 use Rattle.store_model.proofs.LebRows.{Row, all_weaker, has_row, role_row, rows, to_rows}
@@ -23,6 +23,7 @@ use Rattle.store_model.proofs.LebStarts.{take_keeps, take_row, take_rows}
 use Rattle.store_model.proofs.LebTaking.{Keeps, of_rows}
 use Rattle.store_model.proofs.RecoveryCopies.{either_of}
 use Rattle.store_model.proofs.RecoveryOrder.{or_left, or_right}
+use Rattle.store_model.specs.WrittenNodes.{rows_of}
 
 -- ---- LEBs that are taken
 among_more : (k n : ℕ) (numbers : List ℕ) → is_among numbers n ≡ true → is_among (k ∷ numbers) n ≡ true

@@ -6,7 +6,7 @@ use Rattle.ubifs_base.specs.declared.raw_geometry.RawGeometry.{RawGeometry}
 use Rattle.ubifs_base.specs.Geometry.{index_node_len, index_nodes_per_leb}
 use Rattle.media_lpt.specs.declared.leb_kind.LebKind.{LebKind}
 use Rattle.media_lpt.specs.declared.leb_kind.LebKind.TheVariants as kind
-use Rattle.index_tree.specs.Listing.{ListedNode, listed}
+use Rattle.index_tree.specs.Listing.{ListedNode}
 use Rattle.index_tree.specs.Removal.{same_leaf}
 use Rattle.fs_model.specs.declared.change.Change.TheVariants.{DropInode}
 use Rattle.fs_model.specs.Change.{apply, without_inode}
@@ -19,6 +19,7 @@ use Rattle.leaf_map.specs.Kept.{Kept, Placed, kept_at}
 use Rattle.store_model.specs.Heads.{changes_of, counts_of, numbered, synced_since, with_copy, with_group}
 use Rattle.store_model.specs.Lebs.{changed_leb, emptied, has_node, is_among, space_of, tidied}
 use Rattle.store_model.specs.Store.{At, Branching, Bud, Carried, Index, Item, leaf, branching, gap, Leb, LogAt, Moving, Next, Orphan, Place, Store, View}
+use Rattle.store_model.specs.WrittenNodes.{written_nodes}
 
 -- a group, and the head that it goes to
 pub record Part : Type 0 where
@@ -292,13 +293,13 @@ start taken m =
       sqnum = m.sqnum + 1 + length view.buds;
     }
 
--- where the children of each node stand: the nodes below it are the next ones that have no parent yet
+-- where the children of each node stand: the nodes below it are the last ones that have no parent yet
 abbrev pub below_of : List Place → List ListedNode → List Place → List (List Place)
 below_of waiting [] places = []
 below_of waiting (node ∷ nodes) [] = []
 below_of waiting (node ∷ nodes) (place ∷ places) =
-    let children = if node.level == 0 then 0 else node.count in
-    take children waiting ∷ below_of (drop children waiting ++ place ∷ []) nodes places
+    let others = length waiting - (if node.level == 0 then 0 else node.count) in
+    drop others waiting ∷ below_of (take others waiting ++ place ∷ []) nodes places
 
 -- a node in the bytes that it may have
 abbrev pub node_items : RawGeometry → Branching → List Item
@@ -316,7 +317,7 @@ branchings lnum sqnum nodes places below = []
 -- the nodes of a view's index that stand in a LEB
 abbrev pub view_branchings : View → ℕ → ℕ → List Branching
 view_branchings view lnum sqnum =
-    branchings lnum sqnum (listed view.shape) view.places (below_of [] (listed view.shape) view.places)
+    branchings lnum sqnum (written_nodes view.shape) view.places (below_of [] (written_nodes view.shape) view.places)
 
 -- the LEB is written that is the next one of those taken
 abbrev pub write_index : Store → Option Next → Store

@@ -2,12 +2,13 @@
 use Rattle.std.specs.Prelude.{◌≡◌, ◌⊎◌, ℕ, ◌+◌, ◌==◌, ◌&&◌, IsTrue, not, Bool, true, if◌then◌else◌, List, [], ◌∷◌, drop, map, Option, Some, None}
 use Rattle.std.specs.List.{list_any}
 use Rattle.std.specs.Option.{option_map, option_map_or}
-use Rattle.index_tree.specs.Listing.{ListedNode, listed}
+use Rattle.index_tree.specs.Listing.{ListedNode}
 use Rattle.store_model.specs.Events.{below_of}
 use Rattle.store_model.specs.Lebs.{is_among}
-use Rattle.store_model.specs.Legal.{has_placed_children, KeepPlaces, rows_of}
+use Rattle.store_model.specs.Legal.{has_placed_children, KeepPlaces}
 use Rattle.store_model.specs.Store.{Branching, Index, Item, leaf, branching, gap, Leb, Next, Place, Store, View}
 use Rattle.store_model.specs.Texts.{item_len, text_in}
+use Rattle.store_model.specs.WrittenNodes.{rows_of, written_nodes}
 
 -- the index node at an offset, in a text that begins at another
 abbrev pub branching_at : ℕ → ℕ → List Item → Option Branching
@@ -34,7 +35,7 @@ are_other_places (place ∷ places) = not (list_any (λ other. (other.lnum == pl
 
 -- Each node of a view's index stands at a place of its own, with the places of its children.
 pub record IsIndexIn (lebs : List Leb) (unwritten : List ℕ) (view : View) : Type 0 where
-  pub nodes : AreBranchingsAt lebs unwritten (listed view.shape) view.places (below_of [] (listed view.shape) view.places)
+  pub nodes : AreBranchingsAt lebs unwritten (written_nodes view.shape) view.places (below_of [] (written_nodes view.shape) view.places)
   pub apart : IsTrue (are_other_places view.places)
 
 -- the LEBs that a running commit has still to write

@@ -1,12 +1,12 @@
 -- When a store may do what: the condition of each event.
-use Rattle.std.specs.Prelude.{◌≡◌, ◌⊎◌, ℕ, ◌+◌, ◌<◌, ◌≤◌, zero, suc, IsTrue, true, false, not, Bool, List, [], ◌∷◌, ◌++◌, length, map, Option, Some, None, is_some, nat_le, nat_lt, ◌==◌, ◌&&◌, ◌||◌, ◌-◌, drop, take, if◌then◌else◌}
+use Rattle.std.specs.Prelude.{◌≡◌, ◌⊎◌, ℕ, ◌+◌, ◌<◌, ◌≤◌, IsTrue, true, false, not, Bool, List, [], ◌∷◌, ◌++◌, length, map, Option, Some, None, is_some, nat_le, nat_lt, ◌==◌, ◌&&◌, ◌||◌, ◌-◌, drop, take, if◌then◌else◌}
 use Rattle.std.specs.List.{flat_map, list_all, list_any, AllByRecursion}
 use Rattle.std.specs.Option.{option_map}
 use Rattle.ubifs_base.specs.declared.raw_geometry.RawGeometry.{RawGeometry}
 use Rattle.media_leaf.specs.LeafNode.{IsLeaf}
 use Rattle.media_lpt.specs.declared.leb_kind.LebKind.TheVariants as kind
-use Rattle.index_tree.specs.Shape.{Shape, done, leaf, node, contents, node_count, shape_weight}
-use Rattle.index_tree.specs.Listing.{height, listed, ListedNode}
+use Rattle.index_tree.specs.Shape.{Shape, contents, node_count, shape_weight}
+use Rattle.index_tree.specs.Listing.{ListedNode}
 use Rattle.fs_model.specs.declared.space.Class.TheVariants.{Removal}
 use Rattle.fs_model.specs.declared.space.Grant.{Grant}
 use Rattle.fs_model.specs.declared.space.Need.{Need}
@@ -27,23 +27,9 @@ use Rattle.store_model.specs.Events.{after, after_part, Copying, credit, dirty_c
 use Rattle.store_model.specs.Heads.{changes_of, counts_of, numbered}
 use Rattle.store_model.specs.Lebs.{has_role, IsStoreSettled, lent, role_count, space_of, stands_in}
 use Rattle.store_model.specs.Store.{At, Carried, Index, Moving, Next, Place, Store}
+use Rattle.store_model.specs.WrittenNodes.{rows_of, written_nodes}
 
 -- ---- the index
--- what is below each node of a level, in a row that has so many levels
-abbrev pub level_rows : ℕ → ℕ → Shape → List Shape
-level_rows level high done = []
-level_rows level high (leaf x rest) = []
-level_rows level high (node children rest) =
-    (if high - 1 == level then children ∷ [] else level_rows level (high - 1) children) ++ level_rows level high rest
-
-abbrev pub rows_below : ℕ → Shape → List Shape
-rows_below zero shape = []
-rows_below (suc n) shape = rows_below n shape ++ level_rows n (height shape) shape
-
--- what is below each node, in the order in which the nodes are listed
-abbrev pub rows_of : Shape → List Shape
-rows_of shape = rows_below (height shape) shape
-
 -- this row stands at this place, among rows and their places
 abbrev pub StandsBelow : Shape → Place → List Shape → List (Option Place) → Type 0
 StandsBelow row place [] places = ⊥
@@ -58,16 +44,16 @@ KeepPlaces old (row ∷ rows) [] = ⊥
 KeepPlaces old (row ∷ rows) (None ∷ places) = KeepPlaces old rows places
 KeepPlaces old (row ∷ rows) (Some place ∷ places) = StandsBelow row place (rows_of old.shape) old.places × KeepPlaces old rows places
 
--- a node that has a place has no child without one; these nodes wait for their parents, the oldest first
+-- a node that has a place has no child without one; these nodes wait for their parents, the last one first
 abbrev pub are_placed_below : List (Option Place) → List ListedNode → List (Option Place) → Bool
 are_placed_below waiting [] places = true
 are_placed_below waiting (first ∷ nodes) [] = true
 are_placed_below waiting (first ∷ nodes) (at ∷ places) =
-    let children = if first.level == 0 then 0 else first.count in
-    (not (is_some at) || list_all (λ o. is_some o) (take children waiting)) && are_placed_below (drop children waiting ++ at ∷ []) nodes places
+    let others = length waiting - (if first.level == 0 then 0 else first.count) in
+    (not (is_some at) || list_all (λ o. is_some o) (drop others waiting)) && are_placed_below (take others waiting ++ at ∷ []) nodes places
 
 abbrev pub has_placed_children : Index → Bool
-has_placed_children index = are_placed_below [] (listed index.shape) index.places
+has_placed_children index = are_placed_below [] (written_nodes index.shape) index.places
 
 -- The index of these leaves, after so many nodes were put: it weighs at most so much more, each node has a place or none yet, and one that changed has lost its place, as those above it.
 pub record IsIndexAfter (m : Store) (nodes : ℕ) (live : List Kept) (index : Index) : Type 0 where

@@ -14,3 +14,4 @@ pub mod Store
 pub mod Texts
 pub mod Worked
 pub mod WorkedRun
+pub mod WrittenNodes

@@ -51,7 +51,7 @@ pub record View : Type 0 where
   pub highest : ℕ
   -- the log LEB in which its section starts
   pub section : ℕ
-  -- its index, and where the nodes stand, in the order of `listed shape`
+  -- its index, and where the nodes stand, in the order in which a commit writes them (`written_nodes`)
   pub shape : Shape
   pub places : List Place
   -- its leaves with the nodes that stood there, and the tree, when its commit began

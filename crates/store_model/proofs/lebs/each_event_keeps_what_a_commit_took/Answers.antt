@@ -8,11 +8,12 @@ use Rattle.store_model.specs.Events.{after, Begin, Drop, End, Event, Free, Move,
 use Rattle.store_model.specs.Indexed.{committed_index, HasLastPlaces}
 use Rattle.store_model.specs.Invariant.{AreApart, IsTaking}
 use Rattle.store_model.specs.Lebs.{has_role}
-use Rattle.store_model.specs.Legal.{IsLegalEvent, KeepPlaces, rows_of}
+use Rattle.store_model.specs.Legal.{IsLegalEvent, KeepPlaces}
 use Rattle.store_model.specs.Store.{Next, Store}
 use Rattle.store_model.proofs.TakingCommits.{begin_taking, end_taking, free_taking, move_taking, offer_taking, write_taking}
 use Rattle.store_model.proofs.TakingStarts.{kept_pass, start_taking}
 use Rattle.store_model.proofs.lebs.each_event_keeps_what_a_commit_took.Goals as goal
+use Rattle.store_model.specs.WrittenNodes.{rows_of}
 
 pub returns : goal.returns
 returns c = by
