@@ -26,7 +26,7 @@ use std::alloc::Global;
 use ubi_volume::{VolFault, Volume};
 use ubifs_base::{Geometry, fill_gap};
 
-/// Writes all dirty nodes of the frozen index to these LEBs, and answers where the index stands then: a full commit of the
+/// Writes all dirty nodes of the frozen index to these LEBs, and answers where the index stands then: the commit of the
 /// index (`ubifs_tnc_start_commit` and `ubifs_tnc_end_commit` of Linux). Children come before their parent, and each node takes
 /// the next sequence number and as much room as a full one takes. Each LEB is replaced by one change, whatever it held, and
 /// nodes of the index that have places stay where they are.
