@@ -7,8 +7,6 @@ use bud_log::{HeadAt, LogRead, read_log};
 use leb_scan::Tail;
 use media_sys::{CommitStart, RefNode};
 use std::alloc::Global;
-use std::process::Abort;
-use std::test::Fail;
 use ubi_volume::{MemVolume, VolFault, VolShape, Volume};
 use ubifs_base::{Geometry, JournalHead, RawGeometry};
 
@@ -28,6 +26,199 @@ enum Laid {
 
 use JournalHead::{Base, Collector, Data};
 use Laid::{Bud, Start, Torn};
+
+// The nodes of the log's four LEBs, the LEB from which it is read, the head, LEB and offset of each bud, and the end.
+#[derive(Clone, Copy)]
+struct Case<'a> {
+    lebs: [&'a [Laid]; 4],
+    from: u32,
+    buds: &'a [(JournalHead, u32, u32)],
+    end: (u32, u32, Tail),
+}
+
+const FIRST: &[Laid] = &[Start(10), Bud(11, Base, 20, 0)];
+
+const MORE: &[Laid] = &[Bud(12, Data, 21, 0)];
+
+const SECOND: &[Laid] = &[Start(12), Bud(13, Base, 20, 4096), Bud(14, Data, 22, 0)];
+
+const RING: [&[Laid]; 4] = [
+    &[Bud(11, Collector, 20, 0)],
+    &[Bud(12, Base, 21, 0)],
+    &[Bud(13, Data, 22, 0)],
+    &[Start(10)],
+];
+
+// References name buds.
+const NAMED: &[Case<'static>] = &[
+    // A commit start alone.
+    Case {
+        lebs: [&[Start(10)], &[], &[], &[]],
+        from: 3,
+        buds: &[],
+        end: (3, 1024, Tail::Clean),
+    },
+    // The three heads.
+    Case {
+        lebs: [
+            &[
+                Start(10),
+                Bud(11, Collector, 20, 512),
+                Bud(12, Base, 30, 0),
+                Bud(13, Data, 25, 4096),
+            ],
+            &[],
+            &[],
+            &[],
+        ],
+        from: 3,
+        buds: &[(Collector, 20, 512), (Base, 30, 0), (Data, 25, 4096)],
+        end: (3, 1024, Tail::Clean),
+    },
+    // A LEB that is named twice: its first head, and the least offset.
+    Case {
+        lebs: [
+            &[
+                Start(10),
+                Bud(11, Collector, 20, 512),
+                Bud(12, Base, 21, 512),
+                Bud(13, Data, 20, 0),
+                Bud(14, Base, 21, 1024),
+            ],
+            &[],
+            &[],
+            &[],
+        ],
+        from: 3,
+        buds: &[(Collector, 20, 0), (Base, 21, 512)],
+        end: (3, 1024, Tail::Clean),
+    },
+    // A reference to an offset that is no multiple of 8, and one to no main LEB, are told as they stand.
+    Case {
+        lebs: [
+            &[Start(10), Bud(11, Data, 20, 68), Bud(12, Base, 1, 0)],
+            &[],
+            &[],
+            &[],
+        ],
+        from: 3,
+        buds: &[(Data, 20, 68), (Base, 1, 0)],
+        end: (3, 1024, Tail::Clean),
+    },
+    // A torn end.
+    Case {
+        lebs: [
+            &[
+                Start(10),
+                Bud(11, Collector, 20, 0),
+                Torn,
+                Bud(12, Base, 21, 0),
+            ],
+            &[],
+            &[],
+            &[],
+        ],
+        from: 3,
+        buds: &[(Collector, 20, 0)],
+        end: (3, 96, Tail::Torn),
+    },
+];
+
+// Reading goes on where numbers are greater.
+const GOING_ON: &[Case<'static>] = &[
+    // A section goes on in the next LEB.
+    Case {
+        lebs: [FIRST, MORE, &[], &[]],
+        from: 3,
+        buds: &[(Base, 20, 0), (Data, 21, 0)],
+        end: (4, 1024, Tail::Clean),
+    },
+    // An older section, and one that begins with the same number, isn't read.
+    Case {
+        lebs: [FIRST, &[Start(9), Bud(12, Data, 21, 0)], MORE, &[]],
+        from: 3,
+        buds: &[(Base, 20, 0)],
+        end: (3, 1024, Tail::Clean),
+    },
+    Case {
+        lebs: [FIRST, &[Start(10), Bud(12, Data, 21, 0)], MORE, &[]],
+        from: 3,
+        buds: &[(Base, 20, 0)],
+        end: (3, 1024, Tail::Clean),
+    },
+    // Nor is a LEB in which the first node doesn't stand at its start.
+    Case {
+        lebs: [FIRST, &[Torn, Bud(12, Data, 21, 0)], MORE, &[]],
+        from: 3,
+        buds: &[(Base, 20, 0)],
+        end: (3, 1024, Tail::Clean),
+    },
+];
+
+// Sections of unfinished commits are read.
+const UNFINISHED: &[Case<'static>] = &[
+    Case {
+        lebs: [FIRST, SECOND, &[], &[]],
+        from: 3,
+        buds: &[(Base, 20, 0), (Data, 22, 0)],
+        end: (4, 1024, Tail::Clean),
+    },
+    // One that is a commit start alone isn't where the log ends.
+    Case {
+        lebs: [FIRST, &[Start(12)], &[], &[]],
+        from: 3,
+        buds: &[(Base, 20, 0)],
+        end: (3, 1024, Tail::Clean),
+    },
+    Case {
+        lebs: [FIRST, SECOND, &[Start(15)], &[]],
+        from: 3,
+        buds: &[(Base, 20, 0), (Data, 22, 0)],
+        end: (4, 1024, Tail::Clean),
+    },
+];
+
+// Reading goes round the ring once.
+const ROUND: &[Case<'static>] = &[
+    Case {
+        lebs: RING,
+        from: 6,
+        buds: &[(Collector, 20, 0), (Base, 21, 0), (Data, 22, 0)],
+        end: (5, 1024, Tail::Clean),
+    },
+    // A LEB that begins with no commit start is read alone.
+    Case {
+        lebs: RING,
+        from: 4,
+        buds: &[(Base, 21, 0)],
+        end: (4, 1024, Tail::Clean),
+    },
+];
+
+const CASES: &[&[Case<'static>]] = &[NAMED, GOING_ON, UNFINISHED, ROUND];
+
+const WITH_THIRTY: &[Laid] = &[Start(10), Bud(30, Base, 20, 0), Bud(12, Data, 21, 0)];
+
+// The nodes of four LEBs, and the greatest sequence number of what is read of them from LEB 3 on.
+const NUMBERS: &[([&[Laid]; 4], u64)] = &[
+    ([&[], WITH_THIRTY, &[], &[]], 0),
+    // The last node needn't have it.
+    ([WITH_THIRTY, &[], &[], &[]], 30),
+    // An older section isn't read, nor what stands behind a torn end; a commit start alone is.
+    (
+        [WITH_THIRTY, &[Start(9), Bud(40, Data, 22, 0)], &[], &[]],
+        30,
+    ),
+    (
+        [
+            WITH_THIRTY,
+            &[Start(31), Torn, Bud(40, Data, 22, 0)],
+            &[],
+            &[],
+        ],
+        31,
+    ),
+];
 
 // The nodes one behind another, and padding bytes to the end.
 fn lay(nodes: &[Laid], leb: &mut [u8])
@@ -78,241 +269,63 @@ fn put<V: Volume>(volume: &mut V, lnum: u32, nodes: &[Laid]) -> Result<(), VolFa
     volume.change(lnum, &leb)
 }
 
-// What is read of a log with these nodes in its four LEBs.
-fn read(
-    alloc: Global,
-    lebs: (&[Laid], &[Laid], &[Laid], &[Laid]),
-    from: u32,
-) -> Result<LogRead, Fail> {
+// What is read of a log with these nodes in its four LEBs, from this LEB on.
+fn read(alloc: Global, lebs: &[&[Laid]; 4], from: u32) -> Option<LogRead> {
     let Ok(geometry) = Geometry::new(&RawGeometry::plain(16384, 512, 64, 8)) else {
-        return Err(Fail::from("no geometry"));
+        return None;
     };
     if from < 3 || from > 6 {
-        return Err(Fail::from("no LEB of the log"));
+        return None;
     }
-    let mut volume = MemVolume::new(alloc, SHAPE)?;
-    put(&mut volume, 3, lebs.0)?;
-    put(&mut volume, 4, lebs.1)?;
-    put(&mut volume, 5, lebs.2)?;
-    put(&mut volume, 6, lebs.3)?;
-    let Ok(read) = read_log(alloc, &mut volume, &geometry, from) else {
-        return Err(Fail::from("no answer"));
+    let Ok(mut volume) = MemVolume::new(alloc, SHAPE) else {
+        return None;
     };
-    Ok(read)
+    if put(&mut volume, 3, lebs[0]).is_err()
+        || put(&mut volume, 4, lebs[1]).is_err()
+        || put(&mut volume, 5, lebs[2]).is_err()
+        || put(&mut volume, 6, lebs[3]).is_err()
+    {
+        return None;
+    }
+    read_log(alloc, &mut volume, &geometry, from).ok()
 }
 
-// Reading those from this LEB on gives these buds and this end.
-fn is_log(
-    rt: &impl Abort,
-    alloc: Global,
-    lebs: (&[Laid], &[Laid], &[Laid], &[Laid]),
-    from: u32,
-    buds: &[HeadAt],
-    end: (u32, u32, Tail),
-) -> Result<(), Fail> {
-    let log = read(alloc, lebs, from)?;
-    assert_eq!(rt; log.buds.as_slice(), buds);
-    assert_eq!(rt; (log.lnum, log.offs, log.tail), end);
-    Ok(())
+fn are_buds(found: &[HeadAt], wanted: &[(JournalHead, u32, u32)]) -> bool {
+    if found.len() != wanted.len() {
+        return false;
+    }
+    for (found, wanted) in found.iter().zip(wanted) {
+        if (found.head, found.lnum, found.offs) != *wanted {
+            return false;
+        }
+    }
+    true
 }
 
-fn bud(head: JournalHead, lnum: u32, offs: u32) -> HeadAt {
-    HeadAt { head, lnum, offs }
+fn is_read_so(alloc: Global, case: &Case<'_>) -> bool {
+    match read(alloc, &case.lebs, case.from) {
+        Some(log) => are_buds(&log.buds, case.buds) && (log.lnum, log.offs, log.tail) == case.end,
+        None => false,
+    }
 }
 
-#[test]
-fn references_name_buds(rt: HostRuntime) -> Result<(), Fail> {
-    let alloc = rt.alloc();
-    // A commit start alone.
-    let one = [Start(10)];
-    is_log(
-        &rt,
-        alloc,
-        (&one, &[], &[], &[]),
-        3,
-        &[],
-        (3, 1024, Tail::Clean),
-    )?;
-    // The three heads.
-    let three = [
-        Start(10),
-        Bud(11, Collector, 20, 512),
-        Bud(12, Base, 30, 0),
-        Bud(13, Data, 25, 4096),
-    ];
-    let buds = [
-        bud(Collector, 20, 512),
-        bud(Base, 30, 0),
-        bud(Data, 25, 4096),
-    ];
-    is_log(
-        &rt,
-        alloc,
-        (&three, &[], &[], &[]),
-        3,
-        &buds,
-        (3, 1024, Tail::Clean),
-    )?;
-    // A LEB that is named twice: its first head, and the least offset.
-    let twice = [
-        Start(10),
-        Bud(11, Collector, 20, 512),
-        Bud(12, Base, 21, 512),
-        Bud(13, Data, 20, 0),
-        Bud(14, Base, 21, 1024),
-    ];
-    let buds = [bud(Collector, 20, 0), bud(Base, 21, 512)];
-    is_log(
-        &rt,
-        alloc,
-        (&twice, &[], &[], &[]),
-        3,
-        &buds,
-        (3, 1024, Tail::Clean),
-    )?;
-    // A reference to an offset that is no multiple of 8, and one to no main LEB, are told as they stand.
-    let strange = [Start(10), Bud(11, Data, 20, 68), Bud(12, Base, 1, 0)];
-    is_log(
-        &rt,
-        alloc,
-        (&strange, &[], &[], &[]),
-        3,
-        &[bud(Data, 20, 68), bud(Base, 1, 0)],
-        (3, 1024, Tail::Clean),
-    )?;
-    // A torn end.
-    let torn = [
-        Start(10),
-        Bud(11, Collector, 20, 0),
-        Torn,
-        Bud(12, Base, 21, 0),
-    ];
-    is_log(
-        &rt,
-        alloc,
-        (&torn, &[], &[], &[]),
-        3,
-        &[bud(Collector, 20, 0)],
-        (3, 96, Tail::Torn),
-    )
+fn greatest_number(alloc: Global, lebs: &[&[Laid]; 4]) -> Option<u64> {
+    let log = read(alloc, lebs, 3)?;
+    Some(log.sqnum)
 }
 
 #[test]
-fn reading_goes_on_where_numbers_are_greater(rt: HostRuntime) -> Result<(), Fail> {
-    let alloc = rt.alloc();
-    let first = [Start(10), Bud(11, Base, 20, 0)];
-    // A section goes on in the next LEB.
-    let more = [Bud(12, Data, 21, 0)];
-    let buds = [bud(Base, 20, 0), bud(Data, 21, 0)];
-    is_log(
-        &rt,
-        alloc,
-        (&first, &more, &[], &[]),
-        3,
-        &buds,
-        (4, 1024, Tail::Clean),
-    )?;
-    // An older section, and one that begins with the same number, isn't read.
-    let older = [Start(9), Bud(12, Data, 21, 0)];
-    is_log(
-        &rt,
-        alloc,
-        (&first, &older, &more, &[]),
-        3,
-        &[bud(Base, 20, 0)],
-        (3, 1024, Tail::Clean),
-    )?;
-    let same = [Start(10), Bud(12, Data, 21, 0)];
-    is_log(
-        &rt,
-        alloc,
-        (&first, &same, &more, &[]),
-        3,
-        &[bud(Base, 20, 0)],
-        (3, 1024, Tail::Clean),
-    )?;
-    // Nor is a LEB in which the first node doesn't stand at its start.
-    let behind = [Torn, Bud(12, Data, 21, 0)];
-    is_log(
-        &rt,
-        alloc,
-        (&first, &behind, &more, &[]),
-        3,
-        &[bud(Base, 20, 0)],
-        (3, 1024, Tail::Clean),
-    )
+fn logs_are_read(rt: HostRuntime) {
+    for cases in CASES {
+        for (number, case) in cases.iter().enumerate() {
+            assert!(rt; is_read_so(rt.alloc(), case), "case {number}");
+        }
+    }
 }
 
 #[test]
-fn sections_of_unfinished_commits_are_read(rt: HostRuntime) -> Result<(), Fail> {
-    let alloc = rt.alloc();
-    let first = [Start(10), Bud(11, Base, 20, 0)];
-    let second = [Start(12), Bud(13, Base, 20, 4096), Bud(14, Data, 22, 0)];
-    let buds = [bud(Base, 20, 0), bud(Data, 22, 0)];
-    is_log(
-        &rt,
-        alloc,
-        (&first, &second, &[], &[]),
-        3,
-        &buds,
-        (4, 1024, Tail::Clean),
-    )?;
-    // One that is a commit start alone isn't where the log ends.
-    is_log(
-        &rt,
-        alloc,
-        (&first, &[Start(12)], &[], &[]),
-        3,
-        &[bud(Base, 20, 0)],
-        (3, 1024, Tail::Clean),
-    )?;
-    is_log(
-        &rt,
-        alloc,
-        (&first, &second, &[Start(15)], &[]),
-        3,
-        &buds,
-        (4, 1024, Tail::Clean),
-    )
-}
-
-#[test]
-fn reading_goes_round_the_ring_once(rt: HostRuntime) -> Result<(), Fail> {
-    let alloc = rt.alloc();
-    let buds = [bud(Collector, 20, 0), bud(Base, 21, 0), bud(Data, 22, 0)];
-    let lebs = (
-        [Bud(11, Collector, 20, 0)].as_slice(),
-        [Bud(12, Base, 21, 0)].as_slice(),
-        [Bud(13, Data, 22, 0)].as_slice(),
-        [Start(10)].as_slice(),
-    );
-    is_log(&rt, alloc, lebs, 6, &buds, (5, 1024, Tail::Clean))?;
-    // A LEB that begins with no commit start is read alone.
-    is_log(
-        &rt,
-        alloc,
-        lebs,
-        4,
-        &[bud(Base, 21, 0)],
-        (4, 1024, Tail::Clean),
-    )
-}
-
-#[test]
-fn greatest_number_of_what_is_read_is_told(rt: HostRuntime) -> Result<(), Fail> {
-    let alloc = rt.alloc();
-    let first = [Start(10), Bud(30, Base, 20, 0), Bud(12, Data, 21, 0)];
-    let log = read(alloc, (&[], &first, &[], &[]), 3)?;
-    assert_eq!(rt; log.sqnum, 0);
-    // The last node needn't have it.
-    let log = read(alloc, (&first, &[], &[], &[]), 3)?;
-    assert_eq!(rt; log.sqnum, 30);
-    // An older section isn't read, nor what stands behind a torn end; a commit start alone is.
-    let older = [Start(9), Bud(40, Data, 22, 0)];
-    let log = read(alloc, (&first, &older, &[], &[]), 3)?;
-    assert_eq!(rt; log.sqnum, 30);
-    let torn = [Start(31), Torn, Bud(40, Data, 22, 0)];
-    let log = read(alloc, (&first, &torn, &[], &[]), 3)?;
-    assert_eq!(rt; log.sqnum, 31);
-    Ok(())
+fn greatest_number_of_what_is_read_is_told(rt: HostRuntime) {
+    for (lebs, wanted) in NUMBERS {
+        assert_eq!(rt; greatest_number(rt.alloc(), lebs), Some(*wanted));
+    }
 }

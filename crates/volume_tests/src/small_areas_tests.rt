@@ -1,12 +1,15 @@
 // Masters in a volume in memory, and their addresses.
 
+ghost use Rattle.std.specs.Prelude.{◌≡◌, ◌<◌};
+ghost use Rattle.ubi_volume.specs.Volume.{SameShape};
+
 use media_sys::Master;
 use small_areas::{
     Misplaced, latest, misplaced_address, read_orphans, write_master, write_orphans,
 };
-use std::test::Fail;
-use ubi_volume::{MemVolume, VolShape, Volume};
-use ubifs_base::{Geometry, RawGeometry};
+use std::alloc::Global;
+use ubi_volume::{MemVolume, VolFault, VolShape, Volume};
+use ubifs_base::{Geometry, Memory, RawGeometry};
 
 // A master whose addresses lie in the areas of a volume with 64 main LEBs.
 const PLACED: Master = Master {
@@ -40,188 +43,229 @@ const PLACED: Master = Master {
     leb_cnt: 74,
 };
 
-#[test]
-fn master_of_the_greater_number_is_the_latest(rt: HostRuntime) -> Result<(), Fail> {
-    let shape = VolShape {
-        leb_size: 4096,
-        min_io: 512,
-        leb_cnt: 3,
-    };
-    // The numbers of the masters in LEBs 1 and 2, where 0 stands for none, and in which LEB the latest is found.
-    let rows = [
-        (0u64, 0u64, None),
-        (5, 0, Some(1)),
-        (0, 5, Some(2)),
-        (5, 6, Some(2)),
-        (6, 5, Some(1)),
-        (5, 5, Some(1)),
-    ];
-    for (one, two, wanted) in rows {
-        let mut volume = MemVolume::new(rt.alloc(), shape)?;
-        let mut node = [0u8; 512];
-        if one != 0 {
-            PLACED.encode(one, 0, &mut node);
-            volume.change(1, &node)?;
-        }
-        if two != 0 {
-            PLACED.encode(two, 0, &mut node);
-            volume.change(2, &node)?;
-        }
-        let found = match latest(rt.alloc(), &mut volume) {
-            Ok(found) => found,
-            Err(_) => return Err(Fail::from("no answer")),
-        };
-        assert_eq!(rt; found.map(|placed| placed.lnum), wanted);
+const SHAPE: VolShape = VolShape {
+    leb_size: 16384,
+    min_io: 512,
+    leb_cnt: 74,
+};
+
+const SMALL: VolShape = VolShape {
+    leb_size: 4096,
+    min_io: 512,
+    leb_cnt: 3,
+};
+
+// The numbers of the masters in LEBs 1 and 2, where 0 stands for none, and in which LEB the latest is found.
+const NUMBERS: &[(u64, u64, Option<u32>)] = &[
+    (0, 0, None),
+    (5, 0, Some(1)),
+    (0, 5, Some(2)),
+    (5, 6, Some(2)),
+    (6, 5, Some(1)),
+    (5, 5, Some(1)),
+];
+
+// A master of this number, or nothing.
+fn put<V: Volume>(volume: &mut V, lnum: u32, sqnum: u64) -> Result<(), VolFault>
+    requires lnum { lnum < (V.state volume.old).leb_cnt }
+    requires size { (V.state volume.old).leb_size ≡ 4096 }
+    requires unit { (V.state volume.old).min_io ≡ 512 }
+    ensures shape { SameShape (V.state volume.old) (V.state volume.new) }
+{
+    if sqnum == 0 {
+        return volume.unmap(lnum);
     }
-    Ok(())
+    let mut node = [0u8; 512];
+    PLACED.encode(sqnum, 0, &mut node);
+    volume.change(lnum, &node)
 }
 
-#[test]
-fn written_master_is_the_latest(rt: HostRuntime) -> Result<(), Fail> {
+// The LEB of the latest master, and None where there is no answer.
+fn latest_of(alloc: Global, one: u64, two: u64) -> Option<Option<u32>> {
+    let Ok(mut volume) = MemVolume::new(alloc, SMALL) else {
+        return None;
+    };
+    if put(&mut volume, 1, one).is_err() || put(&mut volume, 2, two).is_err() {
+        return None;
+    }
+    match latest(alloc, &mut volume) {
+        Ok(Some(placed)) => Some(Some(placed.lnum)),
+        Ok(None) => Some(None),
+        Err(_) => None,
+    }
+}
+
+fn written_master_is_the_latest(alloc: Global) -> Result<bool, Memory> {
     let Ok(geometry) = Geometry::new(&RawGeometry::plain(16384, 512, 64, 8)) else {
-        return Err(Fail::from("no geometry"));
+        return Ok(false);
     };
-    let shape = VolShape {
-        leb_size: 16384,
-        min_io: 512,
-        leb_cnt: 74,
-    };
-    let mut volume = MemVolume::new(rt.alloc(), shape)?;
-    let mut leb = vec![in rt.alloc(); 0; 16384]?;
+    let mut volume = MemVolume::new(alloc, SHAPE)?;
+    let mut leb = vec![in alloc; 0; 16384]?;
     let mut sqnum = 7;
     let Ok(()) = write_master(&mut volume, &geometry, &PLACED, &mut sqnum, &mut leb) else {
-        return Err(Fail::from("no first master"));
+        return Ok(false);
     };
     let second = Master {
         cmt_no: 1,
         ..PLACED
     };
     let Ok(()) = write_master(&mut volume, &geometry, &second, &mut sqnum, &mut leb) else {
-        return Err(Fail::from("no second master"));
+        return Ok(false);
     };
-    let Ok(Some(found)) = latest(rt.alloc(), &mut volume) else {
-        return Err(Fail::from("no master"));
-    };
-    assert_eq!(rt; (found.lnum, found.offs, found.sqnum), (2, 512, 11));
-    assert_eq!(rt; found.master.cmt_no, 1);
-    assert_eq!(rt; sqnum, 11);
-    Ok(())
-}
-
-#[test]
-fn written_orphans_are_read(rt: HostRuntime) -> Result<(), Fail> {
-    let Ok(geometry) = Geometry::new(&RawGeometry::plain(16384, 512, 64, 8)) else {
-        return Err(Fail::from("no geometry"));
-    };
-    let shape = VolShape {
-        leb_size: 16384,
-        min_io: 512,
-        leb_cnt: 74,
-    };
-    let mut volume = MemVolume::new(rt.alloc(), shape)?;
-    let mut sqnum = 7;
-    let Ok(()) = write_orphans(
-        rt.alloc(),
-        &mut volume,
-        &geometry,
-        3,
-        &[64, 66, 4000000000],
-        &mut sqnum,
-    ) else {
-        return Err(Fail::from("no list"));
-    };
-    let Ok(inos) = read_orphans(rt.alloc(), &mut volume, &geometry) else {
-        return Err(Fail::from("no answer"));
-    };
-    assert_eq!(rt; inos.as_slice(), [64, 66, 4000000000].as_slice());
-    assert_eq!(rt; sqnum, 8);
-    // an empty list has no node, and its unit is padding
-    let Ok(()) = write_orphans(rt.alloc(), &mut volume, &geometry, 4, &[], &mut sqnum) else {
-        return Err(Fail::from("no empty list"));
-    };
-    let Ok(inos) = read_orphans(rt.alloc(), &mut volume, &geometry) else {
-        return Err(Fail::from("no second answer"));
-    };
-    assert_eq!(rt; (inos.len(), sqnum), (0, 8));
-    Ok(())
-}
-
-#[test]
-fn first_address_outside_its_area_is_told(rt: HostRuntime) -> Result<(), Fail> {
-    let Ok(geometry) = Geometry::new(&RawGeometry::plain(16384, 512, 64, 8)) else {
-        return Err(Fail::from("no geometry"));
-    };
-    let rows = [
-        (PLACED, None),
-        (
-            Master {
-                log_lnum: 2,
-                ..PLACED
-            },
-            Some((3, 2)),
+    match latest(alloc, &mut volume) {
+        Ok(Some(found)) => Ok(
+            (found.lnum, found.offs, found.sqnum, found.master.cmt_no) == (2, 512, 11, 1)
+                && sqnum == 11,
         ),
-        (
-            Master {
-                log_lnum: 7,
-                root_lnum: 9,
-                ..PLACED
-            },
-            Some((7, 7)),
-        ),
-        (
-            Master {
-                root_lnum: 74,
-                ..PLACED
-            },
-            Some((74, 74)),
-        ),
-        (
-            Master {
-                root_offs: 16337,
-                ..PLACED
-            },
-            Some((16336, 16337)),
-        ),
-        (
-            Master {
-                root_len: 20000,
-                root_offs: 1,
-                ..PLACED
-            },
-            Some((0, 1)),
-        ),
-        (
-            Master {
-                ihead_offs: 16385,
-                ..PLACED
-            },
-            Some((16384, 16385)),
-        ),
-        (
-            Master {
-                lpt_lnum: 9,
-                ..PLACED
-            },
-            Some((9, 9)),
-        ),
-        (
-            Master {
-                lpt_offs: 16384,
-                ..PLACED
-            },
-            Some((16373, 16384)),
-        ),
-        (
-            Master {
-                ltab_lnum: 6,
-                ..PLACED
-            },
-            Some((7, 6)),
-        ),
-    ];
-    for (master, wanted) in rows {
-        let wanted = wanted.map(|(wanted, found)| Misplaced { wanted, found });
-        assert_eq!(rt; misplaced_address(&master, &geometry), wanted);
+        _ => Ok(false),
     }
-    Ok(())
+}
+
+// A list that is written and read, and an empty one behind it, which has no node: its unit is padding.
+fn written_orphans_are_read(alloc: Global) -> bool {
+    let Ok(geometry) = Geometry::new(&RawGeometry::plain(16384, 512, 64, 8)) else {
+        return false;
+    };
+    let Ok(mut volume) = MemVolume::new(alloc, SHAPE) else {
+        return false;
+    };
+    let mut sqnum = 7;
+    let some = [64, 66, 4000000000];
+    let Ok(()) = write_orphans(alloc, &mut volume, &geometry, 3, &some, &mut sqnum) else {
+        return false;
+    };
+    let Ok(inos) = read_orphans(alloc, &mut volume, &geometry) else {
+        return false;
+    };
+    if inos.as_slice() != some.as_slice() || sqnum != 8 {
+        return false;
+    }
+    let Ok(()) = write_orphans(alloc, &mut volume, &geometry, 4, &[], &mut sqnum) else {
+        return false;
+    };
+    let Ok(inos) = read_orphans(alloc, &mut volume, &geometry) else {
+        return false;
+    };
+    (inos.len(), sqnum) == (0, 8)
+}
+
+#[test]
+fn masters_and_orphans(rt: HostRuntime) {
+    for (one, two, wanted) in NUMBERS {
+        assert_eq!(rt; latest_of(rt.alloc(), *one, *two), Some(*wanted));
+    }
+    assert_eq!(rt;
+        (
+            written_master_is_the_latest(rt.alloc()),
+            written_orphans_are_read(rt.alloc())
+        ),
+        (Ok(true), true)
+    );
+}
+
+// A master, and the address that it has in place of the one that it should have.
+const ADDRESSES: &[(Master, Option<Misplaced>)] = &[
+    (PLACED, None),
+    (
+        Master {
+            log_lnum: 2,
+            ..PLACED
+        },
+        Some(Misplaced {
+            wanted: 3,
+            found: 2,
+        }),
+    ),
+    (
+        Master {
+            log_lnum: 7,
+            root_lnum: 9,
+            ..PLACED
+        },
+        Some(Misplaced {
+            wanted: 7,
+            found: 7,
+        }),
+    ),
+    (
+        Master {
+            root_lnum: 74,
+            ..PLACED
+        },
+        Some(Misplaced {
+            wanted: 74,
+            found: 74,
+        }),
+    ),
+    (
+        Master {
+            root_offs: 16337,
+            ..PLACED
+        },
+        Some(Misplaced {
+            wanted: 16336,
+            found: 16337,
+        }),
+    ),
+    (
+        Master {
+            root_len: 20000,
+            root_offs: 1,
+            ..PLACED
+        },
+        Some(Misplaced {
+            wanted: 0,
+            found: 1,
+        }),
+    ),
+    (
+        Master {
+            ihead_offs: 16385,
+            ..PLACED
+        },
+        Some(Misplaced {
+            wanted: 16384,
+            found: 16385,
+        }),
+    ),
+    (
+        Master {
+            lpt_lnum: 9,
+            ..PLACED
+        },
+        Some(Misplaced {
+            wanted: 9,
+            found: 9,
+        }),
+    ),
+    (
+        Master {
+            lpt_offs: 16384,
+            ..PLACED
+        },
+        Some(Misplaced {
+            wanted: 16373,
+            found: 16384,
+        }),
+    ),
+    (
+        Master {
+            ltab_lnum: 6,
+            ..PLACED
+        },
+        Some(Misplaced {
+            wanted: 7,
+            found: 6,
+        }),
+    ),
+];
+
+#[test]
+fn first_address_outside_its_area_is_told(rt: HostRuntime) {
+    let Ok(geometry) = Geometry::new(&RawGeometry::plain(16384, 512, 64, 8)) else {
+        panic!(&rt; "the geometry is in range");
+    };
+    for (master, wanted) in ADDRESSES {
+        assert_eq!(rt; misplaced_address(master, &geometry), *wanted);
+    }
 }
