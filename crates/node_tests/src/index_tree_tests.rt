@@ -1,165 +1,261 @@
-// Weights of small trees, worked out by hand.
+// Small trees at a fanout of 3, worked out by hand.
 
 ghost use Rattle.std.specs.Prelude.{◌≡◌};
 ghost use Rattle.ubifs_base.specs.Key.{IsKey};
-ghost use Rattle.ubifs_base.specs.declared.key.Key.TheVariants.{Ino};
 
 use index_tree::{Index, Leaf};
-use std::test::Fail;
-use ubifs_base::Key;
+use std::alloc::Global;
+use ubifs_base::{Key, Memory};
 
-fn leaf(ino: u32, offs: u32) -> Leaf
-    ensures key { result.key ≡ Ino ino }
+// A key: of an inode, of its block, or of an entry with this hash.
+#[derive(Clone, Copy)]
+enum At {
+    Ino(u32),
+    Block(u32, u8),
+    Dent(u32, u8),
+}
+
+// A leaf by its key and offset.
+type Row = (At, u32);
+
+// What is done or asked, and the answer.
+#[derive(Clone, Copy)]
+enum Step {
+    Insert(At, u32),
+    Remove(At, u32, bool),
+    // The leaf at the first offset gives way to one at the second.
+    Replace(At, u32, u32, bool),
+    RemoveRange(At, At, u64),
+    Find(At, u32, Option<Row>),
+    After(At, Option<Row>),
+    LastOf(u32, Option<Row>),
+    Weight(u64),
+    Nodes(u64),
+    // What is listed of four ascending leaves, and the copy that is made of it.
+    Listed,
+    Copied,
+}
+
+use At::{Block, Dent, Ino};
+use Step::{
+    After, Copied, Find, Insert, LastOf, Listed, Nodes, Remove, RemoveRange, Replace, Weight,
+};
+
+// Eight ascending insertions.
+const ASCENDING: &[Step] = &[
+    Insert(Ino(1), 0),
+    Weight(1),
+    Insert(Ino(2), 0),
+    Weight(1),
+    Insert(Ino(3), 0),
+    Weight(2),
+    Insert(Ino(4), 0),
+    Weight(3),
+    Insert(Ino(5), 0),
+    Weight(4),
+    Insert(Ino(6), 0),
+    Weight(5),
+    Insert(Ino(7), 0),
+    Weight(6),
+    Insert(Ino(8), 0),
+    Weight(7),
+];
+
+// Four ascending insertions, and the last two leaves go again.
+const REMOVALS: &[Step] = &[
+    Insert(Ino(1), 0),
+    Insert(Ino(2), 0),
+    Insert(Ino(3), 0),
+    Insert(Ino(4), 0),
+    Remove(Ino(4), 0, true),
+    Weight(3),
+    Remove(Ino(3), 0, true),
+    Weight(1),
+    Nodes(1),
+    Remove(Ino(3), 0, false),
+];
+
+// Leaves of one key stand in the order in which they came.
+const EQUAL_KEYS: &[Step] = &[
+    Insert(Ino(7), 16),
+    Insert(Ino(7), 0),
+    Insert(Ino(7), 8),
+    Insert(Ino(7), 24),
+    Find(Ino(7), 0, Some((Ino(7), 16))),
+    Find(Ino(7), 1, Some((Ino(7), 0))),
+    Find(Ino(7), 3, Some((Ino(7), 24))),
+    Find(Ino(7), 4, None),
+];
+
+// A range of keys goes, its last key too.
+const RANGE: &[Step] = &[
+    Insert(Ino(1), 0),
+    Insert(Ino(2), 0),
+    Insert(Ino(3), 0),
+    Insert(Ino(4), 0),
+    Insert(Ino(5), 0),
+    Insert(Ino(6), 0),
+    Insert(Ino(7), 0),
+    Insert(Ino(8), 0),
+    RemoveRange(Ino(3), Ino(8), 6),
+    Find(Ino(8), 0, None),
+    Nodes(1),
+];
+
+// A leaf gives way to another of its key, in place, and only where it is there.
+const REPLACEMENT: &[Step] = &[
+    Insert(Ino(7), 16),
+    Insert(Ino(7), 0),
+    Insert(Ino(7), 8),
+    Insert(Ino(7), 24),
+    Replace(Ino(7), 0, 32, true),
+    Replace(Ino(7), 0, 40, false),
+    Find(Ino(7), 0, Some((Ino(7), 16))),
+    Find(Ino(7), 1, Some((Ino(7), 32))),
+    Find(Ino(7), 2, Some((Ino(7), 8))),
+];
+
+// The nodes of an index, and the index that is made of them again.
+const LISTED: &[Step] = &[
+    Insert(Ino(1), 0),
+    Insert(Ino(2), 0),
+    Insert(Ino(3), 0),
+    Insert(Ino(4), 0),
+    Listed,
+    Copied,
+];
+
+// Leaf after leaf, from below the first key to behind the last.
+const FOLLOWING: &[Step] = &[
+    Insert(Ino(2), 0),
+    Insert(Ino(4), 0),
+    Insert(Ino(4), 0),
+    Insert(Ino(6), 0),
+    Insert(Ino(8), 0),
+    Insert(Ino(10), 0),
+    After(Ino(1), Some((Ino(2), 0))),
+    After(Ino(2), Some((Ino(4), 0))),
+    After(Ino(4), Some((Ino(6), 0))),
+    After(Ino(7), Some((Ino(8), 0))),
+    After(Ino(10), None),
+];
+
+// The greatest block of an inode, between an inode and an entry.
+const LAST_BLOCKS: &[Step] = &[
+    Insert(Ino(7), 0),
+    Insert(Block(7, 9), 0),
+    Insert(Block(7, 2), 0),
+    Insert(Dent(7, 1), 0),
+    Insert(Block(8, 3), 0),
+    LastOf(7, Some((Block(7, 9), 0))),
+    LastOf(8, Some((Block(8, 3), 0))),
+    LastOf(6, None),
+    LastOf(9, None),
+];
+
+const TREES: &[&[Step]] = &[
+    ASCENDING,
+    REMOVALS,
+    EQUAL_KEYS,
+    RANGE,
+    REPLACEMENT,
+    LISTED,
+    FOLLOWING,
+    LAST_BLOCKS,
+];
+
+fn key(at: At) -> Key
+    ensures { IsKey result }
+{
+    match at {
+        Ino(ino) => Key::Ino { ino },
+        Block(ino, block) => Key::Block {
+            ino,
+            block: block as u32,
+        },
+        Dent(dir, hash) => Key::Dent {
+            dir,
+            hash: hash as u32,
+        },
+    }
+}
+
+fn leaf(key: Key, offs: u32) -> Leaf
+    requires { IsKey key }
+    ensures key { result.key ≡ key }
     ensures is_key { IsKey result.key }
 {
     Leaf {
-        key: Key::Ino { ino },
+        key,
         lnum: 1,
         offs,
         len: 8,
     }
 }
 
-fn at(key: Key) -> Leaf
-    requires { IsKey key }
-    ensures { IsKey result.key }
-{
-    Leaf {
-        key,
-        lnum: 1,
-        offs: 0,
-        len: 8,
+// Whether it is the leaf of a row, or none where there is no row.
+fn is_leaf(found: Option<Leaf>, row: Option<Row>) -> bool {
+    match (found, row) {
+        (Some(found), Some((at, offs))) => found == leaf(key(at), offs),
+        (None, None) => true,
+        _ => false,
     }
 }
 
-// Eight ascending insertions at a fanout of 3.
-#[test]
-fn weights_of_ascending_insertions(rt: HostRuntime) -> Result<(), Fail> {
-    let mut index = Index::new(3)?;
-    let mut ino = 1u32;
-    for weight in [1u64, 1, 2, 3, 4, 5, 6, 7] {
-        index.insert(rt.alloc(), leaf(ino, 0))?;
-        assert_eq!(rt; index.weight(), weight);
-        ino = ino.wrapping_add(1);
+// Whether three nodes are listed: two leaves, two leaves, and the root.
+fn is_listed(alloc: Global, index: &Index) -> Result<bool, Memory> {
+    let nodes = index.list(alloc)?;
+    match nodes.as_slice() {
+        [first, second, root] => Ok(
+            first.leaves.as_slice() == [leaf(key(Ino(1)), 0), leaf(key(Ino(2)), 0)].as_slice()
+                && second.count == 2
+                && root.level == 1,
+        ),
+        _ => Ok(false),
     }
-    Ok(())
 }
 
-// Four ascending insertions, and the last two leaves go again.
-#[test]
-fn weights_of_removals(rt: HostRuntime) -> Result<(), Fail> {
-    let mut index = Index::new(3)?;
-    for ino in 1..5u32 {
-        index.insert(rt.alloc(), leaf(ino, 0))?;
-    }
-    assert!(rt; index.remove(&leaf(4, 0)));
-    assert_eq!(rt; index.weight(), 3);
-    assert!(rt; index.remove(&leaf(3, 0)));
-    assert_eq!(rt; index.weight(), 1);
-    assert_eq!(rt; index.nodes(), 1);
-    assert!(rt; !index.remove(&leaf(3, 0)));
-    Ok(())
+fn is_copied(alloc: Global, index: &Index) -> Result<bool, Memory> {
+    let again = index.copied(alloc)?;
+    Ok(again.weight() == 3 && is_leaf(again.find(&key(Ino(4)), 0), Some((Ino(4), 0))))
 }
 
-// Leaves of one key stand in the order in which they came.
-#[test]
-fn equal_keys_keep_their_order(rt: HostRuntime) -> Result<(), Fail> {
-    let mut index = Index::new(3)?;
-    for offs in [16u32, 0, 8, 24] {
-        index.insert(rt.alloc(), leaf(7, offs))?;
+fn is_answered(alloc: Global, index: &mut Index, step: Step) -> Result<bool, Memory> {
+    match step {
+        Insert(at, offs) => {
+            index.insert(alloc, leaf(key(at), offs))?;
+            Ok(true)
+        }
+        Remove(at, offs, wanted) => Ok(index.remove(&leaf(key(at), offs)) == wanted),
+        Replace(at, old, new, wanted) => {
+            let key = key(at);
+            Ok(index.replace(&leaf(key, old), leaf(key, new)) == wanted)
+        }
+        RemoveRange(from, to, wanted) => Ok(index.remove_range(&key(from), &key(to)) == wanted),
+        Find(at, nth, wanted) => Ok(is_leaf(index.find(&key(at), nth), wanted)),
+        After(at, wanted) => Ok(is_leaf(index.after(&key(at)), wanted)),
+        LastOf(ino, wanted) => Ok(is_leaf(index.last_of(ino), wanted)),
+        Weight(wanted) => Ok(index.weight() == wanted),
+        Nodes(wanted) => Ok(index.nodes() == wanted),
+        Listed => is_listed(alloc, index),
+        Copied => is_copied(alloc, index),
     }
-    let key = Key::Ino { ino: 7 };
-    assert_eq!(rt; index.find(&key, 0), Some(leaf(7, 16)));
-    assert_eq!(rt; index.find(&key, 1), Some(leaf(7, 0)));
-    assert_eq!(rt; index.find(&key, 3), Some(leaf(7, 24)));
-    assert_eq!(rt; index.find(&key, 4), None);
-    Ok(())
 }
 
-// A range of keys goes, its last key too.
-#[test]
-fn range_goes_with_its_last_key(rt: HostRuntime) -> Result<(), Fail> {
+// The first step that isn't answered so.
+fn first_wrong(alloc: Global, steps: &[Step]) -> Result<Option<usize>, Memory> {
     let mut index = Index::new(3)?;
-    for ino in 1..9u32 {
-        index.insert(rt.alloc(), leaf(ino, 0))?;
+    for (number, step) in steps.iter().enumerate() {
+        if !is_answered(alloc, &mut index, *step)? {
+            return Ok(Some(number));
+        }
     }
-    assert_eq!(rt;
-        index.remove_range(&Key::Ino { ino: 3 }, &Key::Ino { ino: 8 }),
-        6
-    );
-    assert_eq!(rt; index.find(&Key::Ino { ino: 8 }, 0), None);
-    assert_eq!(rt; index.nodes(), 1);
-    Ok(())
+    Ok(None)
 }
 
-// A leaf gives way to another of its key, in place, and only where it is there.
 #[test]
-fn replacement_keeps_the_place(rt: HostRuntime) -> Result<(), Fail> {
-    let mut index = Index::new(3)?;
-    for offs in [16u32, 0, 8, 24] {
-        index.insert(rt.alloc(), leaf(7, offs))?;
+fn each_step_is_answered(rt: HostRuntime) {
+    for (number, steps) in TREES.iter().enumerate() {
+        assert_eq!(rt; first_wrong(rt.alloc(), steps), Ok(None), "tree {number}");
     }
-    assert!(rt; index.replace(&leaf(7, 0), leaf(7, 32)));
-    assert!(rt; !index.replace(&leaf(7, 0), leaf(7, 40)));
-    let key = Key::Ino { ino: 7 };
-    assert_eq!(rt; index.find(&key, 0), Some(leaf(7, 16)));
-    assert_eq!(rt; index.find(&key, 1), Some(leaf(7, 32)));
-    assert_eq!(rt; index.find(&key, 2), Some(leaf(7, 8)));
-    Ok(())
-}
-
-// The nodes of an index, and the index that is made of them again.
-#[test]
-fn index_is_made_of_its_nodes(rt: HostRuntime) -> Result<(), Fail> {
-    let mut index = Index::new(3)?;
-    for ino in 1..5u32 {
-        index.insert(rt.alloc(), leaf(ino, 0))?;
-    }
-    let nodes = index.list(rt.alloc())?;
-    assert_eq!(rt; nodes.len(), 3);
-    assert_eq!(rt;
-        nodes[0].leaves.as_slice(),
-        [leaf(1, 0), leaf(2, 0)].as_slice()
-    );
-    assert_eq!(rt; nodes[1].count, 2);
-    assert_eq!(rt; nodes[2].level, 1);
-    let again = index.copied(rt.alloc())?;
-    assert_eq!(rt; again.weight(), 3);
-    assert_eq!(rt; again.find(&Key::Ino { ino: 4 }, 0), Some(leaf(4, 0)));
-    Ok(())
-}
-
-// Leaf after leaf, from below the first key to behind the last.
-#[test]
-fn leaves_follow_keys(rt: HostRuntime) -> Result<(), Fail> {
-    let mut index = Index::new(3)?;
-    for ino in [2u32, 4, 4, 6, 8, 10] {
-        index.insert(rt.alloc(), leaf(ino, 0))?;
-    }
-    assert_eq!(rt; index.after(&Key::Ino { ino: 1 }), Some(leaf(2, 0)));
-    assert_eq!(rt; index.after(&Key::Ino { ino: 2 }), Some(leaf(4, 0)));
-    assert_eq!(rt; index.after(&Key::Ino { ino: 4 }), Some(leaf(6, 0)));
-    assert_eq!(rt; index.after(&Key::Ino { ino: 7 }), Some(leaf(8, 0)));
-    assert_eq!(rt; index.after(&Key::Ino { ino: 10 }), None);
-    Ok(())
-}
-
-// The greatest block of an inode, between an inode and an entry.
-#[test]
-fn last_block_of_an_inode(rt: HostRuntime) -> Result<(), Fail> {
-    let mut index = Index::new(3)?;
-    for key in [
-        Key::Ino { ino: 7 },
-        Key::Block { ino: 7, block: 9 },
-        Key::Block { ino: 7, block: 2 },
-        Key::Dent { dir: 7, hash: 1 },
-        Key::Block { ino: 8, block: 3 },
-    ] {
-        index.insert(rt.alloc(), at(key))?;
-    }
-    assert_eq!(rt; index.last_of(7), Some(at(Key::Block { ino: 7, block: 9 })));
-    assert_eq!(rt; index.last_of(8), Some(at(Key::Block { ino: 8, block: 3 })));
-    assert_eq!(rt; index.last_of(6), None);
-    assert_eq!(rt; index.last_of(9), None);
-    Ok(())
 }

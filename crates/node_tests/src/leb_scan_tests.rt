@@ -2,9 +2,7 @@
 
 use leb_scan::*;
 use std::alloc::{AllocError, Global};
-use std::process::Abort;
-use std::test::*;
-use ubifs_base::NodeType;
+use ubifs_base::{Memory, NodeType};
 
 // LEB 12 from 4096 on belongs to head 1: sequence number 11.
 const REFERENCE: &[u8; 64] =
@@ -35,15 +33,152 @@ const ODD_PADDING: &[u8; 28] =
     b"\x31\x18\x10\x06\x59\x3a\x06\x86\x00\x00\x00\x00\x00\x00\x00\x00\x1c\x00\x00\x00\
     \x05\x00\x00\x00\x05\x00\x00\x00";
 
-fn found(offs: u32, len: u32, kind: NodeType, sqnum: u64) -> Found {
-    Found {
-        offs,
-        len,
-        kind,
-        group: 0,
-        sqnum,
-    }
+const REFERENCE_FOUND: Found = Found {
+    offs: 0,
+    len: 64,
+    kind: NodeType::Reference,
+    group: 0,
+    sqnum: 11,
+};
+
+const TRUNCATION_FOUND: Found = Found {
+    offs: 0,
+    len: 56,
+    kind: NodeType::Truncation,
+    group: 0,
+    sqnum: 10,
+};
+
+const BLOCK_FOUND: Found = Found {
+    offs: 0,
+    len: 51,
+    kind: NodeType::Data,
+    group: 0,
+    sqnum: 8,
+};
+
+const PADDING_FOUND: Found = Found {
+    offs: 0,
+    len: 28,
+    kind: NodeType::Padding,
+    group: 0,
+    sqnum: 0,
+};
+
+// The parts of a LEB, one behind another, its nodes, and where and how its text ends.
+#[derive(Clone, Copy)]
+struct Text<'a> {
+    parts: &'a [&'a [u8]],
+    nodes: &'a [Found],
+    end: u32,
+    tail: Tail,
 }
+
+const TEXTS: &[Text<'static>] = &[
+    // Nothing, and nothing written.
+    Text {
+        parts: &[],
+        nodes: &[],
+        end: 0,
+        tail: Tail::Clean,
+    },
+    Text {
+        parts: &[&[0xff; 19]],
+        nodes: &[],
+        end: 0,
+        tail: Tail::Clean,
+    },
+    // No node and no gap.
+    Text {
+        parts: &[&[0; 8]],
+        nodes: &[],
+        end: 0,
+        tail: Tail::Torn,
+    },
+    // One byte is written.
+    Text {
+        parts: &[&[0xff; 18], &[0xfe]],
+        nodes: &[],
+        end: 0,
+        tail: Tail::Torn,
+    },
+    // Too few bytes for a word.
+    Text {
+        parts: &[&[0xce; 8], &[0xce; 7]],
+        nodes: &[],
+        end: 8,
+        tail: Tail::Torn,
+    },
+    Text {
+        parts: &[&[0xce; 8], &[0xff; 3]],
+        nodes: &[],
+        end: 8,
+        tail: Tail::Clean,
+    },
+    // A reference, and nothing behind it.
+    Text {
+        parts: &[REFERENCE, &[0xff; 16]],
+        nodes: &[REFERENCE_FOUND],
+        end: 64,
+        tail: Tail::Clean,
+    },
+    // Words of padding before a node and behind it.
+    Text {
+        parts: &[&[0xce; 16], TRUNCATION, &[0xce; 8], &[0xff; 8]],
+        nodes: &[Found {
+            offs: 16,
+            ..TRUNCATION_FOUND
+        }],
+        end: 80,
+        tail: Tail::Clean,
+    },
+    // A node in the last bytes, and one with anything up to the next multiple of 8.
+    Text {
+        parts: &[BLOCK],
+        nodes: &[BLOCK_FOUND],
+        end: 51,
+        tail: Tail::Clean,
+    },
+    Text {
+        parts: &[BLOCK, &[7; 5], BLOCK, &[0xce; 3]],
+        nodes: &[
+            BLOCK_FOUND,
+            Found {
+                offs: 56,
+                ..BLOCK_FOUND
+            },
+        ],
+        end: 110,
+        tail: Tail::Clean,
+    },
+    // A padding node with its gap, and a node behind it.
+    Text {
+        parts: &[PADDING, &[7; 4], TRUNCATION],
+        nodes: &[
+            PADDING_FOUND,
+            Found {
+                offs: 32,
+                ..TRUNCATION_FOUND
+            },
+        ],
+        end: 88,
+        tail: Tail::Clean,
+    },
+    // A gap that passes the end.
+    Text {
+        parts: &[TRUNCATION, PADDING, &[0xff; 3]],
+        nodes: &[TRUNCATION_FOUND],
+        end: 56,
+        tail: Tail::Torn,
+    },
+    // A gap that doesn't end at a multiple of 8.
+    Text {
+        parts: &[TRUNCATION, ODD_PADDING, &[0xff; 12]],
+        nodes: &[TRUNCATION_FOUND],
+        end: 56,
+        tail: Tail::Torn,
+    },
+];
 
 // The bytes of a LEB, one part behind another.
 fn joined(alloc: Global, parts: &[&[u8]]) -> Result<Vec<u8>, AllocError> {
@@ -54,142 +189,65 @@ fn joined(alloc: Global, parts: &[&[u8]]) -> Result<Vec<u8>, AllocError> {
     Ok(leb)
 }
 
-// The text of each LEB, by its parts.
-fn is_text(
-    rt: &impl Abort,
-    alloc: Global,
-    parts: &[&[u8]],
-    nodes: &[Found],
-    end: u32,
-    tail: Tail,
-) -> Result<(), Fail> {
-    let leb = joined(alloc, parts)?;
-    assert!(rt; leb.len() < 4096);
-    let text = scan(alloc, leb.as_slice(), 0)?;
-    assert_eq!(rt; text.nodes.as_slice(), nodes);
-    assert_eq!(rt; text.end, end);
-    assert_eq!(rt; text.tail, tail);
-    assert_eq!(rt; text_end(leb.as_slice(), 0), (end, tail));
-    Ok(())
-}
-
-#[test]
-fn ends(rt: HostRuntime) -> Result<(), Fail> {
-    let alloc = rt.alloc();
-    // Nothing, and nothing written.
-    is_text(&rt, alloc, &[], &[], 0, Tail::Clean)?;
-    is_text(&rt, alloc, &[&[0xff; 19]], &[], 0, Tail::Clean)?;
-    // No node and no gap.
-    is_text(&rt, alloc, &[&[0; 8]], &[], 0, Tail::Torn)?;
-    // One byte is written.
-    is_text(&rt, alloc, &[&[0xff; 18], &[0xfe]], &[], 0, Tail::Torn)?;
-    // Too few bytes for a word.
-    is_text(&rt, alloc, &[&[0xce; 8], &[0xce; 7]], &[], 8, Tail::Torn)?;
-    is_text(&rt, alloc, &[&[0xce; 8], &[0xff; 3]], &[], 8, Tail::Clean)
-}
-
-#[test]
-fn nodes(rt: HostRuntime) -> Result<(), Fail> {
-    let alloc = rt.alloc();
-    let reference = found(0, 64, NodeType::Reference, 11);
-    let truncation = found(0, 56, NodeType::Truncation, 10);
-    let block = found(0, 51, NodeType::Data, 8);
-    // A reference, and nothing behind it.
-    is_text(
-        &rt,
-        alloc,
-        &[REFERENCE, &[0xff; 16]],
-        &[reference],
-        64,
-        Tail::Clean,
-    )?;
-    // Words of padding before a node and behind it.
-    is_text(
-        &rt,
-        alloc,
-        &[&[0xce; 16], TRUNCATION, &[0xce; 8], &[0xff; 8]],
-        &[Found {
-            offs: 16,
-            ..truncation
-        }],
-        80,
-        Tail::Clean,
-    )?;
-    // A node in the last bytes, and one with anything up to the next multiple of 8.
-    is_text(&rt, alloc, &[BLOCK], &[block], 51, Tail::Clean)?;
-    is_text(
-        &rt,
-        alloc,
-        &[BLOCK, &[7; 5], BLOCK, &[0xce; 3]],
-        &[block, Found { offs: 56, ..block }],
-        110,
-        Tail::Clean,
-    )?;
-    // A node of which a byte is another.
-    is_text(
-        &rt,
-        alloc,
-        &[TRUNCATION, REFERENCE.split_at(63).0, &[1]],
-        &[truncation],
-        56,
-        Tail::Torn,
+fn is_read_so(alloc: Global, text: &Text<'_>) -> Result<bool, Memory> {
+    let leb = joined(alloc, text.parts)?;
+    let leb = leb.as_slice();
+    if leb.len() >= 4096 {
+        return Ok(false);
+    }
+    let read = scan(alloc, leb, 0)?;
+    Ok(
+        read.nodes.as_slice() == text.nodes
+            && read.end == text.end
+            && read.tail == text.tail
+            && text_end(leb, 0) == (text.end, text.tail),
     )
 }
 
 #[test]
-fn padding(rt: HostRuntime) -> Result<(), Fail> {
-    let alloc = rt.alloc();
-    let truncation = found(0, 56, NodeType::Truncation, 10);
-    let padding = found(0, 28, NodeType::Padding, 0);
-    // A padding node with its gap, and a node behind it.
-    is_text(
-        &rt,
-        alloc,
-        &[PADDING, &[7; 4], TRUNCATION],
-        &[
-            padding,
-            Found {
-                offs: 32,
-                ..truncation
-            },
-        ],
-        88,
-        Tail::Clean,
-    )?;
-    // A gap that passes the end.
-    is_text(
-        &rt,
-        alloc,
-        &[TRUNCATION, PADDING, &[0xff; 3]],
-        &[truncation],
-        56,
-        Tail::Torn,
-    )?;
-    // A gap that doesn't end at a multiple of 8.
-    is_text(
-        &rt,
-        alloc,
-        &[TRUNCATION, ODD_PADDING, &[0xff; 12]],
-        &[truncation],
-        56,
-        Tail::Torn,
-    )
+fn texts_are_read(rt: HostRuntime) {
+    for (number, text) in TEXTS.iter().enumerate() {
+        assert_eq!(rt; is_read_so(rt.alloc(), text), Ok(true), "text {number}");
+    }
 }
 
-#[test]
-fn one_by_one(rt: HostRuntime) -> Result<(), Fail> {
-    let leb = joined(
-        rt.alloc(),
-        &[BLOCK, &[0xce; 5], &[0xce; 8], TRUNCATION, &[0; 1]],
-    )?;
-    assert!(rt; leb.len() == 121);
+// A node of which a byte is another.
+fn is_torn_in_a_node(alloc: Global) -> Result<bool, Memory> {
+    let torn = Text {
+        parts: &[TRUNCATION, REFERENCE.split_at(63).0, &[1]],
+        nodes: &[TRUNCATION_FOUND],
+        end: 56,
+        tail: Tail::Torn,
+    };
+    is_read_so(alloc, &torn)
+}
+
+// Node after node from the second on, and the place behind the last.
+fn is_read_by_node(alloc: Global) -> Result<bool, Memory> {
+    let leb = joined(alloc, &[BLOCK, &[0xce; 5], &[0xce; 8], TRUNCATION, &[0; 1]])?;
+    let leb = leb.as_slice();
+    if leb.len() != 121 {
+        return Ok(false);
+    }
     let mut scanner = Scanner::new(56);
+    let first = scanner.next(leb);
+    let second = scanner.next(leb);
+    Ok(
+        first
+            == Some(Found {
+                offs: 64,
+                ..TRUNCATION_FOUND
+            })
+            && second.is_none()
+            && scanner.place() == 120
+            && scanner.tail(leb) == Tail::Torn,
+    )
+}
+
+#[test]
+fn nodes_are_read_one_by_one(rt: HostRuntime) {
     assert_eq!(rt;
-        scanner.next(leb.as_slice()),
-        Some(found(64, 56, NodeType::Truncation, 10))
+        (is_torn_in_a_node(rt.alloc()), is_read_by_node(rt.alloc())),
+        (Ok(true), Ok(true))
     );
-    assert_eq!(rt; scanner.next(leb.as_slice()), None);
-    assert_eq!(rt; scanner.place(), 120);
-    assert_eq!(rt; scanner.tail(leb.as_slice()), Tail::Torn);
-    Ok(())
 }

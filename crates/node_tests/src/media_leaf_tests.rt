@@ -1,8 +1,8 @@
 // Nodes worked out by hand from the layout of ubifs-media.h, their checksums by zlib's crc32.
 
 use media_leaf::*;
-use std::test::*;
-use ubifs_base::{Bytes, Name};
+use std::alloc::Global;
+use ubifs_base::{Bytes, Memory, Name};
 
 // Inode 65, a symbolic link to `target`: sequence number 7, in a group.
 const INODE: &[u8; 166] =
@@ -34,8 +34,7 @@ const TRUNCATION: &[u8; 56] =
     \x04\x00\x00\x00\x41\x00\x00\x00\x00\x00\x00\x00\x00\x00\x00\x00\x00\x00\x00\x00\
     \x10\x27\x00\x00\x00\x00\x00\x00\x01\x10\x00\x00\x00\x00\x00\x00";
 
-#[test]
-fn inode(rt: HostRuntime) -> Result<(), Fail> {
+fn is_inode(alloc: Global) -> Result<bool, Memory> {
     let node = InoNode {
         ino: 65,
         size: 6,
@@ -50,84 +49,107 @@ fn inode(rt: HostRuntime) -> Result<(), Fail> {
         xattr_cnt: 0,
         xattr_size: 0,
         xattr_names: 0,
-        bytes: Bytes::from_slice(rt.alloc(), b"target")?,
+        bytes: Bytes::from_slice(alloc, b"target")?,
     };
-    assert_eq!(rt; node.len(), 166);
     let mut out = [0xff; 166];
     node.encode(7, 1, &mut out);
-    assert_eq!(rt; out.as_slice(), INODE.as_slice());
-    let read = InoNode::decode(rt.alloc(), &out)?.ok_or("an inode")?;
-    assert_eq!(rt; read.mode, 0o120777);
-    assert_eq!(rt; read.bytes.as_slice(), b"target".as_slice());
-    Ok(())
+    if node.len() != 166 || out.as_slice() != INODE.as_slice() {
+        return Ok(false);
+    }
+    match InoNode::decode(alloc, &out)? {
+        Some(read) => Ok(read.mode == 0o120777 && read.bytes.as_slice() == b"target".as_slice()),
+        None => Ok(false),
+    }
 }
 
-#[test]
-fn block(rt: HostRuntime) -> Result<(), Fail> {
+fn is_block(alloc: Global) -> Result<bool, Memory> {
     let node = DataNode {
         ino: 65,
         block: 3,
-        bytes: Bytes::from_slice(rt.alloc(), b"abc")?,
+        bytes: Bytes::from_slice(alloc, b"abc")?,
     };
-    assert_eq!(rt; node.len(), 51);
     let mut out = [0xff; 51];
     node.encode(8, 0, &mut out);
-    assert_eq!(rt; out.as_slice(), BLOCK.as_slice());
-    let read = DataNode::decode(rt.alloc(), &out)?.ok_or("a block")?;
-    assert_eq!(rt; read.block, 3);
-    assert_eq!(rt; read.bytes.as_slice(), b"abc".as_slice());
-    Ok(())
+    if node.len() != 51 || out.as_slice() != BLOCK.as_slice() {
+        return Ok(false);
+    }
+    match DataNode::decode(alloc, &out)? {
+        Some(read) => Ok(read.block == 3 && read.bytes.as_slice() == b"abc".as_slice()),
+        None => Ok(false),
+    }
 }
 
-#[test]
-fn entry(rt: HostRuntime) -> Result<(), Fail> {
+fn is_entry(alloc: Global) -> Result<bool, Memory> {
     let node = DentNode {
         dir: 1,
         inum: 65,
         kind: 2,
-        name: Name::from_slice(rt.alloc(), b"f")?,
+        name: Name::from_slice(alloc, b"f")?,
         attribute: false,
     };
-    assert_eq!(rt; node.len(), 58);
     let mut out = [0xff; 58];
     node.encode(9, 2, &mut out);
-    assert_eq!(rt; out.as_slice(), ENTRY.as_slice());
-    let read = DentNode::decode(rt.alloc(), &out)?.ok_or("an entry")?;
-    assert_eq!(rt; read.inum, 65);
-    assert_eq!(rt; read.name.as_slice(), b"f".as_slice());
-    assert!(rt; !read.attribute);
-    Ok(())
+    if node.len() != 58 || out.as_slice() != ENTRY.as_slice() {
+        return Ok(false);
+    }
+    match DentNode::decode(alloc, &out)? {
+        Some(read) => Ok(
+            read.inum == 65 && read.name.as_slice() == b"f".as_slice() && !read.attribute,
+        ),
+        None => Ok(false),
+    }
 }
 
-#[test]
-fn truncation(rt: HostRuntime) -> Result<(), Fail> {
+fn is_truncation(alloc: Global) -> Result<bool, Memory> {
     let node = TrunNode {
         ino: 65,
         old_size: 10_000,
         new_size: 4_097,
     };
-    assert_eq!(rt; node.len(), 56);
     let mut out = [0xff; 56];
     node.encode(10, 0, &mut out);
-    assert_eq!(rt; out.as_slice(), TRUNCATION.as_slice());
-    let read = TrunNode::decode(rt.alloc(), &out)?.ok_or("a truncation")?;
-    assert_eq!(rt; read, node);
-    Ok(())
+    Ok(
+        node.len() == 56
+            && out.as_slice() == TRUNCATION.as_slice()
+            && TrunNode::decode(alloc, &out)? == Some(node),
+    )
 }
 
 #[test]
-fn leaves(rt: HostRuntime) -> Result<(), Fail> {
-    let rows: &[(u8, &[u8], bool)] = &[
-        (0, INODE.as_slice(), true),
-        (1, BLOCK.as_slice(), true),
-        (2, ENTRY.as_slice(), true),
-        (4, TRUNCATION.as_slice(), true),
-        (3, ENTRY.as_slice(), false),
-        (5, TRUNCATION.as_slice(), false),
+fn nodes_are_spelled_and_read(rt: HostRuntime) {
+    let nodes = [
+        ("inode", is_inode(rt.alloc())),
+        ("block", is_block(rt.alloc())),
+        ("entry", is_entry(rt.alloc())),
+        ("truncation", is_truncation(rt.alloc())),
     ];
-    for (kind, bytes, wanted) in rows {
-        let (_, body) = bytes.split_at_checked(24).ok_or("a header")?;
-        assert_eq!(rt; is_leaf(*kind, body), *wanted);
+    for (node, is_right) in nodes {
+        assert_eq!(rt; is_right, Ok(true), "{node}");
     }
-    Ok(())
+}
+
+// A type, a node of which the body is taken, and whether that is a body of this type.
+const BODIES: &[(u8, &[u8], bool)] = &[
+    (0, INODE, true),
+    (1, BLOCK, true),
+    (2, ENTRY, true),
+    (4, TRUNCATION, true),
+    (3, ENTRY, false),
+    (5, TRUNCATION, false),
+];
+
+fn is_leaf_behind_its_header(kind: u8, node: &[u8]) -> Option<bool> {
+    let (_, body) = node.split_at_checked(24)?;
+    Some(is_leaf(kind, body))
+}
+
+#[test]
+fn leaves(rt: HostRuntime) {
+    for (kind, node, wanted) in BODIES {
+        assert_eq!(rt;
+            is_leaf_behind_its_header(*kind, node),
+            Some(*wanted),
+            "{kind}"
+        );
+    }
 }

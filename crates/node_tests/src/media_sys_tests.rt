@@ -2,8 +2,8 @@
 
 use media_sys::*;
 use node_fields::u32_at;
-use std::test::*;
-use ubifs_base::{JournalHead, Key};
+use std::alloc::Global;
+use ubifs_base::{JournalHead, Key, Memory};
 
 // Head 2 goes on in LEB 12 from 4096 on: sequence number 11.
 const REFERENCE: &[u8; 64] =
@@ -35,48 +35,38 @@ const ORPHANS: &[u8; 48] =
     \x0b\x00\x00\x00\x06\x00\x00\x00\x00\x00\x00\x80\x41\x00\x00\x00\x00\x00\x00\x00\
     \x42\x00\x00\x00\x00\x00\x00\x00";
 
-#[test]
-fn reference(rt: HostRuntime) -> Result<(), Fail> {
+fn is_reference(alloc: Global) -> bool {
     let node = RefNode {
         lnum: 12,
         offs: 4096,
         head: JournalHead::Data,
     };
-    assert_eq!(rt; node.len(), 64);
     let mut out = [0xff; 64];
     node.encode(11, 0, &mut out);
-    assert_eq!(rt; out.as_slice(), REFERENCE.as_slice());
-    let read = RefNode::decode(rt.alloc(), &out)?.ok_or("a reference")?;
-    assert_eq!(rt; read, node);
-    Ok(())
+    node.len() == 64
+        && out.as_slice() == REFERENCE.as_slice()
+        && RefNode::decode(alloc, &out) == Ok(Some(node))
 }
 
-#[test]
-fn commit_start(rt: HostRuntime) -> Result<(), Fail> {
+fn is_commit_start(alloc: Global) -> bool {
     let node = CommitStart { cmt_no: 5 };
-    assert_eq!(rt; node.len(), 32);
     let mut out = [0xff; 32];
     node.encode(12, 0, &mut out);
-    assert_eq!(rt; out.as_slice(), COMMIT_START.as_slice());
-    let read = CommitStart::decode(rt.alloc(), &out)?.ok_or("a commit start")?;
-    assert_eq!(rt; read, node);
-    Ok(())
+    node.len() == 32
+        && out.as_slice() == COMMIT_START.as_slice()
+        && CommitStart::decode(alloc, &out) == Ok(Some(node))
 }
 
-#[test]
-fn padding(rt: HostRuntime) -> Result<(), Fail> {
+fn is_padding(alloc: Global) -> bool {
     let node = PadNode { pad_len: 100 };
-    assert_eq!(rt; node.len(), 28);
     let mut out = [0xff; 28];
     node.encode(0, 0, &mut out);
-    assert_eq!(rt; out.as_slice(), PADDING.as_slice());
-    let read = PadNode::decode(rt.alloc(), &out)?.ok_or("a padding node")?;
-    assert_eq!(rt; read, node);
-    Ok(())
+    node.len() == 28
+        && out.as_slice() == PADDING.as_slice()
+        && PadNode::decode(alloc, &out) == Ok(Some(node))
 }
 
-#[test]
-fn index(rt: HostRuntime) -> Result<(), Fail> {
+fn is_index(alloc: Global) -> Result<bool, Memory> {
     let first = Branch {
         lnum: 20,
         offs: 0,
@@ -91,34 +81,36 @@ fn index(rt: HostRuntime) -> Result<(), Fail> {
     };
     let node = IdxNode {
         level: 0,
-        branches: vec![in rt.alloc(); first, second]?,
+        branches: vec![in alloc; first, second]?,
     };
-    assert_eq!(rt; node.len(), 68);
     let mut out = [0xff; 68];
     node.encode(13, 0, &mut out);
-    assert_eq!(rt; out.as_slice(), INDEX.as_slice());
-    let read = IdxNode::decode(rt.alloc(), &out)?.ok_or("an index node")?;
-    assert_eq!(rt; read.level, 0);
-    assert_eq!(rt; read.branches.as_slice(), [first, second].as_slice());
-    Ok(())
+    if node.len() != 68 || out.as_slice() != INDEX.as_slice() {
+        return Ok(false);
+    }
+    match IdxNode::decode(alloc, &out)? {
+        Some(read) => Ok(read.level == 0 && read.branches.as_slice() == [first, second].as_slice()),
+        None => Ok(false),
+    }
 }
 
-#[test]
-fn orphans(rt: HostRuntime) -> Result<(), Fail> {
+fn are_orphans(alloc: Global) -> Result<bool, Memory> {
     let node = OrphNode {
         cmt_no: 6,
         last: true,
-        inos: vec![in rt.alloc(); 65, 66]?,
+        inos: vec![in alloc; 65, 66]?,
     };
-    assert_eq!(rt; node.len(), 48);
     let mut out = [0xff; 48];
     node.encode(14, 0, &mut out);
-    assert_eq!(rt; out.as_slice(), ORPHANS.as_slice());
-    let read = OrphNode::decode(rt.alloc(), &out)?.ok_or("an orphan node")?;
-    assert_eq!(rt; read.cmt_no, 6);
-    assert!(rt; read.last);
-    assert_eq!(rt; read.inos.as_slice(), [65, 66].as_slice());
-    Ok(())
+    if node.len() != 48 || out.as_slice() != ORPHANS.as_slice() {
+        return Ok(false);
+    }
+    match OrphNode::decode(alloc, &out)? {
+        Some(read) => Ok(
+            read.cmt_no == 6 && read.last && read.inos.as_slice() == [65, 66].as_slice(),
+        ),
+        None => Ok(false),
+    }
 }
 
 // The number of four bytes at a place of a node.
@@ -129,54 +121,87 @@ fn number_at(node: &[u8], place: usize) -> u32 {
     u32_at(node, place)
 }
 
-// Each field of a master says at which byte it stands.
-#[test]
-fn master(rt: HostRuntime) -> Result<(), Fail> {
-    let node = Master {
-        highest_inum: 24,
-        cmt_no: 32,
-        flags: 40,
-        log_lnum: 44,
-        root_lnum: 48,
-        root_offs: 52,
-        root_len: 56,
-        gc_lnum: 60,
-        ihead_lnum: 64,
-        ihead_offs: 68,
-        index_size: 72,
-        total_free: 80,
-        total_dirty: 88,
-        total_used: 96,
-        total_dead: 104,
-        total_dark: 112,
-        lpt_lnum: 120,
-        lpt_offs: 124,
-        nhead_lnum: 128,
-        nhead_offs: 132,
-        ltab_lnum: 136,
-        ltab_offs: 140,
-        lsave_lnum: 144,
-        lsave_offs: 148,
-        lscan_lnum: 152,
-        empty_lebs: 156,
-        idx_lebs: 160,
-        leb_cnt: 164,
-    };
-    assert_eq!(rt; node.len(), 512);
-    let mut out = [0xff; 512];
-    node.encode(15, 0, &mut out);
-    let places = [
-        24, 32, 40, 44, 48, 52, 56, 60, 64, 68, 72, 80, 88, 96, 104, 112, 120, 124, 128, 132, 136,
-        140, 144, 148, 152, 156, 160, 164,
-    ];
-    for place in places {
-        assert_eq!(rt; number_at(&out, place as usize), place);
+// Whether each number stands at its place.
+fn are_numbers(node: &[u8], rows: &[(usize, u32)]) -> bool {
+    for row in rows {
+        if number_at(node, row.0) != row.1 {
+            return false;
+        }
     }
-    assert_eq!(rt; number_at(&out, 168), 0);
-    assert_eq!(rt; number_at(&out, 508), 0);
-    let read = Master::decode(rt.alloc(), &out)?.ok_or("a master")?;
-    assert_eq!(rt; read, node);
-    Ok(())
+    true
+}
+
+// Each field of a master says at which byte it stands.
+const MASTER: Master = Master {
+    highest_inum: 24,
+    cmt_no: 32,
+    flags: 40,
+    log_lnum: 44,
+    root_lnum: 48,
+    root_offs: 52,
+    root_len: 56,
+    gc_lnum: 60,
+    ihead_lnum: 64,
+    ihead_offs: 68,
+    index_size: 72,
+    total_free: 80,
+    total_dirty: 88,
+    total_used: 96,
+    total_dead: 104,
+    total_dark: 112,
+    lpt_lnum: 120,
+    lpt_offs: 124,
+    nhead_lnum: 128,
+    nhead_offs: 132,
+    ltab_lnum: 136,
+    ltab_offs: 140,
+    lsave_lnum: 144,
+    lsave_offs: 148,
+    lscan_lnum: 152,
+    empty_lebs: 156,
+    idx_lebs: 160,
+    leb_cnt: 164,
+};
+
+const MASTER_NUMBERS: &[(usize, u32)] = &[
+    (24, 24),
+    (32, 32),
+    (40, 40),
+    (44, 44),
+    (48, 48),
+    (52, 52),
+    (56, 56),
+    (60, 60),
+    (64, 64),
+    (68, 68),
+    (72, 72),
+    (80, 80),
+    (88, 88),
+    (96, 96),
+    (104, 104),
+    (112, 112),
+    (120, 120),
+    (124, 124),
+    (128, 128),
+    (132, 132),
+    (136, 136),
+    (140, 140),
+    (144, 144),
+    (148, 148),
+    (152, 152),
+    (156, 156),
+    (160, 160),
+    (164, 164),
+    (168, 0),
+    (508, 0),
+];
+
+fn is_master(alloc: Global) -> bool {
+    let mut out = [0xff; 512];
+    MASTER.encode(15, 0, &mut out);
+    MASTER.len() == 512
+        && are_numbers(&out, MASTER_NUMBERS)
+        && Master::decode(alloc, &out) == Ok(Some(MASTER))
 }
 
 // A plain volume of 1 MiB.
@@ -205,61 +230,77 @@ const VOLUME: Super = Super {
     ro_compat_version: 0,
 };
 
-#[test]
-fn superblock(rt: HostRuntime) -> Result<(), Fail> {
-    assert_eq!(rt; VOLUME.len(), 4096);
+const VOLUME_NUMBERS: &[(usize, u32)] = &[
+    (24, 0),
+    (28, 0x04),
+    (32, 512),
+    (36, 15_872),
+    (40, 66),
+    (44, 67),
+    (48, 126_976),
+    (56, 4),
+    (60, 2),
+    (64, 1),
+    (68, 1),
+    (72, 8),
+    (76, 256),
+    (80, 4),
+    (84, 0x0102),
+    (88, 1_000),
+    (92, 100),
+    (96, 4_096),
+    (104, 1_000_000_000),
+    (108, 0x3332_3130),
+    (120, 0x6665_6463),
+    (124, 0),
+    (128, 0),
+    (4092, 0),
+];
+
+fn is_super(alloc: Global) -> bool {
     let mut out = [0xff; 4096];
     VOLUME.encode(1, 0, &mut out);
-    let numbers = [
-        (24, 0),
-        (28, 0x04),
-        (32, 512),
-        (36, 15_872),
-        (40, 66),
-        (44, 67),
-        (48, 126_976),
-        (56, 4),
-        (60, 2),
-        (64, 1),
-        (68, 1),
-        (72, 8),
-        (76, 256),
-        (80, 4),
-        (84, 0x0102),
-        (88, 1_000),
-        (92, 100),
-        (96, 4_096),
-        (104, 1_000_000_000),
-        (108, 0x3332_3130),
-        (120, 0x6665_6463),
-        (124, 0),
-        (128, 0),
-        (4092, 0),
-    ];
-    for (place, number) in numbers {
-        assert_eq!(rt; number_at(&out, place), number);
+    if VOLUME.len() != 4096 || !are_numbers(&out, VOLUME_NUMBERS) {
+        return false;
     }
-    let read = Super::decode(rt.alloc(), &out)?.ok_or("a superblock")?;
-    assert_eq!(rt; read, VOLUME);
-    assert_eq!(rt; read.raw().min_io, 512);
-    assert_eq!(rt; read.feature(), None);
+    match Super::decode(alloc, &out) {
+        Ok(Some(read)) => read == VOLUME && read.raw().min_io == 512 && read.feature().is_none(),
+        _ => false,
+    }
+}
+
+// A volume of the big model is no plain one.
+fn tells_the_big_model() -> bool {
     let big = Super {
         flags: 0x06,
         ..VOLUME
     };
-    assert_eq!(rt; big.feature(), Some(Feature::BigModel));
-    Ok(())
+    big.feature() == Some(Feature::BigModel)
+}
+
+// Bodies without their headers.
+fn are_bodies() -> bool {
+    let body = REFERENCE.as_slice().split_at(24).1;
+    let padding = PADDING.as_slice().split_at(24).1;
+    is_system(8, body)
+        && !is_system(9, body)
+        && PadNode::from_body(5, padding) == Some(PadNode { pad_len: 100 })
 }
 
 #[test]
-fn bodies(rt: HostRuntime) -> Result<(), Fail> {
-    let body = REFERENCE.as_slice().split_at(24).1;
-    assert!(rt; is_system(8, body));
-    assert!(rt; !is_system(9, body));
-    let padding = PADDING.as_slice().split_at(24).1;
-    assert_eq!(rt;
-        PadNode::from_body(5, padding),
-        Some(PadNode { pad_len: 100 })
-    );
-    Ok(())
+fn nodes_are_spelled_and_read(rt: HostRuntime) {
+    let nodes = [
+        ("reference", is_reference(rt.alloc())),
+        ("commit start", is_commit_start(rt.alloc())),
+        ("padding", is_padding(rt.alloc())),
+        ("index", is_index(rt.alloc()) == Ok(true)),
+        ("orphans", are_orphans(rt.alloc()) == Ok(true)),
+        ("master", is_master(rt.alloc())),
+        ("superblock", is_super(rt.alloc())),
+        ("big model", tells_the_big_model()),
+        ("bodies", are_bodies()),
+    ];
+    for (node, is_right) in nodes {
+        assert!(rt; is_right, "{node}");
+    }
 }
