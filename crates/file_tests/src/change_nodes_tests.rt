@@ -9,7 +9,6 @@ use change_nodes::{group_len, read_change, write_group};
 use fs_model::{Change, Entry, Inode, Kind};
 use media_leaf::{DentNode, InoNode};
 use std::alloc::Global;
-use std::test::Fail;
 use ubifs_base::{Bytes, Memory, Name};
 
 // Inode 65, a symbolic link to `target`: sequence number 8, alone.
@@ -73,8 +72,8 @@ const GROUP: &[u8; 176] =
     \x01\x02\x00\x00\x41\x00\x00\x00\x03\x00\x00\x20\x00\x00\x00\x00\x00\x00\x00\x00\
     \x03\x00\x00\x00\x00\x00\x00\x00\x61\x62\x63\xce\xce\xce\xce\xce";
 
-// A group's bytes, with the sequence numbers from 8 on.
-fn group_bytes(alloc: Global, changes: &[Change]) -> Result<Vec<u8>, Memory>
+// Whether these bytes are the group's, with the sequence numbers from 8 on.
+fn is_spelled(alloc: Global, changes: &[Change], wanted: &[u8]) -> Result<bool, Memory>
     requires nodes { IsTrue (list_all is_node changes.now) }
     requires few { length changes.now < 2 ^ 32 }
 {
@@ -82,11 +81,10 @@ fn group_bytes(alloc: Global, changes: &[Change]) -> Result<Vec<u8>, Memory>
     let mut bytes = Vec::new(alloc);
     bytes.resize(group_len(changes) as usize, 0)?;
     write_group(alloc, changes, &mut sqnum, bytes.as_mut_slice());
-    Ok(bytes)
+    Ok(bytes.as_slice() == wanted)
 }
 
-#[test]
-fn an_inode_is_set(rt: HostRuntime) -> Result<(), Fail> {
+fn an_inode_is_set(alloc: Global) -> Result<bool, Memory> {
     let inode = Inode {
         kind: Kind::Symlink,
         mode: 0o777,
@@ -98,66 +96,53 @@ fn an_inode_is_set(rt: HostRuntime) -> Result<(), Fail> {
         atime: 1,
         ctime: 2,
         mtime: 3,
-        extra: Bytes::from_slice(rt.alloc(), b"target")?,
+        extra: Bytes::from_slice(alloc, b"target")?,
     };
-    let bytes = group_bytes(rt.alloc(), &[Change::SetInode { ino: 65, inode }])?;
-    assert_eq!(rt; bytes.as_slice(), INODE.as_slice());
-    Ok(())
+    is_spelled(alloc, &[Change::SetInode { ino: 65, inode }], INODE)
 }
 
-#[test]
-fn an_entry_is_set(rt: HostRuntime) -> Result<(), Fail> {
+fn an_entry_is_set(alloc: Global) -> Result<bool, Memory> {
     let entry = Entry {
         dir: 1,
-        name: Name::from_slice(rt.alloc(), b"f")?,
+        name: Name::from_slice(alloc, b"f")?,
         ino: 65,
         kind: Kind::Symlink,
     };
-    let bytes = group_bytes(rt.alloc(), &[Change::SetEntry { entry }])?;
-    assert_eq!(rt; bytes.as_slice(), ENTRY.as_slice());
-    Ok(())
+    is_spelled(alloc, &[Change::SetEntry { entry }], ENTRY)
 }
 
-#[test]
-fn an_entry_goes(rt: HostRuntime) -> Result<(), Fail> {
-    let name = Name::from_slice(rt.alloc(), b"f")?;
-    let bytes = group_bytes(rt.alloc(), &[Change::DropEntry { dir: 1, name }])?;
-    assert_eq!(rt; bytes.as_slice(), DROPPED.as_slice());
-    Ok(())
+fn an_entry_goes(alloc: Global) -> Result<bool, Memory> {
+    let name = Name::from_slice(alloc, b"f")?;
+    is_spelled(alloc, &[Change::DropEntry { dir: 1, name }], DROPPED)
 }
 
-#[test]
-fn a_block_is_set(rt: HostRuntime) -> Result<(), Fail> {
-    let bytes = Bytes::from_slice(rt.alloc(), b"abc")?;
+fn a_block_is_set(alloc: Global) -> Result<bool, Memory> {
+    let bytes = Bytes::from_slice(alloc, b"abc")?;
     let change = Change::SetBlock {
         ino: 65,
         block: 3,
         bytes,
     };
-    let bytes = group_bytes(rt.alloc(), &[change])?;
-    assert_eq!(rt; bytes.as_slice(), BLOCK.as_slice());
-    Ok(())
+    is_spelled(alloc, &[change], BLOCK)
 }
 
-#[test]
-fn a_file_is_cut_and_an_inode_goes(rt: HostRuntime) -> Result<(), Fail> {
+fn a_file_is_cut(alloc: Global) -> Result<bool, Memory> {
     let cut = Change::CutBlocks {
         ino: 65,
         old_size: 10_000,
         new_size: 4_097,
     };
-    let bytes = group_bytes(rt.alloc(), &[cut])?;
-    assert_eq!(rt; bytes.as_slice(), TRUNCATION.as_slice());
-    let bytes = group_bytes(rt.alloc(), &[Change::DropInode { ino: 65 }])?;
-    assert_eq!(rt; bytes.as_slice(), GONE.as_slice());
-    Ok(())
+    is_spelled(alloc, &[cut], TRUNCATION)
+}
+
+fn an_inode_goes(alloc: Global) -> Result<bool, Memory> {
+    is_spelled(alloc, &[Change::DropInode { ino: 65 }], GONE)
 }
 
 // Group types 1, 1 and 2.
-#[test]
-fn three_changes_are_a_group(rt: HostRuntime) -> Result<(), Fail> {
-    let name = Name::from_slice(rt.alloc(), b"f")?;
-    let bytes = Bytes::from_slice(rt.alloc(), b"abc")?;
+fn three_changes_are_a_group(alloc: Global) -> Result<bool, Memory> {
+    let name = Name::from_slice(alloc, b"f")?;
+    let bytes = Bytes::from_slice(alloc, b"abc")?;
     let changes = [
         Change::DropEntry { dir: 1, name },
         Change::CutBlocks {
@@ -171,14 +156,31 @@ fn three_changes_are_a_group(rt: HostRuntime) -> Result<(), Fail> {
             bytes,
         },
     ];
-    assert_eq!(rt; group_len(&changes), 176);
-    let bytes = group_bytes(rt.alloc(), &changes)?;
-    assert_eq!(rt; bytes.as_slice(), GROUP.as_slice());
-    Ok(())
+    let is_long = group_len(&changes) == 176;
+    Ok(is_spelled(alloc, &changes, GROUP)? && is_long)
 }
 
-// Which change it is, and two of its numbers.
-fn told(read: Option<Change>) -> (u8, u32, u64) {
+#[test]
+fn changes_are_spelled(rt: HostRuntime) {
+    let alloc = rt.alloc();
+    let groups = [
+        ("an inode is set", an_inode_is_set(alloc)),
+        ("an entry is set", an_entry_is_set(alloc)),
+        ("an entry goes", an_entry_goes(alloc)),
+        ("a block is set", a_block_is_set(alloc)),
+        ("a file is cut", a_file_is_cut(alloc)),
+        ("an inode goes", an_inode_goes(alloc)),
+        ("three changes", three_changes_are_a_group(alloc)),
+    ];
+    for (group, is_right) in groups {
+        assert_eq!(rt; is_right, Ok(true), "{group}");
+    }
+}
+
+// Which change it is, and two of its numbers; zeros for none.
+type Told = (u8, u32, u64);
+
+fn told(read: Option<Change>) -> Told {
     match read {
         None => (0, 0, 0),
         Some(Change::SetInode { ino, inode }) => (1, ino, inode.size),
@@ -190,41 +192,39 @@ fn told(read: Option<Change>) -> (u8, u32, u64) {
     }
 }
 
-#[test]
-fn changes_are_read(rt: HostRuntime) -> Result<(), Fail> {
-    let rows: &[(&[u8], usize, (u8, u32, u64))] = &[
-        (INODE.as_slice(), 166, (1, 65, 6)),
-        (ENTRY.as_slice(), 58, (2, 1, 65)),
-        (DROPPED.as_slice(), 58, (3, 1, 1)),
-        (BLOCK.as_slice(), 51, (4, 65, 3)),
-        (TRUNCATION.as_slice(), 56, (5, 65, 4_097)),
-        (GONE.as_slice(), 160, (6, 65, 0)),
-        (GROUP.as_slice(), 58, (3, 1, 1)),
-        (INODE.as_slice(), 168, (0, 0, 0)),
-        (BLOCK.as_slice(), 50, (0, 0, 0)),
-        (GONE.as_slice(), 20, (0, 0, 0)),
-        (b"".as_slice(), 0, (0, 0, 0)),
-    ];
-    for (text, len, wanted) in rows {
-        let (node, _) = text.split_at_checked(*len).ok_or("a node")?;
-        assert_eq!(rt; told(read_change(rt.alloc(), node)?), *wanted);
+// A text, how many of its bytes are read, and what they say.
+const NODES: &[(&[u8], usize, Told)] = &[
+    (INODE, 166, (1, 65, 6)),
+    (ENTRY, 58, (2, 1, 65)),
+    (DROPPED, 58, (3, 1, 1)),
+    (BLOCK, 51, (4, 65, 3)),
+    (TRUNCATION, 56, (5, 65, 4_097)),
+    (GONE, 160, (6, 65, 0)),
+    (GROUP, 58, (3, 1, 1)),
+    (INODE, 168, (0, 0, 0)),
+    (BLOCK, 50, (0, 0, 0)),
+    (GONE, 20, (0, 0, 0)),
+    (b"", 0, (0, 0, 0)),
+];
+
+fn told_by(alloc: Global, text: &[u8], len: usize) -> Result<Told, Memory> {
+    match text.split_at_checked(len) {
+        Some((node, _)) => Ok(told(read_change(alloc, node)?)),
+        None => Ok((7, 0, 0)),
     }
-    Ok(())
 }
 
-#[test]
-fn an_attribute_is_no_change(rt: HostRuntime) -> Result<(), Fail> {
+fn told_by_an_attribute(alloc: Global) -> Result<Told, Memory> {
     let node = DentNode {
         dir: 65,
         inum: 66,
         kind: 0,
-        name: Name::from_slice(rt.alloc(), b"user.a")?,
+        name: Name::from_slice(alloc, b"user.a")?,
         attribute: true,
     };
     let mut out = [0xff; 63];
     node.encode(9, 0, &mut out);
-    assert_eq!(rt; told(read_change(rt.alloc(), &out)?), (0, 0, 0));
-    Ok(())
+    Ok(told(read_change(alloc, &out)?))
 }
 
 // An inode of this mode and so many links, with a size of 5.
@@ -249,20 +249,30 @@ fn inode_of(alloc: Global, mode: u32, nlink: u32) -> InoNode
     }
 }
 
+// A mode, so many links, and what such an inode says.
+const MODES: &[(u32, u32, Told)] = &[
+    (0o100644, 1, (1, 65, 5)),
+    (0o140777, 1, (1, 65, 5)),
+    (0o000644, 1, (0, 0, 0)),
+    (0o030644, 1, (0, 0, 0)),
+    (0o100644, 0, (6, 65, 0)),
+    (0o000644, 0, (6, 65, 0)),
+];
+
+fn told_by_mode(alloc: Global, mode: u32, nlink: u32) -> Result<Told, Memory> {
+    let mut out = [0xff; 160];
+    inode_of(alloc, mode, nlink).encode(9, 1, &mut out);
+    Ok(told(read_change(alloc, &out)?))
+}
+
 #[test]
-fn modes_are_read(rt: HostRuntime) -> Result<(), Fail> {
-    let rows: &[(u32, u32, (u8, u32, u64))] = &[
-        (0o100644, 1, (1, 65, 5)),
-        (0o140777, 1, (1, 65, 5)),
-        (0o000644, 1, (0, 0, 0)),
-        (0o030644, 1, (0, 0, 0)),
-        (0o100644, 0, (6, 65, 0)),
-        (0o000644, 0, (6, 65, 0)),
-    ];
-    for (mode, nlink, wanted) in rows {
-        let mut out = [0xff; 160];
-        inode_of(rt.alloc(), *mode, *nlink).encode(9, 1, &mut out);
-        assert_eq!(rt; told(read_change(rt.alloc(), &out)?), *wanted);
+fn changes_are_read(rt: HostRuntime) {
+    for (text, len, wanted) in NODES {
+        assert_eq!(rt; told_by(rt.alloc(), text, *len), Ok(*wanted));
     }
-    Ok(())
+    for (mode, nlink, wanted) in MODES {
+        assert_eq!(rt; told_by_mode(rt.alloc(), *mode, *nlink), Ok(*wanted));
+    }
+    // An attribute is no change.
+    assert_eq!(rt; told_by_an_attribute(rt.alloc()), Ok((0, 0, 0)));
 }

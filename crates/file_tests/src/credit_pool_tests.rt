@@ -11,25 +11,32 @@ use std::thread::{Threads, join};
 use ubifs_base::Memory;
 
 // One looks, another draws, and the first is too late; then it draws all, and finds nothing more.
-#[test]
-fn draw_races_with_a_faster_caller(rt: HostRuntime) -> Result<(), Fail> {
-    let (pool, mut master) = Pool::new(rt.alloc())?;
+fn a_faster_caller_wins(alloc: Global) -> Result<bool, Memory> {
+    let (pool, mut master) = Pool::new(alloc)?;
     pool.refill(&mut master, 5);
     let mut slow = pool.split(&mut master, 1)?;
     let mut fast = pool.split(&mut master, 2)?;
     let seen = pool.look(&mut slow);
-    assert_eq!(rt; seen, 5);
-    assert_eq!(rt; pool.draw(&mut fast, 2), Ok(()));
-    assert_eq!(rt;
-        pool.take(&mut slow, 5, 3),
-        Err(DrawFault::Raced {
-            wanted: 5,
-            found: 3,
-        })
-    );
-    assert_eq!(rt; pool.draw(&mut slow, 3), Ok(()));
-    assert_eq!(rt; pool.draw(&mut slow, 1), Err(DrawFault::Short { seen: 0 }));
-    Ok(())
+    let drawn = pool.draw(&mut fast, 2);
+    let raced = pool.take(&mut slow, 5, 3);
+    let rest = pool.draw(&mut slow, 3);
+    let more = pool.draw(&mut slow, 1);
+    Ok(
+        seen == 5
+            && drawn == Ok(())
+            && raced
+                == Err(DrawFault::Raced {
+                    wanted: 5,
+                    found: 3,
+                })
+            && rest == Ok(())
+            && more == Err(DrawFault::Short { seen: 0 }),
+    )
+}
+
+#[test]
+fn draw_races_with_a_faster_caller(rt: HostRuntime) {
+    assert_eq!(rt; a_faster_caller_wins(rt.alloc()), Ok(true));
 }
 
 // A seat that comes back, and what it holds.

@@ -6,14 +6,13 @@ use fs_model::{
 };
 use plain_backing::{PlainBacking, Tree};
 use std::alloc::Global;
-use std::test::Fail;
-use ubifs_base::{Arm, Bytes, Geometry, RawGeometry};
+use ubifs_base::{Arm, Bytes, Geometry, Memory, RawGeometry};
 
 // A backing of the root alone, on 64 main LEBs, which takes two orphans.
-fn fresh(alloc: Global) -> Result<PlainBacking, Fail> {
-    let geo = Geometry::new(&RawGeometry::plain(16384, 512, 64, 8))
-        .ok()
-        .ok_or("no geometry")?;
+fn fresh(alloc: Global) -> Result<PlainBacking, Memory> {
+    let Ok(geo) = Geometry::new(&RawGeometry::plain(16384, 512, 64, 8)) else {
+        return Err(Memory);
+    };
     let mut tree = Tree::new(alloc, 64);
     let mut group = Group::new(alloc);
     group.push(Change::SetInode {
@@ -42,36 +41,47 @@ fn fresh(alloc: Global) -> Result<PlainBacking, Fail> {
         weight: 1,
         main: geo.main_lebs(),
     };
-    Ok(PlainBacking::new(alloc, geo, tree, space, 2, Mode::ReadWrite)?)
+    PlainBacking::new(alloc, geo, tree, space, 2, Mode::ReadWrite)
 }
 
 // A commit goes from its start to its end.
-#[test]
-fn commits_go_through_their_steps(rt: HostRuntime) -> Result<(), Fail> {
-    let mut backing = fresh(rt.alloc())?;
-    assert_eq!(rt; backing.commit_end(), Ok(Ended::Idle));
-    assert_eq!(rt; backing.commit_step(), Ok(Stepped::Idle));
-    assert_eq!(rt; backing.commit_start(), Ok(Started::Began));
-    assert_eq!(rt; backing.commit_start(), Ok(Started::Running { cmt_no: 1 }));
-    assert_eq!(rt; backing.commit_step(), Ok(Stepped::Ready));
-    assert_eq!(rt; backing.commit_end(), Ok(Ended::Done { cmt_no: 1 }));
-    assert_eq!(rt; backing.collect_step(), Ok(Collected::Nothing));
-    assert_eq!(rt; backing.sync(), Ok(()));
-    Ok(())
+fn commits_go_through_their_steps(alloc: Global) -> Result<bool, Memory> {
+    let mut backing = fresh(alloc)?;
+    Ok(
+        backing.commit_end() == Ok(Ended::Idle)
+            && backing.commit_step() == Ok(Stepped::Idle)
+            && backing.commit_start() == Ok(Started::Began)
+            && backing.commit_start() == Ok(Started::Running { cmt_no: 1 })
+            && backing.commit_step() == Ok(Stepped::Ready)
+            && backing.commit_end() == Ok(Ended::Done { cmt_no: 1 })
+            && backing.collect_step() == Ok(Collected::Nothing)
+            && backing.sync() == Ok(()),
+    )
 }
 
 // The call that was set fails, and no other; then nothing can be written.
-#[test]
-fn one_call_fails(rt: HostRuntime) -> Result<(), Fail> {
-    let mut backing = fresh(rt.alloc())?;
+fn one_call_fails(alloc: Global) -> Result<bool, Memory> {
+    let mut backing = fresh(alloc)?;
     backing.arm(&Arm::Fail { call: 1 });
     backing.fail_call(2);
-    assert_eq!(rt; backing.last_block(1), Ok(None));
-    assert_eq!(rt; backing.last_block(1), Err(StoreFault::Volume { count: 1 }));
-    assert_eq!(rt; backing.last_block(1), Ok(None));
     let cause = Cause::Faulted { count: 1 };
-    assert_eq!(rt; backing.mode(), Mode::ReadOnly { cause });
-    assert_eq!(rt; backing.sync(), Err(StoreFault::ReadOnly { cause }));
-    assert_eq!(rt; backing.faults(), 1);
-    Ok(())
+    Ok(
+        backing.last_block(1) == Ok(None)
+            && backing.last_block(1) == Err(StoreFault::Volume { count: 1 })
+            && backing.last_block(1) == Ok(None)
+            && backing.mode() == Mode::ReadOnly { cause }
+            && backing.sync() == Err(StoreFault::ReadOnly { cause })
+            && backing.faults() == 1,
+    )
+}
+
+#[test]
+fn commits_and_failures(rt: HostRuntime) {
+    assert_eq!(rt;
+        (
+            commits_go_through_their_steps(rt.alloc()),
+            one_call_fails(rt.alloc())
+        ),
+        (Ok(true), Ok(true))
+    );
 }

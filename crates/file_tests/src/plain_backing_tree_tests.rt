@@ -3,7 +3,6 @@
 use fs_model::{Change, Entry, Group, Inode, Kind};
 use plain_backing::Tree;
 use std::alloc::Global;
-use std::test::Fail;
 use ubifs_base::{Bytes, Memory, Name};
 
 // The inodes 65 and 66 with blocks, names in the directories 1 and 2, and a block of no inode.
@@ -92,70 +91,99 @@ fn group(alloc: Global, letters: &[u8]) -> Result<Group, Memory> {
     Ok(group)
 }
 
-// The inodes that two entries name, and zeros for any other number of entries.
-fn inodes_of(entries: &[Entry]) -> (u32, u32) {
-    match entries {
-        [first, second] => (first.ino, second.ino),
-        _ => (0, 0),
+// The highest number, the bytes, the cells of inodes, blocks and entries, and the last blocks of 65 and 66.
+type Told = (u32, u64, (usize, usize, usize), (Option<u32>, Option<u32>));
+
+const EMPTY: Told = (64, 0, (0, 0, 0), (None, None));
+
+// Two inodes of 160, three names of 64, and blocks of 56, 56 and 56.
+const AFTER_FIRST: Told = (67, 680, (2, 3, 3), (Some(7), Some(1)));
+
+// One inode, three names, and the block 0.
+const AFTER_SECOND: Told = (70, 408, (1, 1, 3), (Some(0), None));
+
+fn told(tree: &Tree) -> Told {
+    (
+        tree.highest(),
+        tree.bytes(),
+        tree.count_cells(),
+        (tree.last_block(65), tree.last_block(66)),
+    )
+}
+
+// A group that is refused memory is made again.
+fn surely_made(alloc: Global, letters: &[u8]) -> Result<Group, Memory> {
+    match group(alloc, letters) {
+        Ok(group) => Ok(group),
+        Err(_) => group(alloc, letters),
     }
 }
 
-// Two groups make a tree, and each call tells of it. A group that is refused memory changes nothing, and leaves no empty cell;
-// after a group no cell is empty.
-#[test]
-fn groups_make_a_tree(rt: HostRuntime) -> Result<(), Fail> {
-    let alloc = rt.alloc();
-    let first = match group(alloc, FIRST) {
-        Ok(group) => group,
-        Err(_) => group(alloc, FIRST)?,
-    };
-    let second = match group(alloc, SECOND) {
-        Ok(group) => group,
-        Err(_) => group(alloc, SECOND)?,
-    };
+// Whether a group makes of one tree the other. One that is refused memory changes nothing, and leaves no empty cell; it is
+// applied again, and no cell is empty then.
+fn makes(
+    alloc: Global,
+    tree: &mut Tree,
+    group: &Group,
+    before: &Told,
+    after: &Told,
+) -> Result<bool, Memory> {
+    if tree.apply(alloc, group).is_err() {
+        if told(tree) != *before {
+            return Ok(false);
+        }
+        tree.apply(alloc, group)?;
+    }
+    Ok(told(tree) == *after)
+}
+
+// The mode of an inode, 0 where there is none.
+fn mode_of(tree: &Tree, ino: u32) -> u32 {
+    match tree.inode(ino) {
+        Some(inode) => inode.mode,
+        None => 0,
+    }
+}
+
+// The inode behind a name, 0 where there is none.
+fn looked_up(alloc: Global, tree: &Tree, dir: u32, bytes: &[u8]) -> Result<u32, Memory> {
+    let name = Name::from_slice(alloc, bytes)?;
+    match tree.entry(alloc, dir, &name)? {
+        Some(entry) => Ok(entry.ino),
+        None => Ok(0),
+    }
+}
+
+// The inodes that two entries of a directory name, and zeros for any other number of entries.
+fn inodes_in(alloc: Global, tree: &Tree, dir: u32) -> Result<(u32, u32), Memory> {
+    let entries = tree.entries_in(alloc, dir)?;
+    match entries.as_slice() {
+        [first, second] => Ok((first.ino, second.ino)),
+        _ => Ok((0, 0)),
+    }
+}
+
+// Two groups make a tree, and each call tells of it.
+fn groups_make_a_tree(alloc: Global) -> Result<bool, Memory> {
+    let first = surely_made(alloc, FIRST)?;
+    let second = surely_made(alloc, SECOND)?;
     let mut tree = Tree::new(alloc, 64);
-    if tree.apply(alloc, &first).is_err() {
-        assert_eq!(rt;
-            (tree.highest(), tree.bytes(), tree.count_cells()),
-            (64, 0, (0, 0, 0))
-        );
-        tree.apply(alloc, &first)?;
+    if !makes(alloc, &mut tree, &first, &EMPTY, &AFTER_FIRST)?
+        || !tree.has_block(65, 7)
+        || tree.has_block(67, 1)
+        || !makes(alloc, &mut tree, &second, &AFTER_FIRST, &AFTER_SECOND)?
+    {
+        return Ok(false);
     }
-    // Two inodes of 160, three names of 64, and blocks of 56, 56 and 56.
-    assert_eq!(rt;
-        (tree.highest(), tree.bytes(), tree.count_cells()),
-        (67, 680, (2, 3, 3))
-    );
-    assert_eq!(rt;
-        (
-            tree.has_block(65, 7),
-            tree.has_block(67, 1),
-            tree.last_block(65)
-        ),
-        (true, false, Some(7))
-    );
-    if tree.apply(alloc, &second).is_err() {
-        assert_eq!(rt;
-            (tree.highest(), tree.bytes(), tree.count_cells()),
-            (67, 680, (2, 3, 3))
-        );
-        assert_eq!(rt;
-            (tree.last_block(65), tree.last_block(66)),
-            (Some(7), Some(1))
-        );
-        tree.apply(alloc, &second)?;
-    }
-    // One inode, three names, and the block 0.
-    assert_eq!(rt;
-        (tree.highest(), tree.bytes(), tree.count_cells()),
-        (70, 408, (1, 1, 3))
-    );
-    assert_eq!(rt; tree.inode(65).ok_or("no inode")?.mode, 0o644);
-    assert_eq!(rt; tree.block(65, 0), b"abc".as_slice());
-    assert_eq!(rt; tree.last_block(65), Some(0));
-    let a = Name::from_slice(alloc, b"a".as_slice())?;
-    assert_eq!(rt; tree.entry(alloc, 2, &a)?.ok_or("no entry")?.ino, 66);
-    let entries = tree.entries_in(alloc, 1)?;
-    assert_eq!(rt; inodes_of(entries.as_slice()), (65, 65));
-    Ok(())
+    Ok(
+        mode_of(&tree, 65) == 0o644
+            && tree.block(65, 0) == b"abc".as_slice()
+            && looked_up(alloc, &tree, 2, b"a")? == 66
+            && inodes_in(alloc, &tree, 1)? == (65, 65),
+    )
+}
+
+#[test]
+fn trees_are_as_worked(rt: HostRuntime) {
+    assert_eq!(rt; groups_make_a_tree(rt.alloc()), Ok(true));
 }

@@ -1,228 +1,220 @@
-// The sums of stores, worked by hand.
+// The sums of stores, worked by hand. LEBs have 16,384 bytes in units of 512, of which 10,080 count; 85 index nodes a LEB.
 
 ghost use Rattle.space_sums.specs.Sums.{IsSmall, IsModest};
 
 use fs_model::{Class, Need};
 use space_sums::{Cause, Room, Scarce, Space, room, settled};
-use std::test::Fail;
 use ubifs_base::{Geometry, RawGeometry};
 
-// LEBs of 16,384 bytes in units of 512, of which 10,080 count; 85 index nodes a LEB.
-fn geometry() -> Result<Geometry, Fail> {
-    let geo = Geometry::new(&RawGeometry::plain(16384, 512, 64, 8)).ok();
-    Ok(geo.ok_or("no geometry")?)
-}
-
-// A page that is made dirty.
-fn page() -> Need
-    ensures { IsModest result }
-{
-    Need {
-        credits: 1,
-        bytes: 0,
-        nodes: 0,
-        class: Class::Ordinary,
-    }
+// The numbers of a store that holds nothing, unless it is said.
+#[derive(Clone, Copy)]
+struct Numbers {
+    used: u32,
+    held: u32,
+    credits: u32,
+    empty: u32,
+    index: u32,
+    weight: u32,
+    main: u32,
 }
 
 // A volume that was just made: the root's inode, and an index of one node.
-fn fresh() -> Space
+const FRESH: Numbers = Numbers {
+    used: 160,
+    held: 0,
+    credits: 0,
+    empty: 62,
+    index: 1,
+    weight: 1,
+    main: 64,
+};
+
+fn space(of: Numbers) -> Space
     ensures { IsSmall result }
 {
     Space {
-        used: 160,
-        held: 0,
-        credits: 0,
-        empty: 62,
-        index: 1,
-        weight: 1,
-        main: 64,
+        used: of.used as u64,
+        held: of.held as u64,
+        credits: of.credits as u64,
+        empty: of.empty,
+        index: of.index,
+        weight: of.weight as u64,
+        main: of.main,
     }
 }
 
-fn tight(what: Scarce, need: u64, room: u64) -> Option<Cause> {
+// What is asked for: nothing, a page that is made dirty, or the bytes and nodes of a name that goes.
+#[derive(Clone, Copy)]
+enum Asked {
+    Nothing,
+    Page,
+    Removal(u32, u32),
+}
+
+fn need(asked: Asked) -> Need
+    ensures { IsModest result }
+{
+    match asked {
+        Asked::Nothing => Need {
+            credits: 0,
+            bytes: 0,
+            nodes: 0,
+            class: Class::Ordinary,
+        },
+        Asked::Page => Need {
+            credits: 1,
+            bytes: 0,
+            nodes: 0,
+            class: Class::Ordinary,
+        },
+        Asked::Removal(bytes, nodes) => Need {
+            credits: 0,
+            bytes: bytes as u64,
+            nodes: nodes as u64,
+            class: Class::Removal,
+        },
+    }
+}
+
+// A store, what is asked of it, and both sides.
+const SIDES: &[(Numbers, Asked, u64, u64)] = &[
+    // A nearly empty store with many credits, and one nearly full with none.
+    (
+        Numbers {
+            used: 384,
+            credits: 105,
+            empty: 0,
+            weight: 4,
+            ..FRESH
+        },
+        Asked::Page,
+        456608,
+        453600,
+    ),
+    (
+        Numbers {
+            used: 435504,
+            empty: 0,
+            weight: 214,
+            ..FRESH
+        },
+        Asked::Page,
+        439808,
+        453600,
+    ),
+    // A root, a file of 123 written pages and its name; the next page is refused.
+    (WRITTEN, Asked::Page, 514400, 514080),
+    (
+        Numbers {
+            used: 384 + 122 * 4144,
+            ..WRITTEN
+        },
+        Asked::Page,
+        510256,
+        514080,
+    ),
+    (WRITTEN, Asked::Removal(288, 3), 510384, 554400),
+    // A file of 600,000 bytes: 146 blocks of 4,096 bytes and one of 1,984, two inodes and a name.
+    (
+        Numbers {
+            used: 146 * 4144 + 2032 + 160 + 160 + 64,
+            empty: 20,
+            weight: 43,
+            ..FRESH
+        },
+        Asked::Nothing,
+        607440,
+        514080,
+    ),
+];
+
+const WRITTEN: Numbers = Numbers {
+    used: 384 + 123 * 4144,
+    empty: 25,
+    weight: 31,
+    ..FRESH
+};
+
+// Three main LEBs, as a real mkfs packs a small tree.
+const PACKED: Numbers = Numbers {
+    empty: 1,
+    main: 3,
+    ..FRESH
+};
+
+// (64 - 3 - 6) * 10,080 bytes.
+const FULL: Numbers = Numbers {
+    used: 554300,
+    held: 100,
+    ..FRESH
+};
+
+// An index of 85 nodes takes a LEB, and one of 86 two.
+const HEAVY: Numbers = Numbers {
+    empty: 2,
+    index: 2,
+    weight: 85,
+    ..FRESH
+};
+
+// A store, and what it lacks: what, how much of it, and how much there is.
+const SETTLED: &[(Numbers, Option<(Scarce, u64, u64)>)] = &[
+    (FRESH, None),
+    (Numbers { empty: 3, ..FRESH }, None),
+    // It has no room for leaves, and one empty LEB is too few as well.
+    (PACKED, Some((Scarce::Space, 160, 0))),
+    (Numbers { main: 64, ..PACKED }, Some((Scarce::Empty, 2, 1))),
+    (
+        Numbers {
+            main: 64,
+            empty: 2,
+            ..PACKED
+        },
+        Some((Scarce::Index, 4, 3)),
+    ),
+    // Held bytes count.
+    (FULL, None),
+    (
+        Numbers { held: 101, ..FULL },
+        Some((Scarce::Space, 554401, 554400)),
+    ),
+    // A heavier index takes more LEBs.
+    (HEAVY, None),
+    (
+        Numbers {
+            weight: 86,
+            ..HEAVY
+        },
+        Some((Scarce::Empty, 3, 2)),
+    ),
+    (
+        Numbers {
+            weight: 86,
+            empty: 4,
+            ..HEAVY
+        },
+        Some((Scarce::Index, 7, 6)),
+    ),
+];
+
+fn cause(of: Option<(Scarce, u64, u64)>) -> Option<Cause> {
+    let (what, need, room) = of?;
     Some(Cause::Tight { what, need, room })
 }
 
-// A nearly empty store with many credits, and one nearly full with none.
 #[test]
-fn sides_are_as_worked(rt: HostRuntime) -> Result<(), Fail> {
-    let geo = geometry()?;
-    let granted = Space {
-        used: 384,
-        held: 0,
-        credits: 105,
-        empty: 0,
-        index: 1,
-        weight: 4,
-        main: 64,
+fn sides_and_wants_are_as_worked(rt: HostRuntime) {
+    let Ok(geo) = Geometry::new(&RawGeometry::plain(16384, 512, 64, 8)) else {
+        panic!(&rt; "the geometry is in range");
     };
-    let sides = room(&geo, &granted, &page());
-    assert_eq!(rt;
-        sides,
-        Room {
-            need: 456608,
-            limit: 453600
-        }
-    );
-    let full = Space {
-        used: 435504,
-        held: 0,
-        credits: 0,
-        empty: 0,
-        index: 1,
-        weight: 214,
-        main: 64,
-    };
-    let sides = room(&geo, &full, &page());
-    assert_eq!(rt;
-        sides,
-        Room {
-            need: 439808,
-            limit: 453600
-        }
-    );
-    Ok(())
-}
-
-// A root, a file of 123 written pages and its name; the next page is refused.
-#[test]
-fn page_124_has_no_room(rt: HostRuntime) -> Result<(), Fail> {
-    let geo = geometry()?;
-    let space = Space {
-        used: 384 + 123 * 4144,
-        held: 0,
-        credits: 0,
-        empty: 25,
-        index: 1,
-        weight: 31,
-        main: 64,
-    };
-    let sides = room(&geo, &space, &page());
-    assert_eq!(rt;
-        sides,
-        Room {
-            need: 514400,
-            limit: 514080
-        }
-    );
-    let last = Space {
-        used: 384 + 122 * 4144,
-        ..space
-    };
-    let sides = room(&geo, &last, &page());
-    assert_eq!(rt;
-        sides,
-        Room {
-            need: 510256,
-            limit: 514080
-        }
-    );
-    let removal = Need {
-        credits: 0,
-        bytes: 288,
-        nodes: 3,
-        class: Class::Removal,
-    };
-    let sides = room(&geo, &space, &removal);
-    assert_eq!(rt;
-        sides,
-        Room {
-            need: 510384,
-            limit: 554400
-        }
-    );
-    Ok(())
-}
-
-// A file of 600,000 bytes: 146 blocks of 4,096 bytes and one of 1,984, two inodes and a name.
-#[test]
-fn file_of_600000_bytes_has_no_room(rt: HostRuntime) -> Result<(), Fail> {
-    let geo = geometry()?;
-    let space = Space {
-        used: 146 * 4144 + 2032 + 160 + 160 + 64,
-        held: 0,
-        credits: 0,
-        empty: 20,
-        index: 1,
-        weight: 43,
-        main: 64,
-    };
-    let nothing = Need {
-        credits: 0,
-        bytes: 0,
-        nodes: 0,
-        class: Class::Ordinary,
-    };
-    let sides = room(&geo, &space, &nothing);
-    assert_eq!(rt;
-        sides,
-        Room {
-            need: 607440,
-            limit: 514080
-        }
-    );
-    Ok(())
-}
-
-#[test]
-fn fresh_volume_is_settled(rt: HostRuntime) -> Result<(), Fail> {
-    let geo = geometry()?;
-    assert_eq!(rt; settled(&geo, &fresh()), None);
-    let least = Space {
-        empty: 3,
-        ..fresh()
-    };
-    assert_eq!(rt; settled(&geo, &least), None);
-    Ok(())
-}
-
-// Three main LEBs, as a real mkfs packs a small tree: they have no room for leaves, and one empty LEB is too few as well.
-#[test]
-fn packed_volume_has_no_space(rt: HostRuntime) -> Result<(), Fail> {
-    let geo = geometry()?;
-    let packed = Space {
-        empty: 1,
-        main: 3,
-        ..fresh()
-    };
-    assert_eq!(rt; settled(&geo, &packed), tight(Scarce::Space, 160, 0));
-    let roomy = Space { main: 64, ..packed };
-    assert_eq!(rt; settled(&geo, &roomy), tight(Scarce::Empty, 2, 1));
-    let emptier = Space { empty: 2, ..roomy };
-    assert_eq!(rt; settled(&geo, &emptier), tight(Scarce::Index, 4, 3));
-    Ok(())
-}
-
-// (64 - 3 - 6) * 10,080 bytes.
-#[test]
-fn held_bytes_count(rt: HostRuntime) -> Result<(), Fail> {
-    let geo = geometry()?;
-    let full = Space {
-        used: 554300,
-        held: 100,
-        ..fresh()
-    };
-    assert_eq!(rt; settled(&geo, &full), None);
-    let over = Space { held: 101, ..full };
-    assert_eq!(rt; settled(&geo, &over), tight(Scarce::Space, 554401, 554400));
-    Ok(())
-}
-
-// An index of 85 nodes takes a LEB, and one of 86 two.
-#[test]
-fn heavier_index_takes_more_lebs(rt: HostRuntime) -> Result<(), Fail> {
-    let geo = geometry()?;
-    let one = Space {
-        empty: 2,
-        index: 2,
-        weight: 85,
-        ..fresh()
-    };
-    assert_eq!(rt; settled(&geo, &one), None);
-    let two = Space { weight: 86, ..one };
-    assert_eq!(rt; settled(&geo, &two), tight(Scarce::Empty, 3, 2));
-    let emptier = Space { empty: 4, ..two };
-    assert_eq!(rt; settled(&geo, &emptier), tight(Scarce::Index, 7, 6));
-    Ok(())
+    for (numbers, asked, need_bytes, limit) in SIDES {
+        let sides = Room {
+            need: *need_bytes,
+            limit: *limit,
+        };
+        assert_eq!(rt; room(&geo, &space(*numbers), &need(*asked)), sides);
+    }
+    for (numbers, wants) in SETTLED {
+        assert_eq!(rt; settled(&geo, &space(*numbers)), cause(*wants));
+    }
 }
