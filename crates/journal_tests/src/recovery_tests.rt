@@ -7,9 +7,11 @@ ghost use Rattle.ubifs_base.specs.Key.{IsKey};
 
 use crate::recovery_cases::{ALL, CASES, Case, Node, Place, Row, Says};
 use index_tree::{Index, Leaf};
-use journal_scan::{BudText, JournalNode, NodeContent};
+use journal_scan::{BudText, JournalNode, NodeContent, read_journal};
+use leaf_recovery::{RecoveredLeaf, RecoveredLeaves, recover};
 use log_replay::{CommittedLeaf, Replayed, replay};
 use media_leaf::{DataNode, DentNode, InoNode, TrunNode};
+use media_sys::RefNode;
 use std::alloc::Global;
 use std::test::Fail;
 use ubifs_base::{Bytes, JournalHead, Key, Memory, Name, r5};
@@ -374,5 +376,104 @@ fn journals_are_replayed(rt: HostRuntime) -> Result<(), Fail> {
         assert_eq!(rt; (made.nodes, made.highest, made.sqnum), case.numbers);
         assert_eq!(rt; made.tails.len(), 4);
     }
+    Ok(())
+}
+
+// The references of the log of these cases.
+const REFERENCES: [RefNode; 4] = [
+    RefNode {
+        lnum: 32,
+        offs: 0,
+        head: JournalHead::Collector,
+    },
+    RefNode {
+        lnum: 31,
+        offs: 0,
+        head: JournalHead::Data,
+    },
+    RefNode {
+        lnum: 30,
+        offs: 0,
+        head: JournalHead::Base,
+    },
+    RefNode {
+        lnum: 29,
+        offs: 0,
+        head: JournalHead::Base,
+    },
+];
+
+fn recovered(alloc: Global, case: &Case<'_>) -> Result<RecoveredLeaves, Memory> {
+    let leaves = leaves_of(alloc, case.committed)?;
+    let collector = bud_of(alloc, JournalHead::Collector, 32, case.collector, ALL)?;
+    let data = bud_of(alloc, JournalHead::Data, 31, case.data, ALL)?;
+    let base = bud_of(alloc, JournalHead::Base, 30, case.base, case.written)?;
+    let next = bud_of(alloc, JournalHead::Base, 29, case.next, ALL)?;
+    let read = read_journal(alloc, &[collector, data, base, next])?;
+    recover(
+        alloc,
+        leaves.as_slice(),
+        REFERENCES.as_slice(),
+        read.nodes.as_slice(),
+        read.copies.as_slice(),
+        case.listed,
+    )
+}
+
+fn places_kept(alloc: Global, kept: &[RecoveredLeaf]) -> Result<Vec<(u32, u32)>, Memory> {
+    let mut places = Vec::new(alloc);
+    for leaf in kept {
+        places.push((leaf.leaf.lnum, leaf.leaf.offs))?;
+    }
+    Ok(places)
+}
+
+#[test]
+fn leaves_are_recovered(rt: HostRuntime) -> Result<(), Fail> {
+    for case in CASES.as_slice() {
+        let made = recovered(rt.alloc(), case)?;
+        let left = places_kept(rt.alloc(), made.kept.as_slice())?;
+        assert_eq!(rt; left.as_slice(), case.left);
+    }
+    Ok(())
+}
+
+// Two leaves of one inode, a name whose node is gone, and one at whose place it has inode number 0.
+const DAMAGED: [Row; 4] = [
+    (20, 0, Says::Inode(65, true), Place::Own(1)),
+    (20, 160, Says::Inode(65, true), Place::Own(2)),
+    (20, 320, Says::Named("am", true), Place::Lost),
+    (
+        20,
+        480,
+        Says::Named("bb", true),
+        Place::Other(Says::Named("bb", false)),
+    ),
+];
+
+fn places_lost(alloc: Global, lost: &[Leaf]) -> Result<Vec<(u32, u32)>, Memory> {
+    let mut places = Vec::new(alloc);
+    for leaf in lost {
+        places.push((leaf.lnum, leaf.offs))?;
+    }
+    Ok(places)
+}
+
+fn of_damaged(alloc: Global) -> Result<RecoveredLeaves, Memory> {
+    let leaves = leaves_of(alloc, DAMAGED.as_slice())?;
+    recover(alloc, leaves.as_slice(), &[], &[], &[], &[])
+}
+
+#[test]
+fn damage_is_told(rt: HostRuntime) -> Result<(), Fail> {
+    let made = of_damaged(rt.alloc())?;
+    let kept = places_kept(rt.alloc(), made.kept.as_slice())?;
+    assert_eq!(rt; kept.as_slice(), [(20, 0), (20, 160)].as_slice());
+    let repeated = places_kept(rt.alloc(), made.repeated.as_slice())?;
+    assert_eq!(rt; repeated.as_slice(), [(20, 160)].as_slice());
+    let missing = places_lost(rt.alloc(), made.missing.as_slice())?;
+    assert_eq!(rt; missing.as_slice(), [(20, 320)].as_slice());
+    let empty = places_lost(rt.alloc(), made.empty.as_slice())?;
+    assert_eq!(rt; empty.as_slice(), [(20, 480)].as_slice());
     Ok(())
 }
