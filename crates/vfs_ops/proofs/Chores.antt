@@ -22,6 +22,7 @@ use Rattle.vfs_ops.specs.Passing.{IsStep}
 use Rattle.vfs_ops.specs.Steps.{IsReady}
 use Rattle.vfs_ops.specs.Writing.{credits_need}
 use Rattle.fs_model.specs.Orphan.{nameless}
+use Rattle.vfs_ops.proofs.Cutting.{cut_chore}
 use Rattle.vfs_ops.proofs.Takes.{alike_on, sound_on}
 use Rattle.vfs_ops.proofs.Weighing.{no_heavier}
 
@@ -92,6 +93,7 @@ background_by old b event outcome few h =
       issued = omega (arith, issued);
       weighed = no_heavier (added_in event outcome) old.backing b old.kept old.kept left.goes (omega arith);
       orphans = left.orphans;
+      cut = cut_chore old.backing b old.kept event outcome h;
       goes = goes_by old.backing b event outcome h left.goes;
     }
 

@@ -3,6 +3,7 @@ pub mod Answering
 pub mod Buffering
 pub mod Chores
 pub mod Closing
+pub mod Cutting
 pub mod Flushing
 pub mod Gone
 pub mod Groups

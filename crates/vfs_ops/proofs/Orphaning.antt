@@ -1,5 +1,5 @@
 -- The next list of orphans over a step.
-use Rattle.std.proofs.Common.{◌≡◌, ℕ, ◌+◌, ◌≤◌, ◌||◌, Bool, true, false, cond, Ok, Err, length, refl, sym, ap, subst, arith, Result, IfOk}
+use Rattle.std.proofs.Common.{◌≡◌, ℕ, ◌+◌, ◌≤◌, ◌||◌, Bool, true, false, cond, inl, inr, List, Ok, Err, length, refl, sym, ap, subst, arith, Result, IfOk}
 use Rattle.std.specs.Prelude.{◌==◌, OnErr, filter, if◌then◌else◌, nat_lt}
 use Rattle.std.specs.Map.{keys_of}
 use Rattle.std.proofs.lemmas.Bool.{ltb-false}
@@ -10,7 +10,9 @@ use Rattle.fs_model.specs.declared.refusal.Refusal.{Refusal}
 use Rattle.fs_model.specs.declared.refusal.Refusal.TheVariants.{Einval, Efbig, Ebadf}
 use Rattle.fs_model.specs.declared.reply.Reply.{Reply}
 use Rattle.fs_model.specs.declared.reply.Reply.TheVariants.{Count}
-use Rattle.fs_model.specs.Backing.{BackingState, Outlook, next_orphans, orphan_room}
+use Rattle.fs_model.specs.declared.change.Change.{Change}
+use Rattle.fs_model.specs.Backing.{BackingState, FitsOrphans, Outlook, next_orphans, orphan_room}
+use Rattle.fs_model.specs.Change.{apply}
 use Rattle.fs_model.specs.Files.{Files, handle_at, inode_at, size_of}
 use Rattle.fs_model.specs.Handles.{bytes_written, is_bad_slot, size_limit, tree_written}
 use Rattle.fs_model.specs.Making.{touched}
@@ -20,7 +22,7 @@ use Rattle.fs_model.specs.Outcome.{Outcome, refuse, with_some}
 use Rattle.fs_laws.specs.Sound.{IsSound}
 use Rattle.cached_files.specs.Alike.{IsAlike}
 use Rattle.vfs_plans.specs.Answers.{Looks}
-use Rattle.vfs_ops.specs.Kinds.{KeepsOrphans}
+use Rattle.vfs_ops.specs.Kinds.{FitsNextOrphans, KeepsOrphans}
 use Rattle.vfs_ops.specs.Operations.{is_of_names}
 use Rattle.vfs_ops.proofs.Nameless.{set_again}
 use Rattle.vfs_ops.proofs.Orphans.{on_names}
@@ -51,6 +53,18 @@ keeps_one old new before after was is closed one = by (nat_lt (length (nameless 
 -- callers see the same files
 pub keeps_alike : (old new : BackingState) (before after : Files) → length (nameless before.tree) ≡ length (nameless old.tree) → length (nameless after.tree) ≡ length (nameless new.tree) → new.closed ≤ old.closed → IsAlike before after → next_orphans new ≤ next_orphans old
 keeps_alike old new before after was is closed alike = let same = alike_count before after alike in omega (arith, was, is, closed, same)
+
+-- callers see a group that fits the list
+pub group_fits_list : (old new : BackingState) (before after : Files) (group : List Change) → length (nameless before.tree) ≡ length (nameless old.tree) → length (nameless after.tree) ≡ length (nameless new.tree) → new.closed ≤ old.closed
+    → FitsOrphans before.tree old.closed old.orphan_limit group → IsAlike (record before { tree = apply before.tree group }) after → FitsNextOrphans old new
+group_fits_list old new before after group was is closed fits alike = by fits
+  where
+    same : length (nameless after.tree) ≡ length (nameless (apply before.tree group))
+    same = alike_count (record before { tree = apply before.tree group }) after alike
+
+    by : FitsOrphans before.tree old.closed old.orphan_limit group → FitsNextOrphans old new
+    by (inl few) = let e = same in inl (omega (arith, was, is, closed, few, e))
+    by (inr room) = let e = same in inr (omega (arith, is, closed, room, e))
 
 -- an operation on names
 pub names_keep : (r : Result Reply Refusal) (old new : BackingState) (before seen : Files) (caller now : ℕ) (op : Op) → IsSound before → is_of_names op ≡ true → length (nameless before.tree) ≡ length (nameless old.tree) → length (nameless seen.tree) ≡ length (nameless new.tree)

@@ -15,6 +15,8 @@ use Rattle.cached_files.specs.Calls.{GrowsBy, added_or_failed}
 use Rattle.cached_files.specs.CallLaws.{Goes-none, Goes-within}
 use Rattle.cached_files.specs.PagePut.{IsPutOrKept, page_at}
 use Rattle.cached_files.specs.Present.{present}
+use Rattle.cached_files.specs.CutLaws.{Puts-none}
+use Rattle.cached_files.specs.Cuts.{PutsSeen, ValuesOf}
 use Rattle.vfs_ops.specs.declared.event.Encoded.{Encoded}
 use Rattle.vfs_ops.specs.declared.event.Event.{Event}
 use Rattle.vfs_ops.specs.declared.event.Event.TheVariants.{Pick, Put}
@@ -104,7 +106,7 @@ pick_step old outcome h =
     let plain = pick_plain old.kept outcome h in
     let none = plain.0 in
     let nil = plain.1 in
-    record { made = (h, refl); same = alike_on old.backing.tree old.backing.tree old.kept refl; refused = refl; issued = omega (arith, none, nil); weighed = omega arith; orphans = omega arith; goes = Goes-none old.backing }
+    record { made = (h, refl); same = alike_on old.backing.tree old.backing.tree old.kept refl; refused = refl; issued = omega (arith, none, nil); weighed = omega arith; orphans = omega arith; cut = Puts-none (ValuesOf (present_in old).tree) old.backing.journal; goes = Goes-none old.backing }
 
 -- nor does a put
 put_plain : (p : Passage) (shown : Encoded) (outcome : Outcome) → IsPut p shown outcome → (drained_in outcome ≡ 0) × (granted_in outcome ≡ 0)
@@ -115,18 +117,18 @@ put_plain p shown outcome h = absurd h
 
 -- and a put is one
 pub put_step : (old : FilesState) (b : BackingState) (kept : Kept) (shown : Encoded) (outcome : Outcome) → IsPut (record { old = old.backing; new = b; before = old.kept; after = kept }) shown outcome → IsAlike (present_in old) (present b.tree kept)
-    → b.space.credits + length old.kept.pages.dirty ≡ old.backing.space.credits + length kept.pages.dirty → GrowsBy (added_in (Put shown) outcome) old.backing b old.kept kept → next_orphans b ≤ next_orphans old.backing → Goes 2 old.backing b → IsStep old (record { backing = b; kept = kept; refused = old.refused }) (Put shown) outcome
-put_step old b kept shown outcome h same issued weighed orphans goes =
+    → b.space.credits + length old.kept.pages.dirty ≡ old.backing.space.credits + length kept.pages.dirty → GrowsBy (added_in (Put shown) outcome) old.backing b old.kept kept → next_orphans b ≤ next_orphans old.backing → PutsSeen old.backing b old.kept → Goes 2 old.backing b → IsStep old (record { backing = b; kept = kept; refused = old.refused }) (Put shown) outcome
+put_step old b kept shown outcome h same issued weighed orphans cut goes =
     let plain = put_plain (record { old = old.backing; new = b; before = old.kept; after = kept }) shown outcome h in
     let none = plain.0 in
     let nil = plain.1 in
-    record { made = h; same = same; refused = refl; issued = omega (arith, issued, none, nil); weighed = weighed; orphans = orphans; goes = goes }
+    record { made = h; same = same; refused = refl; issued = omega (arith, issued, none, nil); weighed = weighed; orphans = orphans; cut = cut; goes = goes }
 
 -- nothing was put
 pub goes_none : (old : BackingState) → Goes 2 old old
 goes_none old = Goes-within 0 2 old old (omega arith) (Goes-none old)
 
 pub put_step_at : (old : FilesState) (b : BackingState) (kept : Kept) (event : Event) (shown : Encoded) (outcome : Outcome) → event ≡ Put shown → IsPut (record { old = old.backing; new = b; before = old.kept; after = kept }) shown outcome → IsAlike (present_in old) (present b.tree kept)
-    → b.space.credits + length old.kept.pages.dirty ≡ old.backing.space.credits + length kept.pages.dirty → GrowsBy (added_in (Put shown) outcome) old.backing b old.kept kept → next_orphans b ≤ next_orphans old.backing → Goes 2 old.backing b → IsStep old (record { backing = b; kept = kept; refused = old.refused }) event outcome
-put_step_at old b kept event shown outcome is h same issued weighed orphans goes =
-    subst (λ (e : Event). IsStep old (record { backing = b; kept = kept; refused = old.refused }) e outcome) (sym is) (put_step old b kept shown outcome h same issued weighed orphans goes)
+    → b.space.credits + length old.kept.pages.dirty ≡ old.backing.space.credits + length kept.pages.dirty → GrowsBy (added_in (Put shown) outcome) old.backing b old.kept kept → next_orphans b ≤ next_orphans old.backing → PutsSeen old.backing b old.kept → Goes 2 old.backing b → IsStep old (record { backing = b; kept = kept; refused = old.refused }) event outcome
+put_step_at old b kept event shown outcome is h same issued weighed orphans cut goes =
+    subst (λ (e : Event). IsStep old (record { backing = b; kept = kept; refused = old.refused }) e outcome) (sym is) (put_step old b kept shown outcome h same issued weighed orphans cut goes)

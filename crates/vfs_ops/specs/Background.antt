@@ -12,6 +12,7 @@ use Rattle.page_cache.specs.Pages.{dirty_at, oldest_of, without_dirty}
 use Rattle.cached_files.specs.declared.kept.Kept.{Kept}
 use Rattle.cached_files.specs.Alike.{IsAlike}
 use Rattle.cached_files.specs.Calls.{GrowsBy}
+use Rattle.cached_files.specs.Cuts.{PutsSeen}
 use Rattle.cached_files.specs.PagePut.{page_at}
 use Rattle.vfs_ops.specs.declared.event.Encoded.{Encoded}
 use Rattle.vfs_ops.specs.declared.event.Event.{Event}
@@ -155,5 +156,7 @@ pub record IsBackgroundStep (old new : FilesState) (event : Event) (outcome : Ou
   pub weighed : GrowsBy (added_in event outcome) old.backing new.backing old.kept new.kept
   -- The next list of orphans gets no longer.
   pub orphans : next_orphans new.backing ≤ next_orphans old.backing
+  -- What a cut leaves of it has the values of the files before.
+  pub cut : PutsSeen old.backing new.backing old.kept
   -- What the backing may have done meanwhile: a put puts two nodes at most, and no other event puts any.
   pub goes : Goes (nodes_in event) old.backing new.backing

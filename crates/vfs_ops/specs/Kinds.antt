@@ -71,3 +71,7 @@ added_by done failed reply = done
 -- the next list of orphans gets longer by one at most, and only where an open inode lost its last name
 abbrev pub KeepsOrphans : BackingState → BackingState → Files → Files → Type 0
 KeepsOrphans old new before after = next_orphans new ≤ next_orphans old + (if leaves_orphan before after then 1 else 0)
+
+-- the next list of orphans gets no longer, or it has room
+abbrev pub FitsNextOrphans : BackingState → BackingState → Type 0
+FitsNextOrphans old new = (next_orphans new ≤ next_orphans old) ⊎ (next_orphans new ≤ old.orphan_limit)

@@ -42,6 +42,7 @@ impl<B: Backing> Fs<B> {
     ghost use Rattle.fs_model.specs.Proper.{IsProper};
     ghost use Rattle.fs_laws.specs.Sound.{IsCall};
     ghost use Rattle.cached_files.specs.Calls.{GrowsBy, SureGoes};
+    ghost use Rattle.cached_files.specs.Cuts.{PutsSeenWith};
     ghost use Rattle.cached_files.specs.Present.{present};
     ghost use Rattle.vfs_plans.specs.Answers.{IsRefused, Looks};
     ghost use Rattle.vfs_plans.specs.Operations.{is_truncate};
@@ -148,6 +149,7 @@ impl<B: Backing> Fs<B> {
         ensures buffered { BuffersReply (B.state self.old.backing) (B.state self.new.backing) self.old.kept self.new.kept self.old.refused.items self.new.refused.items caller grant op.now result.0 }
         ensures weighed { GrowsBy (added_by (2 * pages_in op.now + length (group_of (present (B.state self.old.backing).tree self.old.kept) caller now op.now)) (max 2 (length (group_of (present (B.state self.old.backing).tree self.old.kept) caller now op.now))) result.0) (B.state self.old.backing) (B.state self.new.backing) self.old.kept self.new.kept }
         ensures orphans { KeepsOrphans (B.state self.old.backing) (B.state self.new.backing) (present (B.state self.old.backing).tree self.old.kept) (present (B.state self.new.backing).tree self.new.kept) }
+        ensures cut { PutsSeenWith (B.state self.old.backing) (B.state self.new.backing) self.old.kept (group_of (present (B.state self.old.backing).tree self.old.kept) caller now op.now) }
         ensures goes { Goes (2 * length self.old.kept.pages.dirty + length (group_of (present (B.state self.old.backing).tree self.old.kept) caller now op.now)) (B.state self.old.backing) (B.state self.new.backing) }
         ensures sure { SureGoes (B.outlook self.old.backing) (B.outlook self.new.backing) (B.state self.old.backing) (B.state self.new.backing) }
     {

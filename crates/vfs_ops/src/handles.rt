@@ -73,6 +73,7 @@ pub(crate) fn close<B: Backing>(
     ensures issued { (B.state backing.new).space.credits + length kept.old.pages.dirty ≡ (B.state backing.old).space.credits + length kept.new.pages.dirty }
     ensures grows { GrowsBy 0 (B.state backing.old) (B.state backing.new) kept.old kept.new }
     ensures orphans { next_orphans (B.state backing.new) ≤ next_orphans (B.state backing.old) }
+    ensures journal { (B.state backing.new).journal ≡ (B.state backing.old).journal }
     ensures goes { Goes 0 (B.state backing.old) (B.state backing.new) }
     ensures sure { SureGoes (B.outlook backing.old) (B.outlook backing.new) (B.state backing.old) (B.state backing.new) }
 {

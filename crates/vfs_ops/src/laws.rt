@@ -1,23 +1,40 @@
 // Laws of steps, for whoever has many of them behind one another.
 
-ghost use Rattle.std.specs.Prelude.{◌≡◌, ℕ, ◌+◌, ◌*◌, true, false, Ok};
+ghost use Rattle.std.specs.Prelude.{◌≡◌, ℕ, ◌+◌, ◌*◌, true, false, Ok, List, Result};
+ghost use Rattle.fs_model.specs.declared.backing_answers.Mode.TheVariants.{ReadWrite};
+ghost use Rattle.fs_model.specs.declared.change.Change.{Change};
 ghost use Rattle.fs_model.specs.declared.op.Op.{Op};
+ghost use Rattle.fs_model.specs.declared.op.Op.TheVariants.{Flush};
 ghost use Rattle.fs_model.specs.declared.reply.Reply.{Reply};
-ghost use Rattle.fs_model.specs.Files.{Files};
+ghost use Rattle.fs_model.specs.declared.reply.Reply.TheVariants.{Done};
+ghost use Rattle.fs_model.specs.declared.refusal.Refusal.{Refusal};
+ghost use Rattle.fs_model.specs.declared.space.Need.{Need};
+ghost use Rattle.fs_model.specs.Files.{Files, Tree};
+ghost use Rattle.fs_model.specs.Journal.{IfTold, IsJournalOf, MayLeave};
 ghost use Rattle.fs_model.specs.Legal.{pages_in};
 ghost use Rattle.fs_model.specs.Operation.{outcome_of};
+ghost use Rattle.fs_model.specs.Orphan.{without_nameless};
 ghost use Rattle.fs_model.specs.Proper.{IsProper};
 ghost use Rattle.fs_laws.specs.Sound.{IsSound};
 ghost use Rattle.cached_files.specs.Alike.{IsAlike};
 ghost use Rattle.cached_files.specs.Calls.{GrowsBy};
+ghost use Rattle.cached_files.specs.Cuts.{HasValues, IsOrderedJournal, ValuesWith};
+ghost use Rattle.cached_files.specs.Present.{IsKept};
+ghost use Rattle.vfs_ops.specs.declared.event.Event.{Event};
 ghost use Rattle.vfs_ops.specs.declared.event.Event.TheVariants.{Call};
 ghost use Rattle.vfs_ops.specs.declared.event.Outcome.{Outcome};
+ghost use Rattle.vfs_ops.specs.declared.event.Outcome.TheVariants.{Replied};
+ghost use Rattle.vfs_ops.specs.Events.{group_in};
 ghost use Rattle.vfs_ops.specs.FilesState.{FilesState, present_in};
-ghost use Rattle.vfs_ops.specs.Passing.{IsStep};
+ghost use Rattle.vfs_ops.specs.Passing.{IsApplied, IsStep};
 ghost use Rattle.vfs_ops.specs.Replies.{IsAlikeOutcome, holds_bytes, is_refusal};
 ghost use Rattle.vfs_plans.specs.Operations.{is_truncate};
 
-use cached_files::{groups_leave_files_alike, written_files_stay_alike};
+use cached_files::{
+    a_cut_leaves_what_was_put, clean_files_are_those_of_the_backing, groups_leave_files_alike,
+    written_files_stay_alike,
+};
+use fs_model::a_cut_keeps_what_was_synced;
 
 /// What the plain operation answers is never a refusal where it is done.
 pub fn a_plain_answer_is_no_refusal()
@@ -43,3 +60,25 @@ pub fn alike_files_answer_alike()
 pub fn a_call_adds_few_nodes()
     ensures { (old new : FilesState) (caller now grant : ℕ) (op : Op) (outcome : Outcome) → IsSound (present_in old) → is_truncate op ≡ false → IsStep old new (Call caller now grant op) outcome → GrowsBy (5 + 2 * pages_in op) old.backing new.backing old.kept new.kept }
 {}
+
+/// What a cut leaves after an event, or after a group, has for each inode, entry and block a value of a tree that it might have
+/// left before, or of the files that callers saw before, or of these with the group of the call; nothing is a value too. An
+/// inode without a name may be gone with its blocks.
+pub fn a_cut_leaves_old_values_or_new_ones()
+    ensures event { (old new : FilesState) (event : Event) (outcome : Outcome) (left : Tree) → IfTold old.backing.journal (IsOrderedJournal old.backing.tree) → IsStep old new event outcome → MayLeave new.backing.journal left
+        → HasValues old.backing.journal (ValuesWith (present_in old).tree (group_in (present_in old) event)) left }
+    ensures group { (old new : FilesState) (group : List Change) (need : Need) (result : Result (Unit {0}) Refusal) (left : Tree) → IfTold old.backing.journal (IsOrderedJournal old.backing.tree) → IsApplied old new group need result → MayLeave new.backing.journal left
+        → HasValues old.backing.journal (ValuesWith (present_in old).tree group) left }
+{
+    a_cut_leaves_what_was_put();
+}
+
+/// After a flush that is done on a store that could be written a cut leaves the files that callers see, without what has no
+/// name, and nothing else.
+pub fn a_cut_after_a_flush_leaves_the_files()
+    ensures { (old new : FilesState) (caller now grant rest : ℕ) (left : Tree) → old.backing.mode ≡ ReadWrite → IsKept new.backing.tree new.kept → IfTold new.backing.journal (IsJournalOf new.backing.tree)
+        → IsStep old new (Call caller now grant Flush) (Replied Done rest) → MayLeave new.backing.journal left → left ≡ without_nameless (present_in new).tree }
+{
+    a_cut_keeps_what_was_synced();
+    clean_files_are_those_of_the_backing();
+}

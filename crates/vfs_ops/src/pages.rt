@@ -6,6 +6,7 @@ ghost use Rattle.fs_model.specs.Backing.{Goes, next_orphans};
 ghost use Rattle.page_cache.specs.Pages.{oldest_of};
 ghost use Rattle.cached_files.specs.Alike.{IsAlike};
 ghost use Rattle.cached_files.specs.Calls.{GrowsBy, SureGoes};
+ghost use Rattle.cached_files.specs.Cuts.{PutsSeen};
 ghost use Rattle.cached_files.specs.Present.{FitsPages, present};
 ghost use Rattle.vfs_ops.specs.Background.{IsPicked, IsPut, added_in, encoded_at, version_at};
 ghost use Rattle.vfs_ops.specs.declared.event.Event.TheVariants.{Put};
@@ -64,6 +65,7 @@ pub(crate) fn put<B: Backing>(
     ensures issued { (B.state backing.new).space.credits + length kept.old.pages.dirty ≡ (B.state backing.old).space.credits + length kept.new.pages.dirty }
     ensures weighed { GrowsBy (added_in (Put page.now) result) (B.state backing.old) (B.state backing.new) kept.old kept.new }
     ensures orphans { next_orphans (B.state backing.new) ≤ next_orphans (B.state backing.old) }
+    ensures cut { PutsSeen (B.state backing.old) (B.state backing.new) kept.old }
     ensures goes { Goes 2 (B.state backing.old) (B.state backing.new) }
     ensures sure { SureGoes (B.outlook backing.old) (B.outlook backing.new) (B.state backing.old) (B.state backing.new) }
 {
@@ -92,6 +94,7 @@ fn put_current<B: Backing>(
     ensures issued { (B.state backing.new).space.credits + length kept.old.pages.dirty ≡ (B.state backing.old).space.credits + length kept.new.pages.dirty }
     ensures weighed { GrowsBy (added_in (Put page.now) result) (B.state backing.old) (B.state backing.new) kept.old kept.new }
     ensures orphans { next_orphans (B.state backing.new) ≤ next_orphans (B.state backing.old) }
+    ensures cut { PutsSeen (B.state backing.old) (B.state backing.new) kept.old }
     ensures goes { Goes 2 (B.state backing.old) (B.state backing.new) }
     ensures sure { SureGoes (B.outlook backing.old) (B.outlook backing.new) (B.state backing.old) (B.state backing.new) }
 {

@@ -6,10 +6,12 @@ ghost use Rattle.std.specs.Map.{lookup};
 ghost use Rattle.fs_model.specs.declared.op.Op.TheVariants.{Fsync, Flush};
 ghost use Rattle.fs_model.specs.Backing.{Goes, IsSynced, KeepsFiles};
 ghost use Rattle.fs_model.specs.Files.{pair_cmp};
+ghost use Rattle.fs_model.specs.Journal.{Leaves};
 ghost use Rattle.fs_model.specs.Operation.{outcome_of};
 ghost use Rattle.fs_laws.specs.Sound.{IsSound};
 ghost use Rattle.cached_files.specs.Alike.{IsAlike};
 ghost use Rattle.cached_files.specs.Calls.{GrowsBy, SureGoes, added_or_refused};
+ghost use Rattle.cached_files.specs.Cuts.{PutsSeen};
 ghost use Rattle.cached_files.specs.Present.{dirty_of_others, has_dirty, present, IsKept};
 ghost use Rattle.vfs_ops.specs.Kinds.{IsEarly, IsStopped, OnlyLooks};
 
@@ -40,6 +42,7 @@ pub(crate) fn flush<B: Backing>(
     ensures issued { (B.state backing.new).space.credits + length kept.old.pages.dirty ≡ (B.state backing.old).space.credits + length kept.new.pages.dirty }
     ensures grows { GrowsBy (added_or_refused 0 2 result) (B.state backing.old) (B.state backing.new) kept.old kept.new }
     ensures closed { (B.state backing.new).closed ≤ (B.state backing.old).closed }
+    ensures cut { PutsSeen (B.state backing.old) (B.state backing.new) kept.old }
     ensures goes { Goes (2 * length kept.old.pages.dirty) (B.state backing.old) (B.state backing.new) }
     ensures sure { SureGoes (B.outlook backing.old) (B.outlook backing.new) (B.state backing.old) (B.state backing.new) }
 {
@@ -74,6 +77,7 @@ pub(crate) fn fsync<B: Backing>(
     ensures issued { (B.state backing.new).space.credits + length kept.old.pages.dirty ≡ (B.state backing.old).space.credits + length kept.new.pages.dirty }
     ensures grows { GrowsBy (added_or_refused 0 2 result) (B.state backing.old) (B.state backing.new) kept.old kept.new }
     ensures closed { (B.state backing.new).closed ≤ (B.state backing.old).closed }
+    ensures cut { PutsSeen (B.state backing.old) (B.state backing.new) kept.old }
     ensures goes { Goes (2 * length kept.old.pages.dirty) (B.state backing.old) (B.state backing.new) }
     ensures sure { SureGoes (B.outlook backing.old) (B.outlook backing.new) (B.state backing.old) (B.state backing.new) }
 {
@@ -107,6 +111,7 @@ fn put_file<B: Backing>(
     ensures issued { (B.state backing.new).space.credits + length kept.old.pages.dirty ≡ (B.state backing.old).space.credits + length kept.new.pages.dirty }
     ensures grows { GrowsBy (added_or_refused 0 2 result) (B.state backing.old) (B.state backing.new) kept.old kept.new }
     ensures closed { (B.state backing.new).closed ≤ (B.state backing.old).closed }
+    ensures cut { PutsSeen (B.state backing.old) (B.state backing.new) kept.old }
     ensures goes { Goes (2 * length kept.old.pages.dirty) (B.state backing.old) (B.state backing.new) }
     ensures sure { SureGoes (B.outlook backing.old) (B.outlook backing.new) (B.state backing.old) (B.state backing.new) }
 {
@@ -129,6 +134,7 @@ fn put_all<B: Backing>(alloc: Global, backing: &mut B, kept: &mut Kept) -> Resul
     ensures issued { (B.state backing.new).space.credits + length kept.old.pages.dirty ≡ (B.state backing.old).space.credits + length kept.new.pages.dirty }
     ensures grows { GrowsBy (added_or_refused 0 2 result) (B.state backing.old) (B.state backing.new) kept.old kept.new }
     ensures closed { (B.state backing.new).closed ≤ (B.state backing.old).closed }
+    ensures cut { PutsSeen (B.state backing.old) (B.state backing.new) kept.old }
     ensures goes { Goes (2 * length kept.old.pages.dirty) (B.state backing.old) (B.state backing.new) }
     ensures sure { SureGoes (B.outlook backing.old) (B.outlook backing.new) (B.state backing.old) (B.state backing.new) }
 {
@@ -143,6 +149,7 @@ fn sync<B: Backing>(backing: &mut B) -> Result<(), Refusal>
     ensures synced { OnOk result (IsSynced (B.state backing.new)) }
     ensures files { KeepsFiles (B.state backing.old) (B.state backing.new) }
     ensures refused { IfErr result (λ refusal. IsStopped (B.state backing.old) (B.state backing.new) refusal) }
+    ensures cut { Leaves (B.state backing.old).journal (B.state backing.new).journal [] }
     ensures goes { Goes 0 (B.state backing.old) (B.state backing.new) }
     ensures sure { SureGoes (B.outlook backing.old) (B.outlook backing.new) (B.state backing.old) (B.state backing.new) }
 {

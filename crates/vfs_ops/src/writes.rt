@@ -12,6 +12,7 @@ ghost use Rattle.fs_model.specs.Proper.{has_kind};
 ghost use Rattle.fs_laws.specs.Sound.{IsSound};
 ghost use Rattle.cached_files.specs.Alike.{IsAlike};
 ghost use Rattle.cached_files.specs.Calls.{GrowsBy, IsCoveredAtLast, IsWithoutRoom, SureGoes, added_or_refused};
+ghost use Rattle.cached_files.specs.Cuts.{PutsSeen};
 ghost use Rattle.cached_files.specs.Present.{IsKept, newly_dirty, present};
 ghost use Rattle.vfs_plans.specs.Answers.{IsFault, IsRefused, Looks};
 ghost use Rattle.vfs_ops.specs.Kinds.{IsEarly, OnlyLooks};
@@ -67,6 +68,7 @@ pub(crate) fn write<B: Backing>(
         → IsBuffered (B.state backing.old) (B.state backing.new) kept.old kept.new ino offs len result }
     ensures grows { GrowsBy (added_or_refused (2 * length (pages_of offs len)) 2 result) (B.state backing.old) (B.state backing.new) kept.old kept.new }
     ensures closed { (B.state backing.new).closed ≤ (B.state backing.old).closed }
+    ensures cut { PutsSeen (B.state backing.old) (B.state backing.new) kept.old }
     ensures goes { Goes (2 * length kept.old.pages.dirty) (B.state backing.old) (B.state backing.new) }
     ensures sure { SureGoes (B.outlook backing.old) (B.outlook backing.new) (B.state backing.old) (B.state backing.new) }
 {
@@ -122,6 +124,7 @@ fn write_some<B: Backing>(
     ensures buffered { HasRoom (B.state backing.old) kept.old ino offs len grant → IsBuffered (B.state backing.old) (B.state backing.new) kept.old kept.new ino offs len result }
     ensures grows { GrowsBy (added_or_refused (2 * length (pages_of offs len)) 2 result) (B.state backing.old) (B.state backing.new) kept.old kept.new }
     ensures closed { (B.state backing.new).closed ≤ (B.state backing.old).closed }
+    ensures cut { PutsSeen (B.state backing.old) (B.state backing.new) kept.old }
     ensures goes { Goes (2 * length kept.old.pages.dirty) (B.state backing.old) (B.state backing.new) }
     ensures sure { SureGoes (B.outlook backing.old) (B.outlook backing.new) (B.state backing.old) (B.state backing.new) }
 {
@@ -164,6 +167,7 @@ fn cover<B: Backing>(
     ensures covered { HasRoom (B.state backing.old) kept.old ino offs len grant → IsCovered (B.state backing.old) (B.state backing.new) kept.old kept.new result }
     ensures grows { GrowsBy (added_or_refused 0 2 result) (B.state backing.old) (B.state backing.new) kept.old kept.new }
     ensures closed { (B.state backing.new).closed ≤ (B.state backing.old).closed }
+    ensures cut { PutsSeen (B.state backing.old) (B.state backing.new) kept.old }
     ensures goes { Goes (2 * length kept.old.pages.dirty) (B.state backing.old) (B.state backing.new) }
     ensures sure { SureGoes (B.outlook backing.old) (B.outlook backing.new) (B.state backing.old) (B.state backing.new) }
 {
@@ -204,6 +208,7 @@ fn cover_again<B: Backing>(
     ensures refused { IfErr result (IsWithoutRoom (B.state backing.old) (B.state backing.new) kept.new (write_need offs len grant)) }
     ensures grows { GrowsBy (added_or_refused 0 2 result) (B.state backing.old) (B.state backing.new) kept.old kept.new }
     ensures closed { (B.state backing.new).closed ≤ (B.state backing.old).closed }
+    ensures cut { PutsSeen (B.state backing.old) (B.state backing.new) kept.old }
     ensures goes { Goes (2 * length kept.old.pages.dirty) (B.state backing.old) (B.state backing.new) }
     ensures sure { SureGoes (B.outlook backing.old) (B.outlook backing.new) (B.state backing.old) (B.state backing.new) }
 {

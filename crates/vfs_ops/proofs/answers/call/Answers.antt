@@ -1,6 +1,7 @@
 use Rattle.std.proofs.Common.{ap, refl, sym, ◌∙◌}
 use Rattle.fs_model.specs.declared.backing_answers.Mode.{Mode}
 use Rattle.vfs_ops.specs.Steps.{read_only_cause}
+use Rattle.vfs_ops.proofs.Cutting.{cut_none}
 use Rattle.vfs_ops.proofs.Others.{not_closed, same_leave}
 use Rattle.vfs_ops.proofs.answers.call.Goals as goal
 
@@ -14,3 +15,6 @@ pub returns-in-None-clause-closed : goal.returns-in-None-clause-closed
 returns-in-None-clause-closed g c =
     let mode = (g.B.Backing.state c.args.backing.now).mode in
     not_closed (read_only_cause mode c.args.op.now) (ap (λ (m : Mode). read_only_cause m c.args.op.now) (sym c.mode.ensures) ∙ sym c.read_only_cause.ensures ∙ c.in-None.is)
+
+pub returns-in-Some-clause-cut : goal.returns-in-Some-clause-cut
+returns-in-Some-clause-cut g c = cut_none (g.B.Backing.state c.args.backing.now) c.args.kept.now _

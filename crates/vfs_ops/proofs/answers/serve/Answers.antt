@@ -4,6 +4,7 @@ use Rattle.fs_model.specs.declared.op.Op.{Op}
 use Rattle.vfs_ops.specs.Operations.{is_of_names}
 use Rattle.vfs_ops.specs.Steps.{WasAdmitted}
 use Rattle.vfs_ops.specs.Writing.{newly_by}
+use Rattle.vfs_ops.proofs.Cutting.{cut_with}
 use Rattle.vfs_ops.proofs.Admitted.{on_ok, other_at_once, retyped}
 use Rattle.vfs_ops.proofs.Looking.{only_early, whole_left}
 use Rattle.vfs_ops.proofs.Others.{others_on}
@@ -32,6 +33,7 @@ returns-in-Err g c = let e = c.in-Err.ensures in record {
   buffered = none_buffered (g.B.Backing.state c.args.backing.now) (g.B.Backing.state c.serve_without.new.backing) c.args.kept.now c.serve_without.new.kept c.args.caller c.args.grant c.args.op.now _ (not_write c.args.op.now c.in_default.not-Write);
   grows = refused_wider Reply (Reply × ℕ) (length (group_of (present (g.B.Backing.state c.args.backing.now).tree c.args.kept.now) c.args.caller c.args.now c.args.op.now)) (2 * pages_in c.args.op.now + length (group_of (present (g.B.Backing.state c.args.backing.now).tree c.args.kept.now) c.args.caller c.args.now c.args.op.now)) (max 2 (length (group_of (present (g.B.Backing.state c.args.backing.now).tree c.args.kept.now) c.args.caller c.args.now c.args.op.now))) (max 2 (length (group_of (present (g.B.Backing.state c.args.backing.now).tree c.args.kept.now) c.args.caller c.args.now c.args.op.now))) c.in-Err.refusal (g.B.Backing.state c.args.backing.now) (g.B.Backing.state c.serve_without.new.backing) c.args.kept.now c.serve_without.new.kept (omega arith) e.grows;
   orphans = e.orphans;
+  cut = e.cut;
   goes = e.goes;
   sure = e.sure;
 }
@@ -77,3 +79,6 @@ pub returns-in-Write-clause-orphans : goal.returns-in-Write-clause-orphans
 returns-in-Write-clause-orphans g c =
     write_keep c.write.result (g.B.Backing.state c.args.backing.now) (g.B.Backing.state c.write.new.backing) (present (g.B.Backing.state c.args.backing.now).tree c.args.kept.now) (present (g.B.Backing.state c.write.new.backing).tree c.write.new.kept) c.args.caller c.args.now c.args.op.now _ _ _ _ c.in-Write.is c.requires.ready.sound
     (c.present_files_are_sound.ensures.nameless (g.B.Backing.state c.args.backing.now).tree c.args.kept.now c.requires.ready.kept_fits) (c.present_files_are_sound.ensures.nameless (g.B.Backing.state c.write.new.backing).tree c.write.new.kept c.write.ensures.kept) c.write.ensures.closed c.write.ensures.done c.write.ensures.same
+
+pub returns-in-Write-clause-cut : goal.returns-in-Write-clause-cut
+returns-in-Write-clause-cut g c = cut_with (g.B.Backing.state c.args.backing.now) (g.B.Backing.state c.write.new.backing) c.args.kept.now _ c.write.ensures.cut

@@ -1,5 +1,6 @@
 use Rattle.std.proofs.Common.{◌≡◌, ap, arith, inr, length, max, refl, sym, ◌∙◌}
 use Rattle.cached_files.specs.Present.{present}
+use Rattle.vfs_ops.proofs.Cutting.{cut_looked, cut_same, cut_with}
 use Rattle.vfs_ops.proofs.Admitted.{after_ok, names_admitted, none_admitted, on_ok, other_at_once}
 use Rattle.vfs_ops.proofs.Looking.{names_early, only_early, opened_looks, unsynced_early}
 use Rattle.vfs_ops.proofs.Others.{names_leave, others_on}
@@ -163,3 +164,18 @@ pub returns-in-Flush-clause-orphans : goal.returns-in-Flush-clause-orphans
 returns-in-Flush-clause-orphans g c =
     keeps_few (g.B.Backing.state c.args.backing.now) (g.B.Backing.state c.flushed.new.backing) (present (g.B.Backing.state c.args.backing.now).tree c.args.kept.now) (present (g.B.Backing.state c.flushed.new.backing).tree c.flushed.new.kept) (keeps_alike (g.B.Backing.state c.args.backing.now) (g.B.Backing.state c.flushed.new.backing) (present (g.B.Backing.state c.args.backing.now).tree c.args.kept.now) (present (g.B.Backing.state c.flushed.new.backing).tree c.flushed.new.kept)
     (c.present_files_are_sound.ensures.nameless (g.B.Backing.state c.args.backing.now).tree c.args.kept.now c.requires.ready.kept_fits) (c.present_files_are_sound.ensures.nameless (g.B.Backing.state c.flushed.new.backing).tree c.flushed.new.kept c.flushed.ensures.ready.kept_fits) c.flushed.ensures.closed c.flushed.ensures.same)
+
+pub returns-in-OpenFile-clause-cut : goal.returns-in-OpenFile-clause-cut
+returns-in-OpenFile-clause-cut g c = cut_with (g.B.Backing.state c.args.backing.now) (g.B.Backing.state c.open.new.backing) c.args.kept.now _ (cut_looked c.open.ensures.looks c.args.kept.now)
+
+pub returns-in-Close-clause-cut : goal.returns-in-Close-clause-cut
+returns-in-Close-clause-cut g c = cut_with (g.B.Backing.state c.args.backing.now) (g.B.Backing.state c.close.new.backing) c.args.kept.now _ (cut_same (g.B.Backing.state c.args.backing.now) (g.B.Backing.state c.close.new.backing) c.args.kept.now c.close.ensures.journal)
+
+pub returns-in-Fsync-clause-cut : goal.returns-in-Fsync-clause-cut
+returns-in-Fsync-clause-cut g c = cut_with (g.B.Backing.state c.args.backing.now) (g.B.Backing.state c.synced.new.backing) c.args.kept.now _ c.synced.ensures.cut
+
+pub returns-in-Flush-clause-cut : goal.returns-in-Flush-clause-cut
+returns-in-Flush-clause-cut g c = cut_with (g.B.Backing.state c.args.backing.now) (g.B.Backing.state c.flushed.new.backing) c.args.kept.now _ c.flushed.ensures.cut
+
+pub returns-in-Read-clause-cut : goal.returns-in-Read-clause-cut
+returns-in-Read-clause-cut g c = cut_with (g.B.Backing.state c.args.backing.now) (g.B.Backing.state c.look.new.backing) c.args.kept.now _ (cut_looked c.look.ensures.looks c.args.kept.now)

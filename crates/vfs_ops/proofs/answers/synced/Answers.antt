@@ -1,4 +1,6 @@
 use Rattle.fs_model.specs.declared.op.Op.TheVariants.{Fsync}
+use Rattle.std.proofs.Common.{ap}
+use Rattle.vfs_ops.proofs.Cutting.{cut_same}
 use Rattle.vfs_ops.proofs.Others.{same_leave}
 use Rattle.vfs_ops.proofs.Serving.{fsync_written}
 use Rattle.vfs_ops.proofs.answers.synced.Goals as goal
@@ -12,3 +14,6 @@ returns-in-ReadWrite-clause-others g c = c.fsync.ensures.others
 
 pub returns-in-ReadOnly-clause-others : goal.returns-in-ReadOnly-clause-others
 returns-in-ReadOnly-clause-others g c = same_leave c.args.kept.now c.named.new.kept c.args.caller (Fsync c.args.slot) c.named.ensures.kept
+
+pub returns-in-ReadOnly-clause-cut : goal.returns-in-ReadOnly-clause-cut
+returns-in-ReadOnly-clause-cut g c = cut_same (g.B.Backing.state c.args.backing.now) (g.B.Backing.state c.named.new.backing) c.args.kept.now (ap (λ b. (g.B.Backing.state b).journal) c.named.ensures.same)

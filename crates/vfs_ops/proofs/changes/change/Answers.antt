@@ -10,6 +10,8 @@ use Rattle.fs_model.specs.Operation.{group_of, outcome_of}
 use Rattle.cached_files.specs.Follow.{AreOfNames}
 use Rattle.cached_files.specs.Present.{present}
 use Rattle.fs_model.specs.Orphan.{within_orphans}
+use Rattle.cached_files.specs.Cuts.{PutsSeenWith}
+use Rattle.vfs_ops.proofs.Cutting.{cut_looked, cut_with, looked_cut}
 use Rattle.vfs_ops.proofs.Admitted.{group_admitted, plan_refused, room_looked}
 use Rattle.vfs_ops.proofs.Groups.{AreFitting, group_fits, leaves, names_of}
 use Rattle.vfs_ops.proofs.Looking.{looked, room_late}
@@ -289,3 +291,29 @@ returns-in_err-apply_group-clause-closed g c = let same = closed_on (both c.plan
 
 pub returns-clause-closed : goal.returns-clause-closed
 returns-clause-closed g c = let same = closed_on (both c.plan.ensures.looks c.need_of.ensures.looks) in let few = c.apply_group.ensures.closed in omega (arith, same, few)
+
+pub returns-in_err-reply-clause-cut : goal.returns-in_err-reply-clause-cut
+returns-in_err-reply-clause-cut g c = cut_with (g.B.Backing.state c.args.backing.now) (g.B.Backing.state c.plan.new.backing) c.args.kept.now _ (cut_looked c.plan.ensures.looks c.args.kept.now)
+
+pub returns-then-is_empty-clause-cut : goal.returns-then-is_empty-clause-cut
+returns-then-is_empty-clause-cut g c = cut_with (g.B.Backing.state c.args.backing.now) (g.B.Backing.state c.plan.new.backing) c.args.kept.now _ (cut_looked c.plan.ensures.looks c.args.kept.now)
+
+pub returns-then-lacks_orphan_room-clause-cut : goal.returns-then-lacks_orphan_room-clause-cut
+returns-then-lacks_orphan_room-clause-cut g c = cut_with (g.B.Backing.state c.args.backing.now) (g.B.Backing.state c.plan.new.backing) c.args.kept.now _ (cut_looked c.plan.ensures.looks c.args.kept.now)
+
+pub returns-in_err-need-clause-cut : goal.returns-in_err-need-clause-cut
+returns-in_err-need-clause-cut g c = cut_with (g.B.Backing.state c.args.backing.now) (g.B.Backing.state c.need_of.new.backing) c.args.kept.now _ (cut_looked (both c.plan.ensures.looks c.need_of.ensures.looks) c.args.kept.now)
+
+pub returns-in_err-apply_group-clause-cut : goal.returns-in_err-apply_group-clause-cut
+returns-in_err-apply_group-clause-cut g c =
+    let old = g.B.Backing.state c.args.backing.now in
+    let new = g.B.Backing.state c.apply_group.new.backing in
+    let made = group_is (present old.tree c.args.kept.now) c.args.caller c.args.now c.args.op.now c.in_ok-reply.reply c.in_ok-reply.group c.in_ok-reply.ensures.found in
+    subst (λ (group : List Change). PutsSeenWith old new c.args.kept.now group) (sym made) (looked_cut (both c.plan.ensures.looks c.need_of.ensures.looks) new c.args.kept.now c.in_ok-reply.group c.apply_group.ensures.cut)
+
+pub returns-clause-cut : goal.returns-clause-cut
+returns-clause-cut g c =
+    let old = g.B.Backing.state c.args.backing.now in
+    let new = g.B.Backing.state c.apply_group.new.backing in
+    let made = group_is (present old.tree c.args.kept.now) c.args.caller c.args.now c.args.op.now c.in_ok-reply.reply c.in_ok-reply.group c.in_ok-reply.ensures.found in
+    subst (λ (group : List Change). PutsSeenWith old new c.args.kept.now group) (sym made) (looked_cut (both c.plan.ensures.looks c.need_of.ensures.looks) new c.args.kept.now c.in_ok-reply.group c.apply_group.ensures.cut)

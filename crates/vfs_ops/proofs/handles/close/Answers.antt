@@ -1,6 +1,7 @@
-use Rattle.std.proofs.Common.{arith, rules, sym, subst, ◌∙◌}
+use Rattle.std.proofs.Common.{ap, arith, rules, sym, subst, ◌∙◌}
 use Rattle.std.specs.BTreeMap.{is_at}
 use Rattle.std.specs.Map.{remove_entry}
+use Rattle.fs_model.specs.Backing.{BackingState}
 use Rattle.fs_model.specs.Change.{without_inode}
 use Rattle.fs_model.specs.Files.{pair_cmp}
 use Rattle.fs_model.specs.Proper.{IsProper}
@@ -81,3 +82,15 @@ returns-clause-grows g c = no_heavier 0 (g.B.Backing.state c.args.backing.now) (
 
 pub returns-clause-orphans : goal.returns-clause-orphans
 returns-clause-orphans g c = looked_orphans c.is_lost.ensures.looks
+
+pub returns-in_err-is_lost-clause-journal : goal.returns-in_err-is_lost-clause-journal
+returns-in_err-is_lost-clause-journal g c = ap (λ (s : BackingState). s.journal) c.is_lost.ensures.looks.reads
+
+pub returns-in_err-drop_orphan-clause-journal : goal.returns-in_err-drop_orphan-clause-journal
+returns-in_err-drop_orphan-clause-journal g c = c.drop_orphan.ensures.journal ∙ ap (λ (s : BackingState). s.journal) c.is_lost.ensures.looks.reads
+
+pub returns-then-branch-clause-journal : goal.returns-then-branch-clause-journal
+returns-then-branch-clause-journal g c = c.drop_orphan.ensures.journal ∙ ap (λ (s : BackingState). s.journal) c.is_lost.ensures.looks.reads
+
+pub returns-clause-journal : goal.returns-clause-journal
+returns-clause-journal g c = ap (λ (s : BackingState). s.journal) c.is_lost.ensures.looks.reads

@@ -1,4 +1,5 @@
 use Rattle.std.proofs.Common.{refl}
+use Rattle.vfs_ops.proofs.Cutting.{cut_same}
 use Rattle.vfs_ops.proofs.Placing.{goes_none}
 use Rattle.vfs_ops.proofs.Takes.{alike_on}
 use Rattle.vfs_ops.proofs.pages.put.Goals as goal
@@ -11,3 +12,6 @@ returns-then-not-is_as_picked-clause-same g c = alike_on (g.B.Backing.state c.ar
 
 pub returns-then-not-is_as_picked-clause-goes : goal.returns-then-not-is_as_picked-clause-goes
 returns-then-not-is_as_picked-clause-goes g c = goes_none (g.B.Backing.state c.args.backing.now)
+
+pub returns-then-not-is_as_picked-clause-cut : goal.returns-then-not-is_as_picked-clause-cut
+returns-then-not-is_as_picked-clause-cut g c = cut_same (g.B.Backing.state c.args.backing.now) (g.B.Backing.state c.args.backing.now) c.args.kept.now refl

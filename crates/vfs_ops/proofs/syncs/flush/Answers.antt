@@ -1,5 +1,6 @@
 use Rattle.std.proofs.Common.{◌*◌, Err, arith, length, rules}
 use Rattle.cached_files.specs.Present.{present}
+use Rattle.vfs_ops.proofs.Cutting.{cut_nothing}
 use Rattle.vfs_ops.proofs.Flushing.{goes_on}
 use Rattle.vfs_ops.proofs.Takes.{alike_sound, sound_on}
 use Rattle.fs_model.specs.declared.reply.Reply.{Reply}
@@ -55,3 +56,9 @@ returns-in_err-sync-clause-closed g c = let first = c.put_all.ensures.closed in 
 
 pub returns-clause-closed : goal.returns-clause-closed
 returns-clause-closed g c = let first = c.put_all.ensures.closed in let second = c.sync.ensures.files.closed in omega (arith, first, second)
+
+pub returns-in_err-sync-clause-cut : goal.returns-in_err-sync-clause-cut
+returns-in_err-sync-clause-cut g c = cut_nothing (g.B.Backing.state c.args.backing.now) (g.B.Backing.state c.put_all.new.backing) (g.B.Backing.state c.sync.new.backing) c.args.kept.now c.put_all.ensures.cut c.sync.ensures.cut
+
+pub returns-clause-cut : goal.returns-clause-cut
+returns-clause-cut g c = cut_nothing (g.B.Backing.state c.args.backing.now) (g.B.Backing.state c.put_all.new.backing) (g.B.Backing.state c.sync.new.backing) c.args.kept.now c.put_all.ensures.cut c.sync.ensures.cut

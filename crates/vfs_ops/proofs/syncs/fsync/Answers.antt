@@ -3,6 +3,7 @@ use Rattle.fs_model.specs.declared.reply.Reply.TheVariants.{Done}
 use Rattle.fs_model.specs.Files.{Files, handle_at}
 use Rattle.fs_model.specs.Handles.{is_bad_slot, synced}
 use Rattle.cached_files.specs.Present.{dirty_of_others, has_dirty, present}
+use Rattle.vfs_ops.proofs.Cutting.{cut_nothing, cut_same}
 use Rattle.vfs_ops.proofs.Flushing.{goes_on, same_open}
 use Rattle.vfs_ops.proofs.Looking.{stopped_late}
 use Rattle.vfs_ops.proofs.Takes.{alike_sound, sound_on}
@@ -88,3 +89,15 @@ returns-in_err-sync-clause-closed g c = let first = c.put_file.ensures.closed in
 
 pub returns-clause-closed : goal.returns-clause-closed
 returns-clause-closed g c = let first = c.put_file.ensures.closed in let second = c.sync.ensures.files.closed in omega (arith, first, second)
+
+pub returns-in_err-sync-clause-cut : goal.returns-in_err-sync-clause-cut
+returns-in_err-sync-clause-cut g c = cut_nothing (g.B.Backing.state c.args.backing.now) (g.B.Backing.state c.put_file.new.backing) (g.B.Backing.state c.sync.new.backing) c.args.kept.now c.put_file.ensures.cut c.sync.ensures.cut
+
+pub returns-clause-cut : goal.returns-clause-cut
+returns-clause-cut g c = cut_nothing (g.B.Backing.state c.args.backing.now) (g.B.Backing.state c.put_file.new.backing) (g.B.Backing.state c.sync.new.backing) c.args.kept.now c.put_file.ensures.cut c.sync.ensures.cut
+
+pub returns-then-is_bad_slot-clause-cut : goal.returns-then-is_bad_slot-clause-cut
+returns-then-is_bad_slot-clause-cut g c = cut_same (g.B.Backing.state c.args.backing.now) (g.B.Backing.state c.args.backing.now) c.args.kept.now refl
+
+pub returns-in_default-clause-cut : goal.returns-in_default-clause-cut
+returns-in_default-clause-cut g c = cut_same (g.B.Backing.state c.args.backing.now) (g.B.Backing.state c.args.backing.now) c.args.kept.now refl

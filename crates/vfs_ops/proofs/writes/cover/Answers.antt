@@ -2,6 +2,8 @@ use Rattle.std.proofs.Common.{inl, inr, refl, ap, subst, ◌∙◌, ◌-◌, ◌
 use Rattle.fs_model.specs.Backing.{BackingState}
 use Rattle.cached_files.specs.Calls.{GrowsBy, IsCoveredAtLast, added_or_refused}
 use Rattle.vfs_ops.specs.Writing.{HasGroupRoom, credits_need, write_need}
+use Rattle.cached_files.specs.Cuts.{PutsSeen}
+use Rattle.vfs_ops.proofs.Cutting.{cut_same}
 use Rattle.vfs_ops.proofs.Admitted.{on_ok}
 use Rattle.vfs_ops.proofs.Buffering.{modest_need}
 use Rattle.vfs_ops.proofs.Weighing.{weigh_granted}
@@ -40,3 +42,12 @@ returns-in-Err-clause-closed g c = subst (λ (s : BackingState). (g.B.Backing.st
 
 pub returns-in-Ok-clause-closed : goal.returns-in-Ok-clause-closed
 returns-in-Ok-clause-closed g c = let same = ap (λ (s : BackingState). s.closed) c.in-Ok.ensures.ok in omega (arith, same)
+
+pub returns-then-lacking-eq0-clause-cut : goal.returns-then-lacking-eq0-clause-cut
+returns-then-lacking-eq0-clause-cut g c = cut_same (g.B.Backing.state c.args.backing.now) (g.B.Backing.state c.args.backing.now) c.args.kept.now refl
+
+pub returns-in-Ok-clause-cut : goal.returns-in-Ok-clause-cut
+returns-in-Ok-clause-cut g c = cut_same (g.B.Backing.state c.args.backing.now) (g.B.Backing.state c.admit.new.self) c.args.kept.now (ap (λ (s : BackingState). s.journal) c.in-Ok.ensures.ok)
+
+pub returns-in-Err-clause-cut : goal.returns-in-Err-clause-cut
+returns-in-Err-clause-cut g c = subst (λ (s : BackingState). PutsSeen s (g.B.Backing.state c.cover_again.new.backing) c.args.kept.now) c.in-Err.ensures.err c.cover_again.ensures.cut

@@ -2,6 +2,8 @@ use Rattle.std.proofs.Common.{◌≡◌, ℕ, ◌*◌, ap, arith, length, refl, 
 use Rattle.fs_model.specs.Backing.{BackingState, Goes, granted}
 use Rattle.cached_files.specs.CallLaws.{Goes-granted, Goes-none}
 use Rattle.vfs_ops.specs.Writing.{HasGroupRoom, write_need}
+use Rattle.cached_files.specs.Cuts.{PutsSeen}
+use Rattle.vfs_ops.proofs.Cutting.{cut_granted}
 use Rattle.vfs_ops.proofs.Buffering.{modest_need, more_new, no_room, whole_need}
 use Rattle.cached_files.specs.Calls.{GrowsBy}
 use Rattle.vfs_ops.proofs.Weighing.{fault_told, weigh_granted}
@@ -56,3 +58,9 @@ returns-in-Ok-admit-clause-closed g c = let same = ap (λ (s : BackingState). s.
 
 pub returns-in-Err-admit-clause-closed : goal.returns-in-Err-admit-clause-closed
 returns-in-Err-admit-clause-closed g c = let same = ap (λ (s : BackingState). s.closed) c.in-Err-admit.ensures.err in let few = c.make_room.ensures.closed in omega (arith, same, few)
+
+pub returns-in-Ok-admit-clause-cut : goal.returns-in-Ok-admit-clause-cut
+returns-in-Ok-admit-clause-cut g c = cut_granted (g.B.Backing.state c.args.backing.now) (g.B.Backing.state c.make_room.new.backing) (g.B.Backing.state c.admit.new.self) c.args.kept.now c.credits_need.result c.make_room.ensures.cut c.in-Ok-admit.ensures.ok
+
+pub returns-in-Err-admit-clause-cut : goal.returns-in-Err-admit-clause-cut
+returns-in-Err-admit-clause-cut g c = subst (λ (s : BackingState). PutsSeen (g.B.Backing.state c.args.backing.now) s c.args.kept.now) (sym c.in-Err-admit.ensures.err) c.make_room.ensures.cut

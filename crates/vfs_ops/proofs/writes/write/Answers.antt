@@ -4,6 +4,7 @@ use Rattle.fs_model.specs.Files.{Files, handle_at}
 use Rattle.fs_model.specs.Handles.{bytes_written, tree_written}
 use Rattle.cached_files.specs.Present.{present}
 use Rattle.vfs_ops.specs.Writing.{WasPaid, write_need}
+use Rattle.vfs_ops.proofs.Cutting.{cut_same}
 use Rattle.vfs_ops.proofs.Admitted.{none_new}
 use Rattle.vfs_ops.proofs.Buffering.{at_hand, bad_len, bad_slot, none_written, open_file, some_written, sound_written, too_far}
 use Rattle.vfs_ops.proofs.Looking.{either_late, none_left, write_left}
@@ -109,3 +110,18 @@ returns-in_err-left-clause-grows g c =
     let n = 2 * length (pages_of c.args.offs c.args.len) in
     let f = refused_wider ℕ (Reply × ℕ) n n 2 2 c.in_err-left.field-0.0 (g.B.Backing.state c.args.backing.now) (g.B.Backing.state c.write_some.new.backing) c.args.kept.now c.write_some.new.kept (omega arith) c.in_err-left.ensures.grows in
     search (rules, f)
+
+pub returns-then-is_bad_slot-clause-cut : goal.returns-then-is_bad_slot-clause-cut
+returns-then-is_bad_slot-clause-cut g c = cut_same (g.B.Backing.state c.args.backing.now) (g.B.Backing.state c.args.backing.now) c.args.kept.now refl
+
+pub returns-then-is_bad_len-clause-cut : goal.returns-then-is_bad_len-clause-cut
+returns-then-is_bad_len-clause-cut g c = cut_same (g.B.Backing.state c.args.backing.now) (g.B.Backing.state c.args.backing.now) c.args.kept.now refl
+
+pub returns-in_default-clause-cut : goal.returns-in_default-clause-cut
+returns-in_default-clause-cut g c = cut_same (g.B.Backing.state c.args.backing.now) (g.B.Backing.state c.args.backing.now) c.args.kept.now refl
+
+pub returns-then-ends_too_far-clause-cut : goal.returns-then-ends_too_far-clause-cut
+returns-then-ends_too_far-clause-cut g c = cut_same (g.B.Backing.state c.args.backing.now) (g.B.Backing.state c.args.backing.now) c.args.kept.now refl
+
+pub returns-then-len-eq0-clause-cut : goal.returns-then-len-eq0-clause-cut
+returns-then-len-eq0-clause-cut g c = cut_same (g.B.Backing.state c.args.backing.now) (g.B.Backing.state c.args.backing.now) c.args.kept.now refl

@@ -1,5 +1,6 @@
 use Rattle.std.proofs.Common.{◌≡◌, ℕ, ◌*◌, ap, arith, length, refl, rules}
 use Rattle.cached_files.specs.Present.{present}
+use Rattle.vfs_ops.proofs.Cutting.{cut_given, cut_then_looked}
 use Rattle.vfs_ops.proofs.Admitted.{paid_then}
 use Rattle.vfs_ops.proofs.Buffering.{goes_returned, goes_seen, plain_file, written_seen}
 use Rattle.fs_model.specs.Backing.{BackingState}
@@ -56,3 +57,11 @@ returns-in-Err-clause-closed g c =
     let given = ap (λ (s : BackingState). s.closed) c.give_back.ensures.given in
     let few = c.cover.ensures.closed in
     omega (arith, same, given, few)
+
+pub returns-in-Ok-clause-cut : goal.returns-in-Ok-clause-cut
+returns-in-Ok-clause-cut g c = cut_then_looked c.write_covered.ensures.looks (g.B.Backing.state c.args.backing.now) c.args.kept.now c.cover.ensures.cut
+
+pub returns-in-Err-clause-cut : goal.returns-in-Err-clause-cut
+returns-in-Err-clause-cut g c =
+    let old = g.B.Backing.state c.args.backing.now in
+    cut_given old (g.B.Backing.state c.write_covered.new.backing) (g.B.Backing.state c.give_back.new.self) c.args.kept.now _ (cut_then_looked c.write_covered.ensures.looks old c.args.kept.now c.cover.ensures.cut) c.give_back.ensures.given

@@ -28,6 +28,7 @@ returns-in-Call-clause-step g c =
       admitted = e.admitted;
       at_once = e.at_once;
       buffered = e.buffered;
+      cut = e.cut;
       goes = e.goes;
     }
 
@@ -38,7 +39,7 @@ returns-in-Pick-clause-step g c =
 pub returns-in-Put-clause-step : goal.returns-in-Put-clause-step
 returns-in-Put-clause-step g c =
     let e = c.put.ensures in
-    put_step_at (files_state c.args.self.now) (g.B.Backing.state c.put.new.backing) c.put.new.kept c.args.event.now _ c.put.result c.in-Put.is e.put e.same e.issued e.weighed e.orphans e.goes
+    put_step_at (files_state c.args.self.now) (g.B.Backing.state c.put.new.backing) c.put.new.kept c.args.event.now _ c.put.result c.in-Put.is e.put e.same e.issued e.weighed e.orphans e.cut e.goes
 
 pub picked-requires : goal.picked-requires
 picked-requires g c = c.args.self.now.ready.kept_fits.pages
