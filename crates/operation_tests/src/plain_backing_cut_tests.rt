@@ -17,7 +17,7 @@ use crate::vfs_ops_tests::fresh_backing;
 use fs_model::{Backing, Class, Group, Need, StoreFault, a_cut_keeps_what_was_synced};
 use plain_backing::PlainBacking;
 use std::alloc::Global;
-use std::test::Fail;
+use ubifs_base::Memory;
 
 // Admits a group, puts it and syncs, and answers whether there was room. Then a cut leaves the tree with the group, but for
 // what has no name.
@@ -68,7 +68,7 @@ fn show_cut<B: Backing>(backing: &B)
 }
 
 // A fresh volume on which a file was made, and all is synced. A cut leaves the file, and may leave it.
-fn file_synced(alloc: Global) -> Result<PlainBacking, Fail>
+fn file_synced(alloc: Global) -> Result<PlainBacking, Memory>
     ensures left { IfOk result (λ backing. (tree : Tree) → MayLeave (state_of backing).journal tree → tree ≡ without_nameless (apply fresh.tree sample_group)) }
     ensures may { IfOk result (λ backing. MayLeave (state_of backing).journal (without_nameless (state_of backing).tree)) }
 {
@@ -79,12 +79,12 @@ fn file_synced(alloc: Global) -> Result<PlainBacking, Fail>
             show_cut(&backing);
             Ok(backing)
         }
-        _ => return Err("the file isn't made")?,
+        _ => return Err(Memory),
     }
 }
 
 // A fresh volume on which a file was made while a commit ran.
-fn file_in_a_commit(alloc: Global) -> Result<Result<bool, StoreFault>, Fail> {
+fn file_in_a_commit(alloc: Global) -> Result<Result<bool, StoreFault>, Memory> {
     let mut backing = fresh_backing(alloc)?;
     let group = file_group(alloc)?;
     Ok(put_in_a_commit(&mut backing, &file_need(), &group))
@@ -104,9 +104,7 @@ fn file_need() -> Need
 
 // A file is made and synced, and made while a commit runs.
 #[test]
-fn cuts_leave_what_was_put(rt: HostRuntime) -> Result<(), Fail> {
-    let alloc = rt.alloc();
-    let _ = file_synced(alloc)?;
-    assert_eq!(rt; file_in_a_commit(alloc)?, Ok(true));
-    Ok(())
+fn cuts_leave_what_was_put(rt: HostRuntime) {
+    assert!(rt; file_synced(rt.alloc()).is_ok());
+    assert_eq!(rt; file_in_a_commit(rt.alloc()), Ok(Ok(true)));
 }

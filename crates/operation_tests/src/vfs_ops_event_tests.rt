@@ -3,10 +3,11 @@
 ghost use Rattle.std.specs.Prelude.{◌≡◌};
 ghost use Rattle.vfs_ops.specs.Events.{IsCalled, grant_of};
 
-use crate::vfs_ops_tests::{answers, fresh_files};
+use crate::vfs_ops_tests::{first_wrong, fresh_files};
 use fs_model::{Collected, Ended, Started, Stepped};
 use plain_backing::PlainBacking;
-use std::test::Fail;
+use std::alloc::Global;
+use ubifs_base::Memory;
 use vfs_ops::{Event, Fs, Outcome};
 
 // An outcome as a letter, `x` for one that isn't asked for here.
@@ -44,42 +45,51 @@ fn made(fs: &mut Fs<PlainBacking>, event: Event) -> u8
     letter(done.outcome())
 }
 
-// Both pages of a file of 4,100 bytes are picked and put, each once, and none is left then.
-#[test]
-fn a_page_is_put_once(rt: HostRuntime) -> Result<(), Fail> {
-    let alloc = rt.alloc();
-    let mut fs = fresh_files(alloc)?;
-    assert_eq!(rt;
-        answers(alloc, &mut fs, b"cow")?.as_slice(),
-        [65, 65, 4100].as_slice()
-    );
+// What is told of a page that is picked, and the letters of putting it twice.
+fn put_twice(fs: &mut Fs<PlainBacking>) -> ((u32, u32, usize), u8, u8) {
     let Outcome::Page { page } = fs.act(Event::Pick).into_outcome() else {
-        return Err("no page")?;
+        return ((0, 0, 0), 0, 0);
     };
-    assert_eq!(rt; (page.ino, page.block, page.bytes.len()), (65, 0, 4096));
+    let told = (page.ino, page.block, page.bytes.len());
     let put = Event::Put { page };
-    assert_eq!(rt; letter(&fs.step(&put)), b'd');
-    assert_eq!(rt; letter(&fs.step(&put)), b's');
-    let Outcome::Page { page } = fs.act(Event::Pick).into_outcome() else {
-        return Err("no page")?;
-    };
-    assert_eq!(rt; (page.ino, page.block, page.bytes.len()), (65, 1, 4));
-    assert_eq!(rt; letter(&fs.step(&Event::Put { page })), b'd');
-    assert_eq!(rt; made(&mut fs, Event::Pick), b'n');
-    Ok(())
+    let first = letter(&fs.step(&put));
+    let second = letter(&fs.step(&put));
+    (told, first, second)
+}
+
+// Both pages of a file of 4,100 bytes are picked and put, each once, and none is left then.
+fn pages_are_put_once(alloc: Global) -> Result<bool, Memory> {
+    let mut fs = fresh_files(alloc)?;
+    let wrong = first_wrong(alloc, &mut fs, b"cow", &[65, 65, 4100])?;
+    Ok(
+        wrong.is_none()
+            && put_twice(&mut fs) == ((65, 0, 4096), b'd', b's')
+            && put_twice(&mut fs) == ((65, 1, 4), b'd', b's')
+            && made(&mut fs, Event::Pick) == b'n',
+    )
 }
 
 // A backing that can be written syncs, has nothing to collect, commits, and covers three credits.
-#[test]
-fn the_backing_is_asked_for_the_rest(rt: HostRuntime) -> Result<(), Fail> {
-    let alloc = rt.alloc();
+fn the_backing_is_asked_for_the_rest(alloc: Global) -> Result<bool, Memory> {
     let mut fs = fresh_files(alloc)?;
-    assert_eq!(rt; made(&mut fs, Event::Sync), b'y');
-    assert_eq!(rt; made(&mut fs, Event::Collect), b'c');
-    assert_eq!(rt; made(&mut fs, Event::CommitStart), b'b');
-    assert_eq!(rt; made(&mut fs, Event::CommitStep), b'w');
-    assert_eq!(rt; made(&mut fs, Event::CommitEnd), b'e');
-    assert_eq!(rt; made(&mut fs, Event::Refill { n: 3 }), b'g');
-    assert_eq!(rt; made(&mut fs, Event::Drain { n: 0 }), b'0');
-    Ok(())
+    Ok(
+        made(&mut fs, Event::Sync) == b'y'
+            && made(&mut fs, Event::Collect) == b'c'
+            && made(&mut fs, Event::CommitStart) == b'b'
+            && made(&mut fs, Event::CommitStep) == b'w'
+            && made(&mut fs, Event::CommitEnd) == b'e'
+            && made(&mut fs, Event::Refill { n: 3 }) == b'g'
+            && made(&mut fs, Event::Drain { n: 0 }) == b'0',
+    )
+}
+
+#[test]
+fn events_are_answered(rt: HostRuntime) {
+    assert_eq!(rt;
+        (
+            pages_are_put_once(rt.alloc()),
+            the_backing_is_asked_for_the_rest(rt.alloc())
+        ),
+        (Ok(true), Ok(true))
+    );
 }

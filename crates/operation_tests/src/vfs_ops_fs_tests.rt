@@ -12,7 +12,6 @@ use fs_model::{
 };
 use plain_backing::PlainBacking;
 use std::alloc::Global;
-use std::test::Fail;
 use ubifs_base::{Bytes, Memory, Name};
 use vfs_ops::Fs;
 
@@ -53,22 +52,22 @@ fn changed_at(fs: &mut Fs<PlainBacking>, ino: u32) -> Result<u64, StoreFault> {
 }
 
 // A file that is made is found by its path, by its name and by its number; and a group of no change is put.
-#[test]
-fn what_is_made_is_looked_up(rt: HostRuntime) -> Result<(), Fail> {
-    let alloc = rt.alloc();
+fn what_is_made_is_looked_up(alloc: Global) -> Result<bool, Memory> {
     let mut fs = fresh_files(alloc)?;
-    assert_eq!(rt; looked_up(alloc, &mut fs), Ok((0, 0)));
-    assert_eq!(rt; answered(alloc, &mut fs, b'c'), Ok(65));
-    assert_eq!(rt; walked_to(alloc, &mut fs, b"/f"), Ok(65));
-    assert_eq!(rt; walked_to(alloc, &mut fs, b"/g"), Err(Refusal::Enoent));
-    assert_eq!(rt; looked_up(alloc, &mut fs), Ok((1, 65)));
-    assert_eq!(rt; changed_at(&mut fs, 65), Ok(7));
-    assert_eq!(rt; nothing_put(alloc, &mut fs), Ok(()));
-    assert_eq!(rt;
-        (fs.highest(), fs.mode(), fs.refused().len()),
-        (65, Mode::ReadWrite, 0)
-    );
-    Ok(())
+    let before = looked_up(alloc, &mut fs);
+    let made = answered(alloc, &mut fs, b'c')?;
+    let walked = walked_to(alloc, &mut fs, b"/f");
+    let missed = walked_to(alloc, &mut fs, b"/g");
+    Ok(
+        before == Ok((0, 0))
+            && made == 65
+            && walked == Ok(65)
+            && missed == Err(Refusal::Enoent)
+            && looked_up(alloc, &mut fs) == Ok((1, 65))
+            && changed_at(&mut fs, 65) == Ok(7)
+            && nothing_put(alloc, &mut fs) == Ok(())
+            && (fs.highest(), fs.mode(), fs.refused().len()) == (65, Mode::ReadWrite, 0),
+    )
 }
 
 // The group that makes the file `f` on a fresh volume.
@@ -127,7 +126,11 @@ fn file_page(alloc: Global) -> Result<PageNode, Memory>
 }
 
 // Makes the file with its page on a fresh volume, asking for so many bytes, and reads the page.
-fn made_and_read(alloc: Global, bytes: u64, out: &mut [u8]) -> Result<Result<u32, CallFault>, Fail>
+fn made_and_read(
+    alloc: Global,
+    bytes: u64,
+    out: &mut [u8],
+) -> Result<Result<u32, CallFault>, Memory>
     requires enough { 384 ≤ bytes }
     requires few { bytes ≤ 4294967295 }
     requires out { length out.old ≡ 4096 }
@@ -145,16 +148,25 @@ fn made_and_read(alloc: Global, bytes: u64, out: &mut [u8]) -> Result<Result<u32
 }
 
 // A caller of a backing reads the page that it put, or is told that there is no room for what it asks.
-#[test]
-fn what_is_put_is_read(rt: HostRuntime) -> Result<(), Fail> {
-    let alloc = rt.alloc();
+fn what_is_put_is_read(alloc: Global) -> Result<bool, Memory> {
     let mut out = [255; 4096];
-    assert_eq!(rt; made_and_read(alloc, 384, &mut out)?, Ok(3));
-    assert_eq!(rt; &out[..4], b"abc\0".as_slice());
-    let refused = made_and_read(alloc, 1_000_000, &mut out)?;
-    let Err(CallFault::NoSpace { space }) = refused else {
-        return Err("room")?;
-    };
-    assert_eq!(rt; (space.need, space.room), (160 + 4304 + 1_000_000, 514_080));
-    Ok(())
+    let read = made_and_read(alloc, 384, &mut out)?;
+    let is_read = read == Ok(3) && out.as_slice().starts_with(b"abc\0".as_slice());
+    match made_and_read(alloc, 1_000_000, &mut out)? {
+        Err(CallFault::NoSpace { space }) => Ok(
+            is_read && (space.need, space.room) == (160 + 4304 + 1_000_000, 514_080),
+        ),
+        _ => Ok(false),
+    }
+}
+
+#[test]
+fn files_are_looked_up_and_read(rt: HostRuntime) {
+    assert_eq!(rt;
+        (
+            what_is_made_is_looked_up(rt.alloc()),
+            what_is_put_is_read(rt.alloc())
+        ),
+        (Ok(true), Ok(true))
+    );
 }

@@ -5,19 +5,19 @@ ghost use Rattle.fs_model.specs.Proper.{IsProper};
 ghost use Rattle.cached_files.specs.Present.{IsKept};
 ghost use Rattle.plain_backing.specs.PlainBacking.{state_of};
 
-use crate::vfs_ops_tests::{answers, fresh_files};
+use crate::vfs_ops_tests::{first_wrong, fresh_files};
 use cached_files::{Kept, bytes};
 use fs_model::StoreFault;
 use plain_backing::PlainBacking;
 use std::alloc::Global;
-use std::test::Fail;
+use ubifs_base::Memory;
 
 // A backing with a file of 4,100 bytes of 7, which is 65.
-fn written_backing(alloc: Global) -> Result<PlainBacking, Fail>
+fn written_backing(alloc: Global) -> Result<PlainBacking, Memory>
     ensures { IfOk result (λ backing. IsProper (state_of backing).tree) }
 {
     let mut fs = fresh_files(alloc)?;
-    answers(alloc, &mut fs, b"cowa")?;
+    first_wrong(alloc, &mut fs, b"cowa", &[65, 65, 4100, 0])?;
     Ok(fs.into_parts())
 }
 
@@ -40,18 +40,23 @@ fn byte_at(
 }
 
 // A page that was read is read again without the backing, of which the next call fails; another page isn't.
-#[test]
-fn a_page_is_read_once(rt: HostRuntime) -> Result<(), Fail> {
-    let alloc = rt.alloc();
+fn is_read_once(alloc: Global) -> Result<bool, Memory> {
     let mut backing = written_backing(alloc)?;
     let mut kept = Kept::new(alloc, 4)?;
-    assert_eq!(rt; byte_at(alloc, &mut backing, &mut kept, 9), Ok(7));
+    let first = byte_at(alloc, &mut backing, &mut kept, 9);
     backing.fail_call(1);
-    assert_eq!(rt; byte_at(alloc, &mut backing, &mut kept, 10), Ok(7));
-    assert_eq!(rt;
-        byte_at(alloc, &mut backing, &mut kept, 4097),
-        Err(StoreFault::Volume { count: 1 })
-    );
-    assert_eq!(rt; byte_at(alloc, &mut backing, &mut kept, 4097), Ok(7));
-    Ok(())
+    let again = byte_at(alloc, &mut backing, &mut kept, 10);
+    let other = byte_at(alloc, &mut backing, &mut kept, 4097);
+    let retried = byte_at(alloc, &mut backing, &mut kept, 4097);
+    Ok(
+        first == Ok(7)
+            && again == Ok(7)
+            && other == Err(StoreFault::Volume { count: 1 })
+            && retried == Ok(7),
+    )
+}
+
+#[test]
+fn a_page_is_read_once(rt: HostRuntime) {
+    assert_eq!(rt; is_read_once(rt.alloc()), Ok(true));
 }

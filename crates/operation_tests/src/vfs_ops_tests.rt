@@ -12,7 +12,6 @@ use fs_laws::a_fresh_volume_is_sound;
 use fs_model::{Backing, Change, Group, Inode, Kind, Mode, Op, Reply, Space};
 use plain_backing::{PlainBacking, Tree};
 use std::alloc::Global;
-use std::test::Fail;
 use ubifs_base::{Bytes, Geometry, Memory, Name, RawGeometry};
 use vfs_ops::{Event, Fs, Outcome};
 
@@ -50,13 +49,13 @@ fn fresh_tree(alloc: Global) -> Result<Tree, Memory>
 }
 
 // A fresh volume of 64 main LEBs, which takes one orphan.
-pub(crate) fn fresh_backing(alloc: Global) -> Result<PlainBacking, Fail>
+pub(crate) fn fresh_backing(alloc: Global) -> Result<PlainBacking, Memory>
     ensures tree { IfOk result (λ backing. (state_of backing).tree ≡ fresh.tree) }
     ensures credits { IfOk result (λ backing. (state_of backing).space.credits ≡ 0) }
 {
-    let geo = Geometry::new(&RawGeometry::plain(16384, 512, 64, 8))
-        .ok()
-        .ok_or("no geometry")?;
+    let Ok(geo) = Geometry::new(&RawGeometry::plain(16384, 512, 64, 8)) else {
+        return Err(Memory);
+    };
     let tree = fresh_tree(alloc)?;
     let space = Space {
         used: 160,
@@ -71,12 +70,12 @@ pub(crate) fn fresh_backing(alloc: Global) -> Result<PlainBacking, Fail>
 }
 
 // A file system over a fresh volume.
-pub(crate) fn fresh_files(alloc: Global) -> Result<Fs<PlainBacking>, Fail> {
+pub(crate) fn fresh_files(alloc: Global) -> Result<Fs<PlainBacking>, Memory> {
     a_fresh_volume_is_sound();
     let backing = fresh_backing(alloc)?;
     match Fs::new(alloc, backing, 4) {
         Ok(fs) => Ok(fs),
-        Err((fault, _)) => Err(fault)?,
+        Err((fault, _)) => Err(fault),
     }
 }
 
@@ -150,33 +149,38 @@ pub(crate) fn answered(
     }
 }
 
-// Does the operations of the letters in turn, and answers the numbers of their replies.
-pub(crate) fn answers(
+// The first of the operations of these letters that isn't answered by the number at its place; None if each is.
+pub(crate) fn first_wrong(
     alloc: Global,
     fs: &mut Fs<PlainBacking>,
     letters: &[u8],
-) -> Result<Vec<u64>, Memory> {
-    let mut numbers = Vec::new(alloc);
-    for letter in letters {
-        let number = answered(alloc, fs, *letter)?;
-        numbers.push(number)?;
+    numbers: &[u64],
+) -> Result<Option<usize>, Memory> {
+    for (place, (letter, number)) in letters.iter().zip(numbers).enumerate() {
+        if answered(alloc, fs, *letter)? != *number {
+            return Ok(Some(place));
+        }
     }
-    Ok(numbers)
+    Ok(None)
 }
 
 // A file is made, written, synced and read. It outlives its name until its last slot is closed, and takes the place of the
 // one orphan that the backing has room for. Pages that go dirty with their file give their credits back.
-#[test]
-fn an_open_file_outlives_its_name(rt: HostRuntime) -> Result<(), Fail> {
-    let alloc = rt.alloc();
+const LETTERS: [u8; 25] = *b"ccowswarpu?ywrcpuxuycowxu";
+
+const NUMBERS: [u64; 25] = [
+    65, 1, 65, 4100, 0, 4100, 0, 5, 65, 0, 1, 0, 4100, 5, 66, 66, 1, 0, 0, 0, 67, 67, 4100, 0, 0,
+];
+
+// The first wrong answer, and the room for orphans and the credits in the end.
+fn told(alloc: Global) -> Result<(Option<usize>, u64, u64), Memory> {
     let mut fs = fresh_files(alloc)?;
-    let told = answers(alloc, &mut fs, b"ccowswarpu?ywrcpuxuycowxu")?;
-    let want: [u64; 25] = [
-        65, 1, 65, 4100, 0, 4100, 0, 5, 65, 0, 1, 0, 4100, 5, 66, 66, 1, 0, 0, 0, 67, 67, 4100, 0,
-        0,
-    ];
-    assert_eq!(rt; told.as_slice(), want.as_slice());
+    let wrong = first_wrong(alloc, &mut fs, &LETTERS, &NUMBERS)?;
     let backing = fs.into_parts();
-    assert_eq!(rt; (backing.orphan_room(), backing.space().credits), (1, 0));
-    Ok(())
+    Ok((wrong, backing.orphan_room(), backing.space().credits))
+}
+
+#[test]
+fn an_open_file_outlives_its_name(rt: HostRuntime) {
+    assert_eq!(rt; told(rt.alloc()), Ok((None, 1, 0)));
 }
