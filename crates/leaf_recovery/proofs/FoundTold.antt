@@ -79,8 +79,8 @@ unread_pair : (parts : Parts) (leaf : Leaf) → IfBoth (KeptTold parts) (found_c
 unread_pair parts leaf = by leaf.key refl
   where
     by : (k : Key) → leaf.key ≡ k → IfBoth (KeptTold parts) (found_copy leaf None) (unread_leaf leaf)
-    by (Ino ino) e = rw e (record { told = record { leaf = refl; content = refl; sqnum = refl; source = (Ino ino, refl) }; shows = refl })
-    by (Block ino number) e = rw e (record { told = record { leaf = refl; content = refl; sqnum = refl; source = (Block ino number, refl) }; shows = refl })
+    by (Ino ino) e = rw e (record { told = record { leaf = refl; content = refl; sqnum = refl; source = refl }; shows = refl })
+    by (Block ino number) e = rw e (record { told = record { leaf = refl; content = refl; sqnum = refl; source = refl }; shows = refl })
     by (Dent dir hash) e = rw e tt
     by (Xent ino hash) e = rw e tt
 

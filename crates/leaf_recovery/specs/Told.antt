@@ -1,7 +1,6 @@
 -- What is told of what a mount has read, and what recovery makes of it.
 use Rattle.std.specs.Prelude.{◌≡◌, ◌⊎◌, ℕ, List, [], ◌∷◌, map, Option, Some, None}
 use Rattle.std.specs.List.{AllByRecursion}
-use Rattle.ubifs_base.specs.declared.key.Key.{Key}
 use Rattle.media_leaf.specs.LeafNode.{IsLeaf}
 use Rattle.media_sys.specs.declared.ref_node.RefNode.{RefNode}
 use Rattle.leaf_map.specs.Kept.{Kept, Placed}
@@ -57,9 +56,9 @@ IsRead parts node = IsAtLeaf node parts.committed ⊎ (IsOneNode node parts.node
 abbrev pub place_of_read : Placed → Place
 place_of_read node = record { lnum = node.lnum; offs = node.offs; len = node.len }
 
--- a leaf's node was read where it is told, or stands for one that nobody can read
+-- a leaf's node was read where it is told, or stands for one of the leaf's key that nobody can read
 abbrev pub IsSource : Parts → Kept → Option Place → Type 0
-IsSource parts x None = (key : Key) × (stand_in key ≡ Some x.node)
+IsSource parts x None = stand_in x.leaf.key ≡ Some x.node
 IsSource parts x (Some place) = (node : Placed) × IsRead parts node × (place ≡ place_of_read node) × (node.node ≡ x.node)
 
 -- this is told of a leaf after recovery
