@@ -1,6 +1,7 @@
 -- Which of the collector's nodes are copies, by what is told and by what stands in the volume.
 use Rattle.std.proofs.Common.{◌≡◌, ◌⊎◌, ℕ, ◌+◌, ◌≤◌, Bool, true, false, cond, not, ◌&&◌, ◌||◌, List, [], ◌∷◌, ◌++◌, Option, Some, None, length, map, take, drop, refl, ap, sym, subst, ◌∙◌, inl, inr, append-nil, append_assoc}
-use Rattle.std.specs.Prelude.{◌==◌, ◌↔◌, IsTrue, is_some}
+use Rattle.std.specs.Prelude.{◌==◌, ◌↔◌, All, IfNone, IsTrue, is_some}
+use Rattle.std.proofs.lemmas.List.Elements.{All-from_recursion}
 use Rattle.std.specs.List.{AllByRecursion, list_any}
 use Rattle.std.specs.Option.{option_map}
 use Rattle.std.proofs.lemmas.Bool.{and_parts, eqb-true, false≢true}
@@ -33,6 +34,7 @@ use Rattle.shown_leaves.specs.Stored.{IsStoredIn, leaf_node}
 use Rattle.shown_leaves.specs.Told.{wrong_node_told}
 use Rattle.shown_leaves.specs.declared.stored_node.StoredNode.{StoredNode}
 use Rattle.shown_leaves.proofs.Contents.{if_set, told_key, wrong_is}
+use Rattle.shown_leaves.proofs.Rights.{all_end, right_more, right_never}
 use Rattle.shown_leaves.proofs.Members.{at_end, front_or_end, in_front, one_of_none}
 use Rattle.shown_leaves.proofs.Stored.{IsOneNode, part_bytes, read_is}
 
@@ -308,6 +310,7 @@ pub record FalseSoFar (contents : ℕ → List ℕ) (parts : Parts) (left : List
   pub told_rest : left ≡ map told rest
   pub stand : AllByRecursion (IsPlacedIn contents) rest
   pub wrong : IsFirstOf (IsFalseIn parts done) first
+  pub right : IfNone first (AllByRecursion (IsCopy parts) done)
 
 pub false_start : (contents : ℕ → List ℕ) (parts : Parts) (references : List RefNode) (committed : List CommittedLeaf) (copies : List JournalNode) → ArePartsTold contents parts references committed copies → FalseSoFar contents parts copies None
 false_start contents parts references committed copies read = record {
@@ -317,6 +320,7 @@ false_start contents parts references committed copies read = record {
   told_rest = read.told_copies;
   stand = read.stand;
   wrong = λ at wrong. one_of_none wrong.0 wrong.1;
+  right = tt;
 }
 
 first_node : (first : JournalNode) (more : List JournalNode) (nodes : List Placed) → first ∷ more ≡ map told nodes → (x : Placed) × (rest : List Placed) × (nodes ≡ x ∷ rest) × (first ≡ told x) × (more ≡ map told rest)
@@ -360,6 +364,7 @@ copy_next contents parts left more copy first cut is before =
       told_rest = further;
       stand = stand.1;
       wrong = copy_here parts before.done x first (is x stand.0 here) before.wrong;
+      right = right_more first (AllByRecursion (IsCopy parts) before.done) (AllByRecursion (IsCopy parts) (before.done ++ x ∷ [])) (λ all. all_end (IsCopy parts) before.done x all (is x stand.0 here)) before.right;
     }
 
 pub false_next : (contents : ℕ → List ℕ) (parts : Parts) (left more : List JournalNode) (copy : JournalNode) (first next : Option WrongValue) → left ≡ copy ∷ more → next ≡ sooner_of first (Some (wrong_node_told copy))
@@ -374,12 +379,19 @@ false_next contents parts left more copy first next cut sooner is before =
       told_rest = further;
       stand = stand.1;
       wrong = false_here parts before.done x first next (is x stand.0 here) (sooner ∙ ap (λ (c : JournalNode). sooner_of first (Some (wrong_node_told c))) here) before.wrong;
+      right = subst (λ (o : Option WrongValue). IfNone o (AllByRecursion (IsCopy parts) (before.done ++ x ∷ []))) (sym sooner) (right_never first (wrong_node_told copy) (AllByRecursion (IsCopy parts) (before.done ++ x ∷ [])));
     }
 
 pub false_end : (contents : ℕ → List ℕ) (parts : Parts) (left : List JournalNode) (first : Option WrongValue) → left ≡ [] → FalseSoFar contents parts left first → IsFirstOf (IsFalseCopy parts) first
 false_end contents parts left first none before =
     let e : before.done ≡ parts.copies = sym (append-nil before.done) ∙ ap (λ ys. before.done ++ ys) (sym (no_node before.rest (sym none ∙ before.told_rest))) ∙ before.all in
     subst (λ nodes. IsFirstOf (IsFalseIn parts nodes) first) e before.wrong
+
+-- where none is false, all are copies
+pub right_end : (contents : ℕ → List ℕ) (parts : Parts) (left : List JournalNode) (first : Option WrongValue) → left ≡ [] → FalseSoFar contents parts left first → IfNone first (All (IsCopy parts) parts.copies)
+right_end contents parts left first none before =
+    let e : before.done ≡ parts.copies = sym (append-nil before.done) ∙ ap (λ ys. before.done ++ ys) (sym (no_node before.rest (sym none ∙ before.told_rest))) ∙ before.all in
+    right_more first (AllByRecursion (IsCopy parts) before.done) (All (IsCopy parts) parts.copies) (λ all. All-from_recursion (IsCopy parts) parts.copies (subst (AllByRecursion (IsCopy parts)) e all)) before.right
 
 -- ---- contents that are the same
 placed_moved : (a b : ℕ → List ℕ) → ((k : ℕ) → b k ≡ a k) → (node : Placed) → IsPlacedIn a node → IsPlacedIn b node

@@ -1,6 +1,8 @@
 -- Leaves whose nodes were read: what they show, and whether they show what stands at their places.
 use Rattle.std.proofs.Common.{◌≡◌, ◌⊎◌, ℕ, Bool, true, false, cond, ◌&&◌, List, [], ◌∷◌, ◌++◌, Option, Some, None, take, drop, length, ◌+◌, ◌≤◌, refl, ap, sym, subst, ◌∙◌, inl, inr, append-nil, append_assoc}
-use Rattle.std.specs.Prelude.{◌==◌, ◌↔◌, IsTrue}
+use Rattle.std.specs.Prelude.{◌==◌, ◌↔◌, All, IfNone, IsTrue}
+use Rattle.std.specs.List.{AllByRecursion}
+use Rattle.std.proofs.lemmas.List.Elements.{All-from_recursion}
 use Rattle.std.specs.Option.{option_map}
 use Rattle.std.proofs.lemmas.Bool.{and_from, and_parts, eqb-true, false≢true}
 use Rattle.ubifs_base.specs.Key.{key_words}
@@ -28,6 +30,7 @@ use Rattle.tree_check.specs.declared.shown_leaf.ShownLeaf.{ShownLeaf}
 use Rattle.shown_leaves.specs.declared.sourced_leaf.Source.{Source}
 use Rattle.shown_leaves.specs.declared.sourced_leaf.SourcedLeaf.{SourcedLeaf}
 use Rattle.shown_leaves.specs.declared.stored_node.StoredNode.{StoredNode}
+use Rattle.shown_leaves.proofs.Rights.{all_end, right_both, right_more}
 use Rattle.shown_leaves.proofs.Members.{at_end, front_or_end, in_front, one_of_none}
 use Rattle.shown_leaves.proofs.Stored.{IsOneNode, part_bytes, read_is}
 
@@ -124,6 +127,7 @@ number_told x (Some (changes.DropInode ino)) s f e = absurd cc
 pub record IsWellJudged (contents : ℕ → List ℕ) (x : Kept) (leaf : ShownLeaf) (unlike : Option WrongValue) : Type 0 where
   pub shows : IsShownBy x leaf
   pub first : IsFirstOf (IsUnlike contents x) unlike
+  pub right : IfNone unlike (ShowsItsNode contents x)
 
 unlike_first : (contents : ℕ → List ℕ) (x : Kept) (leaf : SourcedLeaf) (s : Shown) (stands : Bool) → leaf.leaf ≡ x.leaf → shown_told (shown_by x) ≡ Some s → (IsTrue stands ↔ StandsAtLeaf contents x.leaf x.node)
     → IsFirstOf (IsUnlike contents x) (unlike_told leaf s stands)
@@ -147,6 +151,19 @@ unlike_first contents x leaf s stands is e tests = by (stands && is_shown_told s
         ((λ shows. (let yes : (stands && is_shown_told s) ≡ true = and_from stands (is_shown_told s) (tests.1 (shows.sqnum, shows.group, shows.is)) (is_shown_is (shown_by x) s e ∙ shows.shown) in false≢true (sym right ∙ yes))), here)
         (λ at wrong. wrong.1 ∙ sym here)
 
+unlike_right : (contents : ℕ → List ℕ) (x : Kept) (leaf : SourcedLeaf) (s : Shown) (stands : Bool) → shown_told (shown_by x) ≡ Some s → (IsTrue stands ↔ StandsAtLeaf contents x.leaf x.node) → IfNone (unlike_told leaf s stands) (ShowsItsNode contents x)
+unlike_right contents x leaf s stands e tests = by (stands && is_shown_told s) refl
+  where
+    d : WrongValue
+    d = record { lnum = leaf.leaf.lnum; offs = leaf.leaf.offs; wanted = name_number (key_words leaf.leaf.key).0 s; found = 0 }
+
+    by : (b : Bool) → (stands && is_shown_told s) ≡ b → IfNone (cond b None (Some d)) (ShowsItsNode contents x)
+    by true right =
+        let p = and_parts stands (is_shown_told s) right in
+        let there = tests.0 p.0 in
+        record { sqnum = there.0; group = there.1; is = there.2; shown = sym (is_shown_is (shown_by x) s e) ∙ p.1 }
+    by false right = tt
+
 pub judged_is : (contents : ℕ → List ℕ) (x : Kept) (leaf : SourcedLeaf) (s : Shown) (stands : Bool) → leaf.leaf ≡ x.leaf → shown_told (shown_by x) ≡ Some s → (IsTrue stands ↔ StandsAtLeaf contents x.leaf x.node)
     → IsWellJudged contents x (judged_of leaf s stands).leaf (judged_of leaf s stands).unlike
 judged_is contents x leaf s stands is e tests = record {
@@ -157,6 +174,7 @@ judged_is contents x leaf s stands is e tests = record {
     shown = e;
   };
   first = unlike_first contents x leaf s stands is e tests;
+  right = unlike_right contents x leaf s stands e tests;
 }
 
 -- ---- contents that are the same
@@ -184,6 +202,7 @@ judged_moved a b e x leaf unlike h = record {
   shows = h.shows;
   first = first_same (IsUnlike a x) (IsUnlike b x) unlike
       (λ at w. ((λ s. w.0 (shows_moved b a (λ k. sym (e k)) x s)), w.1)) (λ at w. ((λ s. w.0 (shows_moved a b e x s)), w.1)) h.first;
+  right = right_more unlike (ShowsItsNode a x) (ShowsItsNode b x) (shows_moved a b e x) h.right;
 }
 
 -- ---- one leaf after another
@@ -195,6 +214,7 @@ pub record ToldSoFar (contents : ℕ → List ℕ) (kept : List Kept) (left : Li
   pub sourced : AreSourced contents rest left
   pub shown : AreShownBy done made
   pub first : IsFirstOf (IsUnlikeIn contents done) unlike
+  pub right : IfNone unlike (AllByRecursion (ShowsItsNode contents) done)
 
 pub told_start : (contents : ℕ → List ℕ) (kept : List Kept) (leaves : List SourcedLeaf) → AreSourced contents kept leaves → ToldSoFar contents kept leaves [] None
 told_start contents kept leaves sourced = record {
@@ -204,6 +224,7 @@ told_start contents kept leaves sourced = record {
   sourced = sourced;
   shown = tt;
   first = λ at wrong. one_of_none wrong.0 wrong.1;
+  right = tt;
 }
 
 shown_next : (done : List Kept) (made : List ShownLeaf) (x : Kept) (leaf : ShownLeaf) → AreShownBy done made → IsShownBy x leaf → AreShownBy (done ++ x ∷ []) (made ++ leaf ∷ [])
@@ -240,6 +261,9 @@ told_next contents kept left rest leaf made more one unlike other next cut grown
           sourced = sourced.1;
           shown = subst (AreShownBy (before.done ++ x ∷ [])) (sym grown) (shown_next before.done made x one before.shown j.shows);
           first = subst (IsFirstOf (IsUnlikeIn contents (before.done ++ x ∷ []))) (sym sooner) (unlike_next contents before.done x unlike other before.first j.first);
+          right = subst (λ (o : Option WrongValue). IfNone o (AllByRecursion (ShowsItsNode contents) (before.done ++ x ∷ []))) (sym sooner)
+              (right_both unlike other (AllByRecursion (ShowsItsNode contents) before.done) (ShowsItsNode contents x) (AllByRecursion (ShowsItsNode contents) (before.done ++ x ∷ []))
+              (λ all one. all_end (ShowsItsNode contents) before.done x all one) before.right j.right);
         }
 
 none_behind : (contents : ℕ → List ℕ) (rest : List Kept) → AreSourced contents rest [] → rest ≡ []
@@ -252,3 +276,10 @@ all_told contents kept left made unlike none told =
     let empty = none_behind contents told.rest (subst (AreSourced contents told.rest) none told.sourced) in
     let e : told.done ≡ kept = sym (append-nil told.done) ∙ ap (λ ys. told.done ++ ys) (sym empty) ∙ told.all in
     (subst (λ ks. AreShownBy ks made) e told.shown, subst (λ ks. IsFirstOf (IsUnlikeIn contents ks) unlike) e told.first)
+
+-- where none is wrong, each shows what stands at its place
+pub all_right : (contents : ℕ → List ℕ) (kept : List Kept) (left : List SourcedLeaf) (made : List ShownLeaf) (unlike : Option WrongValue) → left ≡ [] → ToldSoFar contents kept left made unlike → IfNone unlike (All (ShowsItsNode contents) kept)
+all_right contents kept left made unlike none told =
+    let empty = none_behind contents told.rest (subst (AreSourced contents told.rest) none told.sourced) in
+    let e : told.done ≡ kept = sym (append-nil told.done) ∙ ap (λ ys. told.done ++ ys) (sym empty) ∙ told.all in
+    right_more unlike (AllByRecursion (ShowsItsNode contents) told.done) (All (ShowsItsNode contents) kept) (λ all. All-from_recursion (ShowsItsNode contents) kept (subst (AllByRecursion (ShowsItsNode contents)) e all)) told.right

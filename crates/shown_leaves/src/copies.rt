@@ -1,6 +1,6 @@
 // Copies that the collector made, and those among its nodes that are none.
 
-ghost use Rattle.std.specs.Prelude.{◌≡◌, ◌↔◌, List, map, IfOk, IsTrue};
+ghost use Rattle.std.specs.Prelude.{◌≡◌, ◌↔◌, List, All, map, IfNone, IfOk, IsTrue};
 ghost use Rattle.std.specs.List.{list_any};
 ghost use Rattle.index_tree.specs.Order.{key_rank};
 ghost use Rattle.index_tree.specs.Removal.{same_leaf};
@@ -14,6 +14,7 @@ ghost use Rattle.log_replay.specs.Replay.{told_committed};
 ghost use Rattle.log_replay.specs.Things.{is_at_leaf, key_told};
 ghost use Rattle.sound_image.specs.Image.{named_by};
 ghost use Rattle.sound_image.specs.Leaves.{IsPlacedIn};
+ghost use Rattle.sound_image.specs.Tree.{IsCopy};
 ghost use Rattle.ubi_volume.specs.Volume.{Keeps, SameShape};
 ghost use Rattle.ubi_volume.specs.Faults.{HasAreaCause, StaysSureArea};
 ghost use Rattle.image_check.specs.WrongValues.{IsFirstOf};
@@ -48,6 +49,7 @@ pub fn first_false_copy<V: Volume>(
     copies: &[JournalNode],
 ) -> Result<Option<WrongValue>, AreaFault>
     ensures first { IfOk result (λ first. (parts : Parts) → ArePartsTold (V.state volume.old).holds parts references.now committed.now copies.now → IsFirstOf (IsFalseCopy parts) first) }
+    ensures copies { IfOk result (λ first. (parts : Parts) → ArePartsTold (V.state volume.old).holds parts references.now committed.now copies.now → IfNone first (All (IsCopy parts) parts.copies)) }
     ensures keeps { Keeps (V.state volume.old) (V.state volume.new) × SameShape (V.state volume.old) (V.state volume.new) }
     ensures cause { HasAreaCause (V.state volume.old).faults (V.state volume.new).faults result }
     ensures sure { StaysSureArea (V.state volume.old) (V.state volume.new) result }

@@ -1,10 +1,11 @@
 // What leaves show, and which of them don't show what stands at their places.
 
-ghost use Rattle.std.specs.Prelude.{◌≡◌, ◌↔◌, IfOk, IsTrue, List, Some};
+ghost use Rattle.std.specs.Prelude.{◌≡◌, ◌↔◌, All, IfNone, IfOk, IsTrue, List, Some};
 ghost use Rattle.std.specs.Option.{option_map};
 ghost use Rattle.leaf_map.specs.Kept.{Kept};
 ghost use Rattle.ubi_volume.specs.Volume.{Keeps, SameShape};
 ghost use Rattle.ubi_volume.specs.Faults.{HasAreaCause, StaysSureArea};
+ghost use Rattle.sound_image.specs.Tree.{ShowsItsNode};
 ghost use Rattle.image_check.specs.WrongValues.{IsFirstOf};
 ghost use Rattle.tree_check.specs.Told.{AreShownBy, IsShownBy};
 ghost use Rattle.shown_leaves.specs.Sources.{AreSourced, IsSourced, IsUnlike, IsUnlikeIn, StandsAtLeaf};
@@ -42,6 +43,7 @@ pub fn read_shown<V: Volume>(
 ) -> Result<ShownLeaves, AreaFault>
     ensures shown { IfOk result (λ made. (kept : List Kept) → AreSourced (V.state volume.old).holds kept leaves.now → AreShownBy kept made.leaves.items) }
     ensures unlike { IfOk result (λ made. (kept : List Kept) → AreSourced (V.state volume.old).holds kept leaves.now → IsFirstOf (IsUnlikeIn (V.state volume.old).holds kept) made.unlike) }
+    ensures all { IfOk result (λ made. (kept : List Kept) → AreSourced (V.state volume.old).holds kept leaves.now → IfNone made.unlike (All (ShowsItsNode (V.state volume.old).holds) kept)) }
     ensures keeps { Keeps (V.state volume.old) (V.state volume.new) × SameShape (V.state volume.old) (V.state volume.new) }
     ensures cause { HasAreaCause (V.state volume.old).faults (V.state volume.new).faults result }
     ensures sure { StaysSureArea (V.state volume.old) (V.state volume.new) result }
@@ -67,7 +69,7 @@ fn judge_leaf<V: Volume>(
     volume: &mut V,
     leaf: &SourcedLeaf,
 ) -> Result<JudgedLeaf, AreaFault>
-    ensures judged { IfOk result (λ one. (x : Kept) → IsSourced (V.state volume.old).holds x leaf.now → IsShownBy x one.leaf × IsFirstOf (IsUnlike (V.state volume.old).holds x) one.unlike) }
+    ensures judged { IfOk result (λ one. (x : Kept) → IsSourced (V.state volume.old).holds x leaf.now → IsShownBy x one.leaf × IsFirstOf (IsUnlike (V.state volume.old).holds x) one.unlike × IfNone one.unlike (ShowsItsNode (V.state volume.old).holds x)) }
     ensures keeps { Keeps (V.state volume.old) (V.state volume.new) }
     ensures shape { SameShape (V.state volume.old) (V.state volume.new) }
     ensures cause { HasAreaCause (V.state volume.old).faults (V.state volume.new).faults result }

@@ -3,7 +3,7 @@ use Rattle.std.specs.Prelude.{Some}
 use Rattle.image_check.specs.WrongValues.{sooner_of}
 use Rattle.image_check.specs.declared.wrong_value.WrongValue.{WrongValue}
 use Rattle.shown_leaves.specs.Copies.{DecidesCopy}
-use Rattle.shown_leaves.proofs.CopiedNodes.{copy_next, false_end, false_next, false_start, placed_kept, read_kept}
+use Rattle.shown_leaves.proofs.CopiedNodes.{copy_next, false_end, false_next, false_start, placed_kept, read_kept, right_end}
 use Rattle.shown_leaves.proofs.Kept.{kept_next, kept_start, sure_of_area}
 use Rattle.shown_leaves.proofs.Members.{no_left}
 use Rattle.shown_leaves.proofs.copies.first_false_copy.Goals as goal
@@ -50,3 +50,7 @@ comparing-preserved g c =
 pub returns-clause-first : goal.returns-clause-first
 returns-clause-first g c parts read =
     false_end (g.V.Volume.state c.args.volume.now).holds parts c.comparing.left.now c.comparing.first (no_left c.comparing.left.now c.in_default.ensures.cases) (c.comparing.invariant.found parts read)
+
+pub returns-clause-copies : goal.returns-clause-copies
+returns-clause-copies g c parts read =
+    right_end (g.V.Volume.state c.args.volume.now).holds parts c.comparing.left.now c.comparing.first (no_left c.comparing.left.now c.in_default.ensures.cases) (c.comparing.invariant.found parts read)

@@ -1,5 +1,7 @@
 use Rattle.std.proofs.Common.{◌≡◌, ◌∙◌, ap, sym, subst}
+use Rattle.std.specs.Prelude.{IfNone}
 use Rattle.std.specs.Option.{option_map}
+use Rattle.sound_image.specs.Tree.{ShowsItsNode}
 use Rattle.media_leaf.specs.LeafNode.{LeafNode}
 use Rattle.leaf_map.specs.Kept.{shown}
 use Rattle.image_check.specs.WrongValues.{IsFirstOf}
@@ -24,5 +26,5 @@ returns-clause-judged g c x sourced =
       (λ yes. stands_moved now.holds old.holds (λ k. sym (kept k)) x.leaf x.node (tests.0 yes)),
       (λ stands. tests.1 (stands_moved old.holds now.holds kept x.leaf x.node stands)),
     ) in
-    let P : JudgedLeaf → Type 0 = λ r. IsShownBy x r.leaf × IsFirstOf (IsUnlike old.holds x) r.unlike in
-    subst P (sym c.judged-2.ensures) (j.shows, j.first)
+    let P : JudgedLeaf → Type 0 = λ r. IsShownBy x r.leaf × IsFirstOf (IsUnlike old.holds x) r.unlike × IfNone r.unlike (ShowsItsNode old.holds x) in
+    subst P (sym c.judged-2.ensures) (j.shows, j.first, j.right)
