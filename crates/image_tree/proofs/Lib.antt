@@ -1,0 +1,9 @@
+pub mod Judging
+pub mod Members
+pub mod NamedLeaves
+pub mod NodeParts
+pub mod RepeatedLeaves
+pub mod Sourcing
+pub mod StandingNodes
+pub mod WholeImage
+pub mod WholeTree

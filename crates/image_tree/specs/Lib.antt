@@ -1,0 +1,4 @@
+pub mod Judged
+pub mod Reads
+pub mod Sources
+pub mod Trees
