@@ -1,5 +1,5 @@
 -- An index that is written whole stands.
-use Rattle.std.proofs.Common.{◌≡◌, ◌≤◌, ◌<◌, ◌*◌, ◌/◌, ◌%◌, ◌+◌, ℕ, true, List, [], refl, ap, sym, ◌∙◌, subst, arith}
+use Rattle.std.proofs.Common.{◌≡◌, ◌≤◌, ◌<◌, ◌*◌, ◌/◌, ◌%◌, ◌+◌, ℕ, true, List, [], refl, ap, sym, ◌∙◌, subst, arith, append-nil}
 use Rattle.std.specs.Prelude.{Option, None, min, slice_get}
 use Rattle.std.proofs.Math.Nat.{le-div_iff_mul-le, mul_comm, mul-le-mul_left}
 use Rattle.std.proofs.lemmas.Grind.{div_ceil_times}
@@ -34,7 +34,8 @@ pub frozen_outside : (old new : VolumeState) (lebs : List ℕ) (a b : PagedIndex
     → AreOutside new.holds [] (frozen_of b)
 frozen_outside old new lebs a b i j taken standing h =
     let P : Option Root → Type 0 = λ root. AreOutside new.holds [] (tree_at b.table.nodes.items root) in
-    subst P (sym taken.kept.roots.frozen) (standing.nodes a.frozen h)
+    let Q : List ℕ → Type 0 = λ xs. AreOutside old.holds xs (frozen_of a) in
+    subst P (sym taken.kept.roots.frozen) (standing.nodes [] a.frozen (λ k given none. none) (subst Q (sym (append-nil lebs)) h))
 
 pub index_at : (old new : VolumeState) (fanout i j : ℕ) (lebs : List ℕ) (a b : PagedIndex) (root : Option Branch) (head : Option IndexHead) → IsIndexTaken a b i j → AreStanding old new lebs a b
     → AreOutside old.holds lebs (frozen_of a) → fanout_of a ≡ fanout → frozen_of b ≡ all_clean (placed_of (frozen_of b)) → fits (fanout_of b) (bare (frozen_of b)) ≡ true

@@ -22,7 +22,7 @@ use Rattle.ubi_volume.specs.Volume.{VolumeState, IsChanged, Keeps, Only, SameSha
 use Rattle.ubi_volume.specs.VolumeLaws.{Leaves-keeps, Leaves-more, Leaves-then}
 use Rattle.index_cache.specs.Paged.{dirty_of}
 use Rattle.index_cache.specs.declared.paged.PagedIndex.{PagedIndex}
-use Rattle.index_commit.specs.Lebs.{AreGivable, IsGiven}
+use Rattle.index_commit.specs.Lebs.{AreApart, AreGivable, IsGiven}
 use Rattle.index_commit.specs.Standing.{StandsOutside}
 use Rattle.index_commit.specs.Written.{AreStanding, AreFirstsTaken, IsHeadAfter, IsHeadIn, AreNodesLaid, IsLebPut, IsLebStanding, IsSettledOutside, KeepsOtherIndexes, WorksInLebs, with_leb_bytes}
 use Rattle.index_commit.specs.declared.index_at.IndexHead.{IndexHead}
@@ -116,10 +116,25 @@ settled_from : (a b c : VolumeState) (k : ℕ) → IsSameLeb a b k → IsSameLeb
 settled_from a b c k same (inl more) = inl (IsSameLeb-then a b c k same more)
 settled_from a b c k same (inr only) = inr only
 
+-- a LEB of the one list or of the other
+given_of : (xs ys : List ℕ) (k : ℕ) → IsGiven (xs ++ ys) k → IsGiven xs k ⊎ IsGiven ys k
+given_of [] ys k h = inr h
+given_of (x ∷ xs) ys k (inl e) = inl (inl e)
+given_of (x ∷ xs) ys k (inr h) = elim (given_of xs ys k h) [
+  | inl one ↦ inl (inr one)
+  | inr other ↦ inr other
+]
+
+apart_of : (lnum : ℕ) (lebs others : List ℕ) → (IsGiven lebs lnum → ⊥) → AreApart (lnum ∷ lebs) others → IsGiven (lebs ++ others) lnum → ⊥
+apart_of lnum lebs others apart two h = elim (given_of lebs others lnum h) [
+  | inl one ↦ apart one
+  | inr other ↦ two lnum (inl refl) other
+]
+
 standing_then : (a b c : VolumeState) (lnum : ℕ) (lebs : List ℕ) (i j k : PagedIndex) → (IsGiven lebs lnum → ⊥) → WorksInLebs a b (lnum ∷ []) → WorksInLebs b c lebs
     → IsLebStanding a b lnum i j → AreStanding b c lebs j k → AreStanding a c (lnum ∷ lebs) i k
 standing_then a b c lnum lebs i j k apart ab bc one rest = record {
-  nodes = λ root h. rest.nodes root (one.nodes lebs root apart h);
+  nodes = λ others root two h. rest.nodes others root (λ n given. two n (inr given)) (one.nodes (lebs ++ others) root (apart_of lnum lebs others apart two) h);
   settled = λ n given. elim given [
     | inl e ↦
         let P : ℕ → Type 0 = λ m. IsSameLeb a c m ⊎ Only (c.holds m) (c.left_now m) in
@@ -130,9 +145,13 @@ standing_then a b c lnum lebs i j k apart ab bc one rest = record {
   ];
 }
 
+given_behind : (xs ys : List ℕ) (k : ℕ) → IsGiven ys k → IsGiven (xs ++ ys) k
+given_behind [] ys k h = h
+given_behind (x ∷ xs) ys k h = inr (given_behind xs ys k h)
+
 pub none_standing : (state : VolumeState) (lebs : List ℕ) (i : PagedIndex) → AreStanding state state lebs i i
 none_standing state lebs i = record {
-  nodes = λ root h. are_outside state.holds state.holds lebs [] (tree_at i.table.nodes.items root) (λ k. ([], sym (append-nil (state.holds k)))) (λ k none. absurd none) h;
+  nodes = λ others root two h. are_outside state.holds state.holds (lebs ++ others) others (tree_at i.table.nodes.items root) (λ k. ([], sym (append-nil (state.holds k)))) (λ k. given_behind lebs others k) h;
   settled = λ k given. inl (IsSameLeb-none state k);
 }
 

@@ -12,7 +12,7 @@ use Rattle.ubi_volume.specs.Frame.{Elsewhere, IsSameLeb, Works}
 use Rattle.ubi_volume.specs.Volume.{VolumeState, Leaves, Only}
 use Rattle.index_cache.specs.Paged.{dirty_of, frozen_of, tree_of, KeepsRoots}
 use Rattle.index_cache.specs.declared.paged.PagedIndex.{PagedIndex}
-use Rattle.index_commit.specs.Lebs.{IsGiven}
+use Rattle.index_commit.specs.Lebs.{AreApart, IsGiven}
 use Rattle.index_commit.specs.Standing.{AreOutside}
 use Rattle.index_commit.specs.declared.index_at.IndexAt.{IndexAt}
 use Rattle.index_commit.specs.declared.index_at.IndexHead.{IndexHead}
@@ -57,10 +57,11 @@ pub record AreNodesLaid (lnum room : ℕ) (old new : Laying) : Type 0 where
       → AreOutside (with_leb_bytes lnum old.bytes contents) lebs (tree_at old.index.table.nodes.items root)
       → AreOutside (with_leb_bytes lnum new.bytes contents) lebs (tree_at new.index.table.nodes.items root)
 
--- Below each root whose clean nodes stood outside of the given LEBs all clean nodes stand, those that were given places too. A
--- given LEB is as it was, or a cut leaves of it what it holds
+-- Below each root whose clean nodes stood outside of the given LEBs, and of others, all clean nodes stand outside of the others:
+-- those that were given places too, so they are in given LEBs. A given LEB is as it was, or a cut leaves of it what it holds
 pub record AreStanding (old new : VolumeState) (lebs : List ℕ) (before after : PagedIndex) : Type 0 where
-  pub nodes : (root : Option Root) → AreOutside old.holds lebs (tree_at before.table.nodes.items root) → AreOutside new.holds [] (tree_at after.table.nodes.items root)
+  pub nodes : (others : List ℕ) (root : Option Root) → AreApart lebs others → AreOutside old.holds (lebs ++ others) (tree_at before.table.nodes.items root)
+      → AreOutside new.holds others (tree_at after.table.nodes.items root)
   pub settled : (k : ℕ) → IsGiven lebs k → IsSameLeb old new k ⊎ Only (new.holds k) (new.left_now k)
 
 -- the same of one LEB, whichever others are given
