@@ -26,7 +26,7 @@ use Rattle.node_table.specs.Exchange.{tree_without}
 use Rattle.node_table.specs.declared.change.Change.{Change}
 use Rattle.node_table.specs.declared.change.Change.TheVariants.{Insert, Remove, RemoveRange, Replace}
 use Rattle.index_commit.specs.Lebs.{IsGiven}
-use Rattle.index_commit.specs.Standing.{AreOutside, OfClean, OfCleanNodes, StandsOutside}
+use Rattle.index_commit.specs.Standing.{AreOutside, IsOutside, OfClean, OfCleanNodes, StandsAs}
 
 -- ---- insertions
 front_clean : (P : Key → Stretch → KeyedRow → Type 0) (n : ℕ) (row : KeyedRow) → OfCleanNodes P row → OfCleanNodes P (keyed_front n row)
@@ -157,10 +157,10 @@ without_range_clean stay P f from to row g h = collapsed_clean P (pruned_by_keys
 -- ---- any change
 pub change_keeps : RowsStay → (f : ℕ) (change : Change) (contents : ℕ → List ℕ) (lebs : List ℕ) (row : KeyedRow) → fits f (bare row) ≡ true → AreOutside contents lebs row
     → AreOutside contents lebs (changed f change row)
-change_keeps stay f (Insert x) contents lebs row g h = with_leaf_clean (StandsOutside contents lebs) f x row h
-change_keeps stay f (Remove x) contents lebs row g h = without_clean (StandsOutside contents lebs) x row h
-change_keeps stay f (Replace gone come) contents lebs row g h = replaced_clean (StandsOutside contents lebs) gone come row h
-change_keeps stay f (RemoveRange from to) contents lebs row g h = without_range_clean stay (StandsOutside contents lebs) f (key_rank from) (key_rank to) row g h
+change_keeps stay f (Insert x) contents lebs row g h = with_leaf_clean (StandsAs contents (IsOutside lebs)) f x row h
+change_keeps stay f (Remove x) contents lebs row g h = without_clean (StandsAs contents (IsOutside lebs)) x row h
+change_keeps stay f (Replace gone come) contents lebs row g h = replaced_clean (StandsAs contents (IsOutside lebs)) gone come row h
+change_keeps stay f (RemoveRange from to) contents lebs row g h = without_range_clean stay (StandsAs contents (IsOutside lebs)) f (key_rank from) (key_rank to) row g h
 
 -- ---- an index that stands
 all_is_clean : (row : PlacedRow) → is_clean_row (all_clean row) ≡ true
@@ -203,11 +203,11 @@ stored_outside media lebs levels (node_at b c rest) h apart =
     let L : Shape → Type 0 = λ s. levelled (levels - 1) s ≡ true in
     let N : PlacedRow → Type 0 = λ r. IsIndexNodeAt media b (record { level = levels - 1; branches = branches_of r }) in (
       record {
-        outside = All-head Q b.lnum others apart;
         clean = all_is_clean c;
         level = levels - 1;
         levels = subst L (sym (clean_bare c)) (stored_levels media (levels - 1) c h.2);
         node = subst N (sym (placed_again c)) h.1;
+        holds = All-head Q b.lnum others apart;
       },
       stored_outside media lebs (levels - 1) c h.2 both.0,
       stored_outside media lebs levels rest h.3 both.1,

@@ -8,6 +8,7 @@ use Rattle.std.proofs.Math.Seq.{drop-append_seam, take-append_seam}
 use Rattle.ubifs_base.specs.declared.key.Key.{Key}
 use Rattle.index_tree.specs.Levels.{levelled}
 use Rattle.index_media.specs.KeyedRow.{KeyedRow, bare}
+use Rattle.index_media.specs.PlacedRow.{Stretch}
 use Rattle.media_sys.specs.SystemNode.{index, IsSystemNode}
 use Rattle.node_table.specs.NodeView.{tree_at}
 use Rattle.node_table.specs.Placing.{IsPlacedRow, KeepsPlaces, without_number}
@@ -16,9 +17,8 @@ use Rattle.node_table.specs.declared.node.Root.{Root}
 use Rattle.index_cache.specs.Commit.{IsNextNode, below_node, node_length, place_for, said_of}
 use Rattle.index_cache.specs.Paged.{dirty_of, frozen_of, tree_of, KeepsRoots}
 use Rattle.index_cache.specs.declared.paged.PagedIndex.{PagedIndex}
-use Rattle.index_commit.specs.Lebs.{IsGiven}
-use Rattle.index_commit.specs.Standing.{AreOutside, StandsOutside}
-use Rattle.index_commit.specs.Written.{AreFirstsTaken, IsIndexKept, IsIndexTaken, AreNodesLaid, Laying, with_leb_bytes}
+use Rattle.index_commit.specs.Standing.{AreStandingAs, StandsAs}
+use Rattle.index_commit.specs.Written.{AreFirstsTaken, IsIndexKept, IsIndexTaken, AreNodesLaid, Laying, Meets, with_leb_bytes}
 use Rattle.index_commit.proofs.Standing.{Grows, row_placed}
 
 -- ---- the laws of the table on places
@@ -74,11 +74,14 @@ pub index_then : BothAreKept → (a b c : PagedIndex) (i j k : ℕ) → IsIndexT
 index_then both a b c i j k h g =
     let first = h.number in
     let second = g.number in
+    let one = h.most in
+    let other = g.most in
     record {
       kept = kept_then both a b c h.kept g.kept;
       nodes = h.nodes + g.nodes;
       taken = taken_then h.nodes g.nodes (dirty_of a) (dirty_of b) (dirty_of c) h.taken g.taken;
       number = omega (arith, first, second);
+      most = omega (arith, one, other);
     }
 
 kept_none : NoneIsKept → (a : PagedIndex) → IsIndexKept a a
@@ -90,7 +93,7 @@ kept_none none a = record {
 }
 
 pub index_none : NoneIsKept → (a : PagedIndex) (i : ℕ) → IsIndexTaken a a i i
-index_none none a i = record { kept = kept_none none a; nodes = 0; taken = refl; number = omega arith }
+index_none none a i = record { kept = kept_none none a; nodes = 0; taken = refl; number = omega arith; most = omega arith }
 
 -- ---- a LEB in contents
 pub leb_here : (lnum : ℕ) (bytes : List ℕ) (contents : ℕ → List ℕ) → with_leb_bytes lnum bytes contents lnum ≡ bytes
@@ -108,11 +111,11 @@ pub laid_same : NoneIsKept → (lnum room : ℕ) (a : PagedIndex) (sqnum : ℕ) 
 laid_same none lnum room a sqnum front bytes e =
     let long = ap length e in
     record {
-      index = record { kept = kept_none none a; nodes = 0; taken = refl; number = omega arith };
+      index = record { kept = kept_none none a; nodes = 0; taken = refl; number = omega arith; most = omega arith };
       more = [];
       bytes = e ∙ sym (append-nil front);
       long = omega (arith, long);
-      stand = λ contents lebs root apart h. subst (λ x. AreOutside (with_leb_bytes lnum x contents) lebs (tree_at a.table.nodes.items root)) (sym e) h;
+      stand = λ contents asked root own h. subst (λ x. AreStandingAs (with_leb_bytes lnum x contents) (Meets asked) (tree_at a.table.nodes.items root)) (sym e) h;
     }
 
 pub laid_then : BothAreKept → (lnum room : ℕ) (a b c : Laying) → AreNodesLaid lnum room a b → AreNodesLaid lnum room b c → AreNodesLaid lnum room a c
@@ -122,17 +125,20 @@ laid_then both lnum room a b c h k =
     let sum = add-mul h.index.nodes k.index.nodes room in
     let i = h.index.number in
     let j = k.index.number in
+    let one = h.index.most in
+    let other = k.index.most in
     record {
       index = record {
         kept = kept_then both a.index b.index c.index h.index.kept k.index.kept;
         nodes = h.index.nodes + k.index.nodes;
         taken = taken_then h.index.nodes k.index.nodes (dirty_of a.index) (dirty_of b.index) (dirty_of c.index) h.index.taken k.index.taken;
         number = omega (arith, i, j);
+        most = omega (arith, one, other);
       };
       more = h.more ++ k.more;
       bytes = k.bytes ∙ ap (λ x. x ++ k.more) h.bytes ∙ append_assoc a.bytes h.more k.more;
       long = omega (arith, first, second, sum);
-      stand = λ contents lebs root apart x. k.stand contents lebs root apart (h.stand contents lebs root apart x);
+      stand = λ contents asked root own x. k.stand contents asked root (λ place n e low most. own place n e (omega (arith, low, i)) most) (h.stand contents asked root (λ place n e low most. own place n e low (omega (arith, most, j))) x);
     }
 
 -- what a node that is laid and placed makes of the index
@@ -152,42 +158,44 @@ pub record IsLaidBehind (said room offs : ℕ) (front own bytes : List ℕ) : Ty
   pub long : length own ≡ room
   pub fits : said ≤ room
 
-node_stands : (lnum room node offs after : ℕ) (old new : PagedIndex) (front own bytes : List ℕ) (contents : ℕ → List ℕ) (lebs : List ℕ) (key : Key) → IsPlaced lnum offs node old new
+node_stands : (lnum room node offs after : ℕ) (old new : PagedIndex) (front own bytes : List ℕ) (contents : ℕ → List ℕ) (P : Stretch → ℕ → ℕ → Type 0) (key : Key) → IsPlaced lnum offs node old new
     → IsLaidBehind (node_length (said_of old node)) room offs front own bytes
-    → IsSystemNode (take (node_length (said_of old node)) own) after 0 (index (said_of old node)) → (IsGiven lebs lnum → ⊥)
-    → StandsOutside (with_leb_bytes lnum bytes contents) lebs key (record { lnum = lnum; offs = offs; len = node_length (said_of old node) }) (below_node old node)
-node_stands lnum room node offs after old new front own bytes contents lebs key p b is apart =
+    → IsSystemNode (take (node_length (said_of old node)) own) after 0 (index (said_of old node)) → P (record { lnum = lnum; offs = offs; len = node_length (said_of old node) }) after 0
+    → StandsAs (with_leb_bytes lnum bytes contents) P key (record { lnum = lnum; offs = offs; len = node_length (said_of old node) }) (below_node old node)
+node_stands lnum room node offs after old new front own bytes contents P key p b is said =
     let here = leb_here lnum bytes contents in
     let behind : drop offs bytes ≡ own = ap (drop offs) b.whole ∙ ap (λ n. drop n (front ++ own)) b.start ∙ drop-append_seam front own in
     let own_long = b.long in
     let fits = b.fits in
     let start = b.start in
     let whole = ap length b.whole ∙ length-append front own in
-    let P : List ℕ → Type 0 = λ leb. offs + node_length (said_of old node) ≤ length leb in
+    let L : List ℕ → Type 0 = λ leb. offs + node_length (said_of old node) ≤ length leb in
     let Q : List ℕ → Type 0 = λ leb. IsSystemNode (take (node_length (said_of old node)) (drop offs leb)) after 0 (index (said_of old node)) in
     let R : List ℕ → Type 0 = λ leb. IsSystemNode (take (node_length (said_of old node)) leb) after 0 (index (said_of old node)) in
     record {
-      outside = apart;
       clean = p.next.ready.below;
       level = (said_of old node).level;
       levels = p.levels;
       node = record {
         sqnum = after;
         group = 0;
-        room = subst P (sym here) (omega (arith, own_long, fits, start, whole));
+        room = subst L (sym here) (omega (arith, own_long, fits, start, whole));
         is = subst Q (sym here) (subst R (sym behind) is);
       };
+      holds = said;
     }
 
-pub laid_one : GivenIsKept → (lnum room node offs sqnum after : ℕ) (old new : PagedIndex) (front own bytes : List ℕ) → IsPlaced lnum offs node old new
+pub laid_one : GivenIsKept → AreFewer → (lnum room node offs sqnum after : ℕ) (old new : PagedIndex) (front own bytes : List ℕ) → IsPlaced lnum offs node old new
     → IsLaidBehind (node_length (said_of old node)) room offs front own bytes → after ≡ sqnum + 1
     → IsSystemNode (take (node_length (said_of old node)) own) after 0 (index (said_of old node))
     → AreNodesLaid lnum room (record { index = old; sqnum = sqnum; bytes = front }) (record { index = new; sqnum = after; bytes = bytes })
-laid_one given lnum room node offs sqnum after old new front own bytes p b e is =
+laid_one given fewer lnum room node offs sqnum after old new front own bytes p b e is =
     let place = place_for lnum offs (said_of old node) in
     let below = below_node old node in
     let whole = ap length b.whole ∙ length-append front own in
     let own_long = b.long in
+    let less = fewer node (dirty_of old) p.next.first in
+    let gone = ap length p.dirty in
     record {
       index = record {
         kept = record {
@@ -199,14 +207,15 @@ laid_one given lnum room node offs sqnum after old new front own bytes p b e is 
         nodes = 1;
         taken = (node, p.next.first, p.dirty);
         number = e;
+        most = omega (arith, e, less, gone);
       };
       more = own;
       bytes = b.whole;
       long = omega (arith, whole, own_long);
-      stand = λ contents lebs root apart h.
+      stand = λ contents asked root said h.
           let grows : Grows (with_leb_bytes lnum front contents) (with_leb_bytes lnum bytes contents) = subst (λ x. Grows (with_leb_bytes lnum front contents) (with_leb_bytes lnum x contents)) (sym b.whole) (leb_grows lnum front own contents) in
-          row_placed (with_leb_bytes lnum front contents) (with_leb_bytes lnum bytes contents) lebs place below (tree_at old.table.nodes.items root) (tree_at new.table.nodes.items root) grows
-          (λ key. node_stands lnum room node offs after old new front own bytes contents lebs key p b is apart) p.next.ready.below (p.trees root) h;
+          row_placed (with_leb_bytes lnum front contents) (with_leb_bytes lnum bytes contents) (Meets asked) place below (tree_at old.table.nodes.items root) (tree_at new.table.nodes.items root) grows
+          (λ key. node_stands lnum room node offs after old new front own bytes contents (Meets asked) key p b is (said (record { lnum = lnum; offs = offs; len = node_length (said_of old node) }) after refl (omega (arith, e)) (omega arith))) p.next.ready.below (p.trees root) h;
     }
 
 -- ---- the buffer

@@ -1,6 +1,6 @@
 -- LEBs that a commit writes, one after another.
-use Rattle.std.proofs.Common.{◌≡◌, ℕ, ◌+◌, ◌-◌, ◌*◌, ◌/◌, ◌%◌, ◌<◌, ◌≤◌, true, List, [], ◌∷◌, ◌++◌, length, take, drop, replicate, refl, ap, sym, ◌∙◌, subst, arith, inl, inr, append-nil, append_assoc}
-use Rattle.std.specs.Prelude.{◌⊎◌, ◌==◌, Option, None, Some, Result, Ok, Err, IfOk, All, slice_get}
+use Rattle.std.proofs.Common.{◌≡◌, ℕ, ◌+◌, ◌-◌, ◌*◌, ◌/◌, ◌%◌, ◌<◌, ◌≤◌, true, false, List, [], ◌∷◌, ◌++◌, length, take, drop, replicate, refl, ap, sym, ◌∙◌, subst, arith, inl, inr, append-nil, append_assoc}
+use Rattle.std.specs.Prelude.{◌⊎◌, ◌==◌, is_none, Option, None, Some, Result, Ok, Err, IfOk, All, slice_get}
 use Rattle.std.proofs.Math.Nat.{add-mul, div-lt_iff_lt-mul, mul-add}
 use Rattle.std.proofs.lemmas.Bool.{cases_Bool}
 use Rattle.std.proofs.lemmas.Bool.Decides.{nat_tests}
@@ -15,6 +15,7 @@ use Rattle.media_sys.specs.SystemNode.{index, IsSystemNode}
 use Rattle.media_sys.specs.declared.branch.Branch.{Branch}
 use Rattle.node_table.specs.Clean.{node_branch, placed_of}
 use Rattle.node_table.specs.NodeView.{tree_at}
+use Rattle.node_table.specs.declared.node.Root.{Root}
 use Rattle.ubi_volume.specs.Frame.{Elsewhere, IsSameLeb}
 use Rattle.ubi_volume.specs.Geometry.{IsGeometryOf}
 use Rattle.ubi_volume.specs.FrameLaws.{IsSameLeb-none, IsSameLeb-then, Only-same, Works-more, Works-none, Works-on, Works-then}
@@ -22,12 +23,12 @@ use Rattle.ubi_volume.specs.Volume.{VolumeState, IsChanged, Keeps, Only, SameSha
 use Rattle.ubi_volume.specs.VolumeLaws.{Leaves-keeps, Leaves-more, Leaves-then}
 use Rattle.index_cache.specs.Paged.{dirty_of}
 use Rattle.index_cache.specs.declared.paged.PagedIndex.{PagedIndex}
-use Rattle.index_commit.specs.Lebs.{AreApart, AreGivable, IsGiven}
-use Rattle.index_commit.specs.Standing.{StandsOutside}
-use Rattle.index_commit.specs.Written.{AreStanding, AreFirstsTaken, IsHeadAfter, IsHeadIn, AreNodesLaid, IsLebPut, IsLebStanding, IsSettledOutside, KeepsOtherIndexes, WorksInLebs, with_leb_bytes}
+use Rattle.index_commit.specs.Lebs.{AreGivable, IsGiven}
+use Rattle.index_commit.specs.Standing.{AreStandingAs, IsOutside, StandsAs}
+use Rattle.index_commit.specs.Written.{AreStanding, AreFirstsTaken, AreWritten, IsHeadAfter, IsHeadIn, IsIndexTaken, AreNodesLaid, IsLebPut, IsNewIn, IsPut, Demand, Meets, IsSettledOutside, KeepsOtherIndexes, WorksInLebs, with_leb_bytes}
 use Rattle.index_commit.specs.declared.index_at.IndexHead.{IndexHead}
 use Rattle.index_commit.proofs.Laid.{AreFewer, taken_fewer}
-use Rattle.index_commit.proofs.Standing.{are_outside, clean_more}
+use Rattle.index_commit.proofs.Standing.{are_standing, clean_more}
 
 -- ---- one LEB
 leb_there : (lnum k : ℕ) (bytes : List ℕ) (contents : ℕ → List ℕ) → (k ≡ lnum → ⊥) → with_leb_bytes lnum bytes contents k ≡ contents k
@@ -42,26 +43,74 @@ node_moved old new branch said e h =
     let Q : List ℕ → Type 0 = λ leb. IsSystemNode (take branch.len (drop branch.offs leb)) h.sqnum h.group (index said) in
     record { sqnum = h.sqnum; group = h.group; room = subst P (sym e) h.room; is = subst Q (sym e) h.is }
 
-outside_leb : (lnum : ℕ) (bytes : List ℕ) (contents : ℕ → List ℕ) (lebs : List ℕ) (key : Key) (place : Stretch) (children : KeyedRow)
-    → StandsOutside contents (lnum ∷ lebs) key place children → StandsOutside (with_leb_bytes lnum bytes contents) lebs key place children
-outside_leb lnum bytes contents lebs key place children h = record {
-  outside = λ given. h.outside (inr given);
+-- nodes outside of a LEB stand whatever it holds
+as_there : (lnum : ℕ) (bytes : List ℕ) (contents : ℕ → List ℕ) (P : Stretch → ℕ → ℕ → Type 0) (key : Key) (place : Stretch) (children : KeyedRow)
+    → StandsAs contents (λ place number group. (IsGiven (lnum ∷ []) place.lnum → ⊥) × P place number group) key place children → StandsAs (with_leb_bytes lnum bytes contents) P key place children
+unfolding node_moved
+as_there lnum bytes contents P key place children h = record {
   clean = h.clean;
   level = h.level;
   levels = h.levels;
   node = node_moved contents (with_leb_bytes lnum bytes contents) (node_branch key (Some place)) (record { level = h.level; branches = branches_of (placed_of children) })
-      (leb_there lnum place.lnum bytes contents (λ e. h.outside (inl e))) h.node;
+      (leb_there lnum place.lnum bytes contents (λ e. h.holds.0 (inl e))) h.node;
+  holds = h.holds.1;
 }
 
-pub leb_standing : (old new : VolumeState) (lnum room used end i j : ℕ) (a b : PagedIndex) (bytes : List ℕ)
-    → AreNodesLaid lnum room (record { index = a; sqnum = i; bytes = [] }) (record { index = b; sqnum = j; bytes = bytes }) → IsLebPut old new lnum bytes used end → IsLebStanding old new lnum a b
-leb_standing old new lnum room used end i j a b bytes laid put = record {
-  nodes = λ lebs root apart h.
-      let row = tree_at a.table.nodes.items root in
-      let empty = clean_more (StandsOutside old.holds (lnum ∷ lebs)) (StandsOutside (with_leb_bytes lnum [] old.holds) lebs) row (λ key place children. outside_leb lnum [] old.holds lebs key place children) h in
-      are_outside (with_leb_bytes lnum bytes old.holds) new.holds lebs lebs (tree_at b.table.nodes.items root) put.grown (λ k given. given) (laid.stand old.holds lebs root apart empty);
-  settled = put.settled;
-}
+one_times : (n room : ℕ) → 1 ≤ n → room ≤ n * room
+one_times n room some =
+    let back : n - 1 + 1 ≡ n = omega (arith, some) in
+    let whole = ap (λ (k : ℕ). k * room) back in
+    let sum = add-mul (n - 1) 1 room in
+    omega (arith, whole, sum)
+
+-- where a number was given, a node was laid, so the LEB is written
+some_used : (room used nodes i j n : ℕ) → 0 < room → used ≡ nodes * room → j ≡ i + nodes → i < n → n ≤ j → 0 < used
+some_used room used nodes i j n some long number low most =
+    let more : 1 ≤ nodes = omega (arith, number, low, most) in
+    let less = one_times nodes room more in
+    omega (arith, long, less, some)
+
+pub leb_standing : (old new : VolumeState) (lnum room used end i j : ℕ) (a b : PagedIndex) (bytes : List ℕ) → 0 < room → length bytes ≡ used
+    → AreNodesLaid lnum room (record { index = a; sqnum = i; bytes = [] }) (record { index = b; sqnum = j; bytes = bytes }) → IsLebPut old new lnum bytes used end
+    → AreWritten old new (lnum ∷ []) a b i j
+leb_standing old new lnum room used end i j a b bytes some size laid put =
+    let long = laid.long in
+    let whole : used ≡ laid.index.nodes * room = omega (arith, long, size) in
+    let stand : (asked : Demand) (root : Option Root) → ((place : Stretch) (n : ℕ) → place.lnum ≡ lnum → i < n → n ≤ j → 0 < used → Meets asked place n 0)
+    → AreStandingAs old.holds (λ place number group. (IsGiven (lnum ∷ []) place.lnum → ⊥) × Meets asked place number group) (tree_at a.table.nodes.items root)
+    → AreStandingAs new.holds (Meets asked) (tree_at b.table.nodes.items root) = λ asked root own h.
+    let P : Stretch → ℕ → ℕ → Type 0 = Meets asked in
+    let Q : Stretch → ℕ → ℕ → Type 0 = λ place number group. (IsGiven (lnum ∷ []) place.lnum → ⊥) × P place number group in
+    let before = clean_more (StandsAs old.holds Q) (StandsAs (with_leb_bytes lnum [] old.holds) P) (tree_at a.table.nodes.items root)
+    (λ key place children. as_there lnum [] old.holds P key place children) h in
+    let after = laid.stand old.holds asked root (λ place n e low most. own place n e low most (some_used room used laid.index.nodes i j n some whole laid.index.number low most)) before in
+    are_standing (with_leb_bytes lnum bytes old.holds) new.holds P P (tree_at b.table.nodes.items root) put.grown (λ s n g x. x) after in
+    let S : ℕ → Type 0 = λ m. (IsGiven (lnum ∷ []) m × IsSameLeb old new m) ⊎ Only (new.holds m) (new.left_now m) in
+    let T : ℕ → Type 0 = λ m. (IsGiven [] m × IsSameLeb old new m) ⊎ Only (new.holds m) (new.left_now m) in
+    elim (cases_Bool (used == 0)) [
+      | inl e ↦
+          let idle : used ≡ 0 = grind (arith, nat_tests, e) in
+          record {
+            idle = lnum ∷ [];
+            among = λ k given. given;
+            nodes = λ asked root own h. stand asked root (λ place n t low most busy. absurd (omega (arith, idle, busy))) h;
+            settled = λ k given. elim given [
+              | inl t ↦ subst S (sym t) (elim put.settled [ inl same ↦ inl (inl refl, same) | inr only ↦ inr only ])
+              | inr none ↦ absurd none
+            ];
+          }
+      | inr e ↦
+          let busy : 0 < used = grind (arith, nat_tests, e) in
+          record {
+            idle = [];
+            among = λ k given. absurd given;
+            nodes = λ asked root own h. stand asked root (λ place n t low most there. own place n 0 (record { given = inl t; busy = λ given. given; above = low; most = most; single = refl })) h;
+            settled = λ k given. elim given [
+              | inl t ↦ subst T (sym t) (inr (put.left busy))
+              | inr none ↦ absurd none
+            ];
+          }
+    ]
 
 -- ---- what is put into it
 pub none_put : (state : VolumeState) (lnum end : ℕ) (leb : List ℕ) → IsLebPut state state lnum (take 0 leb) 0 end
@@ -71,6 +120,7 @@ none_put state lnum end leb = record {
     | inr e ↦ ([], rw e (sym (append-nil (state.holds k))))
   ];
   settled = inl (IsSameLeb-none state lnum);
+  left = λ some. absurd (omega (arith, some));
   ended = λ some. absurd (omega (arith, some));
 }
 
@@ -89,6 +139,7 @@ leb_put old new lnum used end P front gap bytes e done works long whole =
             ([], rw t (works.others k ne ∙ sym (append-nil (old.holds k))))
       ];
       settled = inr (λ c left. done.left c left ∙ sym done.holds);
+      left = λ some c left. done.left c left ∙ sym done.holds;
       ended = λ some. (done.written ∙ long, whole);
     }
 
@@ -108,15 +159,16 @@ works_then a b c lnum lebs ab bc =
     first (λ k given. inr given) (λ x left k apart. left k (λ given. apart (first k given)))
     (λ x left k apart. (ab.others k (λ given. apart (first k given))).left (x k) (left k (λ given. apart (inr given)))) ab bc
 
-settled_then : (a b c : VolumeState) (k : ℕ) → IsSameLeb a b k ⊎ Only (b.holds k) (b.left_now k) → IsSameLeb b c k → IsSameLeb a c k ⊎ Only (c.holds k) (c.left_now k)
-settled_then a b c k (inl same) more = inl (IsSameLeb-then a b c k same more)
-settled_then a b c k (inr only) more = inr (Only-same b c k only more)
+-- a LEB of the one list, or of the other
+given_front : (xs ys : List ℕ) (k : ℕ) → IsGiven xs k → IsGiven (xs ++ ys) k
+given_front [] ys k h = absurd h
+given_front (x ∷ xs) ys k (inl e) = inl e
+given_front (x ∷ xs) ys k (inr h) = inr (given_front xs ys k h)
 
-settled_from : (a b c : VolumeState) (k : ℕ) → IsSameLeb a b k → IsSameLeb b c k ⊎ Only (c.holds k) (c.left_now k) → IsSameLeb a c k ⊎ Only (c.holds k) (c.left_now k)
-settled_from a b c k same (inl more) = inl (IsSameLeb-then a b c k same more)
-settled_from a b c k same (inr only) = inr only
+given_behind : (xs ys : List ℕ) (k : ℕ) → IsGiven ys k → IsGiven (xs ++ ys) k
+given_behind [] ys k h = h
+given_behind (x ∷ xs) ys k h = inr (given_behind xs ys k h)
 
--- a LEB of the one list or of the other
 given_of : (xs ys : List ℕ) (k : ℕ) → IsGiven (xs ++ ys) k → IsGiven xs k ⊎ IsGiven ys k
 given_of [] ys k h = inr h
 given_of (x ∷ xs) ys k (inl e) = inl (inl e)
@@ -125,48 +177,148 @@ given_of (x ∷ xs) ys k (inr h) = elim (given_of xs ys k h) [
   | inr other ↦ inr other
 ]
 
-apart_of : (lnum : ℕ) (lebs others : List ℕ) → (IsGiven lebs lnum → ⊥) → AreApart (lnum ∷ lebs) others → IsGiven (lebs ++ others) lnum → ⊥
-apart_of lnum lebs others apart two h = elim (given_of lebs others lnum h) [
-  | inl one ↦ apart one
-  | inr other ↦ two lnum (inl refl) other
-]
+-- what is said of clean nodes says less of them
+said_less : (media : ℕ → List ℕ) (P Q : Stretch → ℕ → ℕ → Type 0) (row : KeyedRow) → ((s : Stretch) (n g : ℕ) → P s n g → Q s n g) → AreStandingAs media P row → AreStandingAs media Q row
+said_less media P Q row less h = are_standing media media P Q row (λ k. ([], sym (append-nil (media k)))) less h
 
-standing_then : (a b c : VolumeState) (lnum : ℕ) (lebs : List ℕ) (i j k : PagedIndex) → (IsGiven lebs lnum → ⊥) → WorksInLebs a b (lnum ∷ []) → WorksInLebs b c lebs
-    → IsLebStanding a b lnum i j → AreStanding b c lebs j k → AreStanding a c (lnum ∷ lebs) i k
-standing_then a b c lnum lebs i j k apart ab bc one rest = record {
-  nodes = λ others root two h. rest.nodes others root (λ n given. two n (inr given)) (one.nodes (lebs ++ others) root (apart_of lnum lebs others apart two) h);
+-- what is asked, and to be outside of more LEBs
+abbrev asked_outside : List ℕ → Demand → Demand
+asked_outside lebs asked = record { outside = lebs ++ asked.outside; lebs = asked.lebs; first = asked.first; last = asked.last }
+
+meets_outside : (lebs : List ℕ) (asked : Demand) (s : Stretch) (n g : ℕ) → (IsGiven lebs s.lnum → ⊥) → Meets asked s n g → Meets (asked_outside lebs asked) s n g
+meets_outside lebs asked s n g apart h = (λ given. elim (given_of lebs asked.outside s.lnum given) [ inl one ↦ apart one | inr other ↦ h.0 other ], h.1)
+
+meets_less : (lebs : List ℕ) (asked : Demand) (s : Stretch) (n g : ℕ) → Meets (asked_outside lebs asked) s n g → (IsGiven lebs s.lnum → ⊥) × Meets asked s n g
+meets_less lebs asked s n g h = (λ given. h.0 (given_front lebs asked.outside s.lnum given), ((λ given. h.0 (given_behind lebs asked.outside s.lnum given)), h.1))
+
+-- a node that the first of several LEBs has
+put_first : (lnum : ℕ) (lebs idle more : List ℕ) (i j k : ℕ) (s : Stretch) (n g : ℕ) → j ≤ k → (IsGiven lebs lnum → ⊥) → ((m : ℕ) → IsGiven more m → IsGiven lebs m)
+    → IsPut (lnum ∷ []) idle i j s n g → (IsGiven lebs s.lnum → ⊥) × IsPut (lnum ∷ lebs) (idle ++ more) i k s n g
+put_first lnum lebs idle more i j k s n g later apart among new =
+    let e : s.lnum ≡ lnum = elim new.given [ inl e ↦ e | inr none ↦ absurd none ] in
+    let G : ℕ → Type 0 = λ m. IsGiven lebs m in
+    let other : IsGiven lebs s.lnum → ⊥ = λ given. apart (subst G e given) in
+    let most = new.most in (
+      other,
+      record {
+        given = inl e;
+        busy = λ h. elim (given_of idle more s.lnum h) [ inl one ↦ new.busy one | inr two ↦ other (among s.lnum two) ];
+        above = new.above;
+        most = omega (arith, most, later);
+        single = new.single;
+      },
+    )
+
+put_later : (lnum : ℕ) (lebs idle more : List ℕ) (i j k : ℕ) (s : Stretch) (n g : ℕ) → i ≤ j → (IsGiven lebs lnum → ⊥) → ((m : ℕ) → IsGiven idle m → IsGiven (lnum ∷ []) m)
+    → IsPut lebs more j k s n g → IsPut (lnum ∷ lebs) (idle ++ more) i k s n g
+put_later lnum lebs idle more i j k s n g sooner apart among new =
+    let above = new.above in
+    let G : ℕ → Type 0 = λ m. IsGiven lebs m in
+    record {
+      given = inr new.given;
+      busy = λ h. elim (given_of idle more s.lnum h) [
+        | inl one ↦ elim (among s.lnum one) [ inl e ↦ apart (subst G e new.given) | inr none ↦ none ]
+        | inr two ↦ new.busy two
+      ];
+      above = omega (arith, above, sooner);
+      most = new.most;
+      single = new.single;
+    }
+
+written_then : (a b c : VolumeState) (lnum : ℕ) (lebs : List ℕ) (x y z : PagedIndex) (i j k : ℕ) → i ≤ j → j ≤ k → (IsGiven lebs lnum → ⊥) → WorksInLebs a b (lnum ∷ []) → WorksInLebs b c lebs
+    → AreWritten a b (lnum ∷ []) x y i j → AreWritten b c lebs y z j k → AreWritten a c (lnum ∷ lebs) x z i k
+written_then a b c lnum lebs x y z i j k sooner later apart ab bc one rest = record {
+  idle = one.idle ++ rest.idle;
+  among = λ m h. elim (given_of one.idle rest.idle m h) [
+    | inl t ↦ elim (one.among m t) [ inl e ↦ inl e | inr none ↦ absurd none ]
+    | inr t ↦ inr (rest.among m t)
+  ];
+  nodes = λ asked root own h.
+      let B : Demand = asked_outside lebs asked in
+      let A : Stretch → ℕ → ℕ → Type 0 = λ s n g. (IsGiven (lnum ∷ lebs) s.lnum → ⊥) × Meets asked s n g in
+      let C : Stretch → ℕ → ℕ → Type 0 = λ s n g. (IsGiven (lnum ∷ []) s.lnum → ⊥) × Meets B s n g in
+      let D : Stretch → ℕ → ℕ → Type 0 = λ s n g. (IsGiven lebs s.lnum → ⊥) × Meets asked s n g in
+      let apart_now = said_less a.holds A C (tree_at x.table.nodes.items root)
+      (λ s n g said. (λ given. said.0 (elim given [ inl e ↦ inl e | inr none ↦ absurd none ]), meets_outside lebs asked s n g (λ given. said.0 (inr given)) said.1)) h in
+      let first = one.nodes B root
+      (λ s n g new. let both = put_first lnum lebs one.idle rest.idle i j k s n g later apart rest.among new in meets_outside lebs asked s n g both.0 (own s n g both.1)) apart_now in
+      let then = said_less b.holds (Meets B) D (tree_at y.table.nodes.items root) (λ s n g said. meets_less lebs asked s n g said) first in
+      rest.nodes asked root (λ s n g new. own s n g (put_later lnum lebs one.idle rest.idle i j k s n g sooner apart one.among new)) then;
   settled = λ n given. elim given [
     | inl e ↦
-        let P : ℕ → Type 0 = λ m. IsSameLeb a c m ⊎ Only (c.holds m) (c.left_now m) in
-        subst P (sym e) (settled_then a b c lnum one.settled (bc.others lnum apart))
+        let P : ℕ → Type 0 = λ m. (IsGiven (one.idle ++ rest.idle) m × IsSameLeb a c m) ⊎ Only (c.holds m) (c.left_now m) in
+        subst P (sym e) (elim (one.settled lnum (inl refl)) [
+          | inl same ↦ inl (given_front one.idle rest.idle lnum same.0, IsSameLeb-then a b c lnum same.1 (bc.others lnum apart))
+          | inr only ↦ inr (Only-same b c lnum only (bc.others lnum apart))
+        ])
     | inr more ↦
         let other : IsGiven (lnum ∷ []) n → ⊥ = λ g. elim g [ inl e ↦ let Q : ℕ → Type 0 = λ m. IsGiven lebs m in apart (subst Q e more) | inr none ↦ none ] in
-        settled_from a b c n (ab.others n other) (rest.settled n more)
+        elim (rest.settled n more) [
+          | inl same ↦ inl (given_behind one.idle rest.idle n same.0, IsSameLeb-then a b c n (ab.others n other) same.1)
+          | inr only ↦ inr only
+        ]
   ];
 }
 
-given_behind : (xs ys : List ℕ) (k : ℕ) → IsGiven ys k → IsGiven (xs ++ ys) k
-given_behind [] ys k h = h
-given_behind (x ∷ xs) ys k h = inr (given_behind xs ys k h)
-
-pub none_standing : (state : VolumeState) (lebs : List ℕ) (i : PagedIndex) → AreStanding state state lebs i i
-none_standing state lebs i = record {
-  nodes = λ others root two h. are_outside state.holds state.holds (lebs ++ others) others (tree_at i.table.nodes.items root) (λ k. ([], sym (append-nil (state.holds k)))) (λ k. given_behind lebs others k) h;
-  settled = λ k given. inl (IsSameLeb-none state k);
+pub none_written : (state : VolumeState) (lebs : List ℕ) (x : PagedIndex) (i : ℕ) → AreWritten state state lebs x x i i
+none_written state lebs x i = record {
+  idle = lebs;
+  among = λ k given. given;
+  nodes = λ asked root own h.
+      let A : Stretch → ℕ → ℕ → Type 0 = λ s n g. (IsGiven lebs s.lnum → ⊥) × Meets asked s n g in
+      said_less state.holds A (Meets asked) (tree_at x.table.nodes.items root) (λ s n g said. said.1) h;
+  settled = λ k given. inl (given, IsSameLeb-none state k);
 }
 
 -- of one LEB alone
-pub one_standing : (a b : VolumeState) (lnum : ℕ) (lebs all : List ℕ) (i j : PagedIndex) → all ≡ lnum ∷ lebs → (IsGiven lebs lnum → ⊥) → WorksInLebs a b (lnum ∷ []) → IsLebStanding a b lnum i j
-    → AreStanding a b all i j
-one_standing a b lnum lebs all i j e apart works one =
-    let P : List ℕ → Type 0 = λ xs. AreStanding a b xs i j in
-    subst P (sym e) (standing_then a b b lnum lebs i j j apart works (none_works b lebs) one (none_standing b lebs j))
+pub one_written : (a b : VolumeState) (lnum : ℕ) (lebs all : List ℕ) (x y : PagedIndex) (i j : ℕ) → all ≡ lnum ∷ lebs → IsIndexTaken x y i j → (IsGiven lebs lnum → ⊥) → WorksInLebs a b (lnum ∷ [])
+    → AreWritten a b (lnum ∷ []) x y i j → AreWritten a b all x y i j
+one_written a b lnum lebs all x y i j e taken apart works one =
+    let P : List ℕ → Type 0 = λ xs. AreWritten a b xs x y i j in
+    let number = taken.number in
+    subst P (sym e) (written_then a b b lnum lebs x y y i j j (omega (arith, number)) (omega arith) apart works (none_works b lebs) one (none_written b lebs y j))
 
-pub both_standing : (a b c : VolumeState) (lnum : ℕ) (lebs all : List ℕ) (i j k : PagedIndex) → all ≡ lnum ∷ lebs → (IsGiven lebs lnum → ⊥) → WorksInLebs a b (lnum ∷ []) → WorksInLebs b c lebs
-    → IsLebStanding a b lnum i j → AreStanding b c lebs j k → AreStanding a c all i k
-both_standing a b c lnum lebs all i j k e apart ab bc one rest =
-    let P : List ℕ → Type 0 = λ xs. AreStanding a c xs i k in
-    subst P (sym e) (standing_then a b c lnum lebs i j k apart ab bc one rest)
+pub both_written : (a b c : VolumeState) (lnum : ℕ) (lebs all : List ℕ) (x y z : PagedIndex) (i j k : ℕ) → all ≡ lnum ∷ lebs → IsIndexTaken x y i j → IsIndexTaken y z j k → (IsGiven lebs lnum → ⊥)
+    → WorksInLebs a b (lnum ∷ []) → WorksInLebs b c lebs → AreWritten a b (lnum ∷ []) x y i j → AreWritten b c lebs y z j k → AreWritten a c all x z i k
+both_written a b c lnum lebs all x y z i j k e taken more apart ab bc one rest =
+    let P : List ℕ → Type 0 = λ xs. AreWritten a c xs x z i k in
+    let number = taken.number in
+    let last = more.number in
+    subst P (sym e) (written_then a b c lnum lebs x y z i j k (omega (arith, number)) (omega (arith, last)) apart ab bc one rest)
+
+-- what stands then
+new_in : (old new : VolumeState) (lebs : List ℕ) (x y : PagedIndex) (i j : ℕ) (w : AreWritten old new lebs x y i j) (s : Stretch) (n g : ℕ)
+    → Meets (record { outside = w.idle; lebs = lebs; first = i; last = j }) s n g → IsNewIn new lebs i j s n g
+new_in old new lebs x y i j w s n g h given =
+    let said = h.1 given in
+    record {
+      given = given;
+      left = elim (w.settled s.lnum given) [ inl same ↦ absurd (h.0 same.0) | inr only ↦ only ];
+      above = said.0;
+      most = said.1;
+      single = said.2;
+    }
+
+pub written_standing : (old new : VolumeState) (lebs : List ℕ) (x y : PagedIndex) (i j : ℕ) → AreWritten old new lebs x y i j → AreStanding old new lebs x y i j
+written_standing old new lebs x y i j w = record {
+  nodes = λ others root two h.
+      let asked : Demand = record { outside = others; lebs = []; first = i; last = j } in
+      let A : Stretch → ℕ → ℕ → Type 0 = λ s n g. (IsGiven lebs s.lnum → ⊥) × Meets asked s n g in
+      said_less new.holds (Meets asked) (IsOutside others) (tree_at y.table.nodes.items root) (λ s n g said. said.0)
+      (w.nodes asked root (λ s n g new. (λ given. two s.lnum new.given given, λ given. absurd given))
+      (said_less old.holds (IsOutside (lebs ++ others)) A (tree_at x.table.nodes.items root)
+      (λ s n g out. (λ given. out (given_front lebs others s.lnum given), ((λ given. out (given_behind lebs others s.lnum given)), λ given. absurd given))) h));
+  written = λ root h.
+      let asked : Demand = record { outside = w.idle; lebs = lebs; first = i; last = j } in
+      let A : Stretch → ℕ → ℕ → Type 0 = λ s n g. (IsGiven lebs s.lnum → ⊥) × Meets asked s n g in
+      said_less new.holds (Meets asked) (IsNewIn new lebs i j) (tree_at y.table.nodes.items root) (λ s n g said. new_in old new lebs x y i j w s n g said)
+      (w.nodes asked root (λ s n g new. (new.busy, λ given. (new.above, new.most, new.single)))
+      (said_less old.holds (IsOutside lebs) A (tree_at x.table.nodes.items root) (λ s n g out. (out, ((λ given. out (w.among s.lnum given)), λ given. absurd (out given)))) h));
+  settled = λ k given. elim (w.settled k given) [ inl same ↦ inl same.1 | inr only ↦ inr only ];
+}
+
+pub none_standing : (state : VolumeState) (lebs : List ℕ) (x : PagedIndex) (i : ℕ) → AreStanding state state lebs x x i i
+none_standing state lebs x i = written_standing state state lebs x x i i (none_written state lebs x i)
 
 pub one_worked : (a b : VolumeState) (lnum : ℕ) (lebs all : List ℕ) → all ≡ lnum ∷ lebs → WorksInLebs a b (lnum ∷ []) → WorksInLebs a b all
 one_worked a b lnum lebs all e works =
@@ -183,19 +335,19 @@ head_more : (state : VolumeState) (lnum : ℕ) (lebs : List ℕ) (found : Option
 head_more state lnum lebs None h = h
 head_more state lnum lebs (Some head) h = (inr h.0, h.1, h.2)
 
-head_then : (b c : VolumeState) (lnum offs : ℕ) (lebs dirty left : List ℕ) (before now found : Option IndexHead) → (IsGiven lebs lnum → ⊥) → WorksInLebs b c lebs → SameShape b c
+head_then : (b c : VolumeState) (lnum offs : ℕ) (lebs dirty left : List ℕ) (before now found : Option IndexHead) → (IsGiven lebs lnum → ⊥) → 0 < length dirty → WorksInLebs b c lebs → SameShape b c
     → now ≡ Some (record { lnum = lnum; offs = offs }) → (b.written lnum ≡ offs) × (offs % b.min_io ≡ 0) → IsHeadAfter c lebs left now found → IsHeadAfter c (lnum ∷ lebs) dirty before found
-head_then b c lnum offs lebs dirty left before now found apart works shape is end (inl h) =
+head_then b c lnum offs lebs dirty left before now found apart some works shape is end (inl h) =
     let P : Option IndexHead → Type 0 = λ o. IsHeadIn c (lnum ∷ lebs) o in
     let unit = ap (λ (n : ℕ). offs % n) shape.min_io in
-    inr (subst P (sym (h.0 ∙ is)) (inl refl, (works.others lnum apart).written ∙ end.0, unit ∙ end.1))
-head_then b c lnum offs lebs dirty left before now found apart works shape is end (inr h) = inr (head_more c lnum lebs found h)
+    inr (some, subst P (sym (h.0 ∙ is)) (inl refl, (works.others lnum apart).written ∙ end.0, unit ∙ end.1))
+head_then b c lnum offs lebs dirty left before now found apart some works shape is end (inr h) = inr (some, head_more c lnum lebs found h.1)
 
-pub head_behind : (b c : VolumeState) (lnum offs : ℕ) (lebs all dirty left : List ℕ) (before now found : Option IndexHead) → all ≡ lnum ∷ lebs → (IsGiven lebs lnum → ⊥) → WorksInLebs b c lebs → SameShape b c
+pub head_behind : (b c : VolumeState) (lnum offs : ℕ) (lebs all dirty left : List ℕ) (before now found : Option IndexHead) → all ≡ lnum ∷ lebs → (IsGiven lebs lnum → ⊥) → 0 < length dirty → WorksInLebs b c lebs → SameShape b c
     → now ≡ Some (record { lnum = lnum; offs = offs }) → (b.written lnum ≡ offs) × (offs % b.min_io ≡ 0) → IsHeadAfter c lebs left now found → IsHeadAfter c all dirty before found
-head_behind b c lnum offs lebs all dirty left before now found e apart works shape is end h =
+head_behind b c lnum offs lebs all dirty left before now found e apart some works shape is end h =
     let P : List ℕ → Type 0 = λ xs. IsHeadAfter c xs dirty before found in
-    subst P (sym e) (head_then b c lnum offs lebs dirty left before now found apart works shape is end h)
+    subst P (sym e) (head_then b c lnum offs lebs dirty left before now found apart some works shape is end h)
 
 -- ---- how many nodes a LEB takes
 pub full_leb : (size room nodes : ℕ) → 0 < room → size < nodes * room + room → size / room ≤ nodes
@@ -214,13 +366,6 @@ leb_full fewer lnum room size used i j a b bytes some long laid (inr full) =
     let most = full_leb size room laid.index.nodes some (omega (arith, whole, long, full)) in
     let less = taken_fewer fewer laid.index.nodes (dirty_of a) (dirty_of b) laid.index.taken in
     inr (omega (arith, most, less))
-
-one_times : (n room : ℕ) → 1 ≤ n → room ≤ n * room
-one_times n room some =
-    let back : n - 1 + 1 ≡ n = omega (arith, some) in
-    let whole = ap (λ (k : ℕ). k * room) back in
-    let sum = add-mul (n - 1) 1 room in
-    omega (arith, whole, sum)
 
 -- a node that is dirty is laid, or its LEB has no room for one
 pub leb_used : (lnum room size used i j : ℕ) (a b : PagedIndex) (bytes : List ℕ) → 0 < room → room ≤ size → length bytes ≡ used → 0 < length (dirty_of a)
@@ -270,6 +415,11 @@ givable_then n m lnum lebs all e is h =
 pub none_dirty : (numbers : List ℕ) → slice_get numbers 0 ≡ None → numbers ≡ []
 none_dirty [] e = refl
 none_dirty (n ∷ numbers) e = absurd cc
+
+-- some is dirty where a number is the first
+pub some_dirty : (numbers : List ℕ) → is_none (slice_get numbers 0) ≡ false → 0 < length numbers
+some_dirty [] e = absurd cc
+some_dirty (n ∷ numbers) e = omega arith
 
 -- what is left fits into the LEBs that are left
 pub fits_then : (each before after : ℕ) (left : List ℕ) (lnum : ℕ) (lebs all : List ℕ) → all ≡ lnum ∷ lebs → before ≤ each * length all → after ≡ length left → (left ≡ []) ⊎ (after + each ≤ before) → after ≤ each * length lebs

@@ -13,8 +13,7 @@ use Rattle.node_table.specs.Clean.{is_clean_row, node_branch, placed_of}
 use Rattle.node_table.specs.NodeView.{stretch_at}
 use Rattle.node_table.specs.Placing.{IsPlacedRow}
 use Rattle.node_table.specs.declared.node.NodePlace.{NodePlace}
-use Rattle.index_commit.specs.Lebs.{IsGiven}
-use Rattle.index_commit.specs.Standing.{OfClean, OfCleanNodes, StandsOutside, AreOutside}
+use Rattle.index_commit.specs.Standing.{OfClean, OfCleanNodes, StandsAs, AreStandingAs}
 
 -- ---- clean rows
 pub and_left : (a b : Bool) → (a && b) ≡ true → a ≡ true
@@ -73,14 +72,15 @@ node_grows old new branch said g h =
       is = subst Q (sym more.1) (subst R (sym (part_of (old branch.lnum) more.0 branch.offs branch.len h.room)) h.is);
     }
 
-pub outside_grows : (old new : ℕ → List ℕ) (lebs others : List ℕ) (key : Key) (place : Stretch) (children : KeyedRow) → Grows old new → ((k : ℕ) → IsGiven others k → IsGiven lebs k)
-    → StandsOutside old lebs key place children → StandsOutside new others key place children
-outside_grows old new lebs others key place children g fewer h = record {
-  outside = λ given. h.outside (fewer place.lnum given);
+pub as_grows : (old new : ℕ → List ℕ) (P Q : Stretch → ℕ → ℕ → Type 0) (key : Key) (place : Stretch) (children : KeyedRow) → Grows old new → ((s : Stretch) (n g : ℕ) → P s n g → Q s n g)
+    → StandsAs old P key place children → StandsAs new Q key place children
+unfolding node_grows
+as_grows old new P Q key place children g more h = record {
   clean = h.clean;
   level = h.level;
   levels = h.levels;
   node = node_grows old new (node_branch key (Some place)) (record { level = h.level; branches = branches_of (placed_of children) }) g h.node;
+  holds = more place h.node.sqnum h.node.group h.holds;
 }
 
 -- ---- what holds of clean nodes
@@ -94,38 +94,37 @@ clean_more P Q no_more f h = tt
 clean_more P Q (leaf_in x rest) f h = clean_more P Q rest f h
 clean_more P Q (node_in key place children rest) f h = (of_more P Q key place children f h.0, clean_more P Q children f h.1, clean_more P Q rest f h.2)
 
-pub are_outside : (old new : ℕ → List ℕ) (lebs others : List ℕ) (row : KeyedRow) → Grows old new → ((k : ℕ) → IsGiven others k → IsGiven lebs k) → AreOutside old lebs row → AreOutside new others row
-are_outside old new lebs others row g fewer h =
-    clean_more (StandsOutside old lebs) (StandsOutside new others) row (λ key place children. outside_grows old new lebs others key place children g fewer) h
+pub are_standing : (old new : ℕ → List ℕ) (P Q : Stretch → ℕ → ℕ → Type 0) (row : KeyedRow) → Grows old new → ((s : Stretch) (n g : ℕ) → P s n g → Q s n g) → AreStandingAs old P row → AreStandingAs new Q row
+are_standing old new P Q row g more h = clean_more (StandsAs old P) (StandsAs new Q) row (λ key place children. as_grows old new P Q key place children g more) h
 
 -- ---- a node gets its place
-node_placed : (old new : ℕ → List ℕ) (lebs : List ℕ) (p : NodePlace) (b : KeyedRow) (key : Key) (before now : Option Stretch) (children children' : KeyedRow) → Grows old new
-    → ((k : Key) → StandsOutside new lebs k (record { lnum = p.lnum; offs = p.offs; len = p.len }) b) → is_clean_row b ≡ true
+node_placed : (old new : ℕ → List ℕ) (P : Stretch → ℕ → ℕ → Type 0) (p : NodePlace) (b : KeyedRow) (key : Key) (before now : Option Stretch) (children children' : KeyedRow) → Grows old new
+    → ((k : Key) → StandsAs new P k (record { lnum = p.lnum; offs = p.offs; len = p.len }) b) → is_clean_row b ≡ true
     → (now ≡ before) ⊎ ((before ≡ None) × (now ≡ stretch_at (Some p)) × (children ≡ b)) → IsPlacedRow p b children children'
-    → OfClean (StandsOutside old lebs) key before children → OfClean (StandsOutside new lebs) key now children'
-node_placed old new lebs p b key None now children children' g own clean (inl e) h k =
-    let P : Option Stretch → Type 0 = λ o. OfClean (StandsOutside new lebs) key o children' in
-    subst P (sym e) tt
-node_placed old new lebs p b key (Some s) now children children' g own clean (inl e) h k =
-    let P : Option Stretch → Type 0 = λ o. OfClean (StandsOutside new lebs) key o children' in
-    let Q : KeyedRow → Type 0 = λ c. StandsOutside new lebs key s c in
-    subst P (sym e) (subst Q (sym (clean_same p b children children' k.clean h)) (outside_grows old new lebs lebs key s children g (λ n given. given) k))
-node_placed old new lebs p b key before now children children' g own clean (inr e) h k =
-    let P : Option Stretch → Type 0 = λ o. OfClean (StandsOutside new lebs) key o children' in
-    let Q : KeyedRow → Type 0 = λ c. StandsOutside new lebs key (record { lnum = p.lnum; offs = p.offs; len = p.len }) c in
+    → OfClean (StandsAs old P) key before children → OfClean (StandsAs new P) key now children'
+node_placed old new P p b key None now children children' g own clean (inl e) h k =
+    let O : Option Stretch → Type 0 = λ o. OfClean (StandsAs new P) key o children' in
+    subst O (sym e) tt
+node_placed old new P p b key (Some s) now children children' g own clean (inl e) h k =
+    let O : Option Stretch → Type 0 = λ o. OfClean (StandsAs new P) key o children' in
+    let Q : KeyedRow → Type 0 = λ c. StandsAs new P key s c in
+    subst O (sym e) (subst Q (sym (clean_same p b children children' k.clean h)) (as_grows old new P P key s children g (λ s n m x. x) k))
+node_placed old new P p b key before now children children' g own clean (inr e) h k =
+    let O : Option Stretch → Type 0 = λ o. OfClean (StandsAs new P) key o children' in
+    let Q : KeyedRow → Type 0 = λ c. StandsAs new P key (record { lnum = p.lnum; offs = p.offs; len = p.len }) c in
     let C : KeyedRow → Type 0 = λ c. is_clean_row c ≡ true in
     let same : children' ≡ b = clean_same p b children children' (subst C (sym e.2) clean) h ∙ e.2 in
-    subst P (sym e.1) (subst Q (sym same) (own key))
+    subst O (sym e.1) (subst Q (sym same) (own key))
 
-pub row_placed : (old new : ℕ → List ℕ) (lebs : List ℕ) (p : NodePlace) (b row now : KeyedRow) → Grows old new
-    → ((k : Key) → StandsOutside new lebs k (record { lnum = p.lnum; offs = p.offs; len = p.len }) b) → is_clean_row b ≡ true → IsPlacedRow p b row now
-    → AreOutside old lebs row → AreOutside new lebs now
-row_placed old new lebs p b no_more now g own clean h k = subst (AreOutside new lebs) (sym h) tt
-row_placed old new lebs p b (leaf_in x rest) now g own clean h k =
-    subst (AreOutside new lebs) (sym h.1) (row_placed old new lebs p b rest h.0 g own clean h.2 k)
-row_placed old new lebs p b (node_in key before children rest) now g own clean h k =
-    subst (AreOutside new lebs) (sym h.3) (
-      node_placed old new lebs p b key before h.0 children h.1 g own clean h.4 h.5 k.0,
-      row_placed old new lebs p b children h.1 g own clean h.5 k.1,
-      row_placed old new lebs p b rest h.2 g own clean h.6 k.2,
+pub row_placed : (old new : ℕ → List ℕ) (P : Stretch → ℕ → ℕ → Type 0) (p : NodePlace) (b row now : KeyedRow) → Grows old new
+    → ((k : Key) → StandsAs new P k (record { lnum = p.lnum; offs = p.offs; len = p.len }) b) → is_clean_row b ≡ true → IsPlacedRow p b row now
+    → AreStandingAs old P row → AreStandingAs new P now
+row_placed old new P p b no_more now g own clean h k = subst (AreStandingAs new P) (sym h) tt
+row_placed old new P p b (leaf_in x rest) now g own clean h k =
+    subst (AreStandingAs new P) (sym h.1) (row_placed old new P p b rest h.0 g own clean h.2 k)
+row_placed old new P p b (node_in key before children rest) now g own clean h k =
+    subst (AreStandingAs new P) (sym h.3) (
+      node_placed old new P p b key before h.0 children h.1 g own clean h.4 h.5 k.0,
+      row_placed old new P p b children h.1 g own clean h.5 k.1,
+      row_placed old new P p b rest h.2 g own clean h.6 k.2,
     )

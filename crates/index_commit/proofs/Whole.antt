@@ -9,11 +9,11 @@ use Rattle.index_media.specs.InsertionSound.{fit_node}
 use Rattle.index_media.specs.KeyedKeys.{key_before, AreKeysBounded}
 use Rattle.index_media.specs.KeyedRow.{KeyedRow, no_more, leaf_in, node_in, bare}
 use Rattle.index_media.specs.Keys.{bound_before, AreBounded}
-use Rattle.index_media.specs.PlacedRow.{ended, node_at, branches_of, plain}
+use Rattle.index_media.specs.PlacedRow.{Stretch, ended, node_at, branches_of, plain}
 use Rattle.index_media.specs.Stored.{AreStored, IsIndexNodeAt}
 use Rattle.media_sys.specs.declared.branch.Branch.{Branch}
 use Rattle.node_table.specs.Clean.{is_clean_row, node_branch, placed_of}
-use Rattle.index_commit.specs.Standing.{AreOutside}
+use Rattle.index_commit.specs.Standing.{AreStandingAs}
 use Rattle.index_commit.specs.Written.{IsRootOf}
 use Rattle.index_commit.proofs.Standing.{and_left, and_right, clean_node}
 
@@ -44,24 +44,24 @@ one_level f a b (node c rest) g some h k =
     omega (arith, below, first, second)
 
 -- ---- a row
-pub row_stored : (contents : ℕ → List ℕ) (lebs : List ℕ) (f levels : ℕ) (row : KeyedRow) → is_clean_row row ≡ true → fits f (bare row) ≡ true → levelled levels (bare row) ≡ true
-    → AreOutside contents lebs row → AreStored contents levels (placed_of row)
+pub row_stored : (contents : ℕ → List ℕ) (P : Stretch → ℕ → ℕ → Type 0) (f levels : ℕ) (row : KeyedRow) → is_clean_row row ≡ true → fits f (bare row) ≡ true → levelled levels (bare row) ≡ true
+    → AreStandingAs contents P row → AreStored contents levels (placed_of row)
 unfolding AreStored
-row_stored contents lebs f levels no_more c g l h = tt
-row_stored contents lebs f levels (leaf_in x rest) c g l h =
+row_stored contents P f levels no_more c g l h = tt
+row_stored contents P f levels (leaf_in x rest) c g l h =
     let here = levels_leaf levels (levelled levels (bare rest)) l in
-    (here.0, row_stored contents lebs f levels rest c g here.1 h)
-row_stored contents lebs f levels (node_in key None children rest) c g l h = let none = (clean_node key None children rest c).0 in absurd cc
-row_stored contents lebs f levels (node_in key (Some s) children rest) c g l h =
+    (here.0, row_stored contents P f levels rest c g here.1 h)
+row_stored contents P f levels (node_in key None children rest) c g l h = let none = (clean_node key None children rest c).0 in absurd cc
+row_stored contents P f levels (node_in key (Some s) children rest) c g l h =
     let parts = clean_node key (Some s) children rest c in
     let fit = fit_node f (bare children) (bare rest) g in
     let here = levels_node levels (bare children) (bare rest) l in
     let same = one_level f h.0.level (levels - 1) (bare children) fit.children fit.least h.0.levels here.1 in
-    let P : ℕ → Type 0 = λ n. IsIndexNodeAt contents (node_branch key (Some s)) (record { level = n; branches = branches_of (placed_of children) }) in (
+    let N : ℕ → Type 0 = λ n. IsIndexNodeAt contents (node_branch key (Some s)) (record { level = n; branches = branches_of (placed_of children) }) in (
       here.0,
-      subst P same h.0.node,
-      row_stored contents lebs f (levels - 1) children parts.1 fit.children here.1 h.1,
-      row_stored contents lebs f levels rest parts.2 fit.others here.2 h.2,
+      subst N same h.0.node,
+      row_stored contents P f (levels - 1) children parts.1 fit.children here.1 h.1,
+      row_stored contents P f levels rest parts.2 fit.others here.2 h.2,
     )
 
 -- ---- keys
@@ -103,13 +103,13 @@ pub record IsFrozenIndex (f : ℕ) (row : KeyedRow) : Type 0 where
   pub levels : (level : ℕ) × (levelled level (bare row) ≡ true)
   pub bounded : AreKeysBounded 0 None row
 
-pub root_of : (contents : ℕ → List ℕ) (lebs : List ℕ) (f : ℕ) (row : KeyedRow) → IsFrozenIndex f row → AreOutside contents lebs row → (root : Option Branch)
+pub root_of : (contents : ℕ → List ℕ) (P : Stretch → ℕ → ℕ → Type 0) (f : ℕ) (row : KeyedRow) → IsFrozenIndex f row → AreStandingAs contents P row → (root : Option Branch)
     → root ≡ slice_get (branches_of (placed_of row)) 0 → IsRootOf contents f row root
-root_of contents lebs f no_more is h None e = refl
-root_of contents lebs f no_more is h (Some root) e = absurd cc
-root_of contents lebs f (leaf_in x rest) is h root e = let none = is.whole in absurd cc
-root_of contents lebs f (node_in key place children rest) is h None e = absurd cc
-root_of contents lebs f (node_in key place children rest) is h (Some root) e =
+root_of contents P f no_more is h None e = refl
+root_of contents P f no_more is h (Some root) e = absurd cc
+root_of contents P f (leaf_in x rest) is h root e = let none = is.whole in absurd cc
+root_of contents P f (node_in key place children rest) is h None e = absurd cc
+root_of contents P f (node_in key place children rest) is h (Some root) e =
     let row = node_in key place children rest in
     let none : (count (bare rest) == 0) ≡ true = is.whole in
     let behind : rest ≡ no_more = none_behind rest (grind (arith, nat_tests, none)) in
@@ -119,7 +119,7 @@ root_of contents lebs f (node_in key place children rest) is h (Some root) e =
       children = placed_of children;
       whole = ap (λ (r : KeyedRow). node_at (node_branch key place) (placed_of children) (placed_of r)) behind ∙ ap (λ (b : Branch). node_at b (placed_of children) ended) (sym first);
       levels = is.levels.0;
-      stored = row_stored contents lebs f is.levels.0 row is.clean is.fits is.levels.1 h;
+      stored = row_stored contents P f is.levels.0 row is.clean is.fits is.levels.1 h;
       fits = subst F (sym (row_plain row)) is.fits;
       bounded = row_bounded 0 None row is.clean is.bounded;
     }

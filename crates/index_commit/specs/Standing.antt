@@ -19,15 +19,23 @@ OfCleanNodes P no_more = ⊤
 OfCleanNodes P (leaf_in x rest) = OfCleanNodes P rest
 OfCleanNodes P (node_in key place children rest) = OfClean P key place children × OfCleanNodes P children × OfCleanNodes P rest
 
--- A node stands at its place, outside of these LEBs: an index node of the medium, which says its level, and the branches to its
--- children. All of them are clean
-pub record StandsOutside (contents : ℕ → List ℕ) (lebs : List ℕ) (key : Key) (place : Stretch) (children : KeyedRow) : Type 0 where
-  pub outside : IsGiven lebs place.lnum → ⊥
+-- A node stands at its place: an index node of the medium, which says its level, and the branches to its children. All of them are
+-- clean. It holds of its place, of the sequence number that it has there, and of its group
+pub record StandsAs (contents : ℕ → List ℕ) (P : Stretch → ℕ → ℕ → Type 0) (key : Key) (place : Stretch) (children : KeyedRow) : Type 0 where
   pub clean : is_clean_row children ≡ true
   pub level : ℕ
   pub levels : levelled level (bare children) ≡ true
   pub node : IsIndexNodeAt contents (node_branch key (Some place)) (record { level = level; branches = branches_of (placed_of children) })
+  pub holds : P place node.sqnum node.group
+
+-- each clean node of a row stands in contents so
+abbrev pub AreStandingAs : (ℕ → List ℕ) → (Stretch → ℕ → ℕ → Type 0) → KeyedRow → Type 0
+AreStandingAs contents P row = OfCleanNodes (StandsAs contents P) row
+
+-- a place is in none of these LEBs
+abbrev pub IsOutside : List ℕ → Stretch → ℕ → ℕ → Type 0
+IsOutside lebs place number group = IsGiven lebs place.lnum → ⊥
 
 -- each clean node of a row stands in contents, outside of these LEBs
 abbrev pub AreOutside : (ℕ → List ℕ) → List ℕ → KeyedRow → Type 0
-AreOutside contents lebs row = OfCleanNodes (StandsOutside contents lebs) row
+AreOutside contents lebs row = AreStandingAs contents (IsOutside lebs) row

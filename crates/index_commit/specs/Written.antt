@@ -1,7 +1,7 @@
 -- What a commit leaves of an index, in memory and on the volume.
-use Rattle.std.specs.Prelude.{◌≡◌, ◌⊎◌, ◌<◌, ◌+◌, ◌*◌, ◌%◌, ◌==◌, ℕ, zero, suc, if◌then◌else◌, List, [], ◌∷◌, ◌++◌, Option, None, Some, length, slice_get, All}
+use Rattle.std.specs.Prelude.{◌≡◌, ◌⊎◌, ◌<◌, ◌≤◌, ◌+◌, ◌*◌, ◌%◌, ◌==◌, ℕ, zero, suc, if◌then◌else◌, List, [], ◌++◌, Option, None, Some, length, slice_get, All}
 use Rattle.index_media.specs.KeyedRow.{KeyedRow, no_more, all_clean}
-use Rattle.index_media.specs.PlacedRow.{PlacedRow, lebs_of}
+use Rattle.index_media.specs.PlacedRow.{PlacedRow, Stretch, lebs_of}
 use Rattle.index_media.specs.Stored.{IsStoredIndex}
 use Rattle.media_sys.specs.declared.branch.Branch.{Branch}
 use Rattle.node_table.specs.Clean.{placed_of}
@@ -13,7 +13,7 @@ use Rattle.ubi_volume.specs.Volume.{VolumeState, Leaves, Only}
 use Rattle.index_cache.specs.Paged.{dirty_of, frozen_of, tree_of, KeepsRoots}
 use Rattle.index_cache.specs.declared.paged.PagedIndex.{PagedIndex}
 use Rattle.index_commit.specs.Lebs.{AreApart, IsGiven}
-use Rattle.index_commit.specs.Standing.{AreOutside}
+use Rattle.index_commit.specs.Standing.{AreOutside, AreStandingAs}
 use Rattle.index_commit.specs.declared.index_at.IndexAt.{IndexAt}
 use Rattle.index_commit.specs.declared.index_at.IndexHead.{IndexHead}
 
@@ -36,6 +36,7 @@ pub record IsIndexTaken (old new : PagedIndex) (before after : ℕ) : Type 0 whe
   pub nodes : ℕ
   pub taken : AreFirstsTaken nodes (dirty_of old) (dirty_of new)
   pub number : after ≡ before + nodes
+  pub most : after + length (dirty_of new) ≤ before + length (dirty_of old)
 
 -- a LEB's bytes in the place of those that it holds
 abbrev pub with_leb_bytes : ℕ → List ℕ → (ℕ → List ℕ) → ℕ → List ℕ
@@ -47,33 +48,78 @@ pub record Laying : Type 0 where
   pub sqnum : ℕ
   pub bytes : List ℕ
 
--- Nodes were laid for this LEB, each in so much room: with these bytes in it, clean nodes stand as they stood before
+-- what is asked of a clean node: that it stands in none of some LEBs, and if in one of others, with a number between these bounds
+-- and in no group
+pub record Demand : Type 0 where
+  pub outside : List ℕ
+  pub lebs : List ℕ
+  pub first : ℕ
+  pub last : ℕ
+
+-- a place, a number and a group meet it
+abbrev pub Meets : Demand → Stretch → ℕ → ℕ → Type 0
+Meets asked place number group =
+    (IsGiven asked.outside place.lnum → ⊥) × (IsGiven asked.lebs place.lnum → (asked.first < number) × (number ≤ asked.last) × (group ≡ 0))
+
+-- Nodes were laid for this LEB, each in so much room. With these bytes in it clean nodes stand, and meet what is asked,
+-- if those that stood before do, and each place in the LEB with one of the numbers given since, and in no group
 pub record AreNodesLaid (lnum room : ℕ) (old new : Laying) : Type 0 where
   pub index : IsIndexTaken old.index new.index old.sqnum new.sqnum
   pub more : List ℕ
   pub bytes : new.bytes ≡ old.bytes ++ more
   pub long : length new.bytes ≡ length old.bytes + index.nodes * room
-  pub stand : (contents : ℕ → List ℕ) (lebs : List ℕ) (root : Option Root) → (IsGiven lebs lnum → ⊥)
-      → AreOutside (with_leb_bytes lnum old.bytes contents) lebs (tree_at old.index.table.nodes.items root)
-      → AreOutside (with_leb_bytes lnum new.bytes contents) lebs (tree_at new.index.table.nodes.items root)
+  pub stand : (contents : ℕ → List ℕ) (asked : Demand) (root : Option Root)
+      → ((place : Stretch) (number : ℕ) → place.lnum ≡ lnum → old.sqnum < number → number ≤ new.sqnum → Meets asked place number 0)
+      → AreStandingAs (with_leb_bytes lnum old.bytes contents) (Meets asked) (tree_at old.index.table.nodes.items root)
+      → AreStandingAs (with_leb_bytes lnum new.bytes contents) (Meets asked) (tree_at new.index.table.nodes.items root)
+
+-- A node with this place, number and group was written: into a given LEB, of which a cut leaves what it holds, with one of the
+-- numbers that were given since, and in no group
+pub record IsNew (state : VolumeState) (lebs : List ℕ) (before after : ℕ) (place : Stretch) (number group : ℕ) : Type 0 where
+  pub given : IsGiven lebs place.lnum
+  pub left : Only (state.holds place.lnum) (state.left_now place.lnum)
+  pub above : before < number
+  pub most : number ≤ after
+  pub single : group ≡ 0
+
+-- if its place is in a given LEB, the node was written so
+abbrev pub IsNewIn : VolumeState → List ℕ → ℕ → ℕ → Stretch → ℕ → ℕ → Type 0
+IsNewIn state lebs before after place number group = IsGiven lebs place.lnum → IsNew state lebs before after place number group
 
 -- Below each root whose clean nodes stood outside of the given LEBs, and of others, all clean nodes stand outside of the others:
--- those that were given places too, so they are in given LEBs. A given LEB is as it was, or a cut leaves of it what it holds
-pub record AreStanding (old new : VolumeState) (lebs : List ℕ) (before after : PagedIndex) : Type 0 where
+-- those that were given places too, so they are in given LEBs. Each that is in a given LEB was
+-- written since. A given LEB is as it was, or a cut leaves of it what it holds
+pub record AreStanding (old new : VolumeState) (lebs : List ℕ) (before after : PagedIndex) (first last : ℕ) : Type 0 where
   pub nodes : (others : List ℕ) (root : Option Root) → AreApart lebs others → AreOutside old.holds (lebs ++ others) (tree_at before.table.nodes.items root)
       → AreOutside new.holds others (tree_at after.table.nodes.items root)
+  pub written : (root : Option Root) → AreOutside old.holds lebs (tree_at before.table.nodes.items root)
+      → AreStandingAs new.holds (IsNewIn new lebs first last) (tree_at after.table.nodes.items root)
   pub settled : (k : ℕ) → IsGiven lebs k → IsSameLeb old new k ⊎ Only (new.holds k) (new.left_now k)
 
--- the same of one LEB, whichever others are given
-pub record IsLebStanding (old new : VolumeState) (lnum : ℕ) (before after : PagedIndex) : Type 0 where
-  pub nodes : (lebs : List ℕ) (root : Option Root) → (IsGiven lebs lnum → ⊥) → AreOutside old.holds (lnum ∷ lebs) (tree_at before.table.nodes.items root)
-      → AreOutside new.holds lebs (tree_at after.table.nodes.items root)
-  pub settled : IsSameLeb old new lnum ⊎ Only (new.holds lnum) (new.left_now lnum)
+-- a node with this place, number and group was written into a given LEB that isn't idle
+pub record IsPut (lebs idle : List ℕ) (before after : ℕ) (place : Stretch) (number group : ℕ) : Type 0 where
+  pub given : IsGiven lebs place.lnum
+  pub busy : IsGiven idle place.lnum → ⊥
+  pub above : before < number
+  pub most : number ≤ after
+  pub single : group ≡ 0
+
+-- Some given LEBs are idle: they are as they were. Of the others a cut leaves what they hold. Clean nodes stand, and meet what is
+-- asked, if those of before, outside of the given LEBs, do, and those that were written
+pub record AreWritten (old new : VolumeState) (lebs : List ℕ) (before after : PagedIndex) (first last : ℕ) : Type 0 where
+  pub idle : List ℕ
+  pub among : (k : ℕ) → IsGiven idle k → IsGiven lebs k
+  pub nodes : (asked : Demand) (root : Option Root)
+      → ((place : Stretch) (number group : ℕ) → IsPut lebs idle first last place number group → Meets asked place number group)
+      → AreStandingAs old.holds (λ place number group. (IsGiven lebs place.lnum → ⊥) × Meets asked place number group) (tree_at before.table.nodes.items root)
+      → AreStandingAs new.holds (Meets asked) (tree_at after.table.nodes.items root)
+  pub settled : (k : ℕ) → IsGiven lebs k → (IsGiven idle k × IsSameLeb old new k) ⊎ Only (new.holds k) (new.left_now k)
 
 -- These bytes were put into a LEB, if there are any: other LEBs hold what they held, and behind the bytes more may stand
 pub record IsLebPut (old new : VolumeState) (lnum : ℕ) (bytes : List ℕ) (used end : ℕ) : Type 0 where
   pub grown : (k : ℕ) → (more : List ℕ) × (new.holds k ≡ with_leb_bytes lnum bytes old.holds k ++ more)
   pub settled : IsSameLeb old new lnum ⊎ Only (new.holds lnum) (new.left_now lnum)
+  pub left : 0 < used → Only (new.holds lnum) (new.left_now lnum)
   pub ended : 0 < used → (new.written lnum ≡ end) × (end % new.min_io ≡ 0)
 
 -- other LEBs are as they were, and a cut at any moment leaves of them what it might have left before
@@ -99,13 +145,19 @@ abbrev pub IsHeadIn : VolumeState → List ℕ → Option IndexHead → Type 0
 IsHeadIn state lebs None = ⊥
 IsHeadIn state lebs (Some head) = IsGiven lebs head.lnum × (state.written head.lnum ≡ head.offs) × (head.offs % state.min_io ≡ 0)
 
--- The head is in these LEBs, or none of these nodes was dirty, and it is that of before
+-- The head is in these LEBs exactly if one of these nodes was dirty, and else it is that of before
 abbrev pub IsHeadAfter : VolumeState → List ℕ → List ℕ → Option IndexHead → Option IndexHead → Type 0
-IsHeadAfter state lebs dirty before now = ((now ≡ before) × (dirty ≡ [])) ⊎ IsHeadIn state lebs now
+IsHeadAfter state lebs dirty before now = ((now ≡ before) × (dirty ≡ [])) ⊎ ((0 < length dirty) × IsHeadIn state lebs now)
 
--- The frozen index, of nodes with at most fanout children, is clean and stands on the volume, and this tells where. These nodes
--- were dirty
-pub record IsIndexAt (state : VolumeState) (fanout : ℕ) (lebs dirty : List ℕ) (row : KeyedRow) (at : IndexAt) : Type 0 where
-  pub clean : row ≡ all_clean (placed_of row)
-  pub root : IsRootOf state.holds fanout row at.root
-  pub head : IsHeadAfter state lebs dirty None at.head
+-- of each given LEB in which a node of the row stands a cut leaves what it holds
+abbrev pub AreLebsSettled : VolumeState → List ℕ → PlacedRow → Type 0
+AreLebsSettled state lebs row = All (λ k. IsGiven lebs k → Only (state.holds k) (state.left_now k)) (lebs_of row)
+
+-- The frozen index, of nodes with at most fanout children, is clean and stands on the volume, and this tells where. No node is
+-- dirty, and of the given LEBs that it is in a cut leaves what they hold
+pub record IsIndexAt (state : VolumeState) (fanout : ℕ) (lebs : List ℕ) (old new : PagedIndex) (at : IndexAt) : Type 0 where
+  pub none : dirty_of new ≡ []
+  pub clean : frozen_of new ≡ all_clean (placed_of (frozen_of new))
+  pub root : IsRootOf state.holds fanout (frozen_of new) at.root
+  pub left : AreLebsSettled state lebs (placed_of (frozen_of new))
+  pub head : IsHeadAfter state lebs (dirty_of old) None at.head

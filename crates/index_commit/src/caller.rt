@@ -7,10 +7,11 @@ ghost use Rattle.index_tree.specs.Order.{placed};
 ghost use Rattle.index_tree.specs.Shape.{contents};
 ghost use Rattle.index_media.specs.KeyedRow.{KeyedRow, bare};
 ghost use Rattle.index_media.specs.PlacedRow.{PlacedRow, lebs_of, plain};
+ghost use Rattle.node_table.specs.Clean.{placed_of};
 ghost use Rattle.ubi_volume.specs.Geometry.{IsGeometryOf};
 ghost use Rattle.index_cache.specs.Loaded.{IsIndexOn};
 ghost use Rattle.index_commit.specs.Lebs.{AreGivable, IsGiven};
-ghost use Rattle.index_commit.specs.Written.{IsRootOf, KeepsOtherIndexes};
+ghost use Rattle.index_commit.specs.Written.{AreLebsSettled, IsRootOf, KeepsOtherIndexes};
 
 use crate::index_at::IndexAt;
 use crate::index_fault::IndexFault;
@@ -29,8 +30,8 @@ use ubifs_base::Geometry;
 const MOST_NODES: u64 = 1 << 62;
 
 /// Loads the index that stands on a volume, puts a leaf, and writes the index to these LEBs, in which no node of the loaded one
-/// stands. After Ok the index with the leaf stands on the volume. The index before stands in what a cut at any moment
-/// leaves, if a cut before left nothing else of its LEBs.
+/// stands. After Ok the index with the leaf stands on the volume, and of these LEBs, where they have a node of it, a cut leaves
+/// what they hold. The index before stands in what a cut at any moment leaves, if a cut before left nothing else of its LEBs.
 pub fn put_and_commit<V: Volume>(
     alloc: Global,
     volume: &mut V,
@@ -46,7 +47,8 @@ pub fn put_and_commit<V: Volume>(
     requires key { IsKey leaf.key }
     requires number { sqnum.old < 2 ^ 63 }
     ensures leaves { (row : PlacedRow) → IsIndexOn (V.state volume.old) geometry.now.fanout root.now row
-        → IfOk result (λ at. (now : KeyedRow) × (contents (bare now) ≡ placed leaf (contents (plain row))) × IsRootOf (V.state volume.new).holds geometry.now.fanout now at.root) }
+        → IfOk result (λ at. (now : KeyedRow) × (contents (bare now) ≡ placed leaf (contents (plain row))) × IsRootOf (V.state volume.new).holds geometry.now.fanout now at.root
+        × AreLebsSettled (V.state volume.new) lebs.now (placed_of now)) }
     ensures old_stays { KeepsOtherIndexes (V.state volume.old) (V.state volume.new) lebs.now }
 {
     an_index_depends_on_its_lebs_alone();

@@ -14,7 +14,7 @@ ghost use Rattle.index_cache.specs.Paged.{dirty_of, frozen_of, fanout_of};
 ghost use Rattle.index_commit.specs.Answers.{HasEqualKeys, IsIndexNotFailed, IsNotFull, IsFullOf, IsIndexAnswered};
 ghost use Rattle.index_commit.specs.Lebs.{AreGivable};
 ghost use Rattle.index_commit.specs.Standing.{AreOutside};
-ghost use Rattle.index_commit.specs.Written.{AreStanding, IsHeadAfter, IsIndexAt, IsIndexTaken, IsLebPut, IsLebStanding, KeepsOtherIndexes, WorksInLebs, with_leb_bytes};
+ghost use Rattle.index_commit.specs.Written.{AreStanding, AreWritten, IsHeadAfter, IsIndexAt, IsIndexTaken, IsLebPut, KeepsOtherIndexes, WorksInLebs, with_leb_bytes};
 
 use crate::index_at::{IndexAt, IndexHead};
 use crate::index_fault::IndexFault;
@@ -48,8 +48,8 @@ pub fn write_index<V: Volume>(
     requires lebs { AreGivable (V.state volume.old).leb_cnt lebs.now }
     requires outside { AreOutside (V.state volume.old).holds lebs.now (frozen_of index.old) }
     requires number { sqnum.old + length (dirty_of index.old) < 2 ^ 64 }
-    ensures written { IfOk result (λ at. IsIndexAt (V.state volume.new) geometry.now.fanout lebs.now (dirty_of index.old) (frozen_of index.new) at) }
-    ensures standing { IsIndexNotFailed result → AreStanding (V.state volume.old) (V.state volume.new) lebs.now index.old index.new }
+    ensures written { IfOk result (λ at. IsIndexAt (V.state volume.new) geometry.now.fanout lebs.now index.old index.new at) }
+    ensures standing { IsIndexNotFailed result → AreStanding (V.state volume.old) (V.state volume.new) lebs.now index.old index.new sqnum.old sqnum.new }
     ensures index { IsIndexTaken index.old index.new sqnum.old sqnum.new }
     ensures works { WorksInLebs (V.state volume.old) (V.state volume.new) lebs.now }
     ensures old_stays { KeepsOtherIndexes (V.state volume.old) (V.state volume.new) lebs.now }
@@ -91,8 +91,9 @@ fn write_lebs<V: Volume>(
     requires whole { length leb.old ≡ geometry.now.leb_size }
     requires fits { length (dirty_of index.old) ≤ index_nodes_per_leb (raw_of geometry.now) * length lebs.now }
     ensures clean { OnOk result (frozen_of index.new ≡ all_clean (placed_of (frozen_of index.new))) }
+    ensures none { OnOk result (dirty_of index.new ≡ []) }
     ensures head { IfOk result (λ found. IsHeadAfter (V.state volume.new) lebs.now (dirty_of index.old) head found) }
-    ensures standing { IsIndexNotFailed result → AreStanding (V.state volume.old) (V.state volume.new) lebs.now index.old index.new }
+    ensures standing { IsIndexNotFailed result → AreWritten (V.state volume.old) (V.state volume.new) lebs.now index.old index.new sqnum.old sqnum.new }
     ensures index { IsIndexTaken index.old index.new sqnum.old sqnum.new }
     ensures works { WorksInLebs (V.state volume.old) (V.state volume.new) lebs.now }
     ensures answer { IsIndexAnswered (V.state volume.old) (V.state volume.new) result }
@@ -130,7 +131,7 @@ fn write_leb<V: Volume>(
     requires some { 0 < length (dirty_of index.old) }
     ensures all { OnOk result ((dirty_of index.new ≡ []) ⊎ (length (dirty_of index.new) + index_nodes_per_leb (raw_of geometry.now) ≤ length (dirty_of index.old))) }
     ensures end { IfOk result (λ end. ((V.state volume.new).written lnum ≡ end) × (end % (V.state volume.new).min_io ≡ 0)) }
-    ensures standing { IsIndexNotFailed result → IsLebStanding (V.state volume.old) (V.state volume.new) lnum index.old index.new }
+    ensures standing { IsIndexNotFailed result → AreWritten (V.state volume.old) (V.state volume.new) (lnum ∷ []) index.old index.new sqnum.old sqnum.new }
     ensures index { IsIndexTaken index.old index.new sqnum.old sqnum.new }
     ensures works { WorksInLebs (V.state volume.old) (V.state volume.new) (lnum ∷ []) }
     ensures answer { IsIndexAnswered (V.state volume.old) (V.state volume.new) result }

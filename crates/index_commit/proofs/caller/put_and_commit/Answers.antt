@@ -4,12 +4,13 @@ use Rattle.index_tree.specs.Shape.{Shape, contents, fits}
 use Rattle.index_media.specs.KeyedRow.{KeyedRow, all_clean, bare}
 use Rattle.index_media.specs.PlacedRow.{plain}
 use Rattle.node_table.specs.declared.change.Change.TheVariants.{Insert}
-use Rattle.index_cache.specs.Paged.{dirty_of, fanout_of, frozen_of, tree_of}
-use Rattle.index_commit.specs.Standing.{AreOutside}
-use Rattle.index_commit.specs.Written.{IsIndexAt, IsRootOf}
+use Rattle.node_table.specs.Clean.{placed_of}
+use Rattle.index_cache.specs.Paged.{fanout_of, frozen_of, tree_of}
+use Rattle.index_commit.specs.Standing.{AreOutside, IsOutside}
+use Rattle.index_commit.specs.Written.{AreLebsSettled, IsIndexAt, IsRootOf}
 use Rattle.index_commit.specs.declared.index_at.IndexAt.{IndexAt}
 use Rattle.index_commit.proofs.Lebs.{if_ok, kept_indexes_then}
-use Rattle.index_commit.proofs.Standing.{are_outside}
+use Rattle.index_commit.proofs.Standing.{are_standing}
 use Rattle.index_commit.proofs.caller.put_and_commit.Goals as goal
 
 pub write_index-requires-clause-outside : goal.write_index-requires-clause-outside
@@ -32,7 +33,7 @@ write_index-requires-clause-outside g c =
     let before = subst A (sym loaded) (stand.loaded a.holds lebs f c.args.root.now row on.index c.requires.index.2) in
     let after = stand.changed (fanout_of index) (Insert c.args.leaf) a.holds lebs (tree_of index) fit before in
     let made = subst A (sym (c.freeze.ensures.frozen ∙ c.in_ok-insert.ensures.tree)) after in
-    are_outside a.holds b.holds lebs lebs frozen (λ k. ([], c.at_root.ensures.reads.keeps.holds k ∙ sym (append-nil (a.holds k)))) (λ k given. given) made
+    are_standing a.holds b.holds (IsOutside lebs) (IsOutside lebs) frozen (λ k. ([], c.at_root.ensures.reads.keeps.holds k ∙ sym (append-nil (a.holds k)))) (λ s n g given. given) made
 
 pub returns-clause-leaves : goal.returns-clause-leaves
 returns-clause-leaves g c = λ row on.
@@ -46,8 +47,9 @@ returns-clause-leaves g c = λ row on.
     let same : contents (bare (frozen_of final)) ≡ placed leaf (contents (plain row)) =
     ap contents shape ∙ ap (λ (r : KeyedRow). contents (bare r)) c.freeze.ensures.frozen ∙ c.in_ok-insert.ensures.leaves ∙ ap (λ (r : KeyedRow). placed leaf (contents (bare r))) loaded
     ∙ ap (λ (s : Shape). placed leaf (contents s)) (c.an_insertion_goes_by_the_keys_of_branches.ensures.clean row) in
-    if_ok (λ (at : IndexAt). IsIndexAt d f c.args.lebs.now (dirty_of begun) (frozen_of final) at)
-    (λ (at : IndexAt). (now : KeyedRow) × (contents (bare now) ≡ placed leaf (contents (plain row))) × IsRootOf d.holds f now at.root) c.write_index.result (λ at h. (frozen_of final, same, h.root))
+    if_ok (λ (at : IndexAt). IsIndexAt d f c.args.lebs.now begun final at)
+    (λ (at : IndexAt). (now : KeyedRow) × (contents (bare now) ≡ placed leaf (contents (plain row))) × IsRootOf d.holds f now at.root × AreLebsSettled d c.args.lebs.now (placed_of now)) c.write_index.result
+    (λ at h. (frozen_of final, same, h.root, h.left))
     c.write_index.ensures.written
 
 pub returns-clause-old_stays : goal.returns-clause-old_stays

@@ -52,4 +52,4 @@ returns-clause-laid c =
       long = long;
       fits = omega (arith, most, fits);
     } in
-    laid_one c.places_are_kept.ensures.given c.args.lnum c.args.room found.found.node used c.args.sqnum.now (c.args.sqnum.now + 1) old c.place.new.self front own bytes placed laid refl c.in_ok-lay_node.ensures.node
+    laid_one c.places_are_kept.ensures.given c.places_are_kept.ensures.fewer c.args.lnum c.args.room found.found.node used c.args.sqnum.now (c.args.sqnum.now + 1) old c.place.new.self front own bytes placed laid refl c.in_ok-lay_node.ensures.node

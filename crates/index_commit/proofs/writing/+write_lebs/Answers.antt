@@ -1,4 +1,4 @@
-use Rattle.std.proofs.Common.{rules, refl, ap, ◌∙◌, arith, length}
+use Rattle.std.proofs.Common.{◌<◌, rules, refl, ap, ◌∙◌, arith, length}
 use Rattle.std.specs.Prelude.{Option, Some}
 use Rattle.ubifs_base.specs.Geometry.{index_nodes_per_leb}
 use Rattle.ubifs_base.specs.RawOf.{raw_of}
@@ -7,11 +7,11 @@ use Rattle.index_commit.specs.Answers.{IsIndexNotFailed}
 use Rattle.index_commit.specs.Written.{IsHeadAfter}
 use Rattle.index_commit.specs.declared.index_at.IndexHead.{IndexHead}
 use Rattle.index_commit.proofs.Laid.{index_none, index_then, taken_fewer}
-use Rattle.index_commit.proofs.Lebs.{both_standing, both_worked, fits_then, geometry_then, givable_then, head_behind, if_ok, none_standing, one_standing, one_worked}
+use Rattle.index_commit.proofs.Lebs.{both_worked, both_written, fits_then, geometry_then, givable_then, head_behind, if_ok, none_written, one_written, one_worked, some_dirty}
 use Rattle.index_commit.proofs.writing.+write_lebs.Goals as goal
 
 pub returns-then-is_none-clause-standing : goal.returns-then-is_none-clause-standing
-returns-then-is_none-clause-standing g t c = λ done. none_standing (g.V.Volume.state c.args.volume.now) c.args.lebs.now c.args.index.now
+returns-then-is_none-clause-standing g t c = λ done. none_written (g.V.Volume.state c.args.volume.now) c.args.lebs.now c.args.index.now c.args.sqnum.now
 
 pub returns-then-is_none-clause-index : goal.returns-then-is_none-clause-index
 returns-then-is_none-clause-index g t c = index_none c.places_are_kept.ensures.none c.args.index.now c.args.sqnum.now
@@ -25,7 +25,7 @@ returns-in_err-offs-clause-standing g t c = λ failed.
     let is = c.in-Some.ensures.cases.0 in
     let apart = (givable_then a.leb_cnt a.leb_cnt lnum rest c.args.lebs.now refl is c.requires.lebs).1 in
     let other : IsIndexNotFailed c.write_leb.result = search (rules, failed) in
-    one_standing a b lnum rest c.args.lebs.now c.args.index.now c.write_leb.new.index is apart c.write_leb.ensures.works (c.write_leb.ensures.standing other)
+    one_written a b lnum rest c.args.lebs.now c.args.index.now c.write_leb.new.index c.args.sqnum.now c.write_leb.new.sqnum is c.write_leb.ensures.index apart c.write_leb.ensures.works (c.write_leb.ensures.standing other)
 
 pub returns-in_err-offs-clause-works : goal.returns-in_err-offs-clause-works
 returns-in_err-offs-clause-works g t c =
@@ -72,9 +72,10 @@ returns-clause-head g t c =
     let is = c.in-Some.ensures.cases.0 in
     let apart = (givable_then a.leb_cnt a.leb_cnt lnum rest c.args.lebs.now refl is c.requires.lebs).1 in
     let offs = c.in_ok-offs.offs in
+    let some : 0 < length (dirty_of c.args.index.now) = some_dirty (dirty_of c.args.index.now) (search (rules)) in
     let now : Option IndexHead = Some (record { lnum = lnum; offs = offs }) in
     if_ok (λ found. IsHeadAfter d rest (dirty_of c.write_leb.new.index) now found) (λ found. IsHeadAfter d c.args.lebs.now (dirty_of c.args.index.now) c.args.head found) c.write_lebs.result
-    (λ found h. head_behind b d lnum offs rest c.args.lebs.now (dirty_of c.args.index.now) (dirty_of c.write_leb.new.index) c.args.head now found is apart c.write_lebs.ensures.works
+    (λ found h. head_behind b d lnum offs rest c.args.lebs.now (dirty_of c.args.index.now) (dirty_of c.write_leb.new.index) c.args.head now found is apart some c.write_lebs.ensures.works
     c.write_lebs.ensures.answer.shape refl c.in_ok-offs.ensures.end h) c.write_lebs.ensures.head
 
 pub returns-clause-standing : goal.returns-clause-standing
@@ -86,7 +87,8 @@ returns-clause-standing g t c = λ other.
     let rest = c.in-Some.rest.now in
     let is = c.in-Some.ensures.cases.0 in
     let apart = (givable_then a.leb_cnt a.leb_cnt lnum rest c.args.lebs.now refl is c.requires.lebs).1 in
-    both_standing a b d lnum rest c.args.lebs.now c.args.index.now c.write_leb.new.index c.write_lebs.new.index is apart c.write_leb.ensures.works c.write_lebs.ensures.works (c.in_ok-offs.ensures.standing tt)
+    both_written a b d lnum rest c.args.lebs.now c.args.index.now c.write_leb.new.index c.write_lebs.new.index c.args.sqnum.now c.write_leb.new.sqnum c.write_lebs.new.sqnum is c.in_ok-offs.ensures.index
+    c.write_lebs.ensures.index apart c.write_leb.ensures.works c.write_lebs.ensures.works (c.in_ok-offs.ensures.standing tt)
     (c.write_lebs.ensures.standing other)
 
 pub returns-clause-index : goal.returns-clause-index

@@ -9,8 +9,11 @@ use Rattle.index_commit.proofs.writing.write_leb.Goals as goal
 pub returns-in_err-laid-clause-standing : goal.returns-in_err-laid-clause-standing
 returns-in_err-laid-clause-standing g c =
     let laid = c.lay_nodes-laid in
+    let room_is = c.index_node_len-room.ensures in
+    let fits = laid.ensures.fits in
+    let len = laid.ensures.len in
     λ failed. leb_standing (g.V.Volume.state c.args.volume.now) (g.V.Volume.state c.put_leb.new.volume) c.args.lnum c.index_node_len-room.result laid.new.used c.in_ok-end.end c.args.sqnum.now laid.new.sqnum
-    c.args.index.now laid.new.index (take laid.new.used laid.new.leb) laid.ensures.laid c.in_ok-end.ensures.put
+    c.args.index.now laid.new.index (take laid.new.used laid.new.leb) (omega (arith, room_is)) (length-take-le laid.new.used laid.new.leb (omega (arith, fits, len))) laid.ensures.laid c.in_ok-end.ensures.put
 
 pub returns-clause-all : goal.returns-clause-all
 returns-clause-all g c =
@@ -48,5 +51,8 @@ returns-clause-end g c =
 pub returns-clause-standing : goal.returns-clause-standing
 returns-clause-standing g c =
     let laid = c.lay_nodes-laid in
+    let room_is = c.index_node_len-room.ensures in
+    let fits = laid.ensures.fits in
+    let len = laid.ensures.len in
     λ done. leb_standing (g.V.Volume.state c.args.volume.now) (g.V.Volume.state c.put_leb.new.volume) c.args.lnum c.index_node_len-room.result laid.new.used c.in_ok-end.end c.args.sqnum.now laid.new.sqnum
-    c.args.index.now laid.new.index (take laid.new.used laid.new.leb) laid.ensures.laid c.in_ok-end.ensures.put
+    c.args.index.now laid.new.index (take laid.new.used laid.new.leb) (omega (arith, room_is)) (length-take-le laid.new.used laid.new.leb (omega (arith, fits, len))) laid.ensures.laid c.in_ok-end.ensures.put
