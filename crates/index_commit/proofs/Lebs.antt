@@ -1,6 +1,6 @@
 -- LEBs that a commit writes, one after another.
 use Rattle.std.proofs.Common.{◌≡◌, ℕ, ◌+◌, ◌-◌, ◌*◌, ◌/◌, ◌%◌, ◌<◌, ◌≤◌, true, false, List, [], ◌∷◌, ◌++◌, length, take, drop, replicate, refl, ap, sym, ◌∙◌, subst, arith, inl, inr, append-nil, append_assoc}
-use Rattle.std.specs.Prelude.{◌⊎◌, ◌==◌, is_none, Option, None, Some, Result, Ok, Err, IfOk, All, slice_get}
+use Rattle.std.specs.Prelude.{◌⊎◌, ◌==◌, is_none, Option, None, Some, Result, Ok, Err, IfOk, OnOk, All, slice_get}
 use Rattle.std.proofs.Math.Nat.{add-mul, div-lt_iff_lt-mul, mul-add}
 use Rattle.std.proofs.lemmas.Bool.{cases_Bool}
 use Rattle.std.proofs.lemmas.Bool.Decides.{nat_tests}
@@ -23,6 +23,8 @@ use Rattle.ubi_volume.specs.Volume.{VolumeState, IsChanged, Keeps, Only, SameSha
 use Rattle.ubi_volume.specs.VolumeLaws.{Leaves-keeps, Leaves-more, Leaves-then}
 use Rattle.index_cache.specs.Paged.{dirty_of}
 use Rattle.index_cache.specs.declared.paged.PagedIndex.{PagedIndex}
+use Rattle.index_commit.specs.Answers.{IsIndexNotFailed}
+use Rattle.index_commit.specs.declared.index_fault.IndexFault.{IndexFault}
 use Rattle.index_commit.specs.Lebs.{AreGivable, IsGiven}
 use Rattle.index_commit.specs.Standing.{AreStandingAs, IsOutside, StandsAs}
 use Rattle.index_commit.specs.Written.{AreStanding, AreFirstsTaken, AreWritten, IsHeadAfter, IsHeadIn, IsIndexTaken, AreNodesLaid, IsLebPut, IsNewIn, IsPut, Demand, Meets, IsSettledOutside, KeepsOtherIndexes, WorksInLebs, with_leb_bytes}
@@ -160,7 +162,7 @@ works_then a b c lnum lebs ab bc =
     (λ x left k apart. (ab.others k (λ given. apart (first k given))).left (x k) (left k (λ given. apart (inr given)))) ab bc
 
 -- a LEB of the one list, or of the other
-given_front : (xs ys : List ℕ) (k : ℕ) → IsGiven xs k → IsGiven (xs ++ ys) k
+pub given_front : (xs ys : List ℕ) (k : ℕ) → IsGiven xs k → IsGiven (xs ++ ys) k
 given_front [] ys k h = absurd h
 given_front (x ∷ xs) ys k (inl e) = inl e
 given_front (x ∷ xs) ys k (inr h) = inr (given_front xs ys k h)
@@ -178,7 +180,7 @@ given_of (x ∷ xs) ys k (inr h) = elim (given_of xs ys k h) [
 ]
 
 -- what is said of clean nodes says less of them
-said_less : (media : ℕ → List ℕ) (P Q : Stretch → ℕ → ℕ → Type 0) (row : KeyedRow) → ((s : Stretch) (n g : ℕ) → P s n g → Q s n g) → AreStandingAs media P row → AreStandingAs media Q row
+pub said_less : (media : ℕ → List ℕ) (P Q : Stretch → ℕ → ℕ → Type 0) (row : KeyedRow) → ((s : Stretch) (n g : ℕ) → P s n g → Q s n g) → AreStandingAs media P row → AreStandingAs media Q row
 said_less media P Q row less h = are_standing media media P Q row (λ k. ([], sym (append-nil (media k)))) less h
 
 -- what is asked, and to be outside of more LEBs
@@ -438,3 +440,7 @@ geometry_then geo a b shape h =
 pub if_ok : {T E : Type 0} (P Q : T → Type 0) (r : Result T E) → ((x : T) → P x → Q x) → IfOk r P → IfOk r Q
 if_ok P Q (Ok x) f h = f x h
 if_ok P Q (Err e) f h = tt
+
+pub on_ok : {T : Type 0} (P : Type 0) (r : Result T IndexFault) → (IsIndexNotFailed r → P) → OnOk r P
+on_ok P (Ok x) f = f tt
+on_ok P (Err e) f = tt
