@@ -5,8 +5,8 @@ use fs_model::Space;
 use image_space::space_of;
 use index_tree::Leaf;
 use media_sys::{Branch, RefNode};
-use std::test::Fail;
-use ubifs_base::{Geometry, JournalHead, Key, RawGeometry};
+use std::alloc::Global;
+use ubifs_base::{Geometry, JournalHead, Key, Memory, RawGeometry};
 
 fn node(offs: u32, len: u32) -> Branch {
     Branch {
@@ -35,10 +35,20 @@ fn leaf(ino: u32, lnum: u32, len: u32) -> Leaf {
 }
 
 // 5 LEBs aren't empty: 10, 11, 13, 14 and 15. The lowest that the collector opened in vain is.
-#[test]
-fn a_space_is_as_worked(rt: HostRuntime) -> Result<(), Fail> {
-    let geo = Geometry::new(&RawGeometry::plain(16384, 512, 64, 8)).ok();
-    let geometry = geo.ok_or("no geometry")?;
+const WORKED: Space = Space {
+    used: 216,
+    held: 0,
+    credits: 0,
+    empty: 59,
+    index: 1,
+    weight: 7,
+    main: 64,
+};
+
+fn is_as_worked(alloc: Global) -> Result<bool, Memory> {
+    let Ok(geometry) = Geometry::new(&RawGeometry::plain(16384, 512, 64, 8)) else {
+        return Err(Memory);
+    };
     let nodes = [node(0, 188), node(192, 168)];
     let references = [
         reference(13, JournalHead::Collector),
@@ -49,22 +59,17 @@ fn a_space_is_as_worked(rt: HostRuntime) -> Result<(), Fail> {
     ];
     let leaves = [leaf(1, 11, 160), leaf(65, 15, 49)];
     let space = space_of(
-        rt.alloc(),
+        alloc,
         &geometry,
         nodes.as_slice(),
         references.as_slice(),
         leaves.as_slice(),
         4,
     )?;
-    let worked = Space {
-        used: 216,
-        held: 0,
-        credits: 0,
-        empty: 59,
-        index: 1,
-        weight: 7,
-        main: 64,
-    };
-    assert_eq!(rt; space, worked);
-    Ok(())
+    Ok(space == WORKED)
+}
+
+#[test]
+fn a_space_is_as_worked(rt: HostRuntime) {
+    assert_eq!(rt; is_as_worked(rt.alloc()), Ok(true));
 }

@@ -1,19 +1,23 @@
-// What a book admits, and what each call makes of its numbers: tables worked out by hand.
+// What a book admits, and what each call makes of its numbers: tables worked out by hand. Of 64 main LEBs of 16,384 bytes in units of
+// 512, 10,080 bytes each count; 85 index nodes a LEB.
 
-ghost use Rattle.std.specs.Prelude.{◌≡◌};
+ghost use Rattle.std.specs.Prelude.{◌≡◌, IfSome, None};
 ghost use Rattle.fs_model.specs.Backing.{IsModest, IsSmall};
 ghost use Rattle.fs_model.specs.declared.space.Class.TheVariants.{Ordinary, Removal};
 
-use fs_model::{Class, Need, NoSpace, Space};
+use fs_model::{Class, Need, Space};
 use space_budget::Book;
-use std::process::Abort;
-use std::test::Fail;
 use ubifs_base::{Geometry, RawGeometry};
 
-// 64 main LEBs of 16,384 bytes in units of 512, of which 10,080 count; 85 index nodes a LEB.
-fn geometry() -> Result<Geometry, Fail> {
-    let geo = Geometry::new(&RawGeometry::plain(16384, 512, 64, 8)).ok();
-    Ok(geo.ok_or("no geometry")?)
+// A book of these numbers, if there is a geometry.
+fn book_of(space: Space) -> Option<Book>
+    ensures space { IfSome result (λ book. book.space ≡ space) }
+    ensures grant { IfSome result (λ book. book.grant ≡ None) }
+{
+    match Geometry::new(&RawGeometry::plain(16384, 512, 64, 8)) {
+        Ok(geo) => Some(Book::new(geo, space)),
+        Err(_) => None,
+    }
 }
 
 fn numbers(used: u32, credits: u32, weight: u32) -> Space
@@ -57,92 +61,101 @@ fn removal(bytes: u32, nodes: u32) -> Need
     }
 }
 
-// Of numbers and a need: granted, or both sides of the test.
-#[test]
-fn admissions_are_as_worked(rt: HostRuntime) -> Result<(), Fail> {
-    answers(&rt, numbers(505952, 0, 31), pages(1), None)?;
-    answers(
-        &rt,
-        numbers(510096, 0, 31),
-        pages(1),
-        refused(514400, 514080),
-    )?;
-    answers(
-        &rt,
-        numbers(505952, 1, 31),
-        pages(1),
-        refused(514560, 514080),
-    )?;
-    answers(&rt, numbers(510096, 0, 31), removal(288, 3), None)?;
-    answers(&rt, numbers(384, 103, 4), pages(1), None)?;
-    answers(&rt, numbers(384, 105, 4), pages(1), refused(456608, 453600))?;
-    answers(&rt, numbers(435504, 0, 214), pages(4), None)?;
-    answers(
-        &rt,
-        numbers(435504, 0, 214),
-        pages(5),
-        refused(457024, 453600),
-    )?;
-    answers(&rt, numbers(160, 0, 83), pages(1), None)?;
-    answers(&rt, numbers(554112, 0, 82), removal(288, 3), None)?;
-    answers(
-        &rt,
-        numbers(554112, 0, 82),
-        removal(288, 4),
-        refused(554400, 524160),
-    )
+// What is asked for: pages, or the bytes and nodes of a removal.
+#[derive(Clone, Copy)]
+enum Asked {
+    Pages(u32),
+    Removal(u32, u32),
 }
 
-fn refused(need: u64, room: u64) -> Option<NoSpace> {
-    Some(NoSpace { need, room })
-}
+use Asked::{Pages, Removal};
 
-fn answers(rt: &impl Abort, space: Space, need: Need, refusal: Option<NoSpace>) -> Result<(), Fail>
-    requires small { IsSmall space }
-    requires modest { IsModest need }
+// The numbers, what is asked for, and both sides of the test where it isn't granted.
+type Row = ((u32, u32, u32), Asked, Option<(u64, u64)>);
+
+const ROWS: &[Row] = &[
+    ((505952, 0, 31), Pages(1), None),
+    ((510096, 0, 31), Pages(1), Some((514400, 514080))),
+    ((505952, 1, 31), Pages(1), Some((514560, 514080))),
+    ((510096, 0, 31), Removal(288, 3), None),
+    ((384, 103, 4), Pages(1), None),
+    ((384, 105, 4), Pages(1), Some((456608, 453600))),
+    ((435504, 0, 214), Pages(4), None),
+    ((435504, 0, 214), Pages(5), Some((457024, 453600))),
+    ((160, 0, 83), Pages(1), None),
+    ((554112, 0, 82), Removal(288, 3), None),
+    ((554112, 0, 82), Removal(288, 4), Some((554400, 524160))),
+];
+
+fn need_of(asked: Asked) -> Need
+    ensures { IsModest result }
 {
-    let mut book = Book::new(geometry()?, space);
-    let answer = book.admit(&need);
-    let after = match answer {
-        Ok(()) => Space {
-            credits: space.credits.wrapping_add(need.credits),
-            ..space
-        },
-        Err(_) => space,
+    match asked {
+        Pages(credits) => pages(credits),
+        Removal(bytes, nodes) => removal(bytes, nodes),
+    }
+}
+
+fn is_admitted_so(row: &Row) -> bool {
+    let space = numbers(row.0.0, row.0.1, row.0.2);
+    let need = need_of(row.1);
+    let Some(mut book) = book_of(space) else {
+        return false;
     };
-    assert_eq!(rt; answer.err(), refusal);
-    assert_eq!(rt; book.space(), after);
-    Ok(())
+    let (granted, sides) = match book.admit(&need) {
+        Ok(()) => (need.credits, None),
+        Err(sides) => (0, Some((sides.need, sides.room))),
+    };
+    let after = Space {
+        credits: space.credits.wrapping_add(granted),
+        ..space
+    };
+    sides == row.2 && book.space() == after
+}
+
+#[test]
+fn admissions_are_as_worked(rt: HostRuntime) {
+    for (number, row) in ROWS.iter().enumerate() {
+        assert!(rt; is_admitted_so(row), "row {number}");
+    }
 }
 
 // Two pages are granted and one is put; the other credit is given back. A group is put and synced, and a commit ends.
-#[test]
-fn numbers_follow_the_calls(rt: HostRuntime) -> Result<(), Fail> {
-    let mut book = Book::new(geometry()?, numbers(4528, 0, 7));
-    let Ok(()) = book.admit(&pages(2)) else {
-        return Err("no room")?;
+fn are_calls_followed() -> bool {
+    let Some(mut book) = book_of(numbers(4528, 0, 7)) else {
+        return false;
     };
-    assert_eq!(rt; book.space(), numbers(4528, 2, 7));
+    let Ok(()) = book.admit(&pages(2)) else {
+        return false;
+    };
+    let granted = book.space();
     book.spend_page(8672, 0, 2);
-    assert_eq!(rt; book.space(), numbers(8672, 1, 9));
+    let put = book.space();
     book.give_back(1);
     let Ok(()) = book.admit(&removal(288, 3)) else {
-        return Err("no room")?;
+        return false;
     };
     book.spend_group(8608, 288, 2);
-    let held = Space {
-        held: 288,
-        ..numbers(8608, 0, 11)
-    };
-    assert_eq!(rt; book.space(), held);
+    let held = book.space();
     book.moved(8448, 448, 24);
     book.synced();
     book.committed(0, 0, 26);
-    let after = Space {
-        empty: 26,
-        index: 0,
-        ..numbers(8448, 0, 0)
-    };
-    assert_eq!(rt; book.space(), after);
-    Ok(())
+    granted == numbers(4528, 2, 7)
+        && put == numbers(8672, 1, 9)
+        && held
+            == Space {
+                held: 288,
+                ..numbers(8608, 0, 11)
+            }
+        && book.space()
+            == Space {
+                empty: 26,
+                index: 0,
+                ..numbers(8448, 0, 0)
+            }
+}
+
+#[test]
+fn numbers_follow_the_calls(rt: HostRuntime) {
+    assert!(rt; are_calls_followed());
 }
