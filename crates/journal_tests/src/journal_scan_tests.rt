@@ -1,50 +1,43 @@
 // Journals by hand. Each node is a truncation of 56 bytes or a block of 72, and only its sequence number and its group type count.
 
-ghost use Rattle.std.specs.Prelude.{IfOk};
-ghost use Rattle.journal_scan.specs.Journal.{IsReadable};
-
-use journal_scan::{BudText, JournalNode, JournalRead, read_journal};
-use media_leaf::{DataNode, TrunNode};
+use crate::samples::Says;
+use crate::texts::{LEB, Node, bud_of};
+use journal_scan::{JournalNode, read_journal};
 use std::alloc::Global;
-use std::test::Fail;
-use ubifs_base::{Bytes, JournalHead, Memory};
+use ubifs_base::{JournalHead, Memory};
 
-// A LEB: the head, the number and the group type of each node, the number of a block behind them that ends their group, and how
-// many of its bytes were written.
+// A LEB: the head, its nodes, and how many of its bytes were written.
 #[derive(Clone, Copy)]
 struct Leb<'a> {
     head: JournalHead,
-    nodes: &'a [(u64, u8)],
-    block: Option<u64>,
+    nodes: &'a [Node],
     written: usize,
 }
 
 // A journal of two LEBs, the numbers of the nodes and of the copies that it says, and the greatest of all its nodes.
 #[derive(Clone, Copy)]
 struct Case<'a> {
-    lebs: [Leb<'a>; 2],
+    lebs: &'a [Leb<'a>],
     nodes: &'a [u64],
     copies: &'a [u64],
     sqnum: u64,
 }
 
-const ALL: usize = 4096;
+const CUT: Says = Says::Cut(65, 0);
 
-const CASES: [Case<'static>; 7] = [
+const CASES: &[Case<'static>] = &[
     // Two heads, of which the one that is named later has the lower numbers.
     Case {
-        lebs: [
+        lebs: &[
             Leb {
                 head: JournalHead::Data,
-                nodes: &[(5, 0), (8, 1), (9, 2)],
-                block: None,
-                written: ALL,
+                nodes: &[(5, 0, CUT), (8, 1, CUT), (9, 2, CUT)],
+                written: LEB,
             },
             Leb {
                 head: JournalHead::Base,
-                nodes: &[(3, 1), (4, 2), (6, 0), (7, 0)],
-                block: None,
-                written: ALL,
+                nodes: &[(3, 1, CUT), (4, 2, CUT), (6, 0, CUT), (7, 0, CUT)],
+                written: LEB,
             },
         ],
         nodes: &[3, 4, 5, 6, 7, 8, 9],
@@ -53,18 +46,16 @@ const CASES: [Case<'static>; 7] = [
     },
     // A group without its last node at the end, and one in front of a node by itself.
     Case {
-        lebs: [
+        lebs: &[
             Leb {
                 head: JournalHead::Base,
-                nodes: &[(1, 1), (2, 0), (3, 1), (4, 1)],
-                block: None,
-                written: ALL,
+                nodes: &[(1, 1, CUT), (2, 0, CUT), (3, 1, CUT), (4, 1, CUT)],
+                written: LEB,
             },
             Leb {
                 head: JournalHead::Data,
-                nodes: &[(5, 1)],
-                block: None,
-                written: ALL,
+                nodes: &[(5, 1, CUT)],
+                written: LEB,
             },
         ],
         nodes: &[1, 2],
@@ -73,29 +64,28 @@ const CASES: [Case<'static>; 7] = [
     },
     // A group of 632 bytes, of which the first 512 alone were written: it is dropped, and its numbers count.
     Case {
-        lebs: [
+        lebs: &[
             Leb {
                 head: JournalHead::Base,
                 nodes: &[
-                    (2, 1),
-                    (3, 1),
-                    (4, 1),
-                    (5, 1),
-                    (6, 1),
-                    (7, 1),
-                    (8, 1),
-                    (9, 1),
-                    (10, 1),
-                    (11, 1),
+                    (2, 1, CUT),
+                    (3, 1, CUT),
+                    (4, 1, CUT),
+                    (5, 1, CUT),
+                    (6, 1, CUT),
+                    (7, 1, CUT),
+                    (8, 1, CUT),
+                    (9, 1, CUT),
+                    (10, 1, CUT),
+                    (11, 1, CUT),
+                    (12, 2, Says::Block(65, 0)),
                 ],
-                block: Some(12),
                 written: 512,
             },
             Leb {
                 head: JournalHead::Data,
-                nodes: &[(1, 0)],
-                block: None,
-                written: ALL,
+                nodes: &[(1, 0, CUT)],
+                written: LEB,
             },
         ],
         nodes: &[1],
@@ -104,29 +94,28 @@ const CASES: [Case<'static>; 7] = [
     },
     // The same, and all of it was written.
     Case {
-        lebs: [
+        lebs: &[
             Leb {
                 head: JournalHead::Base,
                 nodes: &[
-                    (2, 1),
-                    (3, 1),
-                    (4, 1),
-                    (5, 1),
-                    (6, 1),
-                    (7, 1),
-                    (8, 1),
-                    (9, 1),
-                    (10, 1),
-                    (11, 1),
+                    (2, 1, CUT),
+                    (3, 1, CUT),
+                    (4, 1, CUT),
+                    (5, 1, CUT),
+                    (6, 1, CUT),
+                    (7, 1, CUT),
+                    (8, 1, CUT),
+                    (9, 1, CUT),
+                    (10, 1, CUT),
+                    (11, 1, CUT),
+                    (12, 2, Says::Block(65, 0)),
                 ],
-                block: Some(12),
                 written: 632,
             },
             Leb {
                 head: JournalHead::Data,
-                nodes: &[(1, 0)],
-                block: None,
-                written: ALL,
+                nodes: &[(1, 0, CUT)],
+                written: LEB,
             },
         ],
         nodes: &[1, 2, 3, 4, 5, 6, 7, 8, 9, 10, 11, 12],
@@ -135,18 +124,16 @@ const CASES: [Case<'static>; 7] = [
     },
     // The collector takes nodes out of their groups, and keeps their numbers.
     Case {
-        lebs: [
+        lebs: &[
             Leb {
                 head: JournalHead::Collector,
-                nodes: &[(9, 1), (2, 2), (7, 1)],
-                block: None,
-                written: ALL,
+                nodes: &[(9, 1, CUT), (2, 2, CUT), (7, 1, CUT)],
+                written: LEB,
             },
             Leb {
                 head: JournalHead::Base,
-                nodes: &[(3, 0)],
-                block: None,
-                written: ALL,
+                nodes: &[(3, 0, CUT)],
+                written: LEB,
             },
         ],
         nodes: &[3],
@@ -155,18 +142,16 @@ const CASES: [Case<'static>; 7] = [
     },
     // Nothing is said.
     Case {
-        lebs: [
+        lebs: &[
             Leb {
                 head: JournalHead::Collector,
                 nodes: &[],
-                block: None,
-                written: ALL,
+                written: LEB,
             },
             Leb {
                 head: JournalHead::Base,
-                nodes: &[(3, 1)],
-                block: None,
-                written: ALL,
+                nodes: &[(3, 1, CUT)],
+                written: LEB,
             },
         ],
         nodes: &[],
@@ -175,18 +160,16 @@ const CASES: [Case<'static>; 7] = [
     },
     // The last node of a group begins in the LEB, and doesn't end there.
     Case {
-        lebs: [
+        lebs: &[
             Leb {
                 head: JournalHead::Data,
-                nodes: &[(1, 1), (2, 2), (3, 1), (4, 2)],
-                block: None,
+                nodes: &[(1, 1, CUT), (2, 2, CUT), (3, 1, CUT), (4, 2, CUT)],
                 written: 220,
             },
             Leb {
                 head: JournalHead::Data,
-                nodes: &[(5, 2)],
-                block: None,
-                written: ALL,
+                nodes: &[(5, 2, CUT)],
+                written: LEB,
             },
         ],
         nodes: &[1, 2, 5],
@@ -195,80 +178,32 @@ const CASES: [Case<'static>; 7] = [
     },
 ];
 
-fn put_node(bytes: &mut Vec<u8>, sqnum: u64, group: u8) -> Result<(), Memory> {
-    let mut node = [0; 56];
-    let truncation = TrunNode {
-        ino: 65,
-        old_size: 4096,
-        new_size: 0,
+fn have_numbers(nodes: &[JournalNode], numbers: &[u64]) -> bool {
+    for (node, number) in nodes.iter().zip(numbers) {
+        if node.sqnum != *number {
+            return false;
+        }
+    }
+    nodes.len() == numbers.len()
+}
+
+fn is_read_so(alloc: Global, case: &Case<'_>) -> Result<bool, Memory> {
+    let [first, second] = case.lebs else {
+        return Ok(false);
     };
-    truncation.encode(sqnum, group.min(2), &mut node);
-    bytes.extend_from_slice(&node)?;
-    Ok(())
-}
-
-// A block of 24 bytes, the last of its group.
-fn put_block(alloc: Global, bytes: &mut Vec<u8>, sqnum: u64) -> Result<(), Memory> {
-    let mut node = [0; 72];
-    let block = DataNode {
-        ino: 65,
-        block: 0,
-        bytes: Bytes::from_vec(Vec::new(alloc)),
-    };
-    block.encode_with(&[7; 24], sqnum, 2, &mut node);
-    bytes.extend_from_slice(&node)?;
-    Ok(())
-}
-
-fn text_of(alloc: Global, leb: &Leb<'_>) -> Result<Vec<u8>, Memory> {
-    let mut bytes = Vec::new(alloc);
-    for node in leb.nodes {
-        put_node(&mut bytes, node.0, node.1)?;
-    }
-    if let Some(sqnum) = leb.block {
-        put_block(alloc, &mut bytes, sqnum)?;
-    }
-    bytes.truncate(leb.written);
-    bytes.resize(ALL, 0xff)?;
-    Ok(bytes)
-}
-
-fn bud_of(alloc: Global, leb: &Leb<'_>, lnum: u32) -> Result<BudText, Memory>
-    ensures { IfOk result (λ bud. IsReadable bud) }
-{
-    let mut bytes = text_of(alloc, leb)?;
-    bytes.truncate(ALL);
-    Ok(BudText {
-        head: leb.head,
-        lnum,
-        from: 0,
-        bytes: Bytes::from_vec(bytes),
-    })
-}
-
-fn read_of(alloc: Global, case: &Case<'_>) -> Result<JournalRead, Memory> {
-    let first = bud_of(alloc, &case.lebs[0], 20)?;
-    let second = bud_of(alloc, &case.lebs[1], 21)?;
-    read_journal(alloc, &[first, second])
-}
-
-fn numbers(alloc: Global, nodes: &[JournalNode]) -> Result<Vec<u64>, Memory> {
-    let mut all = Vec::new(alloc);
-    for node in nodes {
-        all.push(node.sqnum)?;
-    }
-    Ok(all)
+    let first = bud_of(alloc, first.head, 20, first.nodes, first.written)?;
+    let second = bud_of(alloc, second.head, 21, second.nodes, second.written)?;
+    let read = read_journal(alloc, &[first, second])?;
+    Ok(
+        have_numbers(&read.nodes, case.nodes)
+            && have_numbers(&read.copies, case.copies)
+            && read.sqnum == case.sqnum,
+    )
 }
 
 #[test]
-fn journals_say_their_whole_groups(rt: HostRuntime) -> Result<(), Fail> {
-    for case in CASES.as_slice() {
-        let read = read_of(rt.alloc(), case)?;
-        let nodes = numbers(rt.alloc(), &read.nodes)?;
-        assert_eq!(rt; nodes.as_slice(), case.nodes);
-        let copies = numbers(rt.alloc(), &read.copies)?;
-        assert_eq!(rt; copies.as_slice(), case.copies);
-        assert_eq!(rt; read.sqnum, case.sqnum);
+fn journals_say_their_whole_groups(rt: HostRuntime) {
+    for (number, case) in CASES.iter().enumerate() {
+        assert_eq!(rt; is_read_so(rt.alloc(), case), Ok(true), "case {number}");
     }
-    Ok(())
 }

@@ -13,3 +13,7 @@ mod recovery_cases;
 mod recovery_tests;
 #[cfg(test)]
 mod replay_tests;
+#[cfg(test)]
+mod samples;
+#[cfg(test)]
+mod texts;

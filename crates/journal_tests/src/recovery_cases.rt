@@ -2,15 +2,8 @@
 // log; committed leaves stand in LEBs 20 and 21, if nothing else is said. Numbers, places, leaves that are left and trees are written
 // down by hand.
 
-// What a node says: an inode with or without a link, a block, one of the root's names 'am' and 'bb', which have one hash, or a
-// truncation.
-#[derive(Clone, Copy)]
-pub(crate) enum Says {
-    Inode(u32, bool),
-    Block(u32, u16),
-    Named(&'static str, bool),
-    Cut(u32, u64),
-}
+use crate::samples::Says;
+use crate::texts::{LEB, Node};
 
 // What stands at the place of a committed leaf: its own node with this number, nothing, or another node.
 #[derive(Clone, Copy)]
@@ -21,17 +14,14 @@ pub(crate) enum Place {
 }
 
 // A committed leaf: the LEB and offset, what it is the leaf of, and what stands there.
-pub(crate) type Row = (u32, u32, Says, Place);
-
-// A node with its sequence number and group type.
-pub(crate) type Node = (u64, u8, Says);
+pub(crate) type Committed = (u32, u32, Says, Place);
 
 // The committed leaves, the nodes of each head, how many bytes of the base head's first LEB were written, the nodes of its next LEB,
 // the list; then where the leaves that are left stand and the tree that they show, both in order of keys; how many nodes were
 // applied, and the greatest inode number and the greatest sequence number.
 #[derive(Clone, Copy)]
 pub(crate) struct Case<'a> {
-    pub committed: &'a [Row],
+    pub committed: &'a [Committed],
     pub collector: &'a [Node],
     pub data: &'a [Node],
     pub base: &'a [Node],
@@ -43,30 +33,28 @@ pub(crate) struct Case<'a> {
     pub numbers: (u64, u32, u64),
 }
 
-pub(crate) const ALL: usize = 16_384;
-
 // A file of two blocks, with a node of its own each.
-const FILE: [Row; 3] = [
+const FILE: &[Committed] = &[
     (20, 0, Says::Inode(65, true), Place::Own(1)),
     (20, 160, Says::Block(65, 0), Place::Own(2)),
     (20, 320, Says::Block(65, 1), Place::Own(3)),
 ];
 
 // Two names of one hash.
-const NAMES: [Row; 3] = [
+const NAMES: &[Committed] = &[
     (20, 0, Says::Inode(1, true), Place::Own(1)),
     (20, 160, Says::Named("am", true), Place::Own(2)),
     (21, 0, Says::Named("bb", true), Place::Lost),
 ];
 
-pub(crate) const CASES: [Case<'static>; 19] = [
+pub(crate) const CASES: &[Case<'static>] = &[
     // A change whose nodes stand in the LEBs of two heads: the file's third block, and its inode before and behind it.
     Case {
-        committed: &FILE,
+        committed: FILE,
         collector: &[],
         data: &[(5, 0, Says::Block(65, 2))],
         base: &[(4, 0, Says::Inode(65, true)), (6, 0, Says::Inode(65, true))],
-        written: ALL,
+        written: LEB,
         next: &[],
         listed: &[],
         left: &[(30, 160), (20, 160), (20, 320), (31, 0)],
@@ -80,7 +68,7 @@ pub(crate) const CASES: [Case<'static>; 19] = [
     },
     // A group lacks its last node.
     Case {
-        committed: &FILE,
+        committed: FILE,
         collector: &[],
         data: &[],
         base: &[
@@ -88,7 +76,7 @@ pub(crate) const CASES: [Case<'static>; 19] = [
             (5, 2, Says::Inode(65, true)),
             (6, 1, Says::Inode(65, false)),
         ],
-        written: ALL,
+        written: LEB,
         next: &[],
         listed: &[],
         left: &[(30, 160), (20, 160), (20, 320), (30, 0)],
@@ -103,11 +91,11 @@ pub(crate) const CASES: [Case<'static>; 19] = [
     // No group crosses LEBs: what stands at the end of a LEB without its last node goes, and what stands in the head's next LEB is a
     // group by itself.
     Case {
-        committed: &FILE,
+        committed: FILE,
         collector: &[],
         data: &[],
         base: &[(4, 1, Says::Inode(66, true)), (5, 1, Says::Cut(65, 0))],
-        written: ALL,
+        written: LEB,
         next: &[(6, 2, Says::Inode(65, true))],
         listed: &[],
         left: &[(29, 0), (20, 160), (20, 320)],
@@ -120,11 +108,11 @@ pub(crate) const CASES: [Case<'static>; 19] = [
     },
     // Two heads interleave: the truncation is older than one block and newer than the other.
     Case {
-        committed: &FILE,
+        committed: FILE,
         collector: &[],
         data: &[(4, 0, Says::Block(65, 1)), (6, 0, Says::Block(65, 1))],
         base: &[(5, 0, Says::Cut(65, 4096))],
-        written: ALL,
+        written: LEB,
         next: &[],
         listed: &[],
         left: &[(20, 0), (20, 160), (31, 72)],
@@ -150,7 +138,7 @@ pub(crate) const CASES: [Case<'static>; 19] = [
             (8, 1, Says::Named("am", false)),
             (9, 2, Says::Inode(65, false)),
         ],
-        written: ALL,
+        written: LEB,
         next: &[],
         listed: &[],
         left: &[],
@@ -166,7 +154,7 @@ pub(crate) const CASES: [Case<'static>; 19] = [
             (7, 0, Says::Named("am", false)),
             (8, 0, Says::Named("am", true)),
         ],
-        written: ALL,
+        written: LEB,
         next: &[],
         listed: &[],
         left: &[(30, 64)],
@@ -183,7 +171,7 @@ pub(crate) const CASES: [Case<'static>; 19] = [
         collector: &[],
         data: &[],
         base: &[(7, 0, Says::Inode(65, true))],
-        written: ALL,
+        written: LEB,
         next: &[],
         listed: &[65, 66],
         left: &[(30, 0)],
@@ -201,7 +189,7 @@ pub(crate) const CASES: [Case<'static>; 19] = [
         collector: &[(1, 0, Says::Inode(65, true))],
         data: &[],
         base: &[],
-        written: ALL,
+        written: LEB,
         next: &[],
         listed: &[65],
         left: &[(32, 0)],
@@ -217,7 +205,7 @@ pub(crate) const CASES: [Case<'static>; 19] = [
         collector: &[],
         data: &[],
         base: &[],
-        written: ALL,
+        written: LEB,
         next: &[],
         listed: &[65],
         left: &[],
@@ -226,14 +214,14 @@ pub(crate) const CASES: [Case<'static>; 19] = [
     },
     // Of two names of one hash one's original is gone. Each has a copy, and the other name's isn't taken for it.
     Case {
-        committed: &NAMES,
+        committed: NAMES,
         collector: &[
             (2, 0, Says::Named("am", true)),
             (3, 0, Says::Named("bb", true)),
         ],
         data: &[],
         base: &[],
-        written: ALL,
+        written: LEB,
         next: &[],
         listed: &[],
         left: &[(20, 0), (20, 160), (32, 64)],
@@ -246,14 +234,14 @@ pub(crate) const CASES: [Case<'static>; 19] = [
     },
     // The same, and that name goes by its name.
     Case {
-        committed: &NAMES,
+        committed: NAMES,
         collector: &[
             (2, 0, Says::Named("am", true)),
             (3, 0, Says::Named("bb", true)),
         ],
         data: &[],
         base: &[(8, 0, Says::Named("bb", false))],
-        written: ALL,
+        written: LEB,
         next: &[],
         listed: &[],
         left: &[(20, 0), (20, 160)],
@@ -262,11 +250,11 @@ pub(crate) const CASES: [Case<'static>; 19] = [
     },
     // Nobody can read a name, and it has no copy: its leaf goes.
     Case {
-        committed: &NAMES,
+        committed: NAMES,
         collector: &[],
         data: &[],
         base: &[],
-        written: ALL,
+        written: LEB,
         next: &[],
         listed: &[],
         left: &[(20, 0), (20, 160)],
@@ -279,7 +267,7 @@ pub(crate) const CASES: [Case<'static>; 19] = [
         collector: &[(1, 0, Says::Inode(65, true))],
         data: &[],
         base: &[(9, 1, Says::Inode(65, false))],
-        written: ALL,
+        written: LEB,
         next: &[],
         listed: &[],
         left: &[(32, 0)],
@@ -292,7 +280,7 @@ pub(crate) const CASES: [Case<'static>; 19] = [
         collector: &[(1, 0, Says::Inode(65, true))],
         data: &[],
         base: &[(8, 0, Says::Inode(65, true)), (9, 0, Says::Inode(65, true))],
-        written: ALL,
+        written: LEB,
         next: &[],
         listed: &[],
         left: &[(30, 160)],
@@ -301,7 +289,7 @@ pub(crate) const CASES: [Case<'static>; 19] = [
     },
     // A group of 632 bytes, of which the first 512 were written.
     Case {
-        committed: &FILE,
+        committed: FILE,
         collector: &[],
         data: &[],
         base: &[
@@ -326,7 +314,7 @@ pub(crate) const CASES: [Case<'static>; 19] = [
     },
     // All of it was written.
     Case {
-        committed: &FILE,
+        committed: FILE,
         collector: &[],
         data: &[],
         base: &[
@@ -347,7 +335,7 @@ pub(crate) const CASES: [Case<'static>; 19] = [
     },
     // A collection copied each leaf of its LEB: all stand at their copies.
     Case {
-        committed: &FILE,
+        committed: FILE,
         collector: &[
             (1, 0, Says::Inode(65, true)),
             (2, 0, Says::Block(65, 0)),
@@ -355,7 +343,7 @@ pub(crate) const CASES: [Case<'static>; 19] = [
         ],
         data: &[],
         base: &[],
-        written: ALL,
+        written: LEB,
         next: &[],
         listed: &[],
         left: &[(32, 0), (32, 160), (32, 232)],
@@ -368,11 +356,11 @@ pub(crate) const CASES: [Case<'static>; 19] = [
     },
     // One is missing: all stand at their originals.
     Case {
-        committed: &FILE,
+        committed: FILE,
         collector: &[(1, 0, Says::Inode(65, true)), (2, 0, Says::Block(65, 0))],
         data: &[],
         base: &[],
-        written: ALL,
+        written: LEB,
         next: &[],
         listed: &[],
         left: &[(20, 0), (20, 160), (20, 320)],
@@ -385,11 +373,11 @@ pub(crate) const CASES: [Case<'static>; 19] = [
     },
     // One is missing that the journal replaced: the others stand at their copies.
     Case {
-        committed: &FILE,
+        committed: FILE,
         collector: &[(1, 0, Says::Inode(65, true)), (2, 0, Says::Block(65, 0))],
         data: &[(8, 0, Says::Block(65, 1))],
         base: &[],
-        written: ALL,
+        written: LEB,
         next: &[],
         listed: &[],
         left: &[(32, 0), (32, 160), (31, 0)],

@@ -3,7 +3,7 @@ use Rattle.std.specs.List.{AllByRecursion}
 use Rattle.journal_scan.specs.declared.journal_node.JournalNode.{JournalNode}
 use Rattle.log_replay.specs.Changes.{HasBlockKey}
 use Rattle.journal_tests.proofs.Pushed.{pushed}
-use Rattle.journal_tests.proofs.log_replay_tests.nodes_of.Goals as goal
+use Rattle.journal_tests.proofs.samples.nodes_of.Goals as goal
 
 abbrev HaveKeys : List JournalNode → Type 0
 HaveKeys nodes = AllByRecursion HasBlockKey nodes
