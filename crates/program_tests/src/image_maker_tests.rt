@@ -13,7 +13,6 @@ use image_maker::lay_tree;
 use media_leaf::{DataNode, DentNode, InoNode};
 use plain_backing::Tree;
 use std::alloc::Global;
-use std::test::*;
 use ubi_volume::{MemVolume, VolShape, Volume};
 use ubifs_base::{Bytes, Geometry, Memory, Name, RawGeometry};
 
@@ -121,17 +120,17 @@ fn sample_tree(alloc: Global) -> Result<Tree, Memory>
     Ok(tree)
 }
 
-fn plain() -> Result<Geometry, Fail>
+fn plain() -> Result<Geometry, Memory>
     ensures { IfOk result (λ geometry. raw_of geometry ≡ plain_geometry 16384 512 64 8) }
 {
-    let geometry = Geometry::new(&RawGeometry::plain(16384, 512, 64, 8))
-        .ok()
-        .ok_or("no geometry")?;
-    Ok(geometry)
+    match Geometry::new(&RawGeometry::plain(16384, 512, 64, 8)) {
+        Ok(geometry) => Ok(geometry),
+        Err(_) => Err(Memory),
+    }
 }
 
 // The first bytes of the first two main LEBs.
-fn laid(alloc: Global) -> Result<(Vec<u8>, Vec<u8>), Fail> {
+fn laid(alloc: Global) -> Result<(Vec<u8>, Vec<u8>), Memory> {
     let geometry = plain()?;
     let tree = sample_tree(alloc)?;
     let shape = VolShape {
@@ -146,10 +145,10 @@ fn laid(alloc: Global) -> Result<(Vec<u8>, Vec<u8>), Fail> {
     let mut second = Vec::new(alloc);
     second.resize(8, 0)?;
     let Ok(()) = volume.read(10, 0, &mut first) else {
-        return Err(Fail::from("the first LEB isn't read"));
+        return Err(Memory);
     };
     let Ok(()) = volume.read(11, 0, &mut second) else {
-        return Err(Fail::from("the second LEB isn't read"));
+        return Err(Memory);
     };
     Ok((first, second))
 }
@@ -167,7 +166,7 @@ fn bytes_at(leb: &[u8], from: usize, len: usize) -> &[u8] {
 
 // An inode's number, size, links and bytes of data; an entry's directory, inode, kind and the first byte of its name; or a
 // block's inode, number and bytes.
-fn told(alloc: Global, bytes: &[u8]) -> Result<(u8, u32, u64, u32, u32), Fail> {
+fn told(alloc: Global, bytes: &[u8]) -> Result<(u8, u32, u64, u32, u32), Memory> {
     if let Some(node) = InoNode::decode(alloc, bytes)? {
         return Ok((0, node.ino, node.size, node.nlink, node.bytes.len() as u32));
     }
@@ -208,16 +207,22 @@ const ROWS: &[Row] = &[
     (848, 162, (0, 67, 2, 1, 2)),
 ];
 
-#[test]
-fn each_node_is_laid(rt: HostRuntime) -> Result<(), Fail> {
-    let alloc = rt.alloc();
+// Whether each node is laid, 0xCE up to a multiple of 8, a gap up to the unit, and nothing behind it.
+fn are_laid(alloc: Global) -> Result<bool, Memory> {
     let (leb, next) = laid(alloc)?;
     for (from, len, wanted) in ROWS {
-        assert_eq!(rt; told(alloc, bytes_at(&leb, *from, *len))?, *wanted);
+        if told(alloc, bytes_at(&leb, *from, *len))? != *wanted {
+            return Ok(false);
+        }
     }
-    // 0xCE up to a multiple of 8, a gap up to the unit, and nothing behind it.
-    assert_eq!(rt; bytes_at(&leb, 1010, 6), [0xce; 6].as_slice());
-    assert_eq!(rt; bytes_at(&leb, 1024, 8), [0xff; 8].as_slice());
-    assert_eq!(rt; next.as_slice(), [0xff; 8].as_slice());
-    Ok(())
+    Ok(
+        bytes_at(&leb, 1010, 6) == [0xce; 6].as_slice()
+            && bytes_at(&leb, 1024, 8) == [0xff; 8].as_slice()
+            && next.as_slice() == [0xff; 8].as_slice(),
+    )
+}
+
+#[test]
+fn each_node_is_laid(rt: HostRuntime) {
+    assert_eq!(rt; are_laid(rt.alloc()), Ok(true));
 }

@@ -7,10 +7,11 @@ ghost use Rattle.ubifs_base.specs.Faults.{Rose};
 ghost use Rattle.io_edges.specs.declared.keeper.KeepFault.TheVariants.{Missing};
 
 use io_edges::{FileKeeper, KeepFault, Keeper, MemKeeper, MemSink, OutSink, Sink, SinkFault};
+use std::alloc::Global;
 use std::collections::BTreeMap;
 use std::test::Fail;
 use std::{env, fs};
-use ubifs_base::Bytes;
+use ubifs_base::{Bytes, Memory};
 
 // Why `publish` stopped.
 #[derive(Drop)]
@@ -38,26 +39,29 @@ fn publish<K: Keeper, O: Sink>(
     Ok(())
 }
 
+// Whether a file that is written twice has the later bytes, and no call fails.
+fn is_written_and_read_back<K: Keeper>(keeper: &mut K, name: &str) -> Result<bool, KeepFault> {
+    keeper.write(name, b"first")?;
+    keeper.write(name, b"whole")?;
+    let bytes = keeper.read(name)?;
+    Ok(bytes.as_slice() == b"whole".as_slice() && keeper.faults() == 0)
+}
+
 #[test]
 fn host_file_is_written_and_read_back(rt: HostRuntime) -> Result<(), Fail> {
     let mut path = env::temp_dir(&rt)?;
     path.push("ubifs-io-edges-test")?;
-    let path = path.as_path();
-    let Some(name) = path.to_str() else {
+    let Some(name) = path.as_path().to_str() else {
         return Err(Fail::from("no path"));
     };
     let mut keeper = FileKeeper::new(rt.alloc(), rt.clone()?);
-    keeper.write(name, b"first")?;
-    keeper.write(name, b"whole")?;
-    let bytes = keeper.read(name)?;
-    assert_eq!(rt; bytes.as_slice(), b"whole".as_slice());
-    assert_eq!(rt; keeper.faults(), 0);
+    let written = is_written_and_read_back(&mut keeper, name);
     fs::remove_file(&rt, name)?;
+    let missing = keeper.read(name).err();
     assert_eq!(rt;
-        keeper.read(name).err(),
-        Some(KeepFault::Failed { count: 1 })
+        (written, missing, keeper.faults()),
+        (Ok(true), Some(KeepFault::Failed { count: 1 }), 1)
     );
-    assert_eq!(rt; keeper.faults(), 1);
     Ok(())
 }
 
@@ -69,23 +73,41 @@ fn standard_output_takes_a_piece(rt: HostRuntime) -> Result<(), Fail> {
     Ok(())
 }
 
-#[test]
-fn memory_is_published(rt: HostRuntime) -> Result<(), Fail> {
-    let mut files = BTreeMap::new(rt.alloc());
+// A keeper of one file, whose fourth call fails.
+fn one_file(alloc: Global) -> Result<MemKeeper, Memory> {
+    let mut files = BTreeMap::new(alloc);
     files.insert(
-        String::from_str(rt.alloc(), "a")?,
-        Bytes::from_slice(rt.alloc(), b"text")?,
+        String::from_str(alloc, "a")?,
+        Bytes::from_slice(alloc, b"text")?,
     )?;
-    let mut keeper = MemKeeper::new(rt.alloc(), files, vec![in rt.alloc(); 4]?);
-    let mut sink = MemSink::new(rt.alloc(), vec![in rt.alloc(); 2]?);
-    assert!(rt; publish(&mut keeper, &mut sink, "a", "b").is_ok());
-    assert!(rt; publish(&mut keeper, &mut sink, "b", "c").is_err());
-    assert_eq!(rt; sink.text(), b"text".as_slice());
-    assert_eq!(rt; (keeper.faults(), sink.faults()), (0, 1));
-    assert_eq!(rt;
-        keeper.read("b").err(),
-        Some(KeepFault::Failed { count: 1 })
-    );
-    assert_eq!(rt; keeper.read("c").err(), Some(KeepFault::Missing));
-    Ok(())
+    Ok(MemKeeper::new(alloc, files, vec![in alloc; 4]?))
+}
+
+fn is_done(keeper: &mut MemKeeper, sink: &mut MemSink, from: &str, to: &str) -> bool {
+    publish(keeper, sink, from, to).is_ok()
+}
+
+// Why a file isn't read.
+fn fault_of(keeper: &mut MemKeeper, name: &str) -> Option<KeepFault> {
+    keeper.read(name).err()
+}
+
+// One file is published, and the next one isn't, since the sink fails.
+fn is_published(alloc: Global) -> Result<bool, Memory> {
+    let mut keeper = one_file(alloc)?;
+    let mut sink = MemSink::new(alloc, vec![in alloc; 2]?);
+    Ok(
+        is_done(&mut keeper, &mut sink, "a", "b")
+            && !is_done(&mut keeper, &mut sink, "b", "c")
+            && sink.text() == b"text".as_slice()
+            && keeper.faults() == 0
+            && sink.faults() == 1
+            && fault_of(&mut keeper, "b") == Some(KeepFault::Failed { count: 1 })
+            && fault_of(&mut keeper, "c") == Some(KeepFault::Missing),
+    )
+}
+
+#[test]
+fn memory_is_published(rt: HostRuntime) {
+    assert_eq!(rt; is_published(rt.alloc()), Ok(true));
 }

@@ -7,38 +7,13 @@ use script_text::{
     script_has_no_bad_line, write_reply,
 };
 use std::alloc::Global;
-use std::process::Abort;
-use std::test::Fail;
-use ubifs_base::Bytes;
+use ubifs_base::{Bytes, Memory};
 
 // Every operation, each escape and the errors of a script that a reader meets are cases of tests/rows; here stand the ends of
 // the ranges and the lines that none of those has.
-#[test]
-fn a_script_is_read(rt: HostRuntime) -> Result<(), Fail> {
-    let text = b"now 7\nmount\n1 mkdir /%2e%25 0007\n1 symlink /s \n1 symlink /s %61//%20\n\
-        1 read 1 18446744073709551615 4294967295\n1 write 255 18446744073709551615 4294967295 255\n\
-        now 18446744073709551615\nunmount\nmount\nend\n";
-    let script = read_script(rt.alloc(), text.as_slice())?;
-    assert_eq!(rt; script.parts.len(), 10);
-    assert!(rt; are_parts(&script.parts));
-    let script = read_script(rt.alloc(), b"end\n".as_slice())?;
-    assert!(rt; script.parts.is_empty());
-    Ok(())
-}
-
-// Whether each of ten parts is the one at its place.
-fn are_parts(parts: &[Part]) -> bool {
-    for place in 0..10usize {
-        let is_right = match parts.get(place) {
-            Some(part) => is_part(place, part),
-            None => false,
-        };
-        if !is_right {
-            return false;
-        }
-    }
-    true
-}
+const SCRIPT: &str =
+    "now 7\nmount\n1 mkdir /%2e%25 0007\n1 symlink /s \n1 symlink /s %61//%20\n1 read 1 18446744073709551615 4294967295\n\
+    1 write 255 18446744073709551615 4294967295 255\nnow 18446744073709551615\nunmount\nmount\nend\n";
 
 fn is_part(place: usize, part: &Part) -> bool {
     match (place, part) {
@@ -72,125 +47,183 @@ fn is_operation(place: usize, op: &Op) -> bool {
     }
 }
 
-#[test]
-fn the_first_bad_line_is_told(rt: HostRuntime) -> Result<(), Fail> {
-    let texts = [
-        ("end", 1),
-        ("mount", 1),
-        (" mount\n", 1),
-        ("mount \n", 1),
-        ("now 01\n", 1),
-        ("now +1\n", 1),
-        ("end\nend\n", 2),
-        ("mount\nend\nunmount\nend\n", 3),
-    ];
-    for (text, number) in texts {
-        assert_eq!(rt; bad_line(rt.alloc(), text.as_bytes())?, number, "at {text}");
+// Whether each part is the one at its place.
+fn are_parts(parts: &[Part]) -> bool {
+    for (place, part) in parts.iter().enumerate() {
+        if !is_part(place, part) {
+            return false;
+        }
     }
-    Ok(())
+    parts.len() == 10
+}
+
+fn is_script_read(alloc: Global) -> Result<bool, TextFault> {
+    let script = read_script(alloc, SCRIPT.as_bytes())?;
+    let empty = read_script(alloc, b"end\n")?;
+    Ok(are_parts(&script.parts) && empty.parts.is_empty())
 }
 
 #[test]
-fn a_bad_operation_is_told(rt: HostRuntime) -> Result<(), Fail> {
-    let lines = [
-        "1 ",
-        "1 create",
-        "1 create /f",
-        "1 create  /f 644",
-        "1 create  644",
-        "1 create //f 644",
-        "1 create /f%2f 644",
-        "1 create /%2g 644",
-        "1 create /\u{7f} 644",
-        "1 create /\t 644",
-        "1 create /f 8",
-        "1 create /f 07777",
-        "1 create /f ",
-        "1 stat //",
-        "1 list ",
-        "1 symlink /s",
-        "1 symlink /s a b",
-        "1 symlink /s a%",
-        "1 close 01",
-        "1 close -1",
-        "1 read 0 0 1 ",
-        "1 write 0 0 1",
-        "1 write 0 01 1 97",
-        "1 write 0 0 1 97 0",
-        "1 write 0  0 1 97",
-    ];
-    for line in lines {
-        let text = format!(in rt.alloc(); "mount\n{line}\nunmount\nend\n")?;
-        assert_eq!(rt; bad_line(rt.alloc(), text.as_bytes())?, 2, "at {line}");
-    }
-    Ok(())
+fn a_script_is_read(rt: HostRuntime) {
+    assert_eq!(rt; is_script_read(rt.alloc()), Ok(true));
 }
 
-fn bad_line(alloc: Global, text: &[u8]) -> Result<u64, Fail> {
+// Texts and their first bad lines.
+const TEXTS: &[(&str, u64)] = &[
+    ("end", 1),
+    ("mount", 1),
+    (" mount\n", 1),
+    ("mount \n", 1),
+    ("now 01\n", 1),
+    ("now +1\n", 1),
+    ("end\nend\n", 2),
+    ("mount\nend\nunmount\nend\n", 3),
+];
+
+// The first bad line of a text, or 0.
+fn bad_line(alloc: Global, text: &[u8]) -> Result<u64, Memory> {
     match read_script(alloc, text) {
         Ok(_) => Ok(0),
         Err(TextFault::Line { number }) => Ok(number),
-        Err(TextFault::Memory) => Err("out of memory")?,
+        Err(TextFault::Memory) => Err(Memory),
     }
 }
 
 #[test]
-fn manifests_are_read(rt: HostRuntime) {
-    let manifest = Manifest {
-        leb_size: 16384,
-        min_io: 512,
-        main: 64,
-        fanout: 8,
-    };
-    assert_eq!(rt;
-        read_manifest(b"volume 16384 512 64 8\nend\n".as_slice()),
-        Ok(manifest)
-    );
-    let most = Manifest {
-        leb_size: 4294967295,
-        min_io: 0,
-        main: 2147483647,
-        fanout: 4294967295,
-    };
-    assert_eq!(rt;
-        read_manifest(b"volume 4294967295 0 2147483647 4294967295\nend\n".as_slice()),
-        Ok(most)
-    );
-    let texts = [
-        ("end\n", 1),
-        ("volume 16384 512 64 8", 1),
-        ("volume 16384 512 64 8\nend\nend\n", 3),
-    ];
-    for (text, number) in texts {
+fn the_first_bad_line_is_told(rt: HostRuntime) {
+    for (text, number) in TEXTS {
         assert_eq!(rt;
-            read_manifest(text.as_bytes()),
-            Err(TextFault::Line { number }),
+            bad_line(rt.alloc(), text.as_bytes()),
+            Ok(*number),
             "at {text}"
         );
     }
 }
 
-#[test]
-fn reads_are_written(rt: HostRuntime) -> Result<(), Fail> {
-    let reads = [
-        (0, 0, "", "ok 0"),
-        (4096, 0x61, "", "ok 4096 4096x61"),
-        (4095, 0, "bb", "ok 4097 4095x00,2x62"),
-        (8192, 0, "a", "ok 8193 8192x00,1x61"),
-        (0, 0, "a", "ok 1 1x61"),
-        (1, 0xfe, "aab", "ok 4 1xfe,2x61,1x62"),
-    ];
-    for (n, byte, tail, text) in reads {
-        let mut bytes = vec![in rt.alloc(); byte; n]?;
-        bytes.extend_from_slice(tail.as_bytes())?;
-        let bytes = Bytes::from_slice(rt.alloc(), &bytes)?;
-        expect_line(&rt, rt.alloc(), &Reply::Bytes { bytes }, text)?;
-    }
-    Ok(())
+// Lines of operations, each of which is bad.
+const BAD_OPERATIONS: &[&str] = &[
+    "1 ",
+    "1 create",
+    "1 create /f",
+    "1 create  /f 644",
+    "1 create  644",
+    "1 create //f 644",
+    "1 create /f%2f 644",
+    "1 create /%2g 644",
+    "1 create /\u{7f} 644",
+    "1 create /\t 644",
+    "1 create /f 8",
+    "1 create /f 07777",
+    "1 create /f ",
+    "1 stat //",
+    "1 list ",
+    "1 symlink /s",
+    "1 symlink /s a b",
+    "1 symlink /s a%",
+    "1 close 01",
+    "1 close -1",
+    "1 read 0 0 1 ",
+    "1 write 0 0 1",
+    "1 write 0 01 1 97",
+    "1 write 0 0 1 97 0",
+    "1 write 0  0 1 97",
+];
+
+// The first bad line of a script in which this is the second line, or 0.
+fn bad_line_with(alloc: Global, line: &str) -> Result<u64, Memory> {
+    let mut text = Vec::from_slice(alloc, b"mount\n")?;
+    text.extend_from_slice(line.as_bytes())?;
+    text.extend_from_slice(b"\nunmount\nend\n")?;
+    bad_line(alloc, &text)
 }
 
 #[test]
-fn replies_are_written(rt: HostRuntime) -> Result<(), Fail> {
+fn a_bad_operation_is_told(rt: HostRuntime) {
+    for line in BAD_OPERATIONS {
+        assert_eq!(rt; bad_line_with(rt.alloc(), line), Ok(2), "at {line}");
+    }
+}
+
+// Manifests, and what they say.
+const MANIFESTS: &[(&str, Result<Manifest, TextFault>)] = &[
+    (
+        "volume 16384 512 64 8\nend\n",
+        Ok(Manifest {
+            leb_size: 16384,
+            min_io: 512,
+            main: 64,
+            fanout: 8,
+        }),
+    ),
+    (
+        "volume 4294967295 0 2147483647 4294967295\nend\n",
+        Ok(Manifest {
+            leb_size: 4294967295,
+            min_io: 0,
+            main: 2147483647,
+            fanout: 4294967295,
+        }),
+    ),
+    ("end\n", Err(TextFault::Line { number: 1 })),
+    ("volume 16384 512 64 8", Err(TextFault::Line { number: 1 })),
+    (
+        "volume 16384 512 64 8\nend\nend\n",
+        Err(TextFault::Line { number: 3 }),
+    ),
+];
+
+#[test]
+fn manifests_are_read(rt: HostRuntime) {
+    for (text, wanted) in MANIFESTS {
+        assert_eq!(rt; read_manifest(text.as_bytes()), *wanted, "at {text}");
+    }
+}
+
+// Whether a reply to the tenth operation of caller 16 is this text, behind what was written before.
+fn is_written(alloc: Global, reply: &Reply, text: &str) -> Result<bool, Memory> {
+    let mut out = Vec::from_slice(alloc, b"before\n")?;
+    write_reply(16, 10, reply, &mut out)?;
+    let mut wanted = Vec::from_slice(alloc, b"before\n16 10 ")?;
+    wanted.extend_from_slice(text.as_bytes())?;
+    wanted.push(b'\n')?;
+    Ok(out.as_slice() == wanted.as_slice())
+}
+
+// A byte, how often it is read, what is read behind it, and the text.
+const READS: &[(usize, u8, &str, &str)] = &[
+    (0, 0, "", "ok 0"),
+    (4096, 0x61, "", "ok 4096 4096x61"),
+    (4095, 0, "bb", "ok 4097 4095x00,2x62"),
+    (8192, 0, "a", "ok 8193 8192x00,1x61"),
+    (0, 0, "a", "ok 1 1x61"),
+    (1, 0xfe, "aab", "ok 4 1xfe,2x61,1x62"),
+];
+
+fn is_read_written(
+    alloc: Global,
+    n: usize,
+    byte: u8,
+    tail: &str,
+    text: &str,
+) -> Result<bool, Memory> {
+    let mut bytes = vec![in alloc; byte; n]?;
+    bytes.extend_from_slice(tail.as_bytes())?;
+    let bytes = Bytes::from_slice(alloc, &bytes)?;
+    is_written(alloc, &Reply::Bytes { bytes }, text)
+}
+
+#[test]
+fn reads_are_written(rt: HostRuntime) {
+    for (n, byte, tail, text) in READS {
+        assert_eq!(rt;
+            is_read_written(rt.alloc(), *n, *byte, tail, text),
+            Ok(true),
+            "{text}"
+        );
+    }
+}
+
+fn are_replies_written(alloc: Global) -> Result<bool, Memory> {
     let stat = Reply::Stat {
         kind: Kind::Dir,
         ino: 1,
@@ -199,81 +232,75 @@ fn replies_are_written(rt: HostRuntime) -> Result<(), Fail> {
         size: 288,
         mtime: 0,
     };
-    let replies = [
-        (Reply::Done, "ok"),
-        (Reply::Ino { ino: 65 }, "ok 65"),
-        (Reply::Count { n: 0 }, "ok 0"),
-        (stat, "ok d 1 755 2 288 0"),
-        (Reply::Off, "off"),
-    ];
-    for (reply, text) in replies {
-        expect_line(&rt, rt.alloc(), &reply, text)?;
-    }
-    Ok(())
+    Ok(
+        is_written(alloc, &Reply::Done, "ok")?
+            && is_written(alloc, &Reply::Ino { ino: 65 }, "ok 65")?
+            && is_written(alloc, &Reply::Count { n: 0 }, "ok 0")?
+            && is_written(alloc, &stat, "ok d 1 755 2 288 0")?
+            && is_written(alloc, &Reply::Off, "off")?,
+    )
 }
 
 #[test]
-fn refusals_are_written(rt: HostRuntime) -> Result<(), Fail> {
-    let refusals = [
-        (Refusal::Enoent, "E1"),
-        (
-            Refusal::Enospc {
-                space: NoSpace {
-                    need: 456608,
-                    room: 453600,
-                },
-            },
-            "E6 456608 453600",
-        ),
-        (
-            Refusal::Erofs {
-                cause: Cause::Tight {
-                    what: Scarce::Space,
-                    need: 160,
-                    room: 0,
-                },
-            },
-            "E7 tight space 160 0",
-        ),
-        (
-            Refusal::Erofs {
-                cause: Cause::Faulted { count: 1 },
-            },
-            "E7 faulted 1",
-        ),
-        (
-            Refusal::Erofs {
-                cause: Cause::Spent {
-                    sqnum: 3,
-                    cmt_no: 2,
-                },
-            },
-            "E7 spent 3 2",
-        ),
-        (Refusal::Eio { count: 1 }, "E8 1"),
-        (Refusal::Efbig, "E10"),
-        (Refusal::Einval, "E12"),
-        (
-            Refusal::Enfile {
-                what: Table::Inodes,
-                limit: 4294967040,
-            },
-            "E14 inodes 4294967040",
-        ),
-        (Refusal::Ebadf, "E15"),
-    ];
-    for (refusal, text) in refusals {
-        expect_line(&rt, rt.alloc(), &Reply::Refused { refusal }, text)?;
-    }
-    Ok(())
+fn replies_are_written(rt: HostRuntime) {
+    assert_eq!(rt; are_replies_written(rt.alloc()), Ok(true));
 }
 
-fn expect_line(rt: &impl Abort, alloc: Global, reply: &Reply, text: &str) -> Result<(), Fail> {
-    let mut out = b"before\n".as_slice().to_vec(alloc)?;
-    write_reply(16, 10, reply, &mut out)?;
-    let wanted = format!(in alloc; "before\n16 10 {text}\n")?;
-    assert_eq!(rt; out.as_slice(), wanted.as_bytes());
-    Ok(())
+const REFUSALS: &[(Refusal, &str)] = &[
+    (Refusal::Enoent, "E1"),
+    (
+        Refusal::Enospc {
+            space: NoSpace {
+                need: 456608,
+                room: 453600,
+            },
+        },
+        "E6 456608 453600",
+    ),
+    (
+        Refusal::Erofs {
+            cause: Cause::Tight {
+                what: Scarce::Space,
+                need: 160,
+                room: 0,
+            },
+        },
+        "E7 tight space 160 0",
+    ),
+    (
+        Refusal::Erofs {
+            cause: Cause::Faulted { count: 1 },
+        },
+        "E7 faulted 1",
+    ),
+    (
+        Refusal::Erofs {
+            cause: Cause::Spent {
+                sqnum: 3,
+                cmt_no: 2,
+            },
+        },
+        "E7 spent 3 2",
+    ),
+    (Refusal::Eio { count: 1 }, "E8 1"),
+    (Refusal::Efbig, "E10"),
+    (Refusal::Einval, "E12"),
+    (
+        Refusal::Enfile {
+            what: Table::Inodes,
+            limit: 4294967040,
+        },
+        "E14 inodes 4294967040",
+    ),
+    (Refusal::Ebadf, "E15"),
+];
+
+#[test]
+fn refusals_are_written(rt: HostRuntime) {
+    for (refusal, text) in REFUSALS {
+        let reply = Reply::Refused { refusal: *refusal };
+        assert_eq!(rt; is_written(rt.alloc(), &reply, text), Ok(true), "{text}");
+    }
 }
 
 #[test]
