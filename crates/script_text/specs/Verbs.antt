@@ -1,5 +1,5 @@
 -- The words for operations that have words behind them.
-use Rattle.std.specs.Prelude.{ℕ, ◌≡◌, List, codes}
+use Rattle.std.specs.Prelude.{ℕ, ◌≡◌, Bool, true, false, List, codes}
 use Rattle.fs_model.specs.declared.op.Op.{Op}
 use Rattle.script_text.specs.declared.verb.Verb.{Verb}
 use Rattle.script_text.specs.declared.verb.Verb.TheVariants.{Create, Mkdir, Symlink, Link, Unlink, Rmdir, Rename, Open, Close, Read, Write, Fsync, List as Listing, Stat, Readlink, Chmod}
@@ -24,6 +24,17 @@ verb_name Listing = codes "list"
 verb_name Stat = codes "stat"
 verb_name Readlink = codes "readlink"
 verb_name Chmod = codes "chmod"
+
+-- whether it makes, moves or takes away a name
+abbrev pub is_of_names : Verb → Bool
+is_of_names Create = true
+is_of_names Mkdir = true
+is_of_names Symlink = true
+is_of_names Link = true
+is_of_names Unlink = true
+is_of_names Rmdir = true
+is_of_names Rename = true
+is_of_names verb = false
 
 -- an operation has this name, and these are the words behind it
 abbrev pub Says : Verb → Op → List ℕ → Type 0
