@@ -9,6 +9,7 @@ ghost use Rattle.io_edges.specs.declared.keeper.KeepFault.TheVariants.{Missing};
 use io_edges::{FileKeeper, KeepFault, Keeper, MemKeeper, MemSink, OutSink, Sink, SinkFault};
 use std::alloc::Global;
 use std::collections::BTreeMap;
+use std::path::PathBuf;
 use std::test::Fail;
 use std::{env, fs};
 use ubifs_base::{Bytes, Memory};
@@ -47,17 +48,22 @@ fn is_written_and_read_back<K: Keeper>(keeper: &mut K, name: &str) -> Result<boo
     Ok(bytes.as_slice() == b"whole".as_slice() && keeper.faults() == 0)
 }
 
+// The name of a file in a folder.
+fn name_in(alloc: Global, mut folder: PathBuf) -> Result<String, Fail> {
+    folder.push("ubifs-io-edges-test")?;
+    match folder.as_path().to_str() {
+        Some(name) => Ok(String::from_str(alloc, name)?),
+        None => Err(Fail::from("no path")),
+    }
+}
+
 #[test]
 fn host_file_is_written_and_read_back(rt: HostRuntime) -> Result<(), Fail> {
-    let mut path = env::temp_dir(&rt)?;
-    path.push("ubifs-io-edges-test")?;
-    let Some(name) = path.as_path().to_str() else {
-        return Err(Fail::from("no path"));
-    };
+    let name = name_in(rt.alloc(), env::temp_dir(&rt)?)?;
     let mut keeper = FileKeeper::new(rt.alloc(), rt.clone()?);
-    let written = is_written_and_read_back(&mut keeper, name);
-    fs::remove_file(&rt, name)?;
-    let missing = keeper.read(name).err();
+    let written = is_written_and_read_back(&mut keeper, &name);
+    fs::remove_file(&rt, &name)?;
+    let missing = keeper.read(&name).err();
     assert_eq!(rt;
         (written, missing, keeper.faults()),
         (Ok(true), Some(KeepFault::Failed { count: 1 }), 1)
