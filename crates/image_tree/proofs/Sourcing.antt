@@ -12,7 +12,7 @@ use Rattle.journal_scan.specs.declared.journal_read.JournalRead.{JournalRead}
 use Rattle.leaf_map.specs.Kept.{Kept, Placed}
 use Rattle.leaf_map.specs.Parts.{Committed, Parts}
 use Rattle.leaf_map.specs.Recovered.{in_order}
-use Rattle.leaf_recovery.specs.Told.{AreToldOf, IsAtLeaf, IsOneNode, IsRead, IsSource}
+use Rattle.leaf_recovery.specs.Told.{AreLeavesTold, IsAtLeaf, IsOneNode, WasRead, IsSource}
 use Rattle.leaf_recovery.specs.declared.recovered_leaf.Place.{Place}
 use Rattle.leaf_recovery.specs.declared.recovered_leaf.RecoveredLeaf.{RecoveredLeaf}
 use Rattle.sound_image.specs.Image.{Image, named_by, parts_of}
@@ -53,12 +53,12 @@ one_node Q node [] h is = absurd is
 one_node Q node (x ∷ nodes) h (inl e) = subst Q e h.0
 one_node Q node (x ∷ nodes) h (inr is) = one_node Q node nodes h.1 is
 
-source_here : (contents : ℕ → List ℕ) (parts : Parts) (x : Kept) (o : Option Place) → ((node : Placed) → IsRead parts node → IsPlacedIn contents node) → IsSource parts x o → HasSource contents x (source_of o)
+source_here : (contents : ℕ → List ℕ) (parts : Parts) (x : Kept) (o : Option Place) → ((node : Placed) → WasRead parts node → IsPlacedIn contents node) → IsSource parts x o → HasSource contents x (source_of o)
 source_here contents parts x None reads s = s
 source_here contents parts x (Some place) reads (node, read, is, e) =
     (node, record { lnum = ap (λ (p : Place). p.lnum) (sym is); offs = ap (λ (p : Place). p.offs) (sym is); len = ap (λ (p : Place). p.len) (sym is) }, reads node read, e)
 
-pub sourced_all : (contents : ℕ → List ℕ) (parts : Parts) (kept : List Kept) (rs : List RecoveredLeaf) → ((node : Placed) → IsRead parts node → IsPlacedIn contents node) → AreToldOf parts kept rs → AreSourced contents kept (map sourced_of rs)
+pub sourced_all : (contents : ℕ → List ℕ) (parts : Parts) (kept : List Kept) (rs : List RecoveredLeaf) → ((node : Placed) → WasRead parts node → IsPlacedIn contents node) → AreLeavesTold parts kept rs → AreSourced contents kept (map sourced_of rs)
 sourced_all contents parts [] [] reads h = tt
 sourced_all contents parts [] (r ∷ rs) reads h = absurd h
 sourced_all contents parts (x ∷ kept) [] reads h = absurd h
@@ -74,7 +74,7 @@ module _ (laws : StandingLaws) (contents : ℕ → List ℕ) (leaves : List Leaf
   nodes : AllByRecursion (IsPlacedIn contents) (nodes_in image.buds)
   nodes = laws.nodes contents (buds_of references) image.buds s.rule
 
-  pub reads_here : (node : Placed) → IsRead (parts_of image) node → IsPlacedIn contents node
+  pub reads_here : (node : Placed) → WasRead (parts_of image) node → IsPlacedIn contents node
   reads_here node (inl is) = at_leaf contents node image.committed stand is
   reads_here node (inr (inl is)) = one_node (IsPlacedIn contents) node (nodes_in image.buds) nodes is
   reads_here node (inr (inr is)) = one_node (IsPlacedIn contents) node (copies_in image.buds) copies is

@@ -15,7 +15,7 @@ use Rattle.leaf_map.specs.Kept.{Kept}
 use Rattle.leaf_map.specs.Lost.{missing_leaves}
 use Rattle.leaf_map.specs.Parts.{Parts}
 use Rattle.leaf_map.specs.Recovered.{in_order, recovered_of}
-use Rattle.leaf_recovery.specs.Told.{AreTold, AreToldOf, IsRecoveredFrom}
+use Rattle.leaf_recovery.specs.Told.{AreTold, AreLeavesTold, IsRecoveredFrom}
 use Rattle.leaf_recovery.specs.declared.recovered_leaf.RecoveredLeaf.{RecoveredLeaf}
 use Rattle.leaf_recovery.specs.declared.recovered_leaf.RecoveredLeaves.{RecoveredLeaves}
 use Rattle.sound_image.specs.Breaches.{IsBrokenLeaf}
@@ -31,7 +31,7 @@ use Rattle.image_tree.specs.declared.tree_read.TreeRead.{TreeRead}
 use Rattle.image_tree.proofs.Judging.{breach_more}
 use Rattle.image_tree.proofs.StandingNodes.{StandingLaws}
 
-places_same : (parts : Parts) (kept : List Kept) (rs : List RecoveredLeaf) → AreToldOf parts kept rs → map (λ x. x.leaf) rs ≡ map (λ x. x.leaf) kept
+places_same : (parts : Parts) (kept : List Kept) (rs : List RecoveredLeaf) → AreLeavesTold parts kept rs → map (λ x. x.leaf) rs ≡ map (λ x. x.leaf) kept
 places_same parts [] [] h = refl
 places_same parts [] (r ∷ rs) h = absurd h
 places_same parts (x ∷ kept) [] h = absurd h
