@@ -16,18 +16,15 @@ use Rattle.index_tree.specs.Removal.{same_leaf}
 use Rattle.fs_model.specs.declared.change.Change.TheVariants.{SetInode}
 use Rattle.fs_model.specs.declared.inode.Kind.{Kind}
 use Rattle.change_nodes.specs.Nodes.{bits_of, inode_of, kind_of_bits}
-use Rattle.leaf_map.specs.Kept.{Placed, kept_at, shown}
-use Rattle.leaf_map.specs.Parts.{Committed, Named, Parts, has_links, in_bud, is_linked_unknown, is_shown}
+use Rattle.leaf_map.specs.Kept.{Placed}
+use Rattle.leaf_map.specs.Parts.{Committed, Named, Parts, in_bud, is_linked_unknown, is_shown}
 use Rattle.leaf_map.specs.Recovered.{listed_left}
-use Rattle.journal_scan.specs.Content.{content_of, told}
-use Rattle.journal_scan.specs.declared.node_content.NodeContent.{NodeContent}
+use Rattle.journal_scan.specs.Content.{told}
 use Rattle.journal_scan.specs.declared.node_content.NodeContent.TheVariants.{Inode, Entry, Unknown}
-use Rattle.journal_scan.specs.declared.journal_node.JournalNode.{JournalNode}
-use Rattle.log_replay.specs.declared.committed_leaf.CommittedLeaf.{CommittedLeaf}
 use Rattle.log_replay.specs.Changes.{place_of_node}
 use Rattle.log_replay.specs.Named.{in_named}
 use Rattle.log_replay.specs.Replay.{told_committed}
-use Rattle.log_replay.specs.Spared.{is_spared_by, spared_by, unknown_inode, unspared}
+use Rattle.log_replay.specs.Spared.{is_spared_by, spared_by, unspared}
 use Rattle.log_replay.specs.Standing.{leaf_at}
 use Rattle.log_replay.proofs.Noted.{number_at}
 
