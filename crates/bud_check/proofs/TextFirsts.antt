@@ -15,7 +15,7 @@ use Rattle.journal_scan.specs.declared.bud_text.BudText.{BudText}
 use Rattle.sound_image.specs.Buds.{MayStandInBud}
 use Rattle.sound_image.specs.Frames.{NeedsFeature}
 use Rattle.sound_image.specs.Wrong.{IsOneOf, Wrong, differs, needs}
-use Rattle.bud_check.specs.Findings.{IsFirstFound, IsWrongEnd, IsWrongNode, IsWrongText, IsWrongTexts, first_of_two, may_stand}
+use Rattle.bud_check.specs.Findings.{IsFirstFound, IsWrongEnd, IsWrongFound, IsWrongText, IsWrongTexts, first_of_two, may_stand}
 use Rattle.bud_check.specs.declared.bud_wrong.BudMisfit.TheVariants.{Needs, Unwanted}
 use Rattle.bud_check.specs.declared.bud_wrong.BudWrong.{BudWrong}
 use Rattle.bud_check.proofs.Firsts.{either_first, feature_once, first_same, there_not, type_once}
@@ -65,7 +65,7 @@ one_feature a b o e f = let g = sym e ∙ f in cc
 
 -- what a feature's need tells is first at its place
 pub node_needs : (leb : List ℕ) (lnum : ℕ) (found : Found) (what : Feature) (o : Option Feature) → o ≡ Some what → NeedsFeature leb found.offs what → ((other : Feature) → NeedsFeature leb found.offs other → o ≡ Some other)
-    → IsFirstFound (IsWrongNode leb lnum found) (Some (record { lnum = lnum; offs = found.offs; misfit = Needs what }))
+    → IsFirstFound (IsWrongFound leb lnum found) (Some (record { lnum = lnum; offs = found.offs; misfit = Needs what }))
 node_needs leb lnum found what o is needed only = record {
   wrong = record { in_leb = refl; here = refl; wrong = inr (what, needed, refl) };
   least = λ other w. elim w.wrong [
@@ -74,14 +74,14 @@ node_needs leb lnum found what o is needed only = record {
   ];
 }
 
-pub node_fine : (leb : List ℕ) (lnum : ℕ) (found : Found) (o : Option Feature) → o ≡ None → may_stand found.kind ≡ true → ((other : Feature) → NeedsFeature leb found.offs other → o ≡ Some other) → IsFirstFound (IsWrongNode leb lnum found) None
+pub node_fine : (leb : List ℕ) (lnum : ℕ) (found : Found) (o : Option Feature) → o ≡ None → may_stand found.kind ≡ true → ((other : Feature) → NeedsFeature leb found.offs other → o ≡ Some other) → IsFirstFound (IsWrongFound leb lnum found) None
 node_fine leb lnum found o none may only = λ at w. elim w.wrong [
   | inl (never, value) ↦ never (allowed found.kind may)
   | inr (there, also, value) ↦ none_is o there none (only there also)
 ]
 
 pub node_type : (leb : List ℕ) (lnum kind : ℕ) (found : Found) (o : Option Feature) → o ≡ None → kind ≡ type_number found.kind → may_stand found.kind ≡ false → ((other : Feature) → NeedsFeature leb found.offs other → o ≡ Some other)
-    → IsFirstFound (IsWrongNode leb lnum found) (Some (record { lnum = lnum; offs = found.offs; misfit = Unwanted kind }))
+    → IsFirstFound (IsWrongFound leb lnum found) (Some (record { lnum = lnum; offs = found.offs; misfit = Unwanted kind }))
 node_type leb lnum kind found o none is may only = record {
   wrong = record { in_leb = refl; here = refl; wrong = inl (not_allowed found.kind may, ap (differs 1) is) };
   least = λ other w. elim w.wrong [
@@ -103,19 +103,19 @@ end_fine leb lnum end o none only = λ at w. none_is o w.wrong.0 none (only w.wr
 -- ---- the nodes of a text
 -- at one of these nodes
 abbrev pub IsWrongAmong : List ℕ → ℕ → List Found → Wrong → Type 0
-IsWrongAmong leb lnum nodes at = (found : Found) × IsOneOf found nodes × IsWrongNode leb lnum found at
+IsWrongAmong leb lnum nodes at = (found : Found) × IsOneOf found nodes × IsWrongFound leb lnum found at
 
 pub nodes_none : (leb : List ℕ) (lnum : ℕ) → IsFirstFound (IsWrongAmong leb lnum []) None
 nodes_none leb lnum = λ at w. one_of_none w.0 w.1
 
-pub nodes_next : (leb : List ℕ) (lnum : ℕ) (nodes : List Found) (found : Found) (first one next : Option BudWrong) → next ≡ first_of_two first one → IsFirstFound (IsWrongAmong leb lnum nodes) first → IsFirstFound (IsWrongNode leb lnum found) one
+pub nodes_next : (leb : List ℕ) (lnum : ℕ) (nodes : List Found) (found : Found) (first one next : Option BudWrong) → next ≡ first_of_two first one → IsFirstFound (IsWrongAmong leb lnum nodes) first → IsFirstFound (IsWrongFound leb lnum found) one
     → IsFirstFound (IsWrongAmong leb lnum (nodes ++ found ∷ [])) next
 nodes_next leb lnum nodes found first one next e h k =
     let R : Option BudWrong → Type 0 = λ o. IsFirstFound (IsWrongAmong leb lnum (nodes ++ found ∷ [])) o in
-    subst R (sym e) (first_same (λ at. IsWrongAmong leb lnum nodes at ⊎ IsWrongNode leb lnum found at) (IsWrongAmong leb lnum (nodes ++ found ∷ [])) (first_of_two first one)
+    subst R (sym e) (first_same (λ at. IsWrongAmong leb lnum nodes at ⊎ IsWrongFound leb lnum found at) (IsWrongAmong leb lnum (nodes ++ found ∷ [])) (first_of_two first one)
     (λ at w. elim w [ inl (own, among, wrong) ↦ (own, in_front own found nodes among, wrong) | inr wrong ↦ (found, at_end found nodes, wrong) ])
-    (λ at w. elim (front_or_end w.0 found nodes w.1) [ inl among ↦ inl (w.0, among, w.2) | inr is ↦ inr (let P : Found → Type 0 = λ f. IsWrongNode leb lnum f at in subst P is w.2) ])
-    (either_first (IsWrongAmong leb lnum nodes) (IsWrongNode leb lnum found) first one h k))
+    (λ at w. elim (front_or_end w.0 found nodes w.1) [ inl among ↦ inl (w.0, among, w.2) | inr is ↦ inr (let P : Found → Type 0 = λ f. IsWrongFound leb lnum f at in subst P is w.2) ])
+    (either_first (IsWrongAmong leb lnum nodes) (IsWrongFound leb lnum found) first one h k))
 
 -- ---- a text
 to_text : (bud : BudText) (items : List Item) (end : ℕ) (tail : Tail) → IsText bud.bytes bud.from items end tail → (at : Wrong) → IsWrongAmong bud.bytes bud.lnum (nodes_of items) at ⊎ IsWrongEnd bud.bytes bud.lnum end at → IsWrongText bud at

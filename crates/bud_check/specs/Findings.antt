@@ -53,7 +53,7 @@ first_of_two None b = b
 first_of_two (Some a) b = sooner_wrong a b
 
 -- what is wrong at a node of a text: it may not stand there, or needs a feature
-pub record IsWrongNode (leb : List ℕ) (lnum : ℕ) (found : Found) (at : Wrong) : Type 0 where
+pub record IsWrongFound (leb : List ℕ) (lnum : ℕ) (found : Found) (at : Wrong) : Type 0 where
   pub in_leb : at.lnum ≡ lnum
   pub here : at.offs ≡ found.offs
   pub wrong : ((MayStandInBud found.kind → ⊥) × (at.misfit ≡ differs 1 (type_number found.kind))) ⊎ ((what : Feature) × NeedsFeature leb found.offs what × (at.misfit ≡ needs what))

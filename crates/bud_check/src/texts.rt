@@ -3,7 +3,7 @@
 ghost use Rattle.std.specs.Prelude.{◌≡◌, ◌<◌, ◌^◌, length};
 ghost use Rattle.std.specs.List.{AllByRecursion};
 ghost use Rattle.journal_scan.specs.Journal.{IsReadable};
-ghost use Rattle.bud_check.specs.Findings.{IsFirstFound, IsWrongEnd, IsWrongNode, IsWrongText, IsWrongTexts, may_stand as is_allowed};
+ghost use Rattle.bud_check.specs.Findings.{IsFirstFound, IsWrongEnd, IsWrongFound, IsWrongText, IsWrongTexts, may_stand as is_allowed};
 
 use crate::bud_wrong::{BudMisfit, BudWrong};
 use crate::first_wrong::first_wrong;
@@ -45,7 +45,7 @@ fn first_in_text(bud: &BudText) -> Option<BudWrong>
 // What is wrong with a node of a text.
 fn wrong_node(leb: &[u8], lnum: u32, found: Found) -> Option<BudWrong>
     requires { length leb.now < 2 ^ 32 }
-    ensures { IsFirstFound (IsWrongNode leb.now lnum found) result }
+    ensures { IsFirstFound (IsWrongFound leb.now lnum found) result }
 {
     if let Some(what) = needed_feature(leb, found.offs) {
         return Some(BudWrong {

@@ -1,7 +1,6 @@
 -- What was read of an image stands in the volume.
 use Rattle.std.proofs.Common.{◌≡◌, inl, inr, ℕ, List, [], ◌∷◌, map, refl, ap, sym, ◌∙◌, subst, Option, Some, None}
 use Rattle.std.specs.List.{AllByRecursion}
-use Rattle.media_leaf.specs.LeafNode.{IsLeaf}
 use Rattle.media_sys.specs.declared.ref_node.RefNode.{RefNode}
 use Rattle.bud_log.specs.Buds.{buds_of}
 use Rattle.index_tree.specs.Shape.{contents as leaves_in}
@@ -13,7 +12,7 @@ use Rattle.journal_scan.specs.declared.journal_read.JournalRead.{JournalRead}
 use Rattle.leaf_map.specs.Kept.{Kept, Placed}
 use Rattle.leaf_map.specs.Parts.{Committed, Parts}
 use Rattle.leaf_map.specs.Recovered.{in_order}
-use Rattle.leaf_recovery.specs.Told.{AreToldOf, IsAtLeaf, IsOneNode, IsRead, IsSource}
+use Rattle.leaf_recovery.specs.Told.{AreLeavesTold, IsAtLeaf, IsOneNode, WasRead, IsSource}
 use Rattle.leaf_recovery.specs.declared.recovered_leaf.Place.{Place}
 use Rattle.leaf_recovery.specs.declared.recovered_leaf.RecoveredLeaf.{RecoveredLeaf}
 use Rattle.sound_image.specs.Image.{Image, named_by, parts_of}
@@ -24,7 +23,7 @@ use Rattle.image_tree.specs.Reads.{IsJournalOf, IsReadOf}
 use Rattle.image_tree.specs.Sources.{source_of, sourced_of}
 use Rattle.image_tree.specs.Trees.{AreNodesTold}
 use Rattle.image_tree.specs.declared.tree_read.TreeRead.{TreeRead}
-use Rattle.image_tree.proofs.StandingNodes.{all_more, copies_stand, nodes_stand}
+use Rattle.image_tree.proofs.StandingNodes.{StandingLaws}
 
 -- ---- committed leaves
 found_stands : (contents : ℕ → List ℕ) (leaf other : Leaf) (found : Option Placed) → IsFoundAt contents leaf found → FoundStands contents (record { leaf = other; found = found })
@@ -54,28 +53,28 @@ one_node Q node [] h is = absurd is
 one_node Q node (x ∷ nodes) h (inl e) = subst Q e h.0
 one_node Q node (x ∷ nodes) h (inr is) = one_node Q node nodes h.1 is
 
-source_here : (contents : ℕ → List ℕ) (parts : Parts) (x : Kept) (o : Option Place) → ((node : Placed) → IsRead parts node → IsPlacedIn contents node) → IsSource parts x o → HasSource contents x (source_of o)
+source_here : (contents : ℕ → List ℕ) (parts : Parts) (x : Kept) (o : Option Place) → ((node : Placed) → WasRead parts node → IsPlacedIn contents node) → IsSource parts x o → HasSource contents x (source_of o)
 source_here contents parts x None reads s = s
 source_here contents parts x (Some place) reads (node, read, is, e) =
     (node, record { lnum = ap (λ (p : Place). p.lnum) (sym is); offs = ap (λ (p : Place). p.offs) (sym is); len = ap (λ (p : Place). p.len) (sym is) }, reads node read, e)
 
-pub sourced_all : (contents : ℕ → List ℕ) (parts : Parts) (kept : List Kept) (rs : List RecoveredLeaf) → ((node : Placed) → IsRead parts node → IsPlacedIn contents node) → AreToldOf parts kept rs → AreSourced contents kept (map sourced_of rs)
+pub sourced_all : (contents : ℕ → List ℕ) (parts : Parts) (kept : List Kept) (rs : List RecoveredLeaf) → ((node : Placed) → WasRead parts node → IsPlacedIn contents node) → AreLeavesTold parts kept rs → AreSourced contents kept (map sourced_of rs)
 sourced_all contents parts [] [] reads h = tt
 sourced_all contents parts [] (r ∷ rs) reads h = absurd h
 sourced_all contents parts (x ∷ kept) [] reads h = absurd h
 sourced_all contents parts (x ∷ kept) (r ∷ rs) reads h = (record { is = h.0.leaf; source = source_here contents parts x r.source reads h.0.source }, sourced_all contents parts kept rs reads h.1)
 
-module _ (contents : ℕ → List ℕ) (leaves : List Leaf) (references : List RefNode) (journal : JournalRead) (image : Image) (read : TreeRead) (s : IsJournalOf contents leaves references journal image) (r : IsReadOf contents image read) where
+module _ (laws : StandingLaws) (contents : ℕ → List ℕ) (leaves : List Leaf) (references : List RefNode) (journal : JournalRead) (image : Image) (read : TreeRead) (s : IsJournalOf contents leaves references journal image) (r : IsReadOf contents image read) where
   stand : AllByRecursion (FoundStands contents) image.committed
   stand = committed_stand contents (leaves_in (plain image.placed)) image.committed r.rule.committed
 
   copies : AllByRecursion (IsPlacedIn contents) (copies_in image.buds)
-  copies = copies_stand contents (buds_of references) image.buds s.rule
+  copies = laws.copies contents (buds_of references) image.buds s.rule
 
   nodes : AllByRecursion (IsPlacedIn contents) (nodes_in image.buds)
-  nodes = nodes_stand contents (buds_of references) image.buds s.rule
+  nodes = laws.nodes contents (buds_of references) image.buds s.rule
 
-  pub reads_here : (node : Placed) → IsRead (parts_of image) node → IsPlacedIn contents node
+  pub reads_here : (node : Placed) → WasRead (parts_of image) node → IsPlacedIn contents node
   reads_here node (inl is) = at_leaf contents node image.committed stand is
   reads_here node (inr (inl is)) = one_node (IsPlacedIn contents) node (nodes_in image.buds) nodes is
   reads_here node (inr (inr is)) = one_node (IsPlacedIn contents) node (copies_in image.buds) copies is
@@ -88,6 +87,6 @@ module _ (contents : ℕ → List ℕ) (leaves : List Leaf) (references : List R
       stand = copies;
     };
     nodes_told = subst (λ (reads : List BudRead). journal.nodes.items ≡ map told (in_order (nodes_in reads))) s.buds s.read.nodes;
-    leaf_nodes = all_more (IsPlacedIn contents) (λ (x : Placed). IsLeaf x.node) (λ x h. h.is.is) (nodes_in image.buds) nodes;
+    leaf_nodes = laws.grammar contents (nodes_in image.buds) nodes;
     leaves_are = s.leaves_are ∙ leaves_are contents (leaves_in (plain image.placed)) image.committed r.rule.committed;
   }

@@ -3,7 +3,6 @@ use Rattle.std.proofs.Common.{◌≡◌, ℕ, List, [], ◌∷◌, ◌++◌, map
 use Rattle.std.specs.Prelude.{All, IfErr, IfOk, IsTrue, OnOk}
 use Rattle.ubifs_base.specs.Areas.{orph_first}
 use Rattle.ubifs_base.specs.declared.raw_geometry.RawGeometry.{RawGeometry}
-use Rattle.media_leaf.specs.LeafNode.{IsLeaf}
 use Rattle.media_lpt.specs.declared.lprop.Lprop.{Lprop}
 use Rattle.small_areas.specs.Orphans.{AreOrphans}
 use Rattle.bud_log.specs.Buds.{buds_of}
@@ -12,17 +11,17 @@ use Rattle.index_tree.specs.declared.leaf.Leaf.{Leaf}
 use Rattle.index_media.specs.PlacedRow.{are_disjoint, branch_to, plain}
 use Rattle.journal_scan.specs.Content.{told}
 use Rattle.journal_scan.specs.Journal.{BudRead, copies_in, nodes_in}
-use Rattle.leaf_map.specs.Kept.{Kept, Placed}
+use Rattle.leaf_map.specs.Kept.{Kept}
 use Rattle.leaf_map.specs.Lost.{missing_leaves}
 use Rattle.leaf_map.specs.Parts.{Parts}
 use Rattle.leaf_map.specs.Recovered.{in_order, recovered_of}
-use Rattle.leaf_recovery.specs.Told.{AreTold, AreToldOf, IsRecoveredFrom}
+use Rattle.leaf_recovery.specs.Told.{AreTold, AreLeavesTold, IsRecoveredFrom}
 use Rattle.leaf_recovery.specs.declared.recovered_leaf.RecoveredLeaf.{RecoveredLeaf}
 use Rattle.leaf_recovery.specs.declared.recovered_leaf.RecoveredLeaves.{RecoveredLeaves}
 use Rattle.sound_image.specs.Breaches.{IsBrokenLeaf}
 use Rattle.sound_image.specs.Image.{Image, named_by, parts_of}
 use Rattle.sound_image.specs.LeafBreaches.{IsWrongOfLeaves}
-use Rattle.sound_image.specs.Leaves.{AreCommitted, IsPlacedIn, IsSoundLeaf, leaves_recovered}
+use Rattle.sound_image.specs.Leaves.{AreCommitted, IsSoundLeaf, leaves_recovered}
 use Rattle.sound_image.specs.Wrong.{IsFirstWrong, Wrong}
 use Rattle.sound_image.specs.declared.rule.Rule.TheVariants as rules
 use Rattle.image_check.specs.Told.{IsBreachOf, TellsBreach}
@@ -30,9 +29,9 @@ use Rattle.image_check.specs.declared.fault.CheckFault.{CheckFault}
 use Rattle.image_tree.specs.Reads.{AreLeavesMet, IsReadOfSome, IsReadSoFar, IsTreeTold, ReadBefore, leaves_told, with_leaves}
 use Rattle.image_tree.specs.declared.tree_read.TreeRead.{TreeRead}
 use Rattle.image_tree.proofs.Judging.{breach_more}
-use Rattle.image_tree.proofs.StandingNodes.{all_more, copies_stand, nodes_stand}
+use Rattle.image_tree.proofs.StandingNodes.{StandingLaws}
 
-places_same : (parts : Parts) (kept : List Kept) (rs : List RecoveredLeaf) → AreToldOf parts kept rs → map (λ x. x.leaf) rs ≡ map (λ x. x.leaf) kept
+places_same : (parts : Parts) (kept : List Kept) (rs : List RecoveredLeaf) → AreLeavesTold parts kept rs → map (λ x. x.leaf) rs ≡ map (λ x. x.leaf) kept
 places_same parts [] [] h = refl
 places_same parts [] (r ∷ rs) h = absurd h
 places_same parts (x ∷ kept) [] h = absurd h
@@ -44,7 +43,7 @@ leaves_same parts made r =
     ap (λ (ls : List Leaf). ls ++ made.empty.items) (places_same parts (recovered_of parts).kept made.kept.items r.kept)
     ∙ ap (λ (ls : List Leaf). map (λ x. x.leaf) (recovered_of parts).kept ++ ls) r.empty
 
-module _ (contents : ℕ → List ℕ) (before : ReadBefore) (image : Image) (read : TreeRead) (s : IsReadSoFar contents before image) (t : IsTreeTold contents before.geo before.leaves before.references before.journal read) where
+module _ (laws : StandingLaws) (contents : ℕ → List ℕ) (before : ReadBefore) (image : Image) (read : TreeRead) (s : IsReadSoFar contents before image) (t : IsTreeTold contents before.geo before.leaves before.references before.journal read) where
   abbrev whole : Image
   whole = with_leaves image t.committed read.listed.items
 
@@ -56,8 +55,8 @@ module _ (contents : ℕ → List ℕ) (before : ReadBefore) (image : Image) (re
     of_copies = subst (λ (reads : List BudRead). before.journal.copies.items ≡ map told (copies_in reads)) s.said.buds s.said.read.copies;
     of_list = refl;
     leaf_nodes = t.grammar;
-    node_nodes = all_more (IsPlacedIn contents) (λ (x : Placed). IsLeaf x.node) (λ x h. h.is.is) (nodes_in image.buds) (nodes_stand contents (buds_of before.references) image.buds s.said.rule);
-    copy_nodes = all_more (IsPlacedIn contents) (λ (x : Placed). IsLeaf x.node) (λ x h. h.is.is) (copies_in image.buds) (copies_stand contents (buds_of before.references) image.buds s.said.rule);
+    node_nodes = laws.grammar contents (nodes_in image.buds) (laws.nodes contents (buds_of before.references) image.buds s.said.rule);
+    copy_nodes = laws.grammar contents (copies_in image.buds) (laws.copies contents (buds_of before.references) image.buds s.said.rule);
   }
 
   made : IsRecoveredFrom (parts_of whole) read.recovered

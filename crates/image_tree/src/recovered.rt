@@ -20,6 +20,7 @@ use journal_scan::JournalRead;
 use leaf_check::check_leaves;
 use media_lpt::Lprop;
 use media_sys::RefNode;
+use sound_image::what_was_read_stands;
 use std::alloc::Global;
 use ubi_volume::{AreaFault, Volume};
 use ubifs_base::Geometry;
@@ -46,6 +47,7 @@ pub fn check_recovered<V: Volume>(
     ensures cause { HasCheckCause (V.state volume.old).faults (V.state volume.new).faults result }
     ensures sure { StaysSureCheck (V.state volume.old) (V.state volume.new) result }
 {
+    what_was_read_stands();
     match read_tree(alloc, volume, geometry, leaves, references, journal) {
         Ok(read) => check_read(alloc, volume, geometry, props, read),
         Err(AreaFault::Memory) => Err(CheckFault::Memory),

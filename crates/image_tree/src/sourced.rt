@@ -2,7 +2,7 @@
 
 ghost use Rattle.std.specs.Prelude.{◌≡◌, None, Some, IfOk, fold, map};
 ghost use Rattle.image_check.specs.WrongValues.{sooner_of};
-ghost use Rattle.tree_check.specs.Places.{misplaced_at, number_shown};
+ghost use Rattle.tree_check.specs.Places.{misplaced_at};
 ghost use Rattle.image_tree.specs.Sources.{empty_at, source_of, sourced_of};
 
 use image_check::{WrongValue, sooner};
@@ -10,7 +10,7 @@ use index_tree::Leaf;
 use leaf_recovery::{Place, RecoveredLeaf};
 use shown_leaves::{Source, SourcedLeaf};
 use std::alloc::Global;
-use tree_check::{Shown, ShownLeaf};
+use tree_check::{ShownLeaf, number_shown};
 use ubifs_base::Memory;
 
 pub(crate) fn sourced(alloc: Global, kept: &[RecoveredLeaf]) -> Result<Vec<SourcedLeaf>, Memory>
@@ -64,20 +64,6 @@ fn named_at(leaf: &ShownLeaf) -> WrongValue
         offs: leaf.offs,
         wanted: number_shown(leaf.number, &leaf.shown) as u64,
         found: 0,
-    }
-}
-
-// The inode number by which a leaf is named, of whose key this is the number.
-fn number_shown(number: u32, shown: &Shown) -> u32
-    ensures { result ≡ number_shown number shown.now }
-{
-    match shown {
-        Shown::Entry { ino, .. } => *ino,
-        Shown::Inode { .. }
-        | Shown::Deletion { .. }
-        | Shown::Block { .. }
-        | Shown::Truncation { .. }
-        | Shown::Nothing => number,
     }
 }
 

@@ -34,7 +34,7 @@ use media_sys::{Master, RefNode};
 use shown_leaves::{
     first_false_copy, first_twice, first_unchanging, read_shown, wrong_nodes_are_of_two_kinds,
 };
-use sound_image::Rule;
+use sound_image::{Rule, what_was_read_stands};
 use std::alloc::Global;
 use tree_check::{ShownLeaf, first_out_of_place, nothing_misplaced_means_in_place};
 use ubi_volume::{AreaFault, Volume};
@@ -93,6 +93,7 @@ fn find_wrong<V: Volume>(
     ensures cause { HasAreaCause (V.state volume.old).faults (V.state volume.new).faults result }
     ensures sure { StaysSureArea (V.state volume.old) (V.state volume.new) result }
 {
+    what_was_read_stands();
     let nodes = wrong_node(
         alloc,
         volume,

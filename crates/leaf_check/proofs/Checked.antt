@@ -22,7 +22,7 @@ use Rattle.sound_image.specs.declared.breach.Breach.{Breach}
 use Rattle.sound_image.specs.declared.rule.Rule.TheVariants as rules
 use Rattle.image_check.specs.Told.{IsBreachOf}
 use Rattle.image_check.specs.FirstLaws.{not_before}
-use Rattle.leaf_check.specs.Overlaps.{IsOverlapped, StandsBefore, are_apart, overlaps, place_rank}
+use Rattle.leaf_check.specs.Overlaps.{IsOverlapped, StandsBefore, is_clear_of, overlaps, place_rank}
 use Rattle.leaf_check.specs.Standings.{IsFirstPlaced, IsPlacedWrong}
 use Rattle.leaf_check.specs.Sweep.{IsBadAmong, IsRightAmong, IsSwept, IsUpTo}
 use Rattle.leaf_check.proofs.Firsts.{some_breach}
@@ -55,12 +55,12 @@ one_moved : (x : Leaf) (xs ys : List Leaf) → IsPermutation xs ys → IsOneOf x
 one_moved x xs ys p h = one_of x ys (Contains-permutation xs ys x p (contains_of x xs h))
 
 -- ---- leaves in another order
-as_sum : (x : Leaf) (ys : List Leaf) → overlaps x ys ≡ sum_by (λ (other : Leaf). cond (are_apart x other) 0 1) ys
+as_sum : (x : Leaf) (ys : List Leaf) → overlaps x ys ≡ sum_by (λ (other : Leaf). cond (is_clear_of x other) 0 1) ys
 as_sum x [] = refl
-as_sum x (y ∷ ys) = ap (λ (n : ℕ). cond (are_apart x y) 0 1 + n) (as_sum x ys) ∙ sym (sum_by-cons (λ (other : Leaf). cond (are_apart x other) 0 1) y ys)
+as_sum x (y ∷ ys) = ap (λ (n : ℕ). cond (is_clear_of x y) 0 1 + n) (as_sum x ys) ∙ sym (sum_by-cons (λ (other : Leaf). cond (is_clear_of x other) 0 1) y ys)
 
 same_overlaps : (x : Leaf) (xs ys : List Leaf) → IsPermutation xs ys → overlaps x ys ≡ overlaps x xs
-same_overlaps x xs ys p = as_sum x ys ∙ sum_by-IsPermutation (λ (other : Leaf). cond (are_apart x other) 0 1) xs ys p ∙ sym (as_sum x xs)
+same_overlaps x xs ys p = as_sum x ys ∙ sum_by-IsPermutation (λ (other : Leaf). cond (is_clear_of x other) 0 1) xs ys p ∙ sym (as_sum x xs)
 
 over_to : (x : Leaf) (xs ys : List Leaf) → IsPermutation xs ys → IsOverlapped ys x → IsOverlapped xs x
 over_to x xs ys p h = let e = same_overlaps x xs ys p in omega (arith, h, e)
@@ -105,11 +105,11 @@ all_of P (x ∷ xs) f = (f x ([], xs, refl), all_of P xs (λ y one. f y (x ∷ o
 
 apart_all : (x : Leaf) (xs : List Leaf) → overlaps x xs ≡ 0 → list_all (λ (other : Branch). is_apart (stretch_of (branch_to x)) other) (map branch_to xs) ≡ true
 apart_all x [] h = refl
-apart_all x (y ∷ xs) h = elim (cases_Bool (are_apart x y)) [
+apart_all x (y ∷ xs) h = elim (cases_Bool (is_clear_of x y)) [
   | inl apart ↦
-      let own = cond_true (are_apart x y) apart in
-      and_from (are_apart x y) (list_all (λ (other : Branch). is_apart (stretch_of (branch_to x)) other) (map branch_to xs)) apart (apart_all x xs (omega (arith, h, own)))
-  | inr over ↦ let own = cond_false (are_apart x y) over in absurd (omega (arith, h, own))
+      let own = cond_true (is_clear_of x y) apart in
+      and_from (is_clear_of x y) (list_all (λ (other : Branch). is_apart (stretch_of (branch_to x)) other) (map branch_to xs)) apart (apart_all x xs (omega (arith, h, own)))
+  | inr over ↦ let own = cond_false (is_clear_of x y) over in absurd (omega (arith, h, own))
 ]
   where
     cond_true : (b : Bool) → b ≡ true → ◌≡◌ {A = ℕ} (cond b 0 1) 0
@@ -120,7 +120,7 @@ apart_all x (y ∷ xs) h = elim (cases_Bool (are_apart x y)) [
     cond_false false h = refl
     cond_false true h = absurd cc
 
-disjoint_of : (xs : List Leaf) → ((x : Leaf) → IsOneOf x xs → overlaps x xs ≤ cond (are_apart x x) 0 1) → are_disjoint (map branch_to xs) ≡ true
+disjoint_of : (xs : List Leaf) → ((x : Leaf) → IsOneOf x xs → overlaps x xs ≤ cond (is_clear_of x x) 0 1) → are_disjoint (map branch_to xs) ≡ true
 disjoint_of [] f = refl
 disjoint_of (x ∷ xs) f =
     and_from (list_all (λ (other : Branch). is_apart (stretch_of (branch_to x)) other) (map branch_to xs)) (are_disjoint (map branch_to xs))
@@ -138,22 +138,22 @@ all_met IsSound leaves wrong missing all joined none h =
     let right = right_all IsSound leaves wrong both.0 h in (
       All-from_recursion IsSound leaves (all_of IsSound leaves (λ x one. (right x one).0)),
       both.1,
-      disjoint_of leaves (λ x one. elim (cases_lt (cond (are_apart x x) 0 1) (overlaps x leaves)) [ inl over ↦ absurd ((right x one).1 over) | inr not ↦ not ]),
+      disjoint_of leaves (λ x one. elim (cases_lt (cond (is_clear_of x x) 0 1) (overlaps x leaves)) [ inl over ↦ absurd ((right x one).1 over) | inr not ↦ not ]),
     )
 
 -- ---- something is wrong
 -- a leaf that overlaps one of others isn't apart from all
-not_all : (x : Leaf) (xs : List Leaf) → 0 < overlaps x xs → list_all (are_apart x) xs ≡ false
-not_all x xs h = let c = some_crossed x xs h in (let P : List Leaf → Type 0 = λ zs. list_all (are_apart x) zs ≡ false in subst P (sym c.is) (off c.before c.behind c.y c.over))
+not_all : (x : Leaf) (xs : List Leaf) → 0 < overlaps x xs → list_all (is_clear_of x) xs ≡ false
+not_all x xs h = let c = some_crossed x xs h in (let P : List Leaf → Type 0 = λ zs. list_all (is_clear_of x) zs ≡ false in subst P (sym c.is) (off c.before c.behind c.y c.over))
   where
-    off : (before behind : List Leaf) (y : Leaf) → are_apart x y ≡ false → list_all (are_apart x) (before ++ (y ∷ behind)) ≡ false
-    off [] behind y over = and_left (are_apart x y) (list_all (are_apart x) behind) over
-    off (z ∷ before) behind y over = and_right (are_apart x z) (list_all (are_apart x) (before ++ (y ∷ behind))) (off before behind y over)
+    off : (before behind : List Leaf) (y : Leaf) → is_clear_of x y ≡ false → list_all (is_clear_of x) (before ++ (y ∷ behind)) ≡ false
+    off [] behind y over = and_left (is_clear_of x y) (list_all (is_clear_of x) behind) over
+    off (z ∷ before) behind y over = and_right (is_clear_of x z) (list_all (is_clear_of x) (before ++ (y ∷ behind))) (off before behind y over)
 
-some_over : (x : Leaf) (xs : List Leaf) → list_all (are_apart x) xs ≡ false → 0 < overlaps x xs
+some_over : (x : Leaf) (xs : List Leaf) → list_all (is_clear_of x) xs ≡ false → 0 < overlaps x xs
 some_over x [] h = absurd cc
-some_over x (y ∷ xs) h = elim (and_cases (are_apart x y) (list_all (are_apart x) xs) h) [
-  | inl over ↦ let own = cond_off (are_apart x y) over in omega (arith, own)
+some_over x (y ∷ xs) h = elim (and_cases (is_clear_of x y) (list_all (is_clear_of x) xs) h) [
+  | inl over ↦ let own = cond_off (is_clear_of x y) over in omega (arith, own)
   | inr more ↦ let rest = some_over x xs more in omega (arith, rest)
 ]
   where
@@ -161,7 +161,7 @@ some_over x (y ∷ xs) h = elim (and_cases (are_apart x y) (list_all (are_apart 
     cond_off false h = refl
     cond_off true h = absurd cc
 
-parts_of : (x z : Leaf) (before behind : List Leaf) → overlaps x (before ++ (z ∷ behind)) ≡ overlaps x (before ++ behind) + cond (are_apart x z) 0 1
+parts_of : (x z : Leaf) (before behind : List Leaf) → overlaps x (before ++ (z ∷ behind)) ≡ overlaps x (before ++ behind) + cond (is_clear_of x z) 0 1
 parts_of x z before behind =
     let a = overlaps-append x before (z ∷ behind) in
     let b = overlaps-append x before behind in

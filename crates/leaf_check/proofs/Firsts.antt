@@ -15,7 +15,7 @@ use Rattle.image_check.specs.Told.{IsBreachOf}
 use Rattle.image_check.specs.WrongValues.{IsFirstOf, sooner_of, wrong_at}
 use Rattle.image_check.specs.declared.wrong_value.WrongValue.{WrongValue}
 use Rattle.leaf_check.specs.Overlaps.{StandsBefore}
-use Rattle.leaf_check.specs.Standings.{IsFirstPlaced, IsPlacedWrong, IsStanding, IsStandingWrong, known_misfit, standing_misfit}
+use Rattle.leaf_check.specs.Standings.{IsFirstPlaced, IsPlacedWrong, TellsStanding, IsStandingWrong, known_misfit, standing_misfit}
 use Rattle.leaf_check.specs.declared.standing.Standing.{Standing}
 use Rattle.leaf_check.proofs.Standings.{misfit_is, misfit_known, misfit_needs, misfit_only}
 use Rattle.leaf_check.proofs.Sweeps.{none_in_nil, one_front, one_of_two, the_one}
@@ -110,17 +110,17 @@ place_not y here other at ol oo al ao not same =
     ]
 
 -- what is told first at the least place is told first of all
-pub first_placed : (contents : ℕ → List ℕ) (s : Standing) (here : Leaf) (wrong : List Leaf) (at : Wrong) → ((k : ℕ) → IsBytes (contents k)) → IsStanding (drop here.offs (contents here.lnum)) s → ((other : Leaf) → IsOneOf other wrong → StandsBefore other here → ⊥)
+pub first_placed : (contents : ℕ → List ℕ) (s : Standing) (here : Leaf) (wrong : List Leaf) (at : Wrong) → ((k : ℕ) → IsBytes (contents k)) → TellsStanding (drop here.offs (contents here.lnum)) s → ((other : Leaf) → IsOneOf other wrong → StandsBefore other here → ⊥)
     → IsFirstWrong (IsStandingWrong s here wrong) at → IsFirstPlaced contents wrong at
 first_placed contents s here wrong at fits is least first = record {
   first = first_there;
   low = λ other one h. least other one (elim h [ inl less ↦ inl (let e = first.wrong.at_lnum in omega (arith, less, e)) | inr (same, less) ↦ inr (same ∙ first.wrong.at_lnum, (let e = first.wrong.at_offs in omega (arith, less, e))) ]);
 }
   where
-    there : (y : Leaf) → y.lnum ≡ here.lnum → y.offs ≡ here.offs → IsStanding (drop y.offs (contents y.lnum)) s
+    there : (y : Leaf) → y.lnum ≡ here.lnum → y.offs ≡ here.offs → TellsStanding (drop y.offs (contents y.lnum)) s
     there y l o =
-        let P : ℕ → Type 0 = λ k. IsStanding (drop here.offs (contents k)) s in
-        let Q : ℕ → Type 0 = λ k. IsStanding (drop k (contents y.lnum)) s in
+        let P : ℕ → Type 0 = λ k. TellsStanding (drop here.offs (contents k)) s in
+        let Q : ℕ → Type 0 = λ k. TellsStanding (drop k (contents y.lnum)) s in
         subst Q (sym o) (subst P (sym l) is)
 
     first_there : IsFirstWrong (IsPlacedWrong contents wrong) at
@@ -189,6 +189,6 @@ least_more least x now done (inr (not, e)) h =
     })
 
 -- along the option that was answered
-pub some_placed : (contents : ℕ → List ℕ) (s : Standing) (here : Leaf) (wrong : List Leaf) (o : Option Breach) → ((k : ℕ) → IsBytes (contents k)) → IsStanding (drop here.offs (contents here.lnum)) s → ((other : Leaf) → IsOneOf other wrong → StandsBefore other here → ⊥)
+pub some_placed : (contents : ℕ → List ℕ) (s : Standing) (here : Leaf) (wrong : List Leaf) (o : Option Breach) → ((k : ℕ) → IsBytes (contents k)) → TellsStanding (drop here.offs (contents here.lnum)) s → ((other : Leaf) → IsOneOf other wrong → StandsBefore other here → ⊥)
     → IfSome o (IsBreachOf rules.Leaves (IsFirstWrong (IsStandingWrong s here wrong))) → IfSome o (IsBreachOf rules.Leaves (IsFirstPlaced contents wrong))
 some_placed contents s here wrong o fits is least h = some_breach (IsFirstWrong (IsStandingWrong s here wrong)) (IsFirstPlaced contents wrong) o (λ at first. first_placed contents s here wrong at fits is least first) h

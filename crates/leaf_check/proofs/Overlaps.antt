@@ -5,7 +5,7 @@ use Rattle.std.proofs.lemmas.Bool.{cases_Bool, cases_lt, eqb-true, eq-eqb, lt-le
 use Rattle.std.specs.List.{AllByRecursion}
 use Rattle.index_tree.specs.declared.leaf.Leaf.{Leaf}
 use Rattle.index_media.specs.PlacedRow.{node_end}
-use Rattle.leaf_check.specs.Overlaps.{IsNarrow, IsOverlapped, StandsBefore, are_apart, overlaps, place_rank, touches, touches_last, touches_next}
+use Rattle.leaf_check.specs.Overlaps.{IsNarrow, IsOverlapped, StandsBefore, is_clear_of, overlaps, place_rank, touches, touches_last, touches_next}
 
 -- ---- two leaves
 -- two leaves overlap
@@ -14,7 +14,7 @@ record Cross (a b : Leaf) : Type 0 where
   first : b.offs < node_end (a.offs + a.len)
   other : a.offs < node_end (b.offs + b.len)
 
-cross_parts : (a b : Leaf) → are_apart a b ≡ false → Cross a b
+cross_parts : (a b : Leaf) → is_clear_of a b ≡ false → Cross a b
 cross_parts a b h =
     let one = or_parts (not (a.lnum == b.lnum)) (nat_le (node_end (a.offs + a.len)) b.offs || nat_le (node_end (b.offs + b.len)) a.offs) h in
     let two = or_parts (nat_le (node_end (a.offs + a.len)) b.offs) (nat_le (node_end (b.offs + b.len)) a.offs) one.1 in
@@ -24,7 +24,7 @@ cross_parts a b h =
       other = leb-false (node_end (b.offs + b.len)) a.offs two.1;
     }
 
-cross_of : (a b : Leaf) → Cross a b → are_apart a b ≡ false
+cross_of : (a b : Leaf) → Cross a b → is_clear_of a b ≡ false
 cross_of a b h =
     or_from (not (a.lnum == b.lnum)) (nat_le (node_end (a.offs + a.len)) b.offs || nat_le (node_end (b.offs + b.len)) a.offs) (not_from_true (a.lnum == b.lnum) (eq-eqb a.lnum b.lnum h.lnum))
     (or_from (nat_le (node_end (a.offs + a.len)) b.offs) (nat_le (node_end (b.offs + b.len)) a.offs) (lt-leb (node_end (a.offs + a.len)) b.offs h.first) (lt-leb (node_end (b.offs + b.len)) a.offs h.other))
@@ -32,7 +32,7 @@ cross_of a b h =
 cross_back : (a b : Leaf) → Cross a b → Cross b a
 cross_back a b h = record { lnum = sym h.lnum; first = h.other; other = h.first }
 
-pub crossed_back : (a b : Leaf) → are_apart a b ≡ false → are_apart b a ≡ false
+pub crossed_back : (a b : Leaf) → is_clear_of a b ≡ false → is_clear_of b a ≡ false
 crossed_back a b h = cross_of b a (cross_back a b (cross_parts a b h))
 
 -- one comes before another in the order, or both have one place
@@ -113,7 +113,7 @@ pub record Crossed (x : Leaf) (ys : List Leaf) : Type 0 where
   pub before : List Leaf
   pub behind : List Leaf
   pub is : ys ≡ before ++ (y ∷ behind)
-  pub over : are_apart x y ≡ false
+  pub over : is_clear_of x y ≡ false
 
 cond_true : (b : Bool) → b ≡ true → ◌≡◌ {A = ℕ} (cond b 0 1) 0
 cond_true true h = refl
@@ -125,9 +125,9 @@ cond_false true h = absurd cc
 
 pub some_crossed : (x : Leaf) (ys : List Leaf) → 0 < overlaps x ys → Crossed x ys
 some_crossed x [] h = absurd (omega (arith, h))
-some_crossed x (y ∷ ys) h = elim (cases_Bool (are_apart x y)) [
+some_crossed x (y ∷ ys) h = elim (cases_Bool (is_clear_of x y)) [
   | inl apart ↦
-      let own = cond_true (are_apart x y) apart in
+      let own = cond_true (is_clear_of x y) apart in
       let more = some_crossed x ys (omega (arith, h, own)) in
       record { y = more.y; before = y ∷ more.before; behind = more.behind; is = ap (λ (zs : List Leaf). y ∷ zs) more.is; over = more.over }
   | inr over ↦ record { y = y; before = []; behind = ys; is = refl; over = over }
@@ -166,8 +166,8 @@ narrow_at (x ∷ before) behind y h = narrow_at before behind y h.1
 later_apart : (x : Leaf) (rest : List Leaf) → IsNarrow x → AllNarrow rest → AllAbove (place_rank x) rest → Ascend rest → touches_next x rest ≡ false → overlaps x rest ≡ 0
 later_apart x [] nx narrow above up none = refl
 later_apart x (n ∷ more) nx narrow above up none =
-    let apart : are_apart x n ≡ true = not-false (are_apart x n) none in
-    let own = cond_true (are_apart x n) apart in
+    let apart : is_clear_of x n ≡ true = not-false (is_clear_of x n) none in
+    let own = cond_true (is_clear_of x n) apart in
     elim (cases_lt 0 (overlaps x more)) [
       | inl some ↦
           let c = some_crossed x more some in
@@ -228,7 +228,7 @@ earlier_before x (d ∷ done) nx narrow below up none some =
     let end = ends_in d done in
     let p = end.0 in
     let y = c.y in
-    let last : are_apart x p ≡ true = (let P : Option Leaf → Type 0 = λ o. touches_last o x ≡ false in not-false (are_apart x p) (subst P end.1 none)) in
+    let last : is_clear_of x p ≡ true = (let P : Option Leaf → Type 0 = λ o. touches_last o x ≡ false in not-false (is_clear_of x p) (subst P end.1 none)) in
     let A : List Leaf → Type 0 = λ zs. Ascend zs in
     let N : List Leaf → Type 0 = λ zs. AllNarrow zs in
     let B : List Leaf → Type 0 = λ zs. AllBelow (place_rank x) zs in
@@ -240,7 +240,7 @@ earlier_before x (d ∷ done) nx narrow below up none some =
     let up_y = rises y x ny nx high in
     let same = cross.lnum in
     elim (up_to_end c.before c.behind end.2.front y p (sym c.is ∙ end.2.is) (subst A c.is up)) [
-      | inl e ↦ (let f : true ≡ false = sym last ∙ ap (are_apart x) (sym e) ∙ c.over in absurd cc)
+      | inl e ↦ (let f : true ≡ false = sym last ∙ ap (is_clear_of x) (sym e) ∙ c.over in absurd cc)
       | inr low ↦ elim (cases_lt y.offs x.offs) [
         | inl less ↦ record { crossed = c; stands = inr (sym same, less) }
         | inr not ↦
@@ -256,7 +256,7 @@ pub overlaps-append : (x : Leaf) (xs ys : List Leaf) → overlaps x (xs ++ ys) �
 overlaps-append x [] ys = omega arith
 overlaps-append x (z ∷ xs) ys = let more = overlaps-append x xs ys in omega (arith, more)
 
-overlaps_at : (x z : Leaf) (before behind : List Leaf) → overlaps x (before ++ (z ∷ behind)) ≡ overlaps x before + (cond (are_apart x z) 0 1 + overlaps x behind)
+overlaps_at : (x z : Leaf) (before behind : List Leaf) → overlaps x (before ++ (z ∷ behind)) ≡ overlaps x before + (cond (is_clear_of x z) 0 1 + overlaps x behind)
 overlaps_at x z before behind = overlaps-append x before (z ∷ behind)
 
 pub overlapped_parts : (x : Leaf) (done rest : List Leaf) → IsOverlapped (done ++ (x ∷ rest)) x → (0 < overlaps x done) ⊎ (0 < overlaps x rest)
@@ -274,8 +274,8 @@ overlapped_before x before behind h = let e = overlaps_at x x before behind in o
 pub overlapped_behind : (x : Leaf) (before behind : List Leaf) → 0 < overlaps x behind → IsOverlapped (before ++ (x ∷ behind)) x
 overlapped_behind x before behind h = let e = overlaps_at x x before behind in omega (arith, h, e)
 
-pub one_overlaps : (x z : Leaf) (before behind : List Leaf) → are_apart x z ≡ false → 0 < overlaps x (before ++ (z ∷ behind))
-one_overlaps x z before behind h = let e = overlaps_at x z before behind in let own = cond_false (are_apart x z) h in omega (arith, e, own)
+pub one_overlaps : (x z : Leaf) (before behind : List Leaf) → is_clear_of x z ≡ false → 0 < overlaps x (before ++ (z ∷ behind))
+one_overlaps x z before behind h = let e = overlaps_at x z before behind in let own = cond_false (is_clear_of x z) h in omega (arith, e, own)
 
 -- ---- lists in order
 pub ascend_behind : (done : List Leaf) (x : Leaf) (rest : List Leaf) → Ascend (done ++ (x ∷ rest)) → Ascend (x ∷ rest)
@@ -325,8 +325,8 @@ step_touches x done rest h = elim (or_cases (touches_last (last_of None done) x)
   | inr next ↦ overlapped_behind x done rest (next_overlaps rest next)
 ]
   where
-    not_apart : (y : Leaf) → not (are_apart x y) ≡ true → are_apart x y ≡ false
-    not_apart y h = not-true (are_apart x y) h
+    not_apart : (y : Leaf) → not (is_clear_of x y) ≡ true → is_clear_of x y ≡ false
+    not_apart y h = not-true (is_clear_of x y) h
 
     next_overlaps : (rest : List Leaf) → touches_next x rest ≡ true → 0 < overlaps x rest
     next_overlaps [] h = absurd cc

@@ -15,7 +15,7 @@ use Rattle.index_tree.specs.declared.leaf.Leaf.{Leaf}
 use Rattle.sound_image.specs.Frames.{HasFrameAt, IsKnownAt, NeedsFeature}
 use Rattle.sound_image.specs.LeafBreaches.{HasLeafNodeOf, IsLeafMisfit, key_type}
 use Rattle.sound_image.specs.Wrong.{Misfit, differs, needs, type_byte}
-use Rattle.leaf_check.specs.Standings.{IsStanding, known_misfit, leaf_number, standing_misfit}
+use Rattle.leaf_check.specs.Standings.{TellsStanding, known_misfit, leaf_number, standing_misfit}
 use Rattle.leaf_check.specs.declared.standing.Standing.{Standing}
 use Rattle.leaf_check.proofs.WholeLeaves.{bytes_drop, node_length, stands_len}
 
@@ -106,7 +106,7 @@ pub misfit_known : (s : Standing) (x : Leaf) → s.feature ≡ None → standing
 misfit_known s x e = rw e refl
 
 -- ---- what is told of a leaf
-module _ (contents : ℕ → List ℕ) (x : Leaf) (s : Standing) (fits : IsBytes (contents x.lnum)) (is : IsStanding (drop x.offs (contents x.lnum)) s) where
+module _ (contents : ℕ → List ℕ) (x : Leaf) (s : Standing) (fits : IsBytes (contents x.lnum)) (is : TellsStanding (drop x.offs (contents x.lnum)) s) where
   leb : List ℕ
   leb = contents x.lnum
 

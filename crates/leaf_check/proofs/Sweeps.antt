@@ -4,7 +4,7 @@ use Rattle.std.specs.List.{AllByRecursion}
 use Rattle.std.proofs.lemmas.Bool.{cases_lt}
 use Rattle.index_tree.specs.declared.leaf.Leaf.{Leaf}
 use Rattle.sound_image.specs.Wrong.{IsOneOf}
-use Rattle.leaf_check.specs.Overlaps.{IsNarrow, IsOverlapped, StandsBefore, are_apart, overlaps, place_rank, touches}
+use Rattle.leaf_check.specs.Overlaps.{IsNarrow, IsOverlapped, StandsBefore, is_clear_of, overlaps, place_rank, touches}
 use Rattle.leaf_check.specs.Sweep.{IsBadAmong, IsJudged, IsRightAmong, IsSwept, IsUpTo}
 use Rattle.leaf_check.proofs.Overlaps.{AllAbove, AllNarrow, Ascend, CrossedBefore, crossed_back, last_of, one_overlaps, overlapped_behind, step_apart, step_touches, ascend_behind, narrow_behind}
 
@@ -99,7 +99,7 @@ swept_right IsSound done rest leaves wrong x split narrow up none sound h =
         | inl seen ↦ h.rest leaf seen
         | inr own ↦
             let S : Leaf → Type 0 = λ y. IsRightAmong IsSound leaves y ⊎ IsUpTo wrong y in
-            subst S (sym (the_one leaf x own)) (elim (cases_lt (cond (are_apart x x) 0 1) (overlaps x leaves)) [
+            subst S (sym (the_one leaf x own)) (elim (cases_lt (cond (is_clear_of x x) 0 1) (overlaps x leaves)) [
               | inr not ↦ inl (sound, λ over. absurd (omega (arith, not, over)))
               | inl over ↦
                   let c = step_apart x done rest (subst N split narrow) (subst A split up) none (subst O split over) in

@@ -12,7 +12,7 @@ use Rattle.sound_image.specs.Wrong.{IsFirstWrong, IsOneOf, Misfit, Wrong, differ
 use Rattle.leaf_check.specs.declared.standing.Standing.{Standing}
 
 -- bytes begin with this: the feature that is needed there, the leaf node, and the byte that stands for a type
-pub record IsStanding (rest : List ℕ) (standing : Standing) : Type 0 where
+pub record TellsStanding (rest : List ℕ) (standing : Standing) : Type 0 where
   pub needed : IfSome standing.feature (NeedsFeature rest 0)
   pub only : (what : Feature) → NeedsFeature rest 0 what → standing.feature ≡ Some what
   pub stands : IfSome standing.node (λ found. (node : LeafNode) × StandsAt rest 0 found (leaf node))

@@ -6,7 +6,7 @@ ghost use Rattle.ubi_volume.specs.Volume.{Keeps, SameShape};
 ghost use Rattle.ubi_volume.specs.Faults.{HasAreaCause, StaysSureArea};
 ghost use Rattle.sound_image.specs.LeafBreaches.{key_type};
 ghost use Rattle.sound_image.specs.Wrong.{differs};
-ghost use Rattle.leaf_check.specs.Standings.{IsStanding, known_misfit};
+ghost use Rattle.leaf_check.specs.Standings.{TellsStanding, known_misfit};
 
 use crate::nodes::first_leaf;
 use image_check::{WrongValue, needed_feature, type_byte, type_number};
@@ -31,7 +31,7 @@ pub(crate) fn standing_at<V: Volume>(
     volume: &mut V,
     leaf: &Leaf,
 ) -> Result<Standing, AreaFault>
-    ensures standing { IfOk result (IsStanding (drop leaf.now.offs ((V.state volume.old).holds leaf.now.lnum))) }
+    ensures standing { IfOk result (TellsStanding (drop leaf.now.offs ((V.state volume.old).holds leaf.now.lnum))) }
     ensures keeps { Keeps (V.state volume.old) (V.state volume.new) }
     ensures shape { SameShape (V.state volume.old) (V.state volume.new) }
     ensures cause { HasAreaCause (V.state volume.old).faults (V.state volume.new).faults result }
@@ -52,7 +52,7 @@ pub(crate) fn standing_at<V: Volume>(
 // What bytes begin with.
 fn standing_in(rest: &[u8]) -> Standing
     requires { length rest.now < 2 ^ 32 }
-    ensures { IsStanding rest.now result }
+    ensures { TellsStanding rest.now result }
 {
     Standing {
         feature: needed_feature(rest, 0),

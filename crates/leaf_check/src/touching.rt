@@ -4,7 +4,7 @@ ghost use Rattle.std.specs.Prelude.{◌≡◌, ◌+◌, ◌↔◌, IsTrue};
 ghost use Rattle.index_media.specs.PlacedRow.{node_end as rounded};
 ghost use Rattle.index_tree.specs.declared.leaf.Leaf.{Leaf as ALeaf};
 ghost use Rattle.sound_image.specs.Wrong.{IsOneOf};
-ghost use Rattle.leaf_check.specs.Overlaps.{StandsBefore, are_apart as is_apart_from, touches as touches_one, touches_last as touches_the_last, touches_next as touches_the_next};
+ghost use Rattle.leaf_check.specs.Overlaps.{StandsBefore, is_clear_of as is_clear_of_another, touches as touches_one, touches_last as touches_the_last, touches_next as touches_the_next};
 
 use index_tree::Leaf;
 
@@ -25,7 +25,7 @@ fn touches_last(last: Option<Leaf>, leaf: &Leaf) -> bool
     let Some(other) = last else {
         return false;
     };
-    !are_apart(leaf, &other)
+    !is_clear_of(leaf, &other)
 }
 
 // Whether it overlaps the first of those behind it.
@@ -35,12 +35,12 @@ fn touches_next(leaf: &Leaf, behind: &[Leaf]) -> bool
     let Some((other, _rest)) = behind.split_first() else {
         return false;
     };
-    !are_apart(leaf, other)
+    !is_clear_of(leaf, other)
 }
 
 // Whether two leaves don't overlap: their LEBs differ, or one ends, rounded up to 8, before the other begins.
-fn are_apart(leaf: &Leaf, other: &Leaf) -> bool
-    ensures { result ≡ is_apart_from leaf.now other.now }
+fn is_clear_of(leaf: &Leaf, other: &Leaf) -> bool
+    ensures { result ≡ is_clear_of_another leaf.now other.now }
 {
     if leaf.lnum != other.lnum {
         return true;

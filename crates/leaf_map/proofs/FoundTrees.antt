@@ -2,7 +2,7 @@
 use Rattle.std.proofs.Common.{◌≡◌, ◌⊎◌, ℕ, true, false, not, ◌&&◌, List, [], ◌∷◌, refl, sym, ap, subst, ◌∙◌, inl, inr, Option, Some, None}
 use Rattle.std.specs.Prelude.{◌==◌, is_some}
 use Rattle.std.specs.BTreeMap.{insert_entry, is_at}
-use Rattle.std.specs.List.{AllByRecursion, list_all}
+use Rattle.std.specs.List.{AllByRecursion, list_all, list_any}
 use Rattle.std.specs.Map.{lookup}
 use Rattle.std.specs.Ordering.{nat_cmp}
 use Rattle.std.specs.declared.cmp.Ordering.{Ordering}
@@ -21,17 +21,18 @@ use Rattle.fs_model.specs.Path.{is_same_name}
 use Rattle.fs_model.specs.Recovery.{Numbered}
 use Rattle.fs_laws.specs.Maps.{IsOrder, apart, key_cases, set_here, set_other}
 use Rattle.fs_laws.specs.Orders.{named, numbers, pairs}
-use Rattle.leaf_map.specs.Allowed.{FitsTree, IsCopied, IsNodeOf, IsOwnNode, IsReadLeaf, IsSafe, AreForgotten, IsForgotten, IsOfForgotten, IsTouched, IsTouchedIn, LosesNothing, in_turn}
+use Rattle.leaf_map.specs.Allowed.{AgreeBut, FitsTree, IsCopied, IsNodeOf, IsOwnNode, IsReadLeaf, IsSafe, AreForgotten, IsForgotten, IsOfForgotten, IsTouched, IsTouchedIn, LosesNothing, in_turn}
 use Rattle.leaf_map.specs.Kept.{Kept, Placed, kept_at, shown, shown_by}
 use Rattle.leaf_map.specs.LastChange.{last_made, makes_block, makes_entry, makes_inode}
 use Rattle.leaf_map.specs.LeafMap.{HasKeyOf, IsKeyed, IsLeafMap, are_apart, shows_same}
 use Rattle.leaf_map.specs.Parts.{Committed, Parts, is_shown}
-use Rattle.leaf_map.specs.Recovered.{committed_highest, found_leaves, leaves_found, spare_copies, stand_in}
+use Rattle.leaf_map.specs.Recovered.{committed_highest, found_leaves, leaves_found, listed_left, spare_copies, stand_in}
 use Rattle.leaf_map.specs.Shown.{blocks_of, entries_of, inodes_of, tree_of, with_block, with_entry, with_inode}
 use Rattle.leaf_map.proofs.FoundKeys.{IsGood, has_no_link, stand_linkless, copy_keyed, copy_place, filter_all, find_all, gone_entry, stand_keyed, stand_plain}
 use Rattle.leaf_map.proofs.FoundLeaves.{found_map, pairs_of}
 use Rattle.leaf_map.proofs.FoundNodes.{filter_copied, find_copied, found_nodes, itself, spare_good, spare_known}
 use Rattle.leaf_map.proofs.Forgets.{unlinked}
+use Rattle.leaf_map.proofs.KnownNodes.{all_left}
 use Rattle.leaf_map.proofs.Names.{is_name, key, same_key}
 use Rattle.leaf_map.proofs.Ranks.{rank_is, rank_shown}
 use Rattle.leaf_map.proofs.Sorted.{leaves_sorted}
@@ -370,7 +371,7 @@ fits_tree parts kept changes fits = record {
   nodes = fits.nodes;
   leaves = found;
   sorted = leaves_sorted kept (committed_highest parts) fits.read.leaves;
-  shows = record {
+  shows = subst (λ (list : List ℕ). AgreeBut list (in_turn changes) (tree_of F highest) tree) (sym all) (record {
     there = λ q. there q (inode_at (tree_of kept highest) q) refl (inode_at (tree_of F highest) q) refl;
     inodes = λ q. near inode_kind F kept q (IsTouched (last_made (makes_inode q) tree (in_turn changes)) ⊎ AreForgotten parts.listed (in_turn changes) (tree_of F highest) tree q) found.apart fits.read.leaves.apart
         (λ n v i e. safe n i (λ t. inl (touched_inode tree (in_turn changes) (shown n) q v e t)) (λ t. inr (forgotten q (forgotten_inode parts.listed (in_turn changes) tree (shown n) q v e t)))) (λ n v i e. look inode_kind q n v i e);
@@ -379,12 +380,15 @@ fits_tree parts kept changes fits = record {
     entries = λ q. near entry_kind F kept q (IsTouched (last_made (makes_entry q) tree (in_turn changes))) found.apart fits.read.leaves.apart
         (λ n v i e. safe n i (λ t. touched_entry tree (in_turn changes) (shown n) q v e t) (λ t. absurd (forgotten_entry parts.listed (in_turn changes) tree (shown n) q v e t))) (λ n v i e. look entry_kind q n v i e);
     highest = refl;
-  };
-  listed = fits.listed;
+  });
+  listed = λ q none. ap (λ (list : List ℕ). list_any (λ ino. q == ino) list) all ∙ fits.listed q none;
 }
   where
     highest : ℕ
     highest = committed_highest parts
+
+    all : listed_left parts ≡ parts.listed
+    all = all_left parts kept fits.read
 
     F : List Kept
     F = leaves_found parts

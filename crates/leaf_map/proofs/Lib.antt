@@ -16,6 +16,7 @@ mod FoundNodes
 mod FoundTrees
 mod Inodes
 mod Keyed
+mod KnownNodes
 mod Lasts
 mod Maps
 mod Names

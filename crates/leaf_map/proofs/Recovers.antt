@@ -7,7 +7,7 @@ use Rattle.fs_model.specs.Recovery.{Head, IsRecovered, KeepsSynced, Numbered, re
 use Rattle.leaf_map.specs.Allowed.{FitsTree, in_turn}
 use Rattle.leaf_map.specs.Kept.{Kept}
 use Rattle.leaf_map.specs.Parts.{Parts}
-use Rattle.leaf_map.specs.Recovered.{committed_highest, in_order, leaves_after, leaves_found, leaves_left, moved, recovered_of, tree_found}
+use Rattle.leaf_map.specs.Recovered.{committed_highest, in_order, leaves_after, leaves_found, leaves_left, listed_left, moved, recovered_of, tree_found}
 use Rattle.leaf_map.specs.Shown.{tree_of}
 use Rattle.leaf_map.proofs.Agrees.{agree_after}
 use Rattle.leaf_map.proofs.Copies.{moved_node, same_tree}
@@ -25,13 +25,13 @@ found_is parts committed changes fits =
     let after : List Kept = leaves_after kept (in_order parts.nodes) in
     let start = leaves_sorted kept before fits.leaves in
     let all = tree_replayed (in_order parts.nodes) _ kept before read fits.leaves in
-    let close = agree_after parts.listed (in_turn changes) (tree_of kept before) committed start fits.sorted fits.shows in
+    let close = agree_after (listed_left parts) (in_turn changes) (tree_of kept before) committed start fits.sorted fits.shows in
     let is = map_replayed (in_order parts.nodes) _ kept read fits.leaves in
     same_tree (moved parts (leaves_left parts)) (leaves_left parts) now (moved_node parts (leaves_left parts))
-    ∙ orphans_tree parts.listed after now is
-    ∙ ap (λ t. fold forget t parts.listed) all
-    ∙ forgets_close parts.listed (apply (tree_of kept before) (in_turn changes)) (apply committed (in_turn changes)) (apply_sorted (in_turn changes) (tree_of kept before) start) (apply_sorted (in_turn changes) committed fits.sorted) close
-    ∙ forgets_all parts.listed (apply committed (in_turn changes)) (apply_sorted (in_turn changes) committed fits.sorted) fits.listed
+    ∙ orphans_tree (listed_left parts) after now is
+    ∙ ap (λ t. fold forget t (listed_left parts)) all
+    ∙ forgets_close (listed_left parts) (apply (tree_of kept before) (in_turn changes)) (apply committed (in_turn changes)) (apply_sorted (in_turn changes) (tree_of kept before) start) (apply_sorted (in_turn changes) committed fits.sorted) close
+    ∙ forgets_all (listed_left parts) (apply committed (in_turn changes)) (apply_sorted (in_turn changes) committed fits.sorted) fits.listed
 
 pub found_allowed : (parts : Parts) (committed : Tree) (heads : List Head) (counts : List ℕ) → KeepsSynced heads counts → FitsTree parts committed (taken heads counts) → IsRecovered committed heads (tree_found parts)
 found_allowed parts committed heads counts keeps fits = record { counts = counts; synced = keeps; tree_is = found_is parts committed (taken heads counts) fits }

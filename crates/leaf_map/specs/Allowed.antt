@@ -15,8 +15,8 @@ use Rattle.change_nodes.specs.Nodes.{change_of}
 use Rattle.leaf_map.specs.Kept.{Kept, Placed, shown_by}
 use Rattle.leaf_map.specs.LastChange.{IsSorted, Made, last_made, makes_block, makes_entry, makes_inode}
 use Rattle.leaf_map.specs.LeafMap.{IsLeafMap}
-use Rattle.leaf_map.specs.Parts.{Committed, Named, Parts, own_node}
-use Rattle.leaf_map.specs.Recovered.{committed_highest, in_order, leaves_found}
+use Rattle.leaf_map.specs.Parts.{Committed, Named, Parts, own_node, shows_nothing}
+use Rattle.leaf_map.specs.Recovered.{committed_highest, in_order, leaves_found, listed_left}
 use Rattle.leaf_map.specs.Shown.{tree_of}
 
 -- these nodes are nodes of the grammar with the numbers of these changes, and carry what recovery makes of them
@@ -57,13 +57,13 @@ pub record AgreeBut (listed : List ℕ) (changes : List Change) (a b : Tree) : T
 abbrev pub in_turn : Numbered → List Change
 in_turn changes = map (λ c. as_replayed c.1) (by_number changes)
 
--- What was read fits a committed tree and changes: the nodes carry the changes, both in order of number, the leaves that were found show that tree but for what the changes touch and for listed inodes that go, and what has no name at last is listed.
+-- What was read fits a committed tree and changes: the nodes carry the changes, both in order of number, the leaves that were found show that tree but for what the changes touch and for listed inodes that go, and what has no name at last is listed and goes.
 pub record FitsTree (parts : Parts) (committed : Tree) (changes : Numbered) : Type 0 where
   pub nodes : AreRead (in_order parts.nodes) (by_number changes)
   pub leaves : IsLeafMap (leaves_found parts)
   pub sorted : IsSorted committed
-  pub shows : AgreeBut parts.listed (in_turn changes) (tree_of (leaves_found parts) (committed_highest parts)) committed
-  pub listed : (q : ℕ) → is_nameless (apply committed (in_turn changes)) q ≡ true → list_any (λ ino. q == ino) parts.listed ≡ true
+  pub shows : AgreeBut (listed_left parts) (in_turn changes) (tree_of (leaves_found parts) (committed_highest parts)) committed
+  pub listed : (q : ℕ) → is_nameless (apply committed (in_turn changes)) q ≡ true → list_any (λ ino. q == ino) (listed_left parts) ≡ true
 
 -- each committed leaf has its own node, and with it is one of these
 abbrev pub AreOriginals : List Named → List Kept → List Committed → Type 0
@@ -78,10 +78,11 @@ abbrev pub IsNodeOf : List Kept → LeafNode → Type 0
 IsNodeOf [] node = ⊥
 IsNodeOf (x ∷ kept) node = (node ≡ x.node) ⊎ IsNodeOf kept node
 
--- a leaf as it was read: where it has an own node, that is the leaf's node
+-- a leaf as it was read: where it has an own node, that is the leaf's node; and no node of its key and length stands at its place that shows nothing
 pub record IsReadLeaf (parts : Parts) (x : Kept) (c : Committed) : Type 0 where
   pub leaf : c.leaf ≡ x.leaf
   pub own : (found : Placed) → own_node parts.named c ≡ Some found → found.node ≡ x.node
+  pub known : shows_nothing parts.named c ≡ false
 
 -- each of these leaves
 abbrev pub AreReadLeaves : Parts → List Kept → List Committed → Type 0

@@ -1,15 +1,14 @@
 -- The committed leaves that recovery can't find, and which of them the journal hasn't replaced.
-use Rattle.std.specs.Prelude.{ℕ, ◌==◌, ◌&&◌, not, is_some, Bool, false, if◌then◌else◌, List, [], ◌∷◌, ◌++◌, filter, map, Option, Some, None}
+use Rattle.std.specs.Prelude.{◌==◌, ◌&&◌, not, is_some, Bool, false, if◌then◌else◌, List, [], ◌∷◌, ◌++◌, filter, map, Option, Some, None}
 use Rattle.std.specs.List.{find, list_any}
 use Rattle.std.specs.Option.{option_map_or}
 use Rattle.media_leaf.specs.LeafNode.{LeafNode, entry}
 use Rattle.index_tree.specs.declared.leaf.Leaf.{Leaf}
 use Rattle.index_tree.specs.Order.{key_rank, leaf_rank}
-use Rattle.index_tree.specs.Removal.{same_leaf}
 use Rattle.fs_model.specs.Path.{is_empty, is_same_name}
 use Rattle.change_nodes.specs.Nodes.{leaf_key}
-use Rattle.leaf_map.specs.Kept.{Placed, kept_at, shown}
-use Rattle.leaf_map.specs.Parts.{Committed, Named, Parts, in_bud, is_shown, own_node}
+use Rattle.leaf_map.specs.Kept.{Placed}
+use Rattle.leaf_map.specs.Parts.{Committed, Named, Parts, in_bud, own_node, shows_nothing}
 use Rattle.leaf_map.specs.Recovered.{copies_left, in_order, leaf_at, leaves_found, spare_copies}
 
 -- the committed leaves that recovery can't find: names, of which neither the node nor a copy of it can be read, or whose node names no inode
@@ -17,14 +16,6 @@ abbrev pub lost_leaves : List Named → List Placed → List Committed → List 
 lost_leaves named copies [] = []
 lost_leaves named copies (x ∷ committed) =
     (if is_empty (leaf_at copies x (own_node named x)) then x ∷ [] else []) ++ lost_leaves named (copies_left copies x (own_node named x)) committed
-
--- whether an intact node of a leaf's key and length stands at its place, but shows nothing: of a name, an entry of inode number 0
-abbrev pub names_nothing : List Named → Committed → Bool
-names_nothing named x = by x.found
-  where
-    by : Option Placed → Bool
-    by None = false
-    by (Some found) = not (in_bud named x.leaf) && (not (is_shown (shown found.node)) && same_leaf x.leaf (kept_at found).leaf)
 
 -- whether two entries, which are no attributes, have the same directory and name
 abbrev pub have_same_name : LeafNode → LeafNode → Bool
@@ -52,7 +43,7 @@ names_left names (Some y) = filter (λ z. not (have_same_name y.node z.node)) na
 abbrev pub unnamed : List Named → List Placed → List Committed → List Leaf
 unnamed named names [] = []
 unnamed named names (x ∷ lost) =
-    if names_nothing named x then unnamed named names lost
+    if shows_nothing named x then unnamed named names lost
     else (if is_some (stands_for names x.leaf) then [] else x.leaf ∷ []) ++ unnamed named (names_left names (stands_for names x.leaf)) lost
 
 -- whether the journal has a node of the name of a lost leaf that can be read
@@ -69,4 +60,4 @@ missing_leaves parts = unnamed parts.named (spare_names parts) (lost_of parts)
 
 -- and those whose node names no inode
 abbrev pub empty_names : Parts → List Leaf
-empty_names parts = map (λ x. x.leaf) (filter (λ x. names_nothing parts.named x && not (is_renamed (in_order parts.nodes) x)) (lost_of parts))
+empty_names parts = map (λ x. x.leaf) (filter (λ x. shows_nothing parts.named x && not (is_renamed (in_order parts.nodes) x)) (lost_of parts))

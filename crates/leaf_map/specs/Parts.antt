@@ -1,6 +1,8 @@
 -- What a mount has read of a volume.
 use Rattle.std.specs.Prelude.{ℕ, ◌==◌, ◌&&◌, nat_le, not, Bool, false, if◌then◌else◌, List, Option, Some, None}
 use Rattle.std.specs.List.{list_any}
+use Rattle.std.specs.Option.{option_map_or}
+use Rattle.media_leaf.specs.LeafNode.{LeafNode, inode}
 use Rattle.index_tree.specs.declared.leaf.Leaf.{Leaf}
 use Rattle.index_tree.specs.Removal.{same_leaf}
 use Rattle.fs_model.specs.declared.change.Change.{Change}
@@ -55,3 +57,20 @@ own_node named x = by x.found
     by : Option Placed → Option Placed
     by None = None
     by (Some found) = if is_own named x.leaf found then Some found else None
+
+-- Whether an intact node of a leaf's key and length stands at its place, but shows nothing: an inode whose mode names no kind, or an entry of inode number 0.
+abbrev pub shows_nothing : List Named → Committed → Bool
+shows_nothing named x = by x.found
+  where
+    by : Option Placed → Bool
+    by None = false
+    by (Some found) = not (in_bud named x.leaf) && (not (is_shown (shown found.node)) && same_leaf x.leaf (kept_at found).leaf)
+
+-- whether a node is that of this inode, and has links
+abbrev pub has_links : ℕ → LeafNode → Bool
+has_links ino (inode node) = (node.ino == ino) && not (node.nlink == 0)
+has_links ino other = false
+
+-- whether a committed leaf's node is that of this inode and has links, although its mode names no kind
+abbrev pub is_linked_unknown : List Named → ℕ → Committed → Bool
+is_linked_unknown named ino x = option_map_or (λ (found : Placed). has_links ino found.node) x.found false && shows_nothing named x

@@ -14,11 +14,11 @@ use Rattle.change_nodes.specs.Nodes.{gone_inode, inode_node}
 use Rattle.leaf_map.specs.After.{is_gone, kept_after}
 use Rattle.leaf_map.specs.Kept.{Kept, Placed, kept_at, node_key, shown, shown_by}
 use Rattle.leaf_map.specs.LeafMap.{shows_same}
-use Rattle.leaf_map.specs.Parts.{Committed, Named, Parts, is_named, own_node}
+use Rattle.leaf_map.specs.Parts.{Committed, Named, Parts, is_linked_unknown, is_named, own_node}
 use Rattle.leaf_map.specs.Shown.{tree_of}
 
 -- ---- first, each leaf is found: at its own node, or at its copy
--- what stands for a node that nobody can read, until a later node takes its place: an inode without links, a block without a byte; a name can't be told
+-- what stands for a node that nobody can read, or that shows nothing, until a later node takes its place: an inode without links, a block without a byte; a name can't be told
 abbrev pub stand_in : Key → Option LeafNode
 stand_in (Ino ino) = Some (inode (inode_node ino gone_inode))
 stand_in (Block ino number) = Some (block (record { ino = ino; block = number; bytes = [] }))
@@ -86,6 +86,10 @@ abbrev pub leaves_after : List Kept → List Placed → List Kept
 leaves_after kept nodes = fold kept_after kept nodes
 
 -- ---- third, the orphans go that are listed
+-- The list without the inodes whose own node has links although nobody knows their kind: what stands for such a node has none.
+abbrev pub listed_left : Parts → List ℕ
+listed_left parts = filter (λ ino. not (list_any (is_linked_unknown parts.named ino) parts.committed)) parts.listed
+
 -- whether an inode without links is shown
 abbrev pub is_unlinked : ℕ → Option Change → Bool
 is_unlinked ino (Some (SetInode other node)) = (other == ino) && (node.nlink == 0)
@@ -129,7 +133,7 @@ pub record Recovered : Type 0 where
 
 -- the leaves after the third step
 abbrev pub leaves_left : Parts → List Kept
-leaves_left parts = fold without_orphan (leaves_after (leaves_found parts) (in_order parts.nodes)) parts.listed
+leaves_left parts = fold without_orphan (leaves_after (leaves_found parts) (in_order parts.nodes)) (listed_left parts)
 
 -- the highest number of the committed index
 abbrev pub committed_highest : Parts → ℕ

@@ -6,7 +6,8 @@ use Rattle.fs_model.specs.declared.inode.Entry.{Entry}
 use Rattle.fs_model.specs.declared.inode.Inode.{Inode}
 use Rattle.fs_model.specs.declared.inode.Kind.TheVariants.{File}
 use Rattle.fs_model.specs.Making.{new_dir, new_file}
-use Rattle.change_nodes.specs.Nodes.{node_of}
+use Rattle.media_leaf.specs.LeafNode.{inode}
+use Rattle.change_nodes.specs.Nodes.{inode_node, node_of}
 use Rattle.change_nodes.specs.Texts.{leaf_len}
 use Rattle.leaf_map.specs.Kept.{Kept, Placed, kept_at}
 use Rattle.leaf_map.specs.Parts.{Committed, Named, Parts}
@@ -71,6 +72,14 @@ orphan = own (at 20 0 1 (SetInode 65 (file 0))) ∷ own (at 20 160 2 (SetBlock 6
 -- it is listed
 abbrev pub still_orphan : Parts
 still_orphan = parts orphan [] [] (65 ∷ [])
+
+-- inode 65 with so many links, whose mode names no kind
+abbrev pub unknown : ℕ → Placed
+unknown nlink = record (at 20 0 1 (SetInode 65 (file nlink))) { node = inode (record (inode_node 65 (file nlink)) { mode = 0o644 }) }
+
+-- it is listed
+abbrev pub unknown_orphan : ℕ → Parts
+unknown_orphan nlink = parts (own (unknown nlink) ∷ []) [] [] (65 ∷ [])
 
 -- it got its link again
 abbrev pub linked_again : Parts

@@ -1,12 +1,14 @@
 // Leaves and journals worked by hand: what the definitions make of them.
 
 ghost use Rattle.std.specs.Prelude.{◌≡◌, ◌∷◌, []};
-ghost use Rattle.fs_model.specs.declared.change.Change.TheVariants.{CutBlocks, DropEntry, SetEntry};
+ghost use Rattle.fs_model.specs.declared.change.Change.TheVariants.{CutBlocks, DropEntry, DropInode, SetEntry};
+ghost use Rattle.change_nodes.specs.Nodes.{node_of};
 ghost use Rattle.leaf_map.specs.After.{kept_after};
+ghost use Rattle.leaf_map.specs.Kept.{kept_at};
 ghost use Rattle.leaf_map.specs.Recovered.{recovered_of, tree_found};
 ghost use Rattle.leaf_map.specs.Shown.{blocks_of, entries_of};
 ghost use Rattle.leaf_map.specs.SpaceFound.{empty_lebs, space_found};
-ghost use Rattle.leaf_map.specs.Worked.{am, another_key, area, at, bb, block_copy, collected, deleted, file, inode_copy, linked_again, name, one_is_gone, place_in_bud, places, replaced, still_orphan, three_blocks, two_heads, two_names, two_opened, two_owners};
+ghost use Rattle.leaf_map.specs.Worked.{am, another_key, area, at, bb, block_copy, collected, deleted, file, inode_copy, linked_again, name, one_is_gone, place_in_bud, places, replaced, still_orphan, three_blocks, two_heads, two_names, two_opened, two_owners, unknown, unknown_orphan};
 
 /// Of two names of one hash one goes, or is set again at its own place; a truncation to 4,096 bytes leaves the first block.
 pub fn leaves_are_told()
@@ -15,12 +17,15 @@ pub fn leaves_are_told()
     ensures cut { blocks_of (kept_after three_blocks (at 31 0 9 (CutBlocks 65 12288 4096))) ≡ ((65, 0), 97 ∷ []) ∷ [] }
 {}
 
-/// A listed orphan goes with its blocks, unless it got its link again. What was deleted isn't brought back by its copies.
+/// A listed orphan goes with its blocks, unless it got its link again. One of no known kind stays if its own node has links, and what
+/// stands for it stays with it. What was deleted isn't brought back by its copies.
 /// Nodes of two heads are applied in order of number, and the highest number is also one of theirs. A place in a bud is no
 /// original, and no node of another key is one; and a name whose original is gone stands at its copy, and not at that of another name of its hash.
 pub fn recovery_of_leaves_is_told()
     ensures orphan { tree_found still_orphan ≡ record { inodes = []; blocks = []; entries = []; highest = 65 } }
     ensures linked { tree_found linked_again ≡ record { inodes = (65, file 1) ∷ []; blocks = ((65, 0), 97 ∷ []) ∷ []; entries = []; highest = 65 } }
+    ensures unknown { (recovered_of (unknown_orphan 1)).kept ≡ record { leaf = (kept_at (unknown 1)).leaf; sqnum = 0; node = node_of (DropInode 65) } ∷ [] }
+    ensures unlinked { (recovered_of (unknown_orphan 0)).kept ≡ [] }
     ensures deleted { tree_found deleted ≡ record { inodes = []; blocks = []; entries = []; highest = 65 } }
     ensures heads { tree_found two_heads ≡ record { inodes = (66, file 1) ∷ []; blocks = []; entries = []; highest = 66 } }
     ensures bud { tree_found place_in_bud ≡ record { inodes = []; blocks = []; entries = ((1, am), name am 65) ∷ []; highest = 64 } }

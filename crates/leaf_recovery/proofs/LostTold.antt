@@ -2,21 +2,24 @@
 use Rattle.std.proofs.Common.{◌≡◌, ℕ, Bool, true, false, cond, not, ◌&&◌, List, [], ◌∷◌, ◌++◌, map, refl, sym, ap, subst, ◌∙◌, Option, Some, None}
 use Rattle.std.specs.Prelude.{◌==◌, filter, is_some}
 use Rattle.std.specs.List.{list_any}
-use Rattle.std.specs.Option.{option_map_or}
+use Rattle.std.specs.Option.{option_map, option_map_or}
 use Rattle.ubifs_base.specs.R5.{r5_of}
 use Rattle.ubifs_base.specs.declared.key.Key.{Key}
 use Rattle.ubifs_base.specs.declared.key.Key.TheVariants.{Ino, Dent, Xent}
 use Rattle.media_leaf.specs.LeafNode.{LeafNode, inode, block, entry, truncation}
 use Rattle.media_leaf.specs.declared.dent_node.DentNode.{DentNode}
+use Rattle.media_leaf.specs.declared.ino_node.InoNode.{InoNode}
 use Rattle.media_sys.specs.declared.ref_node.RefNode.{RefNode}
 use Rattle.index_tree.specs.declared.leaf.Leaf.{Leaf}
 use Rattle.index_tree.specs.Order.{key_rank, leaf_rank}
 use Rattle.index_tree.specs.Removal.{same_leaf}
+use Rattle.fs_model.specs.declared.change.Change.TheVariants.{SetInode}
+use Rattle.fs_model.specs.declared.inode.Kind.{Kind}
 use Rattle.fs_model.specs.Path.{is_empty, is_same_name}
-use Rattle.change_nodes.specs.Nodes.{bits_of, kind_of_bits, leaf_key}
+use Rattle.change_nodes.specs.Nodes.{bits_of, inode_of, kind_of_bits, leaf_key}
 use Rattle.leaf_map.specs.Kept.{Kept, Placed, kept_at, shown}
-use Rattle.leaf_map.specs.Lost.{have_same_name, is_read_name, is_renamed, lost_leaves, names_left, names_nothing, stands_for, unnamed}
-use Rattle.leaf_map.specs.Parts.{Committed, Named, Parts, in_bud, is_shown, own_node}
+use Rattle.leaf_map.specs.Lost.{have_same_name, is_read_name, is_renamed, lost_leaves, names_left, stands_for, unnamed}
+use Rattle.leaf_map.specs.Parts.{Committed, Named, Parts, has_links, in_bud, is_linked_unknown, is_shown, own_node, shows_nothing}
 use Rattle.leaf_map.specs.Recovered.{copies_left, leaf_at}
 use Rattle.journal_scan.specs.Content.{content_of}
 use Rattle.journal_scan.specs.declared.node_content.NodeContent.{NodeContent}
@@ -27,8 +30,9 @@ use Rattle.log_replay.specs.Settling.{HasGrammar}
 use Rattle.log_replay.specs.declared.committed_leaf.CommittedLeaf.{CommittedLeaf}
 use Rattle.leaf_recovery.specs.declared.lost_leaf.LostLeaf.{LostLeaf}
 use Rattle.leaf_recovery.specs.declared.recovered_leaf.RecoveredLeaf.{RecoveredLeaf}
+use Rattle.leaf_recovery.specs.Applied.{is_spared_by, is_unknown_told}
 use Rattle.leaf_recovery.specs.Found.{copies_left_told, leaf_found_told, lost_leaves_told, own_node_told}
-use Rattle.leaf_recovery.specs.Lost.{empty_told, has_rank_told, is_renamed_told, is_taken_told, lost_leaf_told, names_left_told, names_nothing_told, reads_name_told, spare_names_told, stands_for_told, unnamed_told}
+use Rattle.leaf_recovery.specs.Lost.{empty_told, has_rank_told, is_renamed_told, is_taken_told, lost_leaf_told, names_left_told, reads_name_told, shows_nothing_told, spare_names_told, stands_for_told, unnamed_told}
 use Rattle.leaf_recovery.specs.Named.{named_by_reference}
 use Rattle.leaf_recovery.specs.Things.{same_name_told}
 use Rattle.leaf_recovery.specs.Told.{Pairwise}
@@ -109,7 +113,7 @@ turned false false = refl
 -- this is kept of a leaf that is lost
 pub record LostTold (named : List Named) (nodes : List Placed) (c : Committed) (l : LostLeaf) : Type 0 where
   pub leaf : l.leaf ≡ c.leaf
-  pub empty : l.is_empty ≡ names_nothing named c
+  pub empty : l.is_empty ≡ shows_nothing named c
   pub renamed : l.is_renamed ≡ is_renamed nodes c
 
 module _ (parts : Parts) (references : List RefNode) where
@@ -153,13 +157,48 @@ module _ (parts : Parts) (references : List RefNode) where
           (more (copies_left cs x own) (copies_left_told js (told_committed x) own') l.1 (left_pair parts references x own own' cs js o h))
 
   -- ---- what is kept of them
-  nothing_is : (x : Committed) → HasGrammar x → names_nothing_told references (told_committed x) ≡ names_nothing named x
+  nothing_is : (x : Committed) → HasGrammar x → shows_nothing_told references (told_committed x) ≡ shows_nothing named x
   nothing_is x g = by x.found g
     where
-      by : (found : Option Placed) → HasGrammar (record { leaf = x.leaf; found = found }) → names_nothing_told references (told_committed (record { leaf = x.leaf; found = found })) ≡ names_nothing named (record { leaf = x.leaf; found = found })
+      by : (found : Option Placed) → HasGrammar (record { leaf = x.leaf; found = found }) → shows_nothing_told references (told_committed (record { leaf = x.leaf; found = found })) ≡ shows_nothing named (record { leaf = x.leaf; found = found })
       by None g = refl
       by (Some p) g =
           rw (in_bud_is references x.leaf, thing_shown (content_of p.node) (shown p.node) (shown_of p.node g), told_leaf_is p) (three (in_bud named x.leaf) (not (is_shown (shown p.node))) (same_leaf x.leaf (kept_at p).leaf))
+
+  -- ---- which inodes are spared
+  module _ (q : ℕ) where
+    unknown_inode : (node : InoNode) (l : Bool) (k : Option Kind) (b s : Bool)
+        → (is_unknown_told q (cond (is_some k) (Inode node.ino l) (Unknown (Ino node.ino) l)) && (b && (not (is_shown (option_map (λ kind. SetInode node.ino (inode_of node kind)) k)) && s)))
+        ≡ (((node.ino == q) && l) && (b && (not (is_shown (option_map (λ kind. SetInode node.ino (inode_of node kind)) k)) && s)))
+    unknown_inode node l (Some kind) b s = by ((node.ino == q) && l) b
+      where
+        by : (a b : Bool) → false ≡ (a && (b && false))
+        by true true = refl
+        by true false = refl
+        by false b = refl
+    unknown_inode node l None b s = refl
+
+    no_entry : (a : DentNode) (x l c : Bool) → (is_unknown_told q (cond x (Unknown (Xent a.dir (r5_of a.name)) true) (Entry a.dir a.name l)) && c) ≡ false
+    no_entry a true l c = refl
+    no_entry a false l c = refl
+
+    unknown_is : (node : LeafNode) (b s : Bool) → (is_unknown_told q (content_of node) && (b && (not (is_shown (shown node)) && s))) ≡ (has_links q node && (b && (not (is_shown (shown node)) && s)))
+    unknown_is (inode node) b s = unknown_inode node (not (node.nlink == 0)) (kind_of_bits (bits_of node.mode)) b s
+    unknown_is (block node) b s = refl
+    unknown_is (entry node) b s = no_entry node node.attribute (not (node.inum == 0)) (b && (not (is_shown (shown (entry node))) && s))
+    unknown_is (truncation node) b s = refl
+
+    spared_is : (x : Committed) → HasGrammar x → is_spared_by references q (told_committed x) ≡ is_linked_unknown named q x
+    spared_is x g = by x.found g
+      where
+        by : (found : Option Placed) → HasGrammar (record { leaf = x.leaf; found = found }) → is_spared_by references q (told_committed (record { leaf = x.leaf; found = found })) ≡ is_linked_unknown named q (record { leaf = x.leaf; found = found })
+        by None g = refl
+        by (Some p) g =
+            ap (λ (b : Bool). is_unknown_told q (content_of p.node) && b) (nothing_is (record { leaf = x.leaf; found = Some p }) g)
+            ∙ unknown_is p.node (not (in_bud named x.leaf)) (same_leaf x.leaf (kept_at p).leaf)
+
+    pub any_spared : (xs : List Committed) (ls : List CommittedLeaf) → Pairwise (LeafTold parts) xs ls → list_any (is_linked_unknown named q) xs ≡ list_any (is_spared_by references q) ls
+    any_spared xs ls h = any_pairs (LeafTold parts) (is_linked_unknown named q) (is_spared_by references q) (λ x l t. sym (ap (is_spared_by references q) t.is ∙ spared_is x t.grammar)) xs ls h
 
   module _ (ns : List Placed) (js : List JournalNode) (nodes : Pairwise (NodeTold parts) ns js) where
     renamed_is : (x : Committed) → is_renamed_told js (told_committed x) ≡ is_renamed ns x
@@ -241,7 +280,7 @@ module _ (parts : Parts) (references : List RefNode) where
     unnamed_is [] (k ∷ ls) l ys zs h = absurd l
     unnamed_is (x ∷ xs) [] l ys zs h = absurd l
     unnamed_is (x ∷ xs) (k ∷ ls) l ys zs h =
-        by k.is_empty (names_nothing named x) l.0.empty (unnamed_is xs ls l.1 ys zs h)
+        by k.is_empty (shows_nothing named x) l.0.empty (unnamed_is xs ls l.1 ys zs h)
         (step k.leaf x.leaf l.0.leaf (unnamed_is xs ls l.1 (names_left ys (stands_for ys x.leaf)) (names_left_told (stands_for_told zs x.leaf) zs) (left_names (stands_for ys x.leaf) (stands_for_told zs x.leaf) ys zs (stands_pair x.leaf ys zs h) h)))
       where
         step : (a b : Leaf) → a ≡ b → unnamed_told (names_left_told (stands_for_told zs b) zs) ls ≡ unnamed named (names_left ys (stands_for ys b)) xs
@@ -257,16 +296,16 @@ module _ (parts : Parts) (references : List RefNode) where
         by true false e more more' = absurd cc
         by false true e more more' = absurd cc
 
-    pub empty_names_is : (xs : List Committed) (ls : List LostLeaf) → Pairwise (LostTold named ns) xs ls → empty_told ls ≡ map (λ x. x.leaf) (filter (λ x. names_nothing named x && not (is_renamed ns x)) xs)
+    pub empty_names_is : (xs : List Committed) (ls : List LostLeaf) → Pairwise (LostTold named ns) xs ls → empty_told ls ≡ map (λ x. x.leaf) (filter (λ x. shows_nothing named x && not (is_renamed ns x)) xs)
     empty_names_is [] [] l = refl
     empty_names_is [] (k ∷ ls) l = absurd l
     empty_names_is (x ∷ xs) [] l = absurd l
-    empty_names_is (x ∷ xs) (k ∷ ls) l = by (k.is_empty && not k.is_renamed) (names_nothing named x && not (is_renamed ns x)) (ap (λ (b : Bool). b && not k.is_renamed) l.0.empty ∙ ap (λ (b : Bool). names_nothing named x && not b) l.0.renamed) (empty_names_is xs ls l.1)
+    empty_names_is (x ∷ xs) (k ∷ ls) l = by (k.is_empty && not k.is_renamed) (shows_nothing named x && not (is_renamed ns x)) (ap (λ (b : Bool). b && not k.is_renamed) l.0.empty ∙ ap (λ (b : Bool). shows_nothing named x && not b) l.0.renamed) (empty_names_is xs ls l.1)
       where
-        by : (a b : Bool) → a ≡ b → empty_told ls ≡ map (λ y. y.leaf) (filter (λ y. names_nothing named y && not (is_renamed ns y)) xs)
+        by : (a b : Bool) → a ≡ b → empty_told ls ≡ map (λ y. y.leaf) (filter (λ y. shows_nothing named y && not (is_renamed ns y)) xs)
             → map (λ (y : LostLeaf). y.leaf) (cond a (k ∷ filter (λ y. y.is_empty && not y.is_renamed) ls) (filter (λ y. y.is_empty && not y.is_renamed) ls))
-            ≡ map (λ (y : Committed). y.leaf) (cond b (x ∷ filter (λ y. names_nothing named y && not (is_renamed ns y)) xs) (filter (λ y. names_nothing named y && not (is_renamed ns y)) xs))
-        by true true e more = ap (λ z. k.leaf ∷ z) more ∙ ap (λ (z : Leaf). z ∷ map (λ (y : Committed). y.leaf) (filter (λ y. names_nothing named y && not (is_renamed ns y)) xs)) l.0.leaf
+            ≡ map (λ (y : Committed). y.leaf) (cond b (x ∷ filter (λ y. shows_nothing named y && not (is_renamed ns y)) xs) (filter (λ y. shows_nothing named y && not (is_renamed ns y)) xs))
+        by true true e more = ap (λ z. k.leaf ∷ z) more ∙ ap (λ (z : Leaf). z ∷ map (λ (y : Committed). y.leaf) (filter (λ y. shows_nothing named y && not (is_renamed ns y)) xs)) l.0.leaf
         by false false e more = more
         by true false e more = absurd cc
         by false true e more = absurd cc

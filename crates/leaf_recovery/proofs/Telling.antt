@@ -20,7 +20,7 @@ use Rattle.leaf_recovery.specs.declared.recovered_leaf.RecoveredLeaf.{RecoveredL
 use Rattle.leaf_recovery.specs.Found.{is_own_told, leaf_of_node, own_node_told}
 use Rattle.leaf_recovery.specs.Named.{in_bud_told, is_named_told, named_by_reference}
 use Rattle.leaf_recovery.specs.Things.{leaf_told, shows_thing, shows_told}
-use Rattle.leaf_recovery.specs.Told.{IsRead, IsToldOf}
+use Rattle.leaf_recovery.specs.Told.{WasRead, IsLeafTold}
 use Rattle.leaf_recovery.proofs.Pairs.{IfBoth}
 use Rattle.leaf_recovery.proofs.Rough.{carried_of, change_told, key_of_is, rough_of, shown_of, shown_rough, shown_told, shows_is, shows_rough, thing_is}
 
@@ -28,17 +28,17 @@ use Rattle.leaf_recovery.proofs.Rough.{carried_of, change_told, key_of_is, rough
 pub record NodeTold (parts : Parts) (p : Placed) (j : JournalNode) : Type 0 where
   pub is : j ≡ told p
   pub leaf : IsLeaf p.node
-  pub read : IsRead parts p
+  pub read : WasRead parts p
 
 -- this is told of a committed leaf
 pub record LeafTold (parts : Parts) (c : Committed) (l : CommittedLeaf) : Type 0 where
   pub is : l ≡ told_committed c
   pub grammar : HasGrammar c
-  pub read : (p : Placed) → c.found ≡ Some p → IsRead parts p
+  pub read : (p : Placed) → c.found ≡ Some p → WasRead parts p
 
 -- this is told of a leaf with its node
 pub record KeptTold (parts : Parts) (x : Kept) (r : RecoveredLeaf) : Type 0 where
-  pub told : IsToldOf parts x r
+  pub told : IsLeafTold parts x r
   pub shows : shown_told r.content ≡ rough_of (shown_by x)
 
 -- ---- nodes
@@ -87,17 +87,17 @@ pub own_is : (references : List RefNode) (leaf : Leaf) (p : Placed) → IsLeaf p
 own_is references leaf p h =
     rw (in_bud_is references leaf, thing_shown (content_of p.node) (shown p.node) (shown_of p.node h), told_leaf_is p) refl
 
-pub own_pair : (parts : Parts) (references : List RefNode) (c : Committed) → HasGrammar c → ((p : Placed) → c.found ≡ Some p → IsRead parts p)
+pub own_pair : (parts : Parts) (references : List RefNode) (c : Committed) → HasGrammar c → ((p : Placed) → c.found ≡ Some p → WasRead parts p)
     → IfBoth (NodeTold parts) (own_node (map named_by_reference references) c) (own_node_told references (told_committed c))
 own_pair parts references c g r = by c.found g r
   where
-    test : (p : Placed) → IsLeaf p.node → IsRead parts p → (a b : Bool) → b ≡ a → IfBoth (NodeTold parts) (cond a (Some p) None) (cond b (Some (told p)) None)
+    test : (p : Placed) → IsLeaf p.node → WasRead parts p → (a b : Bool) → b ≡ a → IfBoth (NodeTold parts) (cond a (Some p) None) (cond b (Some (told p)) None)
     test p h read true true e = record { is = refl; leaf = h; read = read }
     test p h read false false e = tt
     test p h read true false e = absurd cc
     test p h read false true e = absurd cc
 
-    by : (found : Option Placed) → HasGrammar (record { leaf = c.leaf; found = found }) → ((p : Placed) → found ≡ Some p → IsRead parts p)
+    by : (found : Option Placed) → HasGrammar (record { leaf = c.leaf; found = found }) → ((p : Placed) → found ≡ Some p → WasRead parts p)
         → IfBoth (NodeTold parts) (own_node (map named_by_reference references) (record { leaf = c.leaf; found = found })) (own_node_told references (told_committed (record { leaf = c.leaf; found = found })))
     by None g r = tt
     by (Some p) g r = test p g (r p refl) (is_own (map named_by_reference references) c.leaf p) (is_own_told references c.leaf (told p)) (own_is references c.leaf p g)

@@ -2,12 +2,13 @@
 use Rattle.std.proofs.Common.{◌≡◌, inl, inr, ℕ, Bool, true, false, cond, not, ◌&&◌, List, [], ◌∷◌, map, refl, sym, ap, subst, ◌∙◌, Some}
 use Rattle.std.specs.Prelude.{filter, fold, nat_lt}
 use Rattle.std.specs.List.{AllByRecursion, list_any}
+use Rattle.std.proofs.lemmas.List.Elements.{filter_agree}
 use Rattle.media_leaf.specs.LeafNode.{IsLeaf}
 use Rattle.media_sys.specs.declared.ref_node.RefNode.{RefNode}
 use Rattle.leaf_map.specs.Kept.{Kept, Placed}
-use Rattle.leaf_map.specs.Lost.{empty_names, have_same_name, is_read_name, is_renamed, lost_leaves, missing_leaves, names_nothing, unnamed}
-use Rattle.leaf_map.specs.Parts.{Committed, Named, Parts}
-use Rattle.leaf_map.specs.Recovered.{found_leaves, in_order, is_original, leaves_after, leaves_found, leaves_left, placed_node, recovered_of}
+use Rattle.leaf_map.specs.Lost.{empty_names, have_same_name, is_read_name, is_renamed, lost_leaves, missing_leaves, unnamed}
+use Rattle.leaf_map.specs.Parts.{Committed, Named, Parts, is_linked_unknown, shows_nothing}
+use Rattle.leaf_map.specs.Recovered.{found_leaves, in_order, is_original, leaves_after, leaves_found, leaves_left, listed_left, placed_node, recovered_of}
 use Rattle.journal_scan.specs.Content.{told}
 use Rattle.journal_scan.specs.declared.journal_node.JournalNode.{JournalNode}
 use Rattle.log_replay.specs.Replay.{told_committed}
@@ -15,16 +16,16 @@ use Rattle.log_replay.specs.Settling.{HasGrammar}
 use Rattle.log_replay.specs.declared.committed_leaf.CommittedLeaf.{CommittedLeaf}
 use Rattle.leaf_recovery.specs.declared.recovered_leaf.RecoveredLeaf.{RecoveredLeaf}
 use Rattle.leaf_recovery.specs.declared.recovered_leaf.RecoveredLeaves.{RecoveredLeaves}
-use Rattle.leaf_recovery.specs.Applied.{kept_after_told, leaves_left_told}
+use Rattle.leaf_recovery.specs.Applied.{is_spared_by, kept_after_told, leaves_left_told, listed_left_told}
 use Rattle.leaf_recovery.specs.Found.{spare_copies_told}
 use Rattle.leaf_recovery.specs.Lost.{lost_leaf_told, spare_names_told}
 use Rattle.leaf_recovery.specs.Named.{named_by_reference}
 use Rattle.leaf_recovery.specs.Recovery.{empty_names_told, leaves_found_told, lost_told, missing_told, recovered_told, repeated_told}
 use Rattle.leaf_recovery.specs.Repeated.{repeated_leaves}
-use Rattle.leaf_recovery.specs.Told.{AreTold, AreToldOf, IsAtLeaf, IsOneNode, IsRead, IsRecoveredFrom, IsToldOf, Pairwise}
+use Rattle.leaf_recovery.specs.Told.{AreTold, AreLeavesTold, IsAtLeaf, IsOneNode, WasRead, IsRecoveredFrom, IsLeafTold, Pairwise}
 use Rattle.leaf_recovery.proofs.AppliedTold.{nodes_pairs, orphans_pairs}
 use Rattle.leaf_recovery.proofs.FoundTold.{found_all, spare_all}
-use Rattle.leaf_recovery.proofs.LostTold.{LostTold, empty_names_is, lost_all, lost_kept, names_pairs, unnamed_is}
+use Rattle.leaf_recovery.proofs.LostTold.{LostTold, any_spared, empty_names_is, lost_all, lost_kept, names_pairs, unnamed_is}
 use Rattle.leaf_recovery.proofs.MovedTold.{moved_pairs}
 use Rattle.leaf_recovery.proofs.Pairs.{told_pairs, weaker_pairs}
 use Rattle.leaf_recovery.proofs.RepeatedTold.{repeated_pairs}
@@ -66,7 +67,7 @@ order_all P xs (y ∷ ys) h k = order_all P (placed_node xs y) ys h.1 (put_all P
 module _ (parts : Parts) (ls : List CommittedLeaf) (references : List RefNode) (ns cs : List JournalNode) (listed : List ℕ) (is : AreTold parts ls references ns cs listed) where
   -- of the grammar, and read
   abbrev IsGood : Placed → Type 0
-  IsGood p = IsLeaf p.node × IsRead parts p
+  IsGood p = IsLeaf p.node × WasRead parts p
 
   told_good : (p : Placed) → IsGood p → NodeTold parts p (told p)
   told_good p h = record { is = refl; leaf = h.0; read = h.1 }
@@ -75,19 +76,19 @@ module _ (parts : Parts) (ls : List CommittedLeaf) (references : List RefNode) (
   nodes =
       subst (Pairwise (NodeTold parts) (in_order parts.nodes)) (sym is.of_nodes)
       (told_pairs (NodeTold parts) IsGood told told_good (in_order parts.nodes)
-      (order_all IsGood [] parts.nodes (all_both (λ p. IsLeaf p.node) (IsRead parts) parts.nodes is.node_nodes (all_more (λ p. IsOneNode p parts.nodes) (IsRead parts) (λ p h. inr (inl h)) parts.nodes (each_one parts.nodes))) tt))
+      (order_all IsGood [] parts.nodes (all_both (λ p. IsLeaf p.node) (WasRead parts) parts.nodes is.node_nodes (all_more (λ p. IsOneNode p parts.nodes) (WasRead parts) (λ p h. inr (inl h)) parts.nodes (each_one parts.nodes))) tt))
 
   pub copies : Pairwise (NodeTold parts) parts.copies cs
   copies =
       subst (Pairwise (NodeTold parts) parts.copies) (sym is.of_copies)
       (told_pairs (NodeTold parts) IsGood told told_good parts.copies
-      (all_both (λ p. IsLeaf p.node) (IsRead parts) parts.copies is.copy_nodes (all_more (λ p. IsOneNode p parts.copies) (IsRead parts) (λ p h. inr (inr h)) parts.copies (each_one parts.copies))))
+      (all_both (λ p. IsLeaf p.node) (WasRead parts) parts.copies is.copy_nodes (all_more (λ p. IsOneNode p parts.copies) (WasRead parts) (λ p h. inr (inr h)) parts.copies (each_one parts.copies))))
 
   pub leaves : Pairwise (LeafTold parts) parts.committed ls
   leaves =
       subst (Pairwise (LeafTold parts) parts.committed) (sym is.of_leaves)
-      (told_pairs (LeafTold parts) (λ c. HasGrammar c × Reads (IsRead parts) c) told_committed (λ c h. record { is = refl; grammar = h.0; read = h.1 }) parts.committed
-      (all_both HasGrammar (Reads (IsRead parts)) parts.committed is.leaf_nodes (all_more (Reads (λ p. IsAtLeaf p parts.committed)) (Reads (IsRead parts)) (λ c h p e. inl (h p e)) parts.committed (each_leaf parts.committed))))
+      (told_pairs (LeafTold parts) (λ c. HasGrammar c × Reads (WasRead parts) c) told_committed (λ c h. record { is = refl; grammar = h.0; read = h.1 }) parts.committed
+      (all_both HasGrammar (Reads (WasRead parts)) parts.committed is.leaf_nodes (all_more (Reads (λ p. IsAtLeaf p parts.committed)) (Reads (WasRead parts)) (λ c h p e. inl (h p e)) parts.committed (each_leaf parts.committed))))
 
   -- ---- the steps
   abbrev pub refs : List Named
@@ -105,14 +106,21 @@ module _ (parts : Parts) (ls : List CommittedLeaf) (references : List RefNode) (
       subst (λ (n : List Named). Pairwise (KeptTold parts) (found_leaves n (spare_of n) parts.committed) (leaves_found_told references ls cs)) (sym is.of_references)
       (found_all parts references parts.committed ls (spare_of refs) (spare_copies_told references ls cs) leaves spare)
 
-  left : Pairwise (KeptTold parts) (leaves_left parts) (leaves_left_told (leaves_found_told references ls cs) ns listed)
+  -- the listed inodes that may go
+  bare : listed_left parts ≡ listed_left_told references ls listed
+  bare =
+      ap (λ (n : List Named). filter (λ ino. not (list_any (is_linked_unknown n ino) parts.committed)) parts.listed) is.of_references
+      ∙ filter_agree (λ ino. not (list_any (is_linked_unknown refs ino) parts.committed)) (λ ino. not (list_any (is_spared_by references ino) ls)) (λ ino. ap not (any_spared parts references ino parts.committed ls leaves)) parts.listed
+      ∙ ap (listed_left_told references ls) is.of_list
+
+  left : Pairwise (KeptTold parts) (leaves_left parts) (leaves_left_told (leaves_found_told references ls cs) ns (listed_left_told references ls listed))
   left =
-      subst (λ (l : List ℕ). Pairwise (KeptTold parts) (leaves_left parts) (leaves_left_told (leaves_found_told references ls cs) ns l)) is.of_list
-      (orphans_pairs parts parts.listed (leaves_after (leaves_found parts) (in_order parts.nodes)) (fold kept_after_told (leaves_found_told references ls cs) ns)
+      subst (λ (l : List ℕ). Pairwise (KeptTold parts) (leaves_left parts) (leaves_left_told (leaves_found_told references ls cs) ns l)) bare
+      (orphans_pairs parts (listed_left parts) (leaves_after (leaves_found parts) (in_order parts.nodes)) (fold kept_after_told (leaves_found_told references ls cs) ns)
       (nodes_pairs parts (in_order parts.nodes) ns nodes (leaves_found parts) (leaves_found_told references ls cs) found))
 
   kept : Pairwise (KeptTold parts) (recovered_of parts).kept (recovered_told references ls ns cs listed)
-  kept = moved_pairs parts references is.of_references cs copies (leaves_left parts) (leaves_left_told (leaves_found_told references ls cs) ns listed) left
+  kept = moved_pairs parts references is.of_references cs copies (leaves_left parts) (leaves_left_told (leaves_found_told references ls cs) ns (listed_left_told references ls listed)) left
 
   repeated : Pairwise (KeptTold parts) (repeated_leaves (leaves_found parts)) (repeated_told references ls cs)
   repeated = repeated_pairs parts [] [] tt (leaves_found parts) (leaves_found_told references ls cs) found
@@ -140,16 +148,16 @@ module _ (parts : Parts) (ls : List CommittedLeaf) (references : List RefNode) (
   empty : empty_names_told references ls ns cs ≡ empty_names parts
   empty =
       empty_names_is parts references (in_order parts.nodes) ns nodes (lost_leaves refs (spare_of refs) parts.committed) (map (lost_leaf_told references ns) (lost_told references ls cs)) lost_pairs
-      ∙ ap (λ (n : List Named). map (λ (x : Committed). x.leaf) (filter (λ x. names_nothing n x && not (is_renamed (in_order parts.nodes) x)) (lost_leaves n (spare_of n) parts.committed))) (sym is.of_references)
+      ∙ ap (λ (n : List Named). map (λ (x : Committed). x.leaf) (filter (λ x. shows_nothing n x && not (is_renamed (in_order parts.nodes) x)) (lost_leaves n (spare_of n) parts.committed))) (sym is.of_references)
 
-  told_of : (xs : List Kept) (rs : List RecoveredLeaf) → Pairwise (KeptTold parts) xs rs → AreToldOf parts xs rs
-  told_of xs rs h = weaker_pairs (KeptTold parts) (IsToldOf parts) (λ x r t. t.told) xs rs h
+  told_of : (xs : List Kept) (rs : List RecoveredLeaf) → Pairwise (KeptTold parts) xs rs → AreLeavesTold parts xs rs
+  told_of xs rs h = weaker_pairs (KeptTold parts) (IsLeafTold parts) (λ x r t. t.told) xs rs h
 
   pub whole : (made : RecoveredLeaves) → made.kept.items ≡ recovered_told references ls ns cs listed → made.missing.items ≡ missing_told references ls ns cs → made.empty.items ≡ empty_names_told references ls ns cs
       → made.repeated.items ≡ repeated_told references ls cs → IsRecoveredFrom parts made
   whole made k m e r = record {
-    kept = subst (AreToldOf parts (recovered_of parts).kept) (sym k) (told_of (recovered_of parts).kept (recovered_told references ls ns cs listed) kept);
+    kept = subst (AreLeavesTold parts (recovered_of parts).kept) (sym k) (told_of (recovered_of parts).kept (recovered_told references ls ns cs listed) kept);
     missing = m ∙ missing;
     empty = e ∙ empty;
-    repeated = subst (AreToldOf parts (repeated_leaves (leaves_found parts))) (sym r) (told_of (repeated_leaves (leaves_found parts)) (repeated_told references ls cs) repeated);
+    repeated = subst (AreLeavesTold parts (repeated_leaves (leaves_found parts))) (sym r) (told_of (repeated_leaves (leaves_found parts)) (repeated_told references ls cs) repeated);
   }

@@ -19,8 +19,8 @@ abbrev pub is_nothing_told : List RefNode → Leaf → JournalNode → Bool
 is_nothing_told references leaf node = not (in_bud_told references leaf) && not (shows_thing node.content) && same_leaf leaf (leaf_told node)
 
 -- whether what stands at a leaf's place is such a node
-abbrev pub names_nothing_told : List RefNode → CommittedLeaf → Bool
-names_nothing_told references x = by x.found
+abbrev pub shows_nothing_told : List RefNode → CommittedLeaf → Bool
+shows_nothing_told references x = by x.found
   where
     by : Option JournalNode → Bool
     by None = false
@@ -40,7 +40,7 @@ is_renamed_told nodes x = by x.found
 
 -- what is kept of a leaf that is lost
 abbrev pub lost_leaf_told : List RefNode → List JournalNode → CommittedLeaf → LostLeaf
-lost_leaf_told references nodes x = record { leaf = x.leaf; is_empty = names_nothing_told references x; is_renamed = is_renamed_told nodes x }
+lost_leaf_told references nodes x = record { leaf = x.leaf; is_empty = shows_nothing_told references x; is_renamed = is_renamed_told nodes x }
 
 -- whether a committed leaf has a node that can be read, with this name
 abbrev pub reads_name_told : List RefNode → NodeContent → CommittedLeaf → Bool

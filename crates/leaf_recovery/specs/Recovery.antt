@@ -5,7 +5,7 @@ use Rattle.index_tree.specs.declared.leaf.Leaf.{Leaf}
 use Rattle.journal_scan.specs.declared.journal_node.JournalNode.{JournalNode}
 use Rattle.log_replay.specs.declared.committed_leaf.CommittedLeaf.{CommittedLeaf}
 use Rattle.leaf_recovery.specs.declared.recovered_leaf.RecoveredLeaf.{RecoveredLeaf}
-use Rattle.leaf_recovery.specs.Applied.{leaves_left_told}
+use Rattle.leaf_recovery.specs.Applied.{leaves_left_told, listed_left_told}
 use Rattle.leaf_recovery.specs.Found.{found_leaves_told, lost_leaves_told, spare_copies_told}
 use Rattle.leaf_recovery.specs.Lost.{empty_told, lost_leaf_told, spare_names_told, unnamed_told}
 use Rattle.leaf_recovery.specs.Moved.{all_moved_told}
@@ -21,7 +21,7 @@ lost_told references committed copies = lost_leaves_told references (spare_copie
 -- the leaves after recovery
 abbrev pub recovered_told : List RefNode → List CommittedLeaf → List JournalNode → List JournalNode → List ℕ → List RecoveredLeaf
 recovered_told references committed nodes copies listed =
-    all_moved_told references copies (leaves_left_told (leaves_found_told references committed copies) nodes listed)
+    all_moved_told references copies (leaves_left_told (leaves_found_told references committed copies) nodes (listed_left_told references committed listed))
 
 -- those that are found and show what one before them shows
 abbrev pub repeated_told : List RefNode → List CommittedLeaf → List JournalNode → List RecoveredLeaf

@@ -49,8 +49,8 @@ IsAtLeaf node [] = ⊥
 IsAtLeaf node (x ∷ committed) = (x.found ≡ Some node) ⊎ IsAtLeaf node committed
 
 -- a node was read: at a committed leaf's place, in the journal, or of the collector's head
-abbrev pub IsRead : Parts → Placed → Type 0
-IsRead parts node = IsAtLeaf node parts.committed ⊎ (IsOneNode node parts.nodes ⊎ IsOneNode node parts.copies)
+abbrev pub WasRead : Parts → Placed → Type 0
+WasRead parts node = IsAtLeaf node parts.committed ⊎ (IsOneNode node parts.nodes ⊎ IsOneNode node parts.copies)
 
 -- the place of a node that was read
 abbrev pub place_of_read : Placed → Place
@@ -59,22 +59,22 @@ place_of_read node = record { lnum = node.lnum; offs = node.offs; len = node.len
 -- a leaf's node was read where it is told, or stands for one of the leaf's key that nobody can read
 abbrev pub IsSource : Parts → Kept → Option Place → Type 0
 IsSource parts x None = stand_in x.leaf.key ≡ Some x.node
-IsSource parts x (Some place) = (node : Placed) × IsRead parts node × (place ≡ place_of_read node) × (node.node ≡ x.node)
+IsSource parts x (Some place) = (node : Placed) × WasRead parts node × (place ≡ place_of_read node) × (node.node ≡ x.node)
 
 -- this is told of a leaf after recovery
-pub record IsToldOf (parts : Parts) (x : Kept) (r : RecoveredLeaf) : Type 0 where
+pub record IsLeafTold (parts : Parts) (x : Kept) (r : RecoveredLeaf) : Type 0 where
   pub leaf : r.leaf ≡ x.leaf
   pub content : r.content ≡ content_of x.node
   pub sqnum : r.sqnum ≡ x.sqnum
   pub source : IsSource parts x r.source
 
 -- of each of these leaves, in order
-abbrev pub AreToldOf : Parts → List Kept → List RecoveredLeaf → Type 0
-AreToldOf parts kept rs = Pairwise (IsToldOf parts) kept rs
+abbrev pub AreLeavesTold : Parts → List Kept → List RecoveredLeaf → Type 0
+AreLeavesTold parts kept rs = Pairwise (IsLeafTold parts) kept rs
 
 -- What is made of what was read: the recovered leaves, the lost ones that the journal hasn't replaced, those of them whose node names no inode, and the leaves that are found and show what one before them shows.
 pub record IsRecoveredFrom (parts : Parts) (made : RecoveredLeaves) : Type 0 where
-  pub kept : AreToldOf parts (recovered_of parts).kept made.kept.items
+  pub kept : AreLeavesTold parts (recovered_of parts).kept made.kept.items
   pub missing : made.missing.items ≡ missing_leaves parts
   pub empty : made.empty.items ≡ empty_names parts
-  pub repeated : AreToldOf parts (repeated_leaves (leaves_found parts)) made.repeated.items
+  pub repeated : AreLeavesTold parts (repeated_leaves (leaves_found parts)) made.repeated.items

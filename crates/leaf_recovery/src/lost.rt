@@ -2,7 +2,7 @@
 
 ghost use Rattle.std.specs.Prelude.{◌≡◌, not, filter, is_some, IfOk, OnOk};
 ghost use Rattle.std.specs.List.{list_any};
-ghost use Rattle.leaf_recovery.specs.Lost.{empty_told, has_name_told, has_rank_told, is_nothing_told, is_renamed_told, is_taken_told, lost_leaf_told, names_left_told, names_nothing_told, reads_name_told, spare_names_told, stands_for_told, unnamed_told};
+ghost use Rattle.leaf_recovery.specs.Lost.{empty_told, has_name_told, has_rank_told, is_nothing_told, is_renamed_told, is_taken_told, lost_leaf_told, names_left_told, shows_nothing_told, reads_name_told, spare_names_told, stands_for_told, unnamed_told};
 ghost use Rattle.leaf_recovery.specs.Things.{same_name_told};
 
 use crate::copies::copied_node;
@@ -27,14 +27,14 @@ pub(crate) fn lost_leaf(
 {
     LostLeaf {
         leaf: leaf.leaf,
-        is_empty: names_nothing(references, leaf),
+        is_empty: shows_nothing(references, leaf),
         is_renamed: is_renamed(nodes, leaf),
     }
 }
 
 // Whether an intact node of a leaf's key and length stands at its place, but shows nothing.
-fn names_nothing(references: &[RefNode], leaf: &CommittedLeaf) -> bool
-    ensures { result ≡ names_nothing_told references.now leaf.now }
+fn shows_nothing(references: &[RefNode], leaf: &CommittedLeaf) -> bool
+    ensures { result ≡ shows_nothing_told references.now leaf.now }
 {
     match &leaf.found {
         Some(node) => is_nothing(references, &leaf.leaf, node),
@@ -42,7 +42,7 @@ fn names_nothing(references: &[RefNode], leaf: &CommittedLeaf) -> bool
     }
 }
 
-fn is_nothing(references: &[RefNode], leaf: &Leaf, node: &JournalNode) -> bool
+pub(crate) fn is_nothing(references: &[RefNode], leaf: &Leaf, node: &JournalNode) -> bool
     ensures { result ≡ is_nothing_told references.now leaf.now node.now }
 {
     !in_bud(references, leaf) && !shows_thing(&node.content) && is_one(leaf, &leaf_of(node))

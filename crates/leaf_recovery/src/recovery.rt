@@ -11,7 +11,7 @@ use crate::copies::spare_copies;
 use crate::found::find_leaves;
 use crate::lost::{empty_leaves, spare_names, unnamed_leaves};
 use crate::moved::move_leaves;
-use crate::orphans::drop_listed;
+use crate::orphans::{drop_listed, listed_left};
 use crate::recovered_leaf::{RecoveredLeaf, RecoveredLeaves};
 use crate::repeated::repeated_leaves;
 use journal_scan::JournalNode;
@@ -23,8 +23,8 @@ use ubifs_base::Memory;
 /// What recovery makes of the committed leaves in order with what stands at the place of each, the references of the log, the nodes
 /// of the journal in order of number, the collector's copies in order of the log, and the list of orphans (Hunter 2008, "The journal";
 /// `ubifs_replay_journal` of Linux fs/ubifs). Nothing is asked of them but that they are told of nodes of the grammar. It takes
-/// memory for a fixed multiple of what is given; the error is want of it. For each node and each copy all leaves are looked at, and
-/// for each leaf all references; where there is no node and no copy, a leaf takes a look-up in a map.
+/// memory for a fixed multiple of what is given; the error is want of it. For each node, each copy and each listed inode all leaves are
+/// looked at, and for each leaf all references; where there is none of them, a leaf takes a look-up in a map.
 pub fn recover(
     alloc: Global,
     committed: &[CommittedLeaf],
@@ -59,7 +59,8 @@ fn recover_told(
     let empty = empty_leaves(alloc, found.lost.as_slice())?;
     let names = spare_names(alloc, references, committed, found.leaves.as_slice(), nodes)?;
     let missing = unnamed_leaves(alloc, found.lost.as_slice(), names)?;
-    let left = leaves_left(alloc, found.leaves, nodes, listed)?;
+    let orphans = listed_left(alloc, references, committed, listed)?;
+    let left = leaves_left(alloc, found.leaves, nodes, &orphans)?;
     let kept = move_leaves(alloc, references, copies, left)?;
     Ok(RecoveredLeaves {
         kept,

@@ -21,6 +21,7 @@ mod References
 mod Rounds
 mod Sending
 mod Settles
+mod Sparing
 mod Staying
 mod Swaps
 mod Telling

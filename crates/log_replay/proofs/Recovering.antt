@@ -13,7 +13,7 @@ use Rattle.index_tree.specs.Tree.{shape}
 use Rattle.leaf_map.specs.Kept.{Kept, Placed, node_key}
 use Rattle.leaf_map.specs.LeafMap.{IsKeyed}
 use Rattle.leaf_map.specs.Parts.{Committed, Named, Parts}
-use Rattle.leaf_map.specs.Recovered.{highest_key, in_order, is_original, leaves_after, leaves_found, leaves_left, placed_node, recovered_of, spare_copies}
+use Rattle.leaf_map.specs.Recovered.{highest_key, in_order, is_original, leaves_after, leaves_found, leaves_left, listed_left, placed_node, recovered_of, spare_copies}
 use Rattle.journal_scan.specs.Content.{told}
 use Rattle.journal_scan.specs.Journal.{BudRead, copies_in, nodes_in}
 use Rattle.journal_scan.specs.Places.{HasNamedPlace, named_by}
@@ -31,6 +31,7 @@ use Rattle.log_replay.specs.Placing.{ArePlaced, AreSettled, LeafFound, pair_told
 use Rattle.log_replay.specs.Reading.{read_told}
 use Rattle.log_replay.specs.Replay.{AreFound, AreParts, CanFind, CanRecover, NameTheSame, highest_of, highest_read, told_committed}
 use Rattle.log_replay.specs.Settling.{CanSettle, HasCopies, read_of, settled_of, spare_of}
+use Rattle.log_replay.specs.Spared.{unspared}
 use Rattle.log_replay.specs.Standing.{Stands, leaves, leaves_in}
 use Rattle.log_replay.specs.Told.{AreNodesOf, IsOfJournal, without_orphans}
 use Rattle.log_replay.proofs.Carried.{nodes_carried, orphans_carried, start_carried}
@@ -41,6 +42,7 @@ use Rattle.log_replay.proofs.Outer.{all_cands}
 use Rattle.log_replay.proofs.Owning.{reads_are_told}
 use Rattle.log_replay.proofs.Places.{names_differ, nodes_fresh, order_all}
 use Rattle.log_replay.proofs.Ranked.{filter_all, filter_setting, has_copies}
+use Rattle.log_replay.proofs.Sparing.{left_told}
 
 -- ---- first
 pub leaves_are_found : (parts : Parts) (committed : List CommittedLeaf) (references : List Named) (copies : List JournalNode) (m : BTreeMap ℕ ℕ) (ranked spare : Ranked) (reads settled : List ReadLeaf) (outer : List Candidate)
@@ -91,13 +93,13 @@ module _ (parts : Parts) (j : IsOfJournal parts) where
   pub nodes_are : (applied : List JournalNode) → applied ≡ map told (in_order parts.nodes) → AreNodesOf (leaves_found parts) (in_order parts.nodes) applied
   nodes_are applied e = record { of_nodes = e; leaf_nodes = order_all (λ x. IsLeaf x.node) parts.nodes j.places.leaf_nodes; fresh = nodes_fresh parts j }
 
-  pub recovered : (outer : List Candidate) (s : Standing) (listed : List ℕ) → parts.listed ≡ listed → Stands (without_orphans (leaves_after (leaves_found parts) (in_order parts.nodes)) listed) s → (settled : List ReadLeaf) → AreFound parts settled outer
+  pub recovered : (outer : List Candidate) (s : Standing) (listed : List ℕ) → listed_left parts ≡ listed → Stands (without_orphans (leaves_after (leaves_found parts) (in_order parts.nodes)) listed) s → (settled : List ReadLeaf) → AreFound parts settled outer
       → moved_all outer (leaves_in s) ≡ leaves (recovered_of parts).kept
   recovered outer s listed e st settled found =
       let found_all = leaves_found parts in
       let left = leaves_left parts in
       let here : Stands left s = subst (λ (inos : List ℕ). Stands (without_orphans (leaves_after found_all (in_order parts.nodes)) inos) s) (sym e) st in
-      let carried = orphans_carried parts.named found_all (leaves_after found_all (in_order parts.nodes)) parts.listed
+      let carried = orphans_carried parts.named found_all (leaves_after found_all (in_order parts.nodes)) (listed_left parts)
       (nodes_carried parts.named found_all found_all (in_order parts.nodes) (order_all (HasNamedPlace parts.named) parts.nodes j.places.nodes_named) (start_carried parts.named found_all)) in
       ap (λ (z : List Candidate). moved_all z (leaves_in s)) found.candidates ∙ ap (moved_all (map (candidate_at parts.copies) (outside parts.named found_all))) here.in_index
       ∙ all_moved parts found_all left here.leaf_map.keyed j.found.keyed carried (all_distinct found_all j.found.keyed j.found.apart (names_differ parts j)) j.copies j.places.copies_named
@@ -157,21 +159,31 @@ nodes_counted nodes applied e =
     map_length (x ∷ xs) = let a = map_length xs in omega (arith, a)
 
 -- ---- all of it
-pub parts_read : (parts : Parts) (reads : List BudRead) (buds : List BudText) (index : Index) (committed : List CommittedLeaf) (listed : List ℕ) (copies : List JournalNode) → AreParts parts reads index committed listed → map (λ x. x.bud) reads ≡ buds
-    → copies ≡ map told (copies_in reads) → CanFind parts committed (map named_by buds) copies
-parts_read parts reads buds index committed listed copies is of copy = record {
-  of_leaves = is.told;
-  grammar = is.grammar;
-  named = subst (NameTheSame parts.named) (two reads ∙ ap (map named_by) of) is.named;
-  copies = copy ∙ sym (ap (map told) is.copies);
-  journal = is.journal;
-}
+same_references : (parts : Parts) (reads : List BudRead) (buds : List BudText) → NameTheSame parts.named (map (λ x. named_by x.bud) reads) → map (λ x. x.bud) reads ≡ buds → NameTheSame parts.named (map named_by buds)
+same_references parts reads buds named of = subst (NameTheSame parts.named) (two reads ∙ ap (map named_by) of) named
   where
     two : (rs : List BudRead) → map (λ x. named_by x.bud) rs ≡ map named_by (map (λ x. x.bud) rs)
     two [] = refl
     two (r ∷ rs) = ap (λ z. named_by r.bud ∷ z) (two rs)
 
-pub parts_recover : (parts : Parts) (reads : List BudRead) (index : Index) (committed : List CommittedLeaf) (listed : List ℕ) (applied : List JournalNode) → AreParts parts reads index committed listed → applied ≡ map told (in_order (nodes_in reads))
-    → CanRecover parts index applied listed
-parts_recover parts reads index committed listed applied is e =
-    record { in_index = is.in_index; nodes = e ∙ sym (ap (λ (ns : List Placed). map told (in_order ns)) is.nodes); list = is.list; journal = is.journal }
+pub parts_read : (parts : Parts) (reads : List BudRead) (buds : List BudText) (index : Index) (committed : List CommittedLeaf) (listed : List ℕ) (copies : List JournalNode) → AreParts parts reads index committed listed → map (λ x. x.bud) reads ≡ buds
+    → copies ≡ map told (copies_in reads) → CanFind parts committed (map named_by buds) copies
+parts_read parts reads buds index committed listed copies is of copy = record {
+  of_leaves = is.told;
+  grammar = is.grammar;
+  named = same_references parts reads buds is.named of;
+  copies = copy ∙ sym (ap (map told) is.copies);
+  journal = is.journal;
+}
+
+pub parts_recover : (parts : Parts) (reads : List BudRead) (buds : List BudText) (m : BTreeMap ℕ ℕ) (index : Index) (committed : List CommittedLeaf) (listed left : List ℕ) (applied : List JournalNode) → AreParts parts reads index committed listed
+    → map (λ x. x.bud) reads ≡ buds → IsNamed (map named_by buds) m → left ≡ unspared m committed listed → applied ≡ map told (in_order (nodes_in reads)) → CanRecover parts index applied left
+parts_recover parts reads buds m index committed listed left applied is of named l e = record {
+  in_index = is.in_index;
+  nodes = e ∙ sym (ap (λ (ns : List Placed). map told (in_order ns)) is.nodes);
+  list = left_told parts m (λ leaf. named.bud leaf ∙ sym (here.bud leaf)) ∙ ap (λ (cs : List CommittedLeaf). unspared m cs parts.listed) (sym is.told) ∙ ap (unspared m committed) is.list ∙ sym l;
+  journal = is.journal;
+}
+  where
+    here : NameTheSame parts.named (map named_by buds)
+    here = same_references parts reads buds is.named of

@@ -7,6 +7,7 @@ pub mod Placing
 pub mod Reading
 pub mod Replay
 pub mod Settling
+pub mod Spared
 pub mod Standing
 pub mod Things
 pub mod Told

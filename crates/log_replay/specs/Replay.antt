@@ -9,7 +9,7 @@ use Rattle.index_tree.specs.Shape.{contents}
 use Rattle.index_tree.specs.Tree.{shape}
 use Rattle.leaf_map.specs.Kept.{node_key}
 use Rattle.leaf_map.specs.Parts.{Committed, Named, Parts, in_bud, is_named}
-use Rattle.leaf_map.specs.Recovered.{highest_key, in_order, leaves_found, recovered_of, spare_copies}
+use Rattle.leaf_map.specs.Recovered.{highest_key, in_order, leaves_found, listed_left, recovered_of, spare_copies}
 use Rattle.journal_scan.specs.Content.{told}
 use Rattle.journal_scan.specs.Journal.{BudRead, IsBudRead, copies_in, greatest_in, nodes_in}
 use Rattle.journal_scan.specs.Places.{named_by}
@@ -57,11 +57,11 @@ pub record AreFound (parts : Parts) (reads : List ReadLeaf) (outer : List Candid
   pub settled : reads ≡ settled_of parts (spare_copies parts) parts.committed
   pub candidates : outer ≡ map (candidate_at parts.copies) (outside parts.named (leaves_found parts))
 
--- These parts are what was read of an index, of nodes in order of number, and of the list.
+-- These parts are what was read of an index, of nodes in order of number, and of the listed inodes that may go.
 pub record CanRecover (parts : Parts) (index : Index) (applied : List JournalNode) (listed : List ℕ) : Type 0 where
   pub in_index : contents (shape index.root) ≡ map (λ c. c.leaf) parts.committed
   pub nodes : applied ≡ map told (in_order parts.nodes)
-  pub list : parts.listed ≡ listed
+  pub list : listed_left parts ≡ listed
   pub journal : IsOfJournal parts
 
 -- the greatest inode number in the keys of leaves, or 0

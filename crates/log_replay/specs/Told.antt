@@ -9,7 +9,7 @@ use Rattle.index_tree.specs.Tree.{shape}
 use Rattle.leaf_map.specs.Kept.{Kept, Placed, shown}
 use Rattle.leaf_map.specs.LeafMap.{IsLeafMap}
 use Rattle.leaf_map.specs.Parts.{Parts, is_shown}
-use Rattle.leaf_map.specs.Recovered.{in_order, leaves_found, without_orphan}
+use Rattle.leaf_map.specs.Recovered.{in_order, leaves_found, listed_left, without_orphan}
 use Rattle.journal_scan.specs.Content.{content_of, told}
 use Rattle.journal_scan.specs.Places.{HavePlaces}
 use Rattle.journal_scan.specs.declared.journal_node.JournalNode.{JournalNode}
@@ -48,10 +48,10 @@ pub record IsOfJournal (parts : Parts) : Type 0 where
   pub distinct : AreDistinct (map (λ c. c.leaf) parts.committed)
   pub places : HavePlaces parts.named parts.copies parts.nodes
 
--- This is told of what a mount has read: an index of the leaves that were found, what is said of each, the nodes in order of number, and the list.
+-- This is told of what a mount has read: an index of the leaves that were found, what is said of each, the nodes in order of number, and the listed inodes that may go.
 pub record IsToldBy (parts : Parts) (index : Index) (found nodes : List JournalNode) (listed : List ℕ) : Type 0 where
   pub journal : IsOfJournal parts
   pub in_index : contents (shape index.root) ≡ leaves (leaves_found parts)
   pub of_leaves : found ≡ map told_leaf (leaves_found parts)
   pub of_nodes : nodes ≡ map told (in_order parts.nodes)
-  pub of_list : listed ≡ parts.listed
+  pub of_list : listed ≡ listed_left parts

@@ -24,6 +24,7 @@ mod reading;
 mod recovery;
 mod replayed;
 mod settling;
+mod spared;
 mod standing;
 mod thing;
 

@@ -1,14 +1,14 @@
 // What a mount recovers.
 
-ghost use Rattle.std.specs.Prelude.{◌≡◌, ◌+◌, ◌≤◌, length, map, IfOk};
+ghost use Rattle.std.specs.Prelude.{◌≡◌, ◌+◌, ◌≤◌, length, List, IfOk};
 ghost use Rattle.std.specs.List.{AllByRecursion};
 ghost use Rattle.index_tree.specs.Shape.{contents, shape_weight};
 ghost use Rattle.index_tree.specs.Tree.{shape};
-ghost use Rattle.leaf_map.specs.Parts.{Parts};
+ghost use Rattle.leaf_map.specs.Parts.{Named, Parts};
 ghost use Rattle.leaf_map.specs.Recovered.{leaves_left, recovered_of};
 ghost use Rattle.journal_scan.specs.Journal.{IsReadable};
-ghost use Rattle.journal_scan.specs.Places.{named_by};
 ghost use Rattle.log_replay.specs.Changes.{HasBlockKey};
+ghost use Rattle.log_replay.specs.Named.{IsNamed};
 ghost use Rattle.log_replay.specs.Replay.{AreFound, CanFind, CanRecover, IsReplayed, highest_of};
 ghost use Rattle.log_replay.specs.Standing.{leaves};
 ghost use Rattle.log_replay.specs.Told.{IsToldBy};
@@ -27,15 +27,17 @@ use crate::read_leaf::ReadLeaf;
 use crate::reading::read_leaves;
 use crate::replayed::Replayed;
 use crate::settling::{drop_owned, settle};
+use crate::spared::unspared;
 use crate::thing::number_of;
 use index_tree::Index;
 use journal_scan::{BudText, JournalNode, read_journal};
 use std::alloc::Global;
+use std::collections::BTreeMap;
 use ubifs_base::Memory;
 
 /// The index after the nodes of the journal and without the orphans that are listed and have no links, given the index of
-/// the leaves that were found, what is said of each of these in order, and the nodes in order of number. `Memory` consumes
-/// the index, `found` and `nodes`.
+/// the leaves that were found, what is said of each of these in order, the nodes in order of number, and the list without the inodes
+/// whose own node has links although nobody knows their kind. `Memory` consumes the index, `found` and `nodes`.
 pub fn replay_nodes(
     alloc: Global,
     index: Index,
@@ -71,10 +73,12 @@ pub fn replay(
 {
     journals_can_be_applied();
     let highest = highest_of(&leaves);
+    let named = named_lebs(alloc, buds)?;
+    let left = unspared(alloc, &leaves, &named, listed)?;
     let read = read_journal(alloc, buds)?;
     let nodes = read.nodes.len() as u64;
-    let found = find_leaves(alloc, leaves, buds, read.copies)?;
-    let index = recover(alloc, committed, found, read.nodes, listed)?;
+    let found = find_leaves(alloc, leaves, &named, read.copies)?;
+    let index = recover(alloc, committed, found, read.nodes, &left)?;
     Ok(Replayed {
         index,
         nodes,
@@ -106,17 +110,16 @@ struct FoundLeaves {
 fn find_leaves(
     alloc: Global,
     leaves: Vec<CommittedLeaf>,
-    buds: &[BudText],
+    named: &BTreeMap<u32, u32>,
     copies: Vec<JournalNode>,
 ) -> Result<FoundLeaves, Memory>
-    ensures { IfOk result (λ found. (parts : Parts) → CanFind parts leaves.items (map named_by buds.now) copies.items → AreFound parts found.settled.items found.candidates.items) }
+    ensures { IfOk result (λ found. (parts : Parts) (references : List Named) → IsNamed references named.now → CanFind parts leaves.items references copies.items → AreFound parts found.settled.items found.candidates.items) }
 {
-    let named = named_lebs(alloc, buds)?;
     let mut ranked = by_rank(alloc, copies)?;
-    let reads = read_leaves(alloc, leaves, &named, &ranked)?;
+    let reads = read_leaves(alloc, leaves, named, &ranked)?;
     drop_owned(alloc, &reads, &mut ranked)?;
     let settled = settle(alloc, reads, ranked)?;
-    let candidates = candidates_of(alloc, &settled, &named)?;
+    let candidates = candidates_of(alloc, &settled, named)?;
     Ok(FoundLeaves {
         settled,
         candidates,

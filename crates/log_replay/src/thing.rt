@@ -155,7 +155,7 @@ pub(crate) fn makes(node: &JournalNode, leaf: &Leaf) -> bool
 
 // Whether two leaves have one key and one place.
 #[tactic(auto, unfolding(index_tree::specs::Removal::same_leaf))]
-fn is_one(one: &Leaf, other: &Leaf) -> bool
+pub(crate) fn is_one(one: &Leaf, other: &Leaf) -> bool
     ensures { result ≡ same_leaf one.now other.now }
 {
     rank(&one.key) == rank(&other.key)

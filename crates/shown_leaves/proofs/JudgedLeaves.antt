@@ -21,7 +21,8 @@ use Rattle.sound_image.specs.Wrong.{Wrong, differs}
 use Rattle.image_check.specs.FirstLaws.{first_alone, first_of_both, first_same}
 use Rattle.image_check.specs.WrongValues.{IsFirstOf, sooner_of, wrong_at}
 use Rattle.image_check.specs.declared.wrong_value.WrongValue.{WrongValue}
-use Rattle.shown_leaves.specs.Judged.{is_at_source, is_shown_told, judged_of, name_number, unlike_told}
+use Rattle.shown_leaves.specs.Judged.{is_at_source, is_shown_told, judged_of, unlike_told}
+use Rattle.tree_check.specs.Places.{number_shown}
 use Rattle.tree_check.specs.Told.{AreShownBy, IsShownBy, shown_told}
 use Rattle.shown_leaves.specs.Sources.{AreSourced, IsReadFrom, HasSource, IsSourced, IsUnlike, IsUnlikeIn, StandsAtLeaf, bytes_of}
 use Rattle.shown_leaves.specs.Stored.{IsStoredIn, leaf_node}
@@ -114,13 +115,13 @@ is_shown_is (Some (changes.SetBlock ino number bytes)) s e = ap is_shown_told (s
 is_shown_is (Some (changes.CutBlocks ino old_size new_size)) s e = ap is_shown_told (sym (some_same _ s e))
 is_shown_is (Some (changes.DropInode ino)) s e = absurd cc
 
-number_told : (x : Kept) (c : Option Change) (s : Shown) → shown_by x ≡ c → shown_told c ≡ Some s → name_number (key_words x.leaf.key).0 s ≡ number_of x
-number_told x None s f e = ap (name_number (key_words x.leaf.key).0) (sym (some_same _ s e)) ∙ rw f refl
-number_told x (Some (changes.SetInode ino inode)) s f e = ap (name_number (key_words x.leaf.key).0) (sym (some_same _ s e)) ∙ rw f refl
-number_told x (Some (changes.SetEntry entry)) s f e = ap (name_number (key_words x.leaf.key).0) (sym (some_same _ s e)) ∙ rw f refl
-number_told x (Some (changes.DropEntry dir name)) s f e = ap (name_number (key_words x.leaf.key).0) (sym (some_same _ s e)) ∙ rw f refl
-number_told x (Some (changes.SetBlock ino number bytes)) s f e = ap (name_number (key_words x.leaf.key).0) (sym (some_same _ s e)) ∙ rw f refl
-number_told x (Some (changes.CutBlocks ino old_size new_size)) s f e = ap (name_number (key_words x.leaf.key).0) (sym (some_same _ s e)) ∙ rw f refl
+number_told : (x : Kept) (c : Option Change) (s : Shown) → shown_by x ≡ c → shown_told c ≡ Some s → number_shown (key_words x.leaf.key).0 s ≡ number_of x
+number_told x None s f e = ap (number_shown (key_words x.leaf.key).0) (sym (some_same _ s e)) ∙ rw f refl
+number_told x (Some (changes.SetInode ino inode)) s f e = ap (number_shown (key_words x.leaf.key).0) (sym (some_same _ s e)) ∙ rw f refl
+number_told x (Some (changes.SetEntry entry)) s f e = ap (number_shown (key_words x.leaf.key).0) (sym (some_same _ s e)) ∙ rw f refl
+number_told x (Some (changes.DropEntry dir name)) s f e = ap (number_shown (key_words x.leaf.key).0) (sym (some_same _ s e)) ∙ rw f refl
+number_told x (Some (changes.SetBlock ino number bytes)) s f e = ap (number_shown (key_words x.leaf.key).0) (sym (some_same _ s e)) ∙ rw f refl
+number_told x (Some (changes.CutBlocks ino old_size new_size)) s f e = ap (number_shown (key_words x.leaf.key).0) (sym (some_same _ s e)) ∙ rw f refl
 number_told x (Some (changes.DropInode ino)) s f e = absurd cc
 
 -- a leaf is judged
@@ -134,11 +135,11 @@ unlike_first : (contents : ℕ → List ℕ) (x : Kept) (leaf : SourcedLeaf) (s 
 unlike_first contents x leaf s stands is e tests = by (stands && is_shown_told s) refl
   where
     d : WrongValue
-    d = record { lnum = leaf.leaf.lnum; offs = leaf.leaf.offs; wanted = name_number (key_words leaf.leaf.key).0 s; found = 0 }
+    d = record { lnum = leaf.leaf.lnum; offs = leaf.leaf.offs; wanted = number_shown (key_words leaf.leaf.key).0 s; found = 0 }
 
     here : wrong_at d ≡ record { lnum = x.leaf.lnum; offs = x.leaf.offs; misfit = differs (number_of x) 0 }
     here =
-        ap (λ (l : Leaf). record { lnum = l.lnum; offs = l.offs; misfit = differs (name_number (key_words l.key).0 s) 0 }) is
+        ap (λ (l : Leaf). record { lnum = l.lnum; offs = l.offs; misfit = differs (number_shown (key_words l.key).0 s) 0 }) is
         ∙ ap (λ (n : ℕ). record { lnum = x.leaf.lnum; offs = x.leaf.offs; misfit = differs n 0 }) (number_told x (shown_by x) s refl e)
 
     by : (b : Bool) → (stands && is_shown_told s) ≡ b → IsFirstOf (IsUnlike contents x) (cond b None (Some d))
@@ -155,7 +156,7 @@ unlike_right : (contents : ℕ → List ℕ) (x : Kept) (leaf : SourcedLeaf) (s 
 unlike_right contents x leaf s stands e tests = by (stands && is_shown_told s) refl
   where
     d : WrongValue
-    d = record { lnum = leaf.leaf.lnum; offs = leaf.leaf.offs; wanted = name_number (key_words leaf.leaf.key).0 s; found = 0 }
+    d = record { lnum = leaf.leaf.lnum; offs = leaf.leaf.offs; wanted = number_shown (key_words leaf.leaf.key).0 s; found = 0 }
 
     by : (b : Bool) → (stands && is_shown_told s) ≡ b → IfNone (cond b None (Some d)) (ShowsItsNode contents x)
     by true right =

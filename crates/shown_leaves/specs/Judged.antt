@@ -1,8 +1,9 @@
 -- What is told of a leaf whose node was read.
-use Rattle.std.specs.Prelude.{ℕ, ◌==◌, ◌&&◌, Bool, true, false, if◌then◌else◌, Option, Some, None}
+use Rattle.std.specs.Prelude.{◌==◌, ◌&&◌, Bool, true, false, if◌then◌else◌, Option, Some, None}
 use Rattle.ubifs_base.specs.Key.{key_words}
 use Rattle.image_check.specs.declared.wrong_value.WrongValue.{WrongValue}
 use Rattle.shown_leaves.specs.declared.leaves.JudgedLeaf.{JudgedLeaf}
+use Rattle.tree_check.specs.Places.{number_shown}
 use Rattle.tree_check.specs.declared.shown_leaf.Shown.{Shown}
 use Rattle.tree_check.specs.declared.shown_leaf.Shown.TheVariants.{Inode, Entry, Block}
 use Rattle.shown_leaves.specs.declared.sourced_leaf.Source.{Source}
@@ -23,16 +24,11 @@ is_at_source leaf = by leaf.source
     by None = false
     by (Some source) = (source.lnum == leaf.leaf.lnum) && ((source.offs == leaf.leaf.offs) && (source.len == leaf.leaf.len))
 
--- the number by which a leaf is named: of an entry that of its inode, and else that in its key
-abbrev pub name_number : ℕ → Shown → ℕ
-name_number number (Entry dir name ino kind) = ino
-name_number number other = number
-
 -- what is wrong with a leaf that shows this and stands at its place or doesn't
 abbrev pub unlike_told : SourcedLeaf → Shown → Bool → Option WrongValue
 unlike_told leaf shown stands =
     if stands && is_shown_told shown then None
-    else Some (record { lnum = leaf.leaf.lnum; offs = leaf.leaf.offs; wanted = name_number (key_words leaf.leaf.key).0 shown; found = 0 })
+    else Some (record { lnum = leaf.leaf.lnum; offs = leaf.leaf.offs; wanted = number_shown (key_words leaf.leaf.key).0 shown; found = 0 })
 
 abbrev pub judged_of : SourcedLeaf → Shown → Bool → JudgedLeaf
 judged_of leaf shown stands = record {

@@ -9,7 +9,7 @@ ghost use Rattle.sound_image.specs.Tree.{ShowsItsNode};
 ghost use Rattle.image_check.specs.WrongValues.{IsFirstOf};
 ghost use Rattle.tree_check.specs.Told.{AreShownBy, IsShownBy};
 ghost use Rattle.shown_leaves.specs.Sources.{AreSourced, IsSourced, IsUnlike, IsUnlikeIn, StandsAtLeaf};
-ghost use Rattle.shown_leaves.specs.Judged.{is_at_source, judged_of, name_number};
+ghost use Rattle.shown_leaves.specs.Judged.{is_at_source, judged_of};
 ghost use Rattle.shown_leaves.specs.Stored.{leaf_node};
 
 use crate::key_order::number_of;
@@ -22,7 +22,7 @@ use crate::stored_node::{StoredNode, is_same_node};
 use image_check::{WrongValue, sooner};
 use media_leaf::one_node;
 use std::alloc::Global;
-use tree_check::{Shown, ShownLeaf};
+use tree_check::{Shown, ShownLeaf, number_shown};
 use ubi_volume::{AreaFault, Volume};
 
 // What a leaf shows, and what is wrong if it doesn't show what stands at its place.
@@ -150,7 +150,7 @@ fn judged(leaf: &SourcedLeaf, shown: Shown, stands: bool) -> JudgedLeaf
         Some(WrongValue {
             lnum: leaf.leaf.lnum,
             offs: leaf.leaf.offs,
-            wanted: name_number(number, &shown) as u64,
+            wanted: number_shown(number, &shown) as u64,
             found: 0,
         })
     };
@@ -162,19 +162,5 @@ fn judged(leaf: &SourcedLeaf, shown: Shown, stands: bool) -> JudgedLeaf
             shown,
         },
         unlike,
-    }
-}
-
-// The number by which a leaf is named: of an entry that of its inode, and else that in its key.
-fn name_number(number: u32, shown: &Shown) -> u32
-    ensures { result ≡ name_number number shown.now }
-{
-    match shown {
-        Shown::Entry { ino, .. } => *ino,
-        Shown::Inode { .. }
-        | Shown::Deletion { .. }
-        | Shown::Block { .. }
-        | Shown::Truncation { .. }
-        | Shown::Nothing => number,
     }
 }

@@ -28,6 +28,7 @@ pub mod ProperTree
 pub mod ProperImage
 pub mod WorkedRows
 pub mod FirstOf
+pub mod StandingNodes
 pub mod SumsFirst
 pub mod LinksFirst
 pub mod WorkedLeaves

@@ -31,7 +31,7 @@ use Rattle.leaf_map.specs.Kept.{Kept, Placed, kept_at, node_key, shown, shown_by
 use Rattle.leaf_map.specs.LastChange.{IsSorted}
 use Rattle.leaf_map.specs.LeafMap.{HasKeyOf, IsKeyed, IsLeafMap}
 use Rattle.leaf_map.specs.Parts.{Committed, Parts}
-use Rattle.leaf_map.specs.Recovered.{committed_highest, highest_key, in_order, is_unlinked, leaves_after, leaves_found, leaves_left, moved, placed_node, recovered_of, tree_found, without_orphan}
+use Rattle.leaf_map.specs.Recovered.{committed_highest, highest_key, in_order, is_unlinked, leaves_after, leaves_found, leaves_left, listed_left, moved, placed_node, recovered_of, tree_found, without_orphan}
 use Rattle.leaf_map.specs.Shown.{tree_of}
 use Rattle.sound_image.specs.Image.{Image, parts_of}
 use Rattle.sound_image.specs.Sound.{SoundImage}
@@ -191,7 +191,7 @@ left_of_index : NodesHavePlaces → StoredIsIndex → LeafLaws → (contents : �
 left_of_index places stored laws contents image h =
     let nodes = in_order (parts_of image).nodes in
     let leaf_nodes = ordered_all (λ x. IsLeaf x.node) (parts_of image).nodes [] tt (have_places places contents image h).leaf_nodes in
-    map_without laws image.listed (leaves_after (leaves_found (parts_of image)) nodes) (map_after laws nodes (leaves_found (parts_of image)) leaf_nodes (sound_found stored contents image h))
+    map_without laws (listed_left (parts_of image)) (leaves_after (leaves_found (parts_of image)) nodes) (map_after laws nodes (leaves_found (parts_of image)) leaf_nodes (sound_found stored contents image h))
 
 left_have : StoredIsIndex → (contents : ℕ → List ℕ) (image : Image) → SoundImage contents image → AllByRecursion (HasNumbers (recovered_of (parts_of image)).highest) (left_of image)
 left_have stored contents image h =
@@ -204,7 +204,7 @@ left_have stored contents image h =
     let own = of_keys (map (λ x. x.leaf.key) parts.committed) parts.highest most (from_first keys (committed_highest parts)) in
     let found = found_have most (leaves_found parts) (sound_found stored contents image h).keyed (found_numbers parts most (subst K same is.keyed) (have_grammar contents (leaves_in (plain image.placed)) image.committed h.leaves.committed) (sound_copies contents image h) (keys_of_leaves most parts.committed own)) in
     let later = keys_of_nodes most (in_order parts.nodes) (of_keys keys (committed_highest parts) most (le_refl most)) in
-    all_without_have most parts.listed (leaves_after (leaves_found parts) (in_order parts.nodes)) (all_after_have most (in_order parts.nodes) (leaves_found parts) later found)
+    all_without_have most (listed_left parts) (leaves_after (leaves_found parts) (in_order parts.nodes)) (all_after_have most (in_order parts.nodes) (leaves_found parts) later found)
 
 -- what recovered leaves show can stand in a proper tree
 kept_well : (contents : ℕ → List ℕ) (kept : List Kept) → ((k : ℕ) → IsBytes (contents k)) → AllByRecursion (ShowsItsNode contents) kept → AllByRecursion (λ x. IsShownWell (shown_by x)) kept

@@ -1,15 +1,11 @@
 -- What a replay asks for: copies set something, leaves that are found are those of an index, and references name what buds do.
-use Rattle.std.proofs.Common.{◌≡◌, ℕ, true, List, [], ◌∷◌, ◌++◌, map, Option, Some, None, refl, ap, sym, ◌∙◌, subst, inl, inr}
+use Rattle.std.proofs.Common.{◌≡◌, ℕ, true, List, [], ◌∷◌, map, Option, Some, None, refl, ap, sym, ◌∙◌, subst, inl, inr}
 use Rattle.std.specs.Prelude.{◌==◌, ◌&&◌, not, is_some}
 use Rattle.std.specs.List.{AllByRecursion, list_any}
 use Rattle.std.specs.Option.{option_map}
 use Rattle.std.proofs.lemmas.List.Elements.{recursion_from_All}
-use Rattle.ubifs_base.specs.declared.journal_head.JournalHead.{JournalHead}
-use Rattle.ubifs_base.specs.declared.journal_head.JournalHead.TheVariants.{Collector, Base, Data}
 use Rattle.media_leaf.specs.LeafNode.{IsLeaf, LeafNode}
 use Rattle.media_sys.specs.declared.branch.Branch.{Branch}
-use Rattle.leb_scan.specs.Text.{nodes_of}
-use Rattle.leb_scan.specs.declared.found.Found.{Found}
 use Rattle.bud_log.specs.Buds.{buds_of}
 use Rattle.bud_log.specs.Log.{references_of}
 use Rattle.index_tree.specs.Keyed.{HaveKeys}
@@ -19,9 +15,8 @@ use Rattle.index_tree.specs.Shape.{contents as leaves_in}
 use Rattle.index_tree.specs.declared.leaf.Leaf.{Leaf}
 use Rattle.index_media.specs.PlacedRow.{PlacedRow, plain}
 use Rattle.index_media.specs.Stored.{IsStoredIndex}
-use Rattle.journal_scan.specs.Journal.{AreLeaves, BudRead, IsBudRead, IsLeafAt, copies_in, if_copies, taken}
+use Rattle.journal_scan.specs.Journal.{BudRead, copies_in}
 use Rattle.journal_scan.specs.Places.{named_by as named_of}
-use Rattle.journal_scan.specs.declared.bud_text.BudText.{BudText}
 use Rattle.leaf_map.specs.Allowed.{IsOwnNode}
 use Rattle.leaf_map.specs.Kept.{Placed, kept_at, shown}
 use Rattle.leaf_map.specs.LeafMap.{IsLeafMap}
@@ -35,8 +30,8 @@ use Rattle.sound_image.specs.Sound.{SoundImage}
 use Rattle.sound_image.specs.Tree.{IsCopy}
 use Rattle.sound_image.proofs.FoundLeaves.{AreSetting, found_of_index, own_of}
 use Rattle.sound_image.proofs.Lists.{two_true}
-use Rattle.sound_image.proofs.OneJournal.{all_read}
 use Rattle.sound_image.proofs.References.{same_lebs, same_places}
+use Rattle.sound_image.proofs.StandingNodes.{copies_stand, placed_grammar}
 
 -- ---- committed leaves
 pub committed_leaves : (contents : ℕ → List ℕ) (leaves : List Leaf) (committed : List Committed) → AreCommitted contents leaves committed → leaves ≡ map (λ c. c.leaf) committed
@@ -56,31 +51,6 @@ have_grammar contents (leaf ∷ leaves) [] h = absurd h
 have_grammar contents (leaf ∷ leaves) (x ∷ committed) h = (found_grammar contents leaf x.found h.1, have_grammar contents leaves committed h.2)
 
 -- ---- copies
-own_leaf : (bud : BudText) (found : Found) (own : List Placed) → IsLeafAt bud found own → AllByRecursion (λ (x : Placed). IsLeaf x.node) own
-own_leaf bud found [] is = tt
-own_leaf bud found (x ∷ []) is = (is.0.is.is, tt)
-own_leaf bud found (x ∷ (y ∷ more)) is = absurd is
-
-both_leaves : (xs ys : List Placed) → AllByRecursion (λ (x : Placed). IsLeaf x.node) xs → AllByRecursion (λ (x : Placed). IsLeaf x.node) ys → AllByRecursion (λ (x : Placed). IsLeaf x.node) (xs ++ ys)
-both_leaves [] ys a b = b
-both_leaves (x ∷ xs) ys a b = (a.0, both_leaves xs ys a.1 b)
-
-leaf_nodes : (bud : BudText) (founds : List Found) (nodes : List Placed) → AreLeaves bud founds nodes → AllByRecursion (λ (x : Placed). IsLeaf x.node) nodes
-leaf_nodes bud [] nodes e = let P : List Placed → Type 0 = λ xs. AllByRecursion (λ (x : Placed). IsLeaf x.node) xs in subst P (sym e) tt
-leaf_nodes bud (found ∷ founds) nodes (own, rest, is, more, e) =
-    let P : List Placed → Type 0 = λ xs. AllByRecursion (λ (x : Placed). IsLeaf x.node) xs in
-    subst P (sym e) (both_leaves own rest (own_leaf bud found own is) (leaf_nodes bud founds rest more))
-
-copy_leaves : (head : JournalHead) (nodes : List Placed) → AllByRecursion (λ (x : Placed). IsLeaf x.node) nodes → AllByRecursion (λ (x : Placed). IsLeaf x.node) (if_copies head (taken head nodes))
-copy_leaves Collector nodes a = a
-copy_leaves Base nodes a = tt
-copy_leaves Data nodes a = tt
-
-copies_leaves : (reads : List BudRead) → AllByRecursion IsBudRead reads → AllByRecursion (λ (x : Placed). IsLeaf x.node) (copies_in reads)
-copies_leaves [] h = tt
-copies_leaves (x ∷ reads) h =
-    both_leaves (if_copies x.bud.head (taken x.bud.head x.nodes)) (copies_in reads) (copy_leaves x.bud.head x.nodes (leaf_nodes x.bud (nodes_of h.0.items) x.nodes h.0.leaves)) (copies_leaves reads h.1)
-
 -- a committed leaf's own node sets something
 own_shown : (named : List Named) (committed : List Committed) (node : LeafNode) → AllByRecursion HasGrammar committed → IsOwnNode named committed node → is_shown (shown node) ≡ true
 own_shown named [] node g h = absurd h
@@ -106,7 +76,8 @@ StoredIsIndex = (contents : ℕ → List ℕ) (fanout : ℕ) (root : Branch) (pl
 pub sound_copies : (contents : ℕ → List ℕ) (image : Image) → SoundImage contents image → AreSetting (parts_of image).copies
 sound_copies contents image h =
     let g = have_grammar contents (leaves_in (plain image.placed)) image.committed h.leaves.committed in
-    copies_set (parts_of image) (copies_in image.buds) g (recursion_from_All (IsCopy (parts_of image)) (copies_in image.buds) h.tree.copies) (copies_leaves image.buds (all_read image.buds h.buds.sound))
+    copies_set (parts_of image) (copies_in image.buds) g (recursion_from_All (IsCopy (parts_of image)) (copies_in image.buds) h.tree.copies)
+    (placed_grammar contents (copies_in image.buds) (copies_stand contents (buds_of (references_of image.log)) image.buds h.buds))
 
 pub sound_found : StoredIsIndex → (contents : ℕ → List ℕ) (image : Image) → SoundImage contents image → IsLeafMap (leaves_found (parts_of image))
 sound_found stored contents image h =

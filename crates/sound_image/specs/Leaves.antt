@@ -1,5 +1,5 @@
 -- The rule on leaves (`dbg_walk_index` with `check_leaf` of Linux fs/ubifs).
-use Rattle.std.specs.Prelude.{◌≡◌, ℕ, ⊤, ◌+◌, ◌≤◌, IsTrue, if◌then◌else◌, List, [], ◌∷◌, ◌++◌, All, Option, Some, None, length, take, drop, map}
+use Rattle.std.specs.Prelude.{◌≡◌, ℕ, ⊤, ◌+◌, ◌≤◌, IsTrue, List, [], ◌∷◌, ◌++◌, All, Option, Some, None, length, take, drop, map}
 use Rattle.ubifs_base.specs.Areas.{orph_first}
 use Rattle.ubifs_base.specs.declared.raw_geometry.RawGeometry.{RawGeometry}
 use Rattle.media_leaf.specs.LeafNode.{IsLeafNode}

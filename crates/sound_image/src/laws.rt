@@ -21,6 +21,7 @@ ghost use Rattle.leb_scan.specs.Text.{is_blank, nodes_of};
 ghost use Rattle.leb_scan.specs.declared.found.Found.{Found};
 ghost use Rattle.leb_scan.specs.declared.tail.Tail.TheVariants.{Clean};
 ghost use Rattle.bud_log.specs.Buds.{buds_of};
+ghost use Rattle.bud_log.specs.declared.head_at.HeadAt.{HeadAt};
 ghost use Rattle.bud_log.specs.Log.{IsLog, IsLogLeb, Log, references_of};
 ghost use Rattle.bud_log.specs.LogText.{LogText, begins_with, start_of};
 ghost use Rattle.bud_log.specs.Writing.{IsAmong, IsOlder};
@@ -31,23 +32,24 @@ ghost use Rattle.index_tree.specs.declared.leaf.Leaf.{Leaf};
 ghost use Rattle.index_media.specs.PlacedRow.{PlacedRow};
 ghost use Rattle.fs_model.specs.Proper.{IsProper, has_kind, is_sound_entry, is_sound_inode};
 ghost use Rattle.fs_model.specs.declared.inode.Kind.TheVariants.{Dir};
-ghost use Rattle.journal_scan.specs.Journal.{BudRead, IsBudRead, IsReadable};
+ghost use Rattle.journal_scan.specs.Journal.{BudRead, IsBudRead, IsReadable, copies_in, nodes_in};
 ghost use Rattle.journal_scan.specs.Places.{HavePlaces, named_by};
 ghost use Rattle.leaf_map.specs.Kept.{Placed, shown};
 ghost use Rattle.leaf_map.specs.LeafMap.{IsLeafMap};
-ghost use Rattle.leaf_map.specs.Parts.{Parts, in_bud, is_named, is_shown};
+ghost use Rattle.leaf_map.specs.Parts.{Committed, Parts, in_bud, is_named, is_shown};
 ghost use Rattle.leaf_map.specs.Recovered.{leaves_found, recovered_of, tree_found};
 ghost use Rattle.log_replay.specs.Replay.{AreParts, told_committed};
+ghost use Rattle.log_replay.specs.Settling.{HasGrammar};
 ghost use Rattle.log_replay.specs.Standing.{leaves};
 ghost use Rattle.log_replay.specs.Told.{IsOfJournal};
 ghost use Rattle.log_replay.specs.declared.replayed.Replayed.{Replayed};
 ghost use Rattle.sound_image.specs.Breaches.{IsBroken, IsFirstBreach, IsWrongLink, IsWrongSum};
-ghost use Rattle.sound_image.specs.Buds.{IsSoundBud, MayStandInBud, bud_text};
+ghost use Rattle.sound_image.specs.Buds.{HasBuds, IsSoundBud, MayStandInBud, bud_text};
 ghost use Rattle.sound_image.specs.Frames.{IsKnownAt};
 ghost use Rattle.sound_image.specs.Image.{AreOfVolume, Image, parts_of};
 ghost use Rattle.sound_image.specs.Index.{HasIndex};
 ghost use Rattle.sound_image.specs.Laid.{IsFreshLog, IsPlainLeaf};
-ghost use Rattle.sound_image.specs.Leaves.{IsPlacedIn};
+ghost use Rattle.sound_image.specs.Leaves.{AreCommitted, IsPlacedIn};
 ghost use Rattle.sound_image.specs.Log.{EndWhole, HasLog, NamesMain, ends_in_start};
 ghost use Rattle.sound_image.specs.Masters.{HasMasters};
 ghost use Rattle.sound_image.specs.Mount.{IsCommittedIndex, IsReplayOf};
@@ -188,6 +190,15 @@ pub fn a_mount_can_read_a_sound_image()
 {
     nodes_have_places();
 }
+
+/// What was read of an image stands there: the nodes and the copies of its buds stand in their LEBs, whole. They are nodes of the
+/// grammar, and so is what was found at the places of committed leaves.
+pub fn what_was_read_stands()
+    ensures nodes { (contents : ℕ → List ℕ) (buds : List HeadAt) (reads : List BudRead) → HasBuds contents buds reads → AllByRecursion (IsPlacedIn contents) (nodes_in reads) }
+    ensures copies { (contents : ℕ → List ℕ) (buds : List HeadAt) (reads : List BudRead) → HasBuds contents buds reads → AllByRecursion (IsPlacedIn contents) (copies_in reads) }
+    ensures grammar { (contents : ℕ → List ℕ) (nodes : List Placed) → AllByRecursion (IsPlacedIn contents) nodes → AllByRecursion (λ (x : Placed). IsLeaf x.node) nodes }
+    ensures committed { (contents : ℕ → List ℕ) (leaves : List Leaf) (committed : List Committed) → AreCommitted contents leaves committed → AllByRecursion HasGrammar committed }
+{}
 
 /// What a sound image says is what a replay asks for: each copy is a node that sets something, the leaves that are found are those of
 /// an index, and references name the places and the LEBs that buds do. No two committed leaves are one by the rule on the tree.

@@ -18,6 +18,6 @@ pub use crate::laws::{
     plain_nodes_need_no_feature, sums_and_links_are_right_or_one_is_wrong,
     the_least_image_is_sound, the_tree_of_a_mount_is_proper,
     the_tree_of_a_sound_image_hangs_together, what_a_sound_image_says_can_be_replayed,
-    what_is_written_meets_the_rules,
+    what_is_written_meets_the_rules, what_was_read_stands,
 };
 pub use crate::rule::Rule;

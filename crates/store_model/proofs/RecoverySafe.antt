@@ -1,10 +1,11 @@
 -- What fits a view loses no committed leaf.
-use Rattle.std.proofs.Common.{◌≡◌, ◌⊎◌, ℕ, true, not, List, [], ◌∷◌, refl, sym, subst, ap, ◌∙◌, inl, inr, Option, Some, None}
+use Rattle.std.proofs.Common.{◌≡◌, ◌⊎◌, ℕ, Bool, true, false, cond, not, ◌&&◌, List, [], ◌∷◌, refl, sym, subst, ap, ◌∙◌, inl, inr, Option, Some, None}
 use Rattle.std.specs.Prelude.{◌==◌, get_or, is_some}
 use Rattle.std.specs.List.{AllByRecursion, list_any}
 use Rattle.std.specs.Option.{option_map}
 use Rattle.std.proofs.lemmas.Bool.{false≢true}
 use Rattle.media_leaf.specs.LeafNode.{IsLeaf, LeafNode}
+use Rattle.index_tree.specs.Removal.{same_leaf}
 use Rattle.fs_model.specs.declared.change.Change.{Change}
 use Rattle.fs_model.specs.declared.change.Change.TheVariants.{SetInode, SetBlock}
 use Rattle.fs_model.specs.Files.{Tree, inode_at}
@@ -12,13 +13,13 @@ use Rattle.fs_model.specs.Orphan.{is_nameless}
 use Rattle.fs_model.specs.Recovery.{KeepsSynced, taken}
 use Rattle.leaf_map.specs.After.{is_gone}
 use Rattle.leaf_map.specs.Allowed.{AreReadLeaves, FitsLeaves, HasInode, IsCopied, IsNodeOf, IsOfForgotten, IsOwnNode, IsSafe, IsTouchedIn, in_turn, sets_inode}
-use Rattle.leaf_map.specs.Kept.{Kept, Placed, shown_by}
+use Rattle.leaf_map.specs.Kept.{Kept, Placed, kept_at, shown, shown_by}
 use Rattle.leaf_map.specs.LastChange.{IsSorted}
 use Rattle.leaf_map.specs.LeafMap.{IsKeyed, IsLeafMap}
-use Rattle.leaf_map.specs.Parts.{Committed, Parts, is_shown, own_node}
+use Rattle.leaf_map.specs.Parts.{Committed, Named, Parts, in_bud, is_shown, own_node, shows_nothing}
 use Rattle.leaf_map.specs.Recovered.{committed_highest}
 use Rattle.leaf_map.specs.Shown.{tree_of}
-use Rattle.store_model.specs.Fits.{AreCommitted, AreLeft, AreOfListed, AreOwn, Faced, FitsFaced, HasOwn, IsLeft, IsOfNameless, IsOneOf, is_of_listed}
+use Rattle.store_model.specs.Fits.{AreCommitted, AreLeft, AreOfListed, AreOwn, Faced, FitsFaced, HasOwn, HasOwnOrNone, IsLeft, IsOfNameless, IsOneOf, is_of_listed}
 use Rattle.store_model.specs.Heads.{copies_of, heads_of}
 use Rattle.store_model.specs.Invariant.{HasCommitted, IsCopyOf}
 use Rattle.store_model.specs.Lebs.{is_among}
@@ -31,16 +32,33 @@ node_or : LeafNode → Option Placed → LeafNode
 node_or node None = node
 node_or node (Some found) = found.node
 
+-- what has its own node shows something
+own_shows : (named : List Named) (c : Committed) (own : Placed) → own_node named c ≡ Some own → shows_nothing named c ≡ false
+own_shows named c own e = by c.found e
+  where
+    test : (found : Placed) (b s l : Bool) → cond ((not b && s) && l) (Some found) None ≡ Some own → (not b && (not s && l)) ≡ false
+    test found true s l f = refl
+    test found false true l f = refl
+    test found false false l f = absurd cc
+
+    by : (found : Option Placed) → own_node named (record { leaf = c.leaf; found = found }) ≡ Some own → shows_nothing named (record { leaf = c.leaf; found = found }) ≡ false
+    by None f = absurd cc
+    by (Some found) f = test found (in_bud named c.leaf) (is_shown (shown found.node)) (same_leaf c.leaf (kept_at found).leaf) f
+
 read_leaves : (parts : Parts) (committed : List Committed) (kept : List Kept) → AreCommitted parts.named committed kept → AreReadLeaves parts kept committed
 unfolding node_or
 read_leaves parts [] [] h = tt
 read_leaves parts [] (x ∷ kept) h = absurd h
 read_leaves parts (c ∷ committed) [] h = absurd h
-read_leaves parts (c ∷ committed) (x ∷ kept) h = (record { leaf = h.0; own = by h.1 }, read_leaves parts committed kept h.2)
+read_leaves parts (c ∷ committed) (x ∷ kept) h = (record { leaf = h.0; own = by h.1; known = known h.1 }, read_leaves parts committed kept h.2)
   where
-    by : HasOwn parts.named c x ⊎ (own_node parts.named c ≡ None) → (found : Placed) → own_node parts.named c ≡ Some found → found.node ≡ x.node
+    by : HasOwnOrNone parts.named c x → (found : Placed) → own_node parts.named c ≡ Some found → found.node ≡ x.node
     by (inl (own, is, node, number)) found e = ap (node_or x.node) (sym e ∙ is) ∙ node
-    by (inr none) found e = absurd (false≢true (ap is_some (sym none ∙ e)))
+    by (inr none) found e = absurd (false≢true (ap is_some (sym none.0 ∙ e)))
+
+    known : HasOwnOrNone parts.named c x → shows_nothing parts.named c ≡ false
+    known (inl (own, is, node, number)) = own_shows parts.named c own is
+    known (inr none) = none.1
 
 -- a copy is the node of a leaf
 node_among : (kept : List Kept) (d : Placed) → IsCopyOf kept d → IsNodeOf kept d.node

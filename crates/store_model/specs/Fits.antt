@@ -11,7 +11,7 @@ use Rattle.leaf_map.specs.Allowed.{sets_inode}
 use Rattle.leaf_map.specs.Kept.{Kept, Placed, shown_by}
 use Rattle.leaf_map.specs.LeafMap.{shows_same}
 use Rattle.leaf_map.specs.Kept.{shown}
-use Rattle.leaf_map.specs.Parts.{Committed, Named, Parts, own_node}
+use Rattle.leaf_map.specs.Parts.{Committed, Named, Parts, own_node, shows_nothing}
 use Rattle.store_model.specs.Heads.{copies_of, heads_of, synced_since}
 use Rattle.store_model.specs.Lebs.{is_among}
 use Rattle.store_model.specs.Store.{Bud, Carried, Next, Store, View}
@@ -116,9 +116,9 @@ AreLeft f lnum (x ∷ kept) = (x.leaf.lnum ≡ lnum → IsLeft f x) × AreLeft f
 abbrev pub HasOwn : List Named → Committed → Kept → Type 0
 HasOwn named c x = (own : Placed) × (own_node named c ≡ Some own) × (own.node ≡ x.node) × (own.sqnum ≡ x.sqnum)
 
--- or it has none
+-- or it has none, and no node of its key stands at its place that shows nothing: no store writes one
 abbrev pub HasOwnOrNone : List Named → Committed → Kept → Type 0
-HasOwnOrNone named c x = HasOwn named c x ⊎ (own_node named c ≡ None)
+HasOwnOrNone named c x = HasOwn named c x ⊎ ((own_node named c ≡ None) × (shows_nothing named c ≡ false))
 
 -- the committed leaves as they were read: each has its own node or none
 abbrev pub AreCommitted : List Named → List Committed → List Kept → Type 0

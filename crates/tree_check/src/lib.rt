@@ -26,5 +26,5 @@ pub use crate::laws::{
     each_leaf_can_be_told, no_wrong_link_means_right_links, nothing_misplaced_means_in_place,
 };
 pub use crate::link_check::first_wrong_link;
-pub use crate::place_check::first_out_of_place;
+pub use crate::place_check::{first_out_of_place, number_shown};
 pub use crate::shown_leaf::{Shown, ShownLeaf};

@@ -99,8 +99,9 @@ fn misplaced_at(leaf: &ShownLeaf) -> WrongValue
     }
 }
 
-// The inode number by which a leaf is named, of whose key this is the number.
-fn number_shown(number: u32, shown: &Shown) -> u32
+/// The inode number by which a leaf is named that shows this and has this number in its key: of an entry that of its inode, and else
+/// that in the key.
+pub fn number_shown(number: u32, shown: &Shown) -> u32
     ensures { result ≡ number_shown number shown.now }
 {
     match shown {

@@ -2,7 +2,7 @@ use Rattle.std.proofs.Common.{ℕ, ◌≤◌, List, length, ◌++◌, ◌∷◌,
 use Rattle.leb_scan.specs.Gathered.{IsGathered, gathered_next, gathered_none}
 use Rattle.leb_scan.specs.Text.{IsLast, IsNext, tail_at}
 use Rattle.ubifs_base.specs.NodeLaws.{IsBytes}
-use Rattle.bud_check.specs.Findings.{IsFirstFound, IsWrongEnd, IsWrongNode}
+use Rattle.bud_check.specs.Findings.{IsFirstFound, IsWrongEnd, IsWrongFound}
 use Rattle.bud_check.proofs.TextFirsts.{nodes_next, nodes_none, text_first}
 use Rattle.bud_check.proofs.texts.first_in_text.Goals as goal
 
@@ -23,7 +23,7 @@ loop-found-preserved c =
     let same = c.as_slice-bytes.ensures in
     let E : List ℕ → Type 0 = λ b. c.next.new.self.place ≤ length b in
     let N : List ℕ → Type 0 = λ b. IsNext b c.loop-found.scanner.place c.next.new.self.place found in
-    let W : List ℕ → Type 0 = λ b. IsFirstFound (IsWrongNode b bud.lnum found) c.wrong_node.result in
+    let W : List ℕ → Type 0 = λ b. IsFirstFound (IsWrongFound b bud.lnum found) c.wrong_node.result in
     ((before.0 ++ found ∷ [], gathered_next bud.bytes bud.from c.loop-found.scanner.place c.next.new.self.place before.0 found before.1 (subst N same c.in-Some.ensures.some), nodes_next bud.bytes bud.lnum before.0 found c.loop-found.first c.wrong_node.result c.first_wrong-first.result c.first_wrong-first.ensures before.2 (subst W same c.wrong_node.ensures)), subst E same c.next.ensures.within, c.loop-found.invariant.2)
 
 pub returns : goal.returns

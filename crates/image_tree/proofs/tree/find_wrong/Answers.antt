@@ -17,16 +17,18 @@ use Rattle.image_tree.specs.Trees.{AreNodesTold, AreWellPlaced, IsWrongPlaced}
 use Rattle.image_tree.proofs.Members.{IsAtOne}
 use Rattle.image_tree.proofs.NamedLeaves.{empty_first, wrong_empty}
 use Rattle.image_tree.proofs.Sourcing.{nodes_told, reads_here, sourced_all}
+use Rattle.image_tree.proofs.StandingNodes.{StandingLaws}
 use Rattle.image_tree.proofs.WholeTree.{tree_first, tree_right}
 use Rattle.image_tree.proofs.tree.find_wrong.Goals as goal
 
 pub returns-clause-shown : goal.returns-clause-shown
 returns-clause-shown g c image s r =
     let old = g.V.Volume.state c.args.volume.now in
+    let laws : StandingLaws = record { nodes = c.what_was_read_stands.ensures.nodes; copies = c.what_was_read_stands.ensures.copies; grammar = c.what_was_read_stands.ensures.grammar } in
     let read = c.args.read.now in
     let parts = parts_of image in
     let same = fun_ext c.in_ok-repeated.ensures.keeps.0.holds ∙ fun_ext c.in_ok-nodes.ensures.keeps.0.holds in
-    let here = sourced_all old.holds parts (recovered_of parts).kept read.recovered.kept.items (reads_here old.holds c.args.leaves.now c.args.references.now c.args.journal.now image read s r) r.recovered.kept in
+    let here = sourced_all old.holds parts (recovered_of parts).kept read.recovered.kept.items (reads_here laws old.holds c.args.leaves.now c.args.references.now c.args.journal.now image read s r) r.recovered.kept in
     let S : (ℕ → List ℕ) → Type 0 = λ holds. AreSourced holds (recovered_of parts).kept (map sourced_of read.recovered.kept.items) in
     let L : List RecoveredLeaf → Type 0 = λ rs. AreSourced (g.V.Volume.state c.wrong_repeated.new.volume).holds (recovered_of parts).kept (map sourced_of rs) in
     c.in_ok-kept.ensures.shown (recovered_of parts).kept (subst L (sym c.as_slice-3.ensures.value) (subst S (sym same) here))
@@ -34,6 +36,7 @@ returns-clause-shown g c image s r =
 pub returns-clause-first : goal.returns-clause-first
 returns-clause-first g c image s r =
     let old = g.V.Volume.state c.args.volume.now in
+    let laws : StandingLaws = record { nodes = c.what_was_read_stands.ensures.nodes; copies = c.what_was_read_stands.ensures.copies; grammar = c.what_was_read_stands.ensures.grammar } in
     let one = g.V.Volume.state c.wrong_node.new.volume in
     let two = g.V.Volume.state c.wrong_repeated.new.volume in
     let read = c.args.read.now in
@@ -41,11 +44,11 @@ returns-clause-first g c image s r =
     let parts = parts_of image in
     let kept = (recovered_of parts).kept in
     let again = repeated_leaves (leaves_found parts) in
-    let reads = reads_here old.holds c.args.leaves.now c.args.references.now c.args.journal.now image read s r in
+    let reads = reads_here laws old.holds c.args.leaves.now c.args.references.now c.args.journal.now image read s r in
     let same_one = fun_ext c.in_ok-nodes.ensures.keeps.0.holds in
     let same_two = fun_ext c.in_ok-repeated.ensures.keeps.0.holds ∙ same_one in
     let C : List CommittedLeaf → Type 0 = λ cs. AreNodesTold old.holds parts c.args.leaves.now c.args.references.now cs c.args.journal.now in
-    let told = subst C (sym c.as_slice.ensures.value) (nodes_told old.holds c.args.leaves.now c.args.references.now c.args.journal.now image read s r) in
+    let told = subst C (sym c.as_slice.ensures.value) (nodes_told laws old.holds c.args.leaves.now c.args.references.now c.args.journal.now image read s r) in
     let R : (ℕ → List ℕ) → List RecoveredLeaf → Type 0 = λ holds rs. AreSourced holds again (map sourced_of rs) in
     let here_again = subst (R one.holds) (sym c.as_slice-2.ensures.value) (subst (λ (holds : ℕ → List ℕ). R holds read.recovered.repeated.items) (sym same_one) (sourced_all old.holds parts again read.recovered.repeated.items reads r.recovered.repeated)) in
     let K : (ℕ → List ℕ) → List RecoveredLeaf → Type 0 = λ holds rs. AreSourced holds kept (map sourced_of rs) in
@@ -63,6 +66,7 @@ returns-clause-first g c image s r =
 pub returns-clause-right : goal.returns-clause-right
 returns-clause-right g c image s r =
     let old = g.V.Volume.state c.args.volume.now in
+    let laws : StandingLaws = record { nodes = c.what_was_read_stands.ensures.nodes; copies = c.what_was_read_stands.ensures.copies; grammar = c.what_was_read_stands.ensures.grammar } in
     let one = g.V.Volume.state c.wrong_node.new.volume in
     let two = g.V.Volume.state c.wrong_repeated.new.volume in
     let read = c.args.read.now in
@@ -70,11 +74,11 @@ returns-clause-right g c image s r =
     let parts = parts_of image in
     let kept = (recovered_of parts).kept in
     let again = repeated_leaves (leaves_found parts) in
-    let reads = reads_here old.holds c.args.leaves.now c.args.references.now c.args.journal.now image read s r in
+    let reads = reads_here laws old.holds c.args.leaves.now c.args.references.now c.args.journal.now image read s r in
     let same_one = fun_ext c.in_ok-nodes.ensures.keeps.0.holds in
     let same_two = fun_ext c.in_ok-repeated.ensures.keeps.0.holds ∙ same_one in
     let C : List CommittedLeaf → Type 0 = λ cs. AreNodesTold old.holds parts c.args.leaves.now c.args.references.now cs c.args.journal.now in
-    let told = subst C (sym c.as_slice.ensures.value) (nodes_told old.holds c.args.leaves.now c.args.references.now c.args.journal.now image read s r) in
+    let told = subst C (sym c.as_slice.ensures.value) (nodes_told laws old.holds c.args.leaves.now c.args.references.now c.args.journal.now image read s r) in
     let R : (ℕ → List ℕ) → List RecoveredLeaf → Type 0 = λ holds rs. AreSourced holds again (map sourced_of rs) in
     let here_again = subst (R one.holds) (sym c.as_slice-2.ensures.value) (subst (λ (holds : ℕ → List ℕ). R holds read.recovered.repeated.items) (sym same_one) (sourced_all old.holds parts again read.recovered.repeated.items reads r.recovered.repeated)) in
     let K : (ℕ → List ℕ) → List RecoveredLeaf → Type 0 = λ holds rs. AreSourced holds kept (map sourced_of rs) in

@@ -32,3 +32,11 @@ returns-clause-heads c = refl
 pub returns-clause-another : goal.returns-clause-another
 unfolding key_rank r5_of same_leaf
 returns-clause-another c = refl
+
+pub returns-clause-unknown : goal.returns-clause-unknown
+unfolding key_rank r5_of same_leaf
+returns-clause-unknown c = refl
+
+pub returns-clause-unlinked : goal.returns-clause-unlinked
+unfolding key_rank r5_of same_leaf
+returns-clause-unlinked c = refl
