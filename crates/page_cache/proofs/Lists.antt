@@ -54,7 +54,7 @@ module _ {K V : Type 0} (eq : K → K → Bool) (laws : IsEquivalence eq) where
   last_key P [] e h = h.0
   last_key P (f ∷ es) e h = last_key P es e h.1
 
-  last_found : (es : List (K × V)) (e : K × V) → IsDistinct eq (keys_of (es ++ e ∷ [])) → (lookup_entry (eq e.0) (es ++ e ∷ []) ≡ Some e) × (remove_entry (eq e.0) (es ++ e ∷ []) ≡ es)
+  pub last_found : (es : List (K × V)) (e : K × V) → IsDistinct eq (keys_of (es ++ e ∷ [])) → (lookup_entry (eq e.0) (es ++ e ∷ []) ≡ Some e) × (remove_entry (eq e.0) (es ++ e ∷ []) ≡ es)
   last_found [] e h = (rw (laws.refl e.0) refl, rw (laws.refl e.0) refl)
   last_found (f ∷ es) e h =
       let other : eq e.0 f.0 ≡ false = laws.symm e.0 f.0 ∙ last_key (λ y. eq f.0 y ≡ false) es e (IsDistinct-head eq f.0 (keys_of (es ++ e ∷ [])) h) in

@@ -1,2 +1,3 @@
-pub mod Pages
+pub mod InOrder
 pub mod PageLaws
+pub mod Pages

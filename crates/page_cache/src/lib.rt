@@ -8,7 +8,10 @@
 
 mod cache;
 mod dirty_page;
+mod dirty_queue;
 mod page_list;
+mod place;
+mod places;
 mod ticket;
 
 pub use crate::cache::Cache;

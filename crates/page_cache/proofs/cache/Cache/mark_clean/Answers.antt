@@ -6,8 +6,7 @@ pub invariant_of-self : goal.invariant_of-self
 invariant_of-self c =
     let was = c.self.invariant in
     let ticket = c.args.ticket.now in
-    rw c.remove.ensures.rest (record {
-      unbounded = was.unbounded;
+    rw c.remove.ensures (record {
       apart = apart_without _ _ was.apart (ticket.ino, ticket.block);
       counted = counted_without _ _ was.counted (ticket.ino, ticket.block);
     })
