@@ -1,6 +1,6 @@
 -- What holds of pages and places holds after each change of them.
-use Rattle.std.proofs.Common.{◌≡◌, ℕ, ◌+◌, ◌<◌, ◌≤◌, Bool, true, false, cond, not, List, [], ◌∷◌, ◌++◌, filter, length, take, drop, map, is_some, IsSome, IfSome, Option, Some, None, refl, sym, ap, subst, ◌∙◌, arith, append-nil, length-append}
-use Rattle.std.specs.List.{AllByRecursion, IsDistinct}
+use Rattle.std.proofs.Common.{◌≡◌, ℕ, ◌+◌, ◌<◌, ◌≤◌, ◌||◌, Bool, true, false, cond, not, List, [], ◌∷◌, ◌++◌, filter, length, take, drop, map, is_some, IsSome, IfSome, Option, Some, None, refl, sym, ap, subst, ◌∙◌, arith, append-nil, length-append}
+use Rattle.std.specs.List.{AllByRecursion, IsDistinct, list_any}
 use Rattle.std.specs.Map.{keys_of, lookup, remove_entry, set_value}
 use Rattle.std.specs.Option.{option_map, option_map_or}
 use Rattle.std.specs.HashMap.{HashMap}
@@ -15,7 +15,7 @@ use Rattle.indexmap.specs.Layout.{hash_map}
 use Rattle.page_cache.specs.declared.dirty_page.DirtyPage.{DirtyPage}
 use Rattle.page_cache.specs.declared.place.Place.{Place}
 use Rattle.page_cache.specs.declared.place.Placed.{Placed}
-use Rattle.page_cache.specs.InOrder.{page_at, in_order, AreBelow, ChangesAt, IsQueue}
+use Rattle.page_cache.specs.Queue.{page_placed, pages_by_place, ArePlacesBelow, IsChangedAt, IsQueue}
 use Rattle.page_cache.specs.PageLaws.{is_page_same}
 use Rattle.page_cache.specs.Pages.{is_page, is_cut, cut_list, cut_count}
 use Rattle.page_cache.proofs.Lists.{last_found, set_absent}
@@ -49,27 +49,27 @@ once_removed test (e ∷ es) once =
       | false ↦ IsDistinct-cons is_page e.0 (keys_of (remove_entry test es)) (all_removed (λ k. is_page e.0 k ≡ false) test es head) rest
     ]
 
-below_filtered : (next : ℕ) (p : Place → Bool) (places : List Place) → AreBelow next places → AreBelow next (filter p places)
+below_filtered : (next : ℕ) (p : Place → Bool) (places : List Place) → ArePlacesBelow next places → ArePlacesBelow next (filter p places)
 below_filtered next p [] all = all
 below_filtered next p (x ∷ xs) all =
     let rest = below_filtered next p xs all.1 in
-    elim (p x) as (λ b. AreBelow next (cond b (x ∷ filter p xs) (filter p xs))) [
+    elim (p x) as (λ b. ArePlacesBelow next (cond b (x ∷ filter p xs) (filter p xs))) [
       | true ↦ (all.0, rest)
       | false ↦ rest
     ]
 
-below_pushed : (next : ℕ) (places : List Place) (p : Place) → AreBelow next places → p.number ≡ next → AreBelow (next + 1) (places ++ p ∷ [])
+below_pushed : (next : ℕ) (places : List Place) (p : Place) → ArePlacesBelow next places → p.number ≡ next → ArePlacesBelow (next + 1) (places ++ p ∷ [])
 below_pushed next [] p all is = (omega (arith, is), tt)
 below_pushed next (x ∷ xs) p all is = (omega (arith, all.0), below_pushed next xs p all.1 is)
 
-below_front : (next : ℕ) (places more : List Place) → AreBelow next (places ++ more) → AreBelow next places
+below_front : (next : ℕ) (places more : List Place) → ArePlacesBelow next (places ++ more) → ArePlacesBelow next places
 below_front next [] more all = tt
 below_front next (x ∷ xs) more all = (all.0, below_front next xs more all.1)
 
 -- without all places that were left
-pub below_swept : (pages : ByName) (old trimmed swept : List Place) → swept ≡ filter (λ p. is_some (page_at pages p)) trimmed → ((next : ℕ) → AreBelow next old → AreBelow next trimmed)
-    → (next : ℕ) → AreBelow next old → AreBelow next swept
-below_swept pages old trimmed swept is below next all = subst (AreBelow next) (sym is) (below_filtered next (λ p. is_some (page_at pages p)) trimmed (below next all))
+pub below_swept : (pages : ByName) (old trimmed swept : List Place) → swept ≡ filter (λ p. is_some (page_placed pages p)) trimmed → ((next : ℕ) → ArePlacesBelow next old → ArePlacesBelow next trimmed)
+    → (next : ℕ) → ArePlacesBelow next old → ArePlacesBelow next swept
+below_swept pages old trimmed swept is below next all = subst (ArePlacesBelow next) (sym is) (below_filtered next (λ p. is_some (page_placed pages p)) trimmed (below next all))
 
 -- what a look-up finds behind a list where it finds nothing
 found_pushed : {V : Type 0} (q name : ℕ × ℕ) (es : List ((ℕ × ℕ) × V)) (v : V) → lookup (is_page name) es ≡ None → lookup (is_page q) (es ++ (name, v) ∷ []) ≡ cond (is_page name q) (Some v) (lookup (is_page q) es)
@@ -108,17 +108,43 @@ cut_counted {V} (e ∷ es) ino from = by (is_cut ino from e.0) (cut_counted es i
     by false rest = omega (arith, rest)
 
 -- as many pages stand in the order as there are
-pub as_many : (pages : ByName) (places : List Place) (next : ℕ) → IsQueue pages places next → IsDistinct is_page (keys_of pages) → length pages ≡ length (in_order pages places)
+pub as_many : (pages : ByName) (places : List Place) (next : ℕ) → IsQueue pages places next → IsDistinct is_page (keys_of pages) → length pages ≡ length (pages_by_place pages places)
 as_many pages places next queue unique =
     let left : HashMap (ℕ × ℕ) DirtyPage (Unit {0}) = hash_map (map (λ (e : (ℕ × ℕ) × Placed). (e.0, e.1.page)) pages) tt 0 in
-    let right : HashMap (ℕ × ℕ) DirtyPage (Unit {0}) = hash_map (in_order pages places) tt 0 in
+    let right : HashMap (ℕ × ℕ) DirtyPage (Unit {0}) = hash_map (pages_by_place pages places) tt 0 in
     let apart = subst (IsDistinct is_page) (sym (keys_of-map_values page_in pages)) unique in
     let same = hash_map_len_from_get is_page_laws left right apart queue.once (λ q. lookup-map_values page_in (is_page q) pages ∙ sym (queue.placed q)) in
     sym (length-keys_of pages) ∙ (sym (ap length (keys_of-map_values page_in pages)) ∙ (length-keys_of (map (λ (e : (ℕ × ℕ) × Placed). (e.0, e.1.page)) pages) ∙ same))
 
+-- where a cut takes none, all stay
+pub cut_none : {V : Type 0} (es : List ((ℕ × ℕ) × V)) (ino from : ℕ) → list_any (λ e. is_cut ino from e.0) es ≡ false → cut_list es ino from ≡ es
+cut_none [] ino from none = refl
+cut_none {V} (e ∷ es) ino from none = by (is_cut ino from e.0) (cut_none es ino from) none
+  where
+    by : (b : Bool) → (list_any (λ e. is_cut ino from e.0) es ≡ false → cut_list es ino from ≡ es) → (b || list_any (λ e. is_cut ino from e.0) es) ≡ false
+        → cond (not b) (e ∷ cut_list es ino from) (cut_list es ino from) ≡ e ∷ es
+    by true rest none = absurd (false≢true (sym none))
+    by false rest none = ap (λ l. e ∷ l) (rest none)
+
+pub none_counted : {V : Type 0} (es : List ((ℕ × ℕ) × V)) (ino from : ℕ) → list_any (λ e. is_cut ino from e.0) es ≡ false → 0 ≡ cut_count es ino from
+none_counted es ino from none = omega (arith, cut_counted es ino from, ap length (cut_none es ino from none))
+
+-- where no place is cut, no page is
+pub none_by_place : (pages : ByName) (places : List Place) (ino from : ℕ) → list_any (λ place. is_cut ino from place.name) places ≡ false → list_any (λ e. is_cut ino from e.0) (pages_by_place pages places) ≡ false
+none_by_place pages [] ino from none = refl
+none_by_place pages (p ∷ ps) ino from none = by (is_cut ino from p.name) refl (page_placed pages p) (none_by_place pages ps ino from) none
+  where
+    by : (b : Bool) → is_cut ino from p.name ≡ b → (o : Option DirtyPage)
+        → (list_any (λ place. is_cut ino from place.name) ps ≡ false → list_any (λ e. is_cut ino from e.0) (pages_by_place pages ps) ≡ false)
+        → (b || list_any (λ place. is_cut ino from place.name) ps) ≡ false
+        → list_any (λ e. is_cut ino from e.0) (option_map_or (λ page. (p.name, page) ∷ pages_by_place pages ps) o (pages_by_place pages ps)) ≡ false
+    by true is o rest none = absurd (false≢true (sym none))
+    by false is None rest none = rest none
+    by false is (Some page) rest none = rw is (rest none)
+
 module _ (pages : ByName) (places : List Place) (next : ℕ) (queue : IsQueue pages places next) where
   -- with places that give the same order
-  pub queue_tidied : (fewer : List Place) → in_order pages fewer ≡ in_order pages places → AreBelow next fewer → IsQueue pages fewer next
+  pub queue_tidied : (fewer : List Place) → pages_by_place pages fewer ≡ pages_by_place pages places → ArePlacesBelow next fewer → IsQueue pages fewer next
   queue_tidied fewer same below = record {
     placed = λ name. ap (lookup (is_page name)) same ∙ queue.placed name;
     once = subst (λ l. IsDistinct is_page (keys_of l)) (sym same) queue.once;
@@ -126,64 +152,64 @@ module _ (pages : ByName) (places : List Place) (next : ℕ) (queue : IsQueue pa
   }
 
   -- without a page
-  pub queue_without : (name : ℕ × ℕ) (now : ByName) → ChangesAt name None pages now → IsQueue now places next
+  pub queue_without : (name : ℕ × ℕ) (now : ByName) → IsChangedAt name None pages now → IsQueue now places next
   queue_without name now changes =
       let order = order_without pages now name changes places queue.once in
       record {
         placed = λ q. ap (lookup (is_page q)) order
-            ∙ (lookup-remove_entry is_page_laws (is_page name) (is_page_test name) q (in_order pages places) queue.once
-            ∙ (mapped (is_page name q) None (lookup (is_page q) pages) None (lookup (is_page q) (in_order pages places)) refl (queue.placed q)
+            ∙ (lookup-remove_entry is_page_laws (is_page name) (is_page_test name) q (pages_by_place pages places) queue.once
+            ∙ (mapped (is_page name q) None (lookup (is_page q) pages) None (lookup (is_page q) (pages_by_place pages places)) refl (queue.placed q)
             ∙ ap (option_map page_in) (sym (changes q))));
-        once = subst (λ l. IsDistinct is_page (keys_of l)) (sym order) (once_removed (is_page name) (in_order pages places) queue.once);
+        once = subst (λ l. IsDistinct is_page (keys_of l)) (sym order) (once_removed (is_page name) (pages_by_place pages places) queue.once);
         below = queue.below;
       }
 
   -- with another page at a place
   pub queue_set : (name : ℕ × ℕ) (placed : Placed) (page : DirtyPage) (now : ByName) → lookup (is_page name) pages ≡ Some placed
-      → ChangesAt name (Some (record { page = page; place = placed.place })) pages now → IsQueue now places next
+      → IsChangedAt name (Some (record { page = page; place = placed.place })) pages now → IsQueue now places next
   queue_set name placed page now there changes =
       let order = order_set pages now name placed page there changes places queue.once in
-      let found : IsSome (lookup (is_page name) (in_order pages places)) = ap is_some (queue.placed name ∙ ap (option_map page_in) there) in
+      let found : IsSome (lookup (is_page name) (pages_by_place pages places)) = ap is_some (queue.placed name ∙ ap (option_map page_in) there) in
       record {
         placed = λ q. ap (lookup (is_page q)) order
-            ∙ (lookup-set_value is_page_laws (is_page name) (is_page_test name) q page (in_order pages places) found
-            ∙ (mapped (is_page name q) (Some (record { page = page; place = placed.place })) (lookup (is_page q) pages) (Some page) (lookup (is_page q) (in_order pages places)) refl (queue.placed q)
+            ∙ (lookup-set_value is_page_laws (is_page name) (is_page_test name) q page (pages_by_place pages places) found
+            ∙ (mapped (is_page name q) (Some (record { page = page; place = placed.place })) (lookup (is_page q) pages) (Some page) (lookup (is_page q) (pages_by_place pages places)) refl (queue.placed q)
             ∙ ap (option_map page_in) (sym (changes q))));
-        once = subst (λ l. IsDistinct is_page (keys_of l)) (sym order) (subst (IsDistinct is_page) (sym (keys-set_value (is_page name) (in_order pages places) page)) queue.once);
+        once = subst (λ l. IsDistinct is_page (keys_of l)) (sym order) (subst (IsDistinct is_page) (sym (keys-set_value (is_page name) (pages_by_place pages places) page)) queue.once);
         below = queue.below;
       }
 
   -- a page was set at its place, or is new and was given back
   pub set_or_back : (name : ℕ × ℕ) (page : DirtyPage) (now : ByName) (result : Option DirtyPage)
-      → ((placed : Placed) → lookup (is_page name) pages ≡ Some placed → ChangesAt name (Some (record { page = page; place = placed.place })) pages now)
+      → ((placed : Placed) → lookup (is_page name) pages ≡ Some placed → IsChangedAt name (Some (record { page = page; place = placed.place })) pages now)
       → is_some result ≡ not (is_some (lookup (is_page name) pages)) → IfSome result (λ back. (back ≡ page) × (now ≡ pages))
-      → IsQueue now places next × (in_order now places ≡ set_value (is_page name) (in_order pages places) page)
+      → IsQueue now places next × (pages_by_place now places ≡ set_value (is_page name) (pages_by_place pages places) page)
   set_or_back name page now result changes found back = by (lookup (is_page name) pages) refl result found back
     where
       by : (o : Option Placed) → lookup (is_page name) pages ≡ o → (r : Option DirtyPage) → is_some r ≡ not (is_some o) → IfSome r (λ back. (back ≡ page) × (now ≡ pages))
-          → IsQueue now places next × (in_order now places ≡ set_value (is_page name) (in_order pages places) page)
+          → IsQueue now places next × (pages_by_place now places ≡ set_value (is_page name) (pages_by_place pages places) page)
       by (Some placed) at r found back =
           (queue_set name placed page now at (changes placed at), order_set pages now name placed page at (changes placed at) places queue.once)
       by None at None found back = absurd (false≢true found)
       by None at (Some r) found back =
-          let none : lookup (is_page name) (in_order pages places) ≡ None = queue.placed name ∙ ap (option_map page_in) at in
-          (subst (λ ps. IsQueue ps places next) (sym back.1) queue, ap (λ ps. in_order ps places) back.1 ∙ sym (set_absent (is_page name) (in_order pages places) page none))
+          let none : lookup (is_page name) (pages_by_place pages places) ≡ None = queue.placed name ∙ ap (option_map page_in) at in
+          (subst (λ ps. IsQueue ps places next) (sym back.1) queue, ap (λ ps. pages_by_place ps places) back.1 ∙ sym (set_absent (is_page name) (pages_by_place pages places) page none))
 
   -- with a new page at a new place
-  module _ (place : Place) (page : DirtyPage) (now : ByName) (is : place.number ≡ next) (none : lookup (is_page place.name) (in_order pages places) ≡ None)
-      (changes : ChangesAt place.name (Some (record { page = page; place = place.number })) pages now) where
-    pub with_added : in_order now (places ++ place ∷ []) ≡ in_order pages places ++ (place.name, page) ∷ []
-    with_added = order_added pages now place page (none_mapped (lookup (is_page place.name) pages) _ (queue.placed place.name) none) changes places (subst (λ n. AreBelow n places) (sym is) queue.below)
+  module _ (place : Place) (page : DirtyPage) (now : ByName) (is : place.number ≡ next) (none : lookup (is_page place.name) (pages_by_place pages places) ≡ None)
+      (changes : IsChangedAt place.name (Some (record { page = page; place = place.number })) pages now) where
+    pub with_added : pages_by_place now (places ++ place ∷ []) ≡ pages_by_place pages places ++ (place.name, page) ∷ []
+    with_added = order_added pages now place page (none_mapped (lookup (is_page place.name) pages) _ (queue.placed place.name) none) changes places (subst (λ n. ArePlacesBelow n places) (sym is) queue.below)
 
     pub queue_added : IsQueue now (places ++ place ∷ []) (next + 1)
     queue_added = record {
       placed = λ q. ap (lookup (is_page q)) with_added
-          ∙ (found_pushed q place.name (in_order pages places) page none
-          ∙ (mapped (is_page place.name q) (Some (record { page = page; place = place.number })) (lookup (is_page q) pages) (Some page) (lookup (is_page q) (in_order pages places)) refl (queue.placed q)
+          ∙ (found_pushed q place.name (pages_by_place pages places) page none
+          ∙ (mapped (is_page place.name q) (Some (record { page = page; place = place.number })) (lookup (is_page q) pages) (Some page) (lookup (is_page q) (pages_by_place pages places)) refl (queue.placed q)
           ∙ ap (option_map page_in) (sym (changes q))));
       once = subst (λ l. IsDistinct is_page (keys_of l)) (sym with_added)
-          (subst (IsDistinct is_page) (sym (map-append (λ (e : (ℕ × ℕ) × DirtyPage). e.0) (in_order pages places) ((place.name, page) ∷ [])))
-          (IsDistinct-push is_page_laws (keys_of (in_order pages places)) place.name queue.once (sym (is_some-lookup (is_page place.name) (in_order pages places)) ∙ ap is_some none)));
+          (subst (IsDistinct is_page) (sym (map-append (λ (e : (ℕ × ℕ) × DirtyPage). e.0) (pages_by_place pages places) ((place.name, page) ∷ [])))
+          (IsDistinct-push is_page_laws (keys_of (pages_by_place pages places)) place.name queue.once (sym (is_some-lookup (is_page place.name) (pages_by_place pages places)) ∙ ap is_some none)));
       below = below_pushed next places place queue.below is;
     }
 
@@ -195,37 +221,37 @@ module _ (pages : ByName) (places : List Place) (next : ℕ) (queue : IsQueue pa
     found_cut : {V : Type 0} (es : List ((ℕ × ℕ) × V)) (q : ℕ × ℕ) → lookup (is_page q) (cut_list es ino from) ≡ cond (not (is_cut ino from q)) (lookup (is_page q) es) None
     found_cut es q = lookup-filter-keys (is_page q) (λ k. not (is_cut ino from k)) (not (is_cut ino from q)) (cut_off q) es
 
-    pub cut_in_order : in_order (cut_list pages ino from) (filter (λ p. not (is_cut ino from p.name)) places) ≡ cut_list (in_order pages places) ino from
-    cut_in_order = order_cut pages (cut_list pages ino from) ino from (found_cut pages) places
+    pub cut_by_place : pages_by_place (cut_list pages ino from) (filter (λ p. not (is_cut ino from p.name)) places) ≡ cut_list (pages_by_place pages places) ino from
+    cut_by_place = order_cut pages (cut_list pages ino from) ino from (found_cut pages) places
 
     pub queue_cut : IsQueue (cut_list pages ino from) (filter (λ p. not (is_cut ino from p.name)) places) next
     queue_cut = record {
-      placed = λ q. ap (lookup (is_page q)) cut_in_order
-          ∙ (found_cut (in_order pages places) q
-          ∙ (mapped (not (is_cut ino from q)) (lookup (is_page q) pages) None (lookup (is_page q) (in_order pages places)) None (queue.placed q) refl
+      placed = λ q. ap (lookup (is_page q)) cut_by_place
+          ∙ (found_cut (pages_by_place pages places) q
+          ∙ (mapped (not (is_cut ino from q)) (lookup (is_page q) pages) None (lookup (is_page q) (pages_by_place pages places)) None (queue.placed q) refl
           ∙ ap (option_map page_in) (sym (found_cut pages q))));
-      once = subst (λ l. IsDistinct is_page (keys_of l)) (sym cut_in_order) (IsDistinct-keys_filter is_page (λ e. not (is_cut ino from e.0)) (in_order pages places) queue.once);
+      once = subst (λ l. IsDistinct is_page (keys_of l)) (sym cut_by_place) (IsDistinct-keys_filter is_page (λ e. not (is_cut ino from e.0)) (pages_by_place pages places) queue.once);
       below = below_filtered next (λ p. not (is_cut ino from p.name)) places queue.below;
     }
 
     -- the pages that a cut takes are as many as it takes of the order
-    pub cut_many : IsDistinct is_page (keys_of pages) → length (cut_list pages ino from) + cut_count (in_order pages places) ino from ≡ length pages
+    pub cut_many : IsDistinct is_page (keys_of pages) → length (cut_list pages ino from) + cut_count (pages_by_place pages places) ino from ≡ length pages
     cut_many unique =
         let before = as_many pages places next queue unique in
         let after = as_many (cut_list pages ino from) (filter (λ p. not (is_cut ino from p.name)) places) next queue_cut (IsDistinct-keys_filter is_page (λ e. not (is_cut ino from e.0)) pages unique) in
-        omega (arith, before, after, ap length cut_in_order, cut_counted (in_order pages places) ino from)
+        omega (arith, before, after, ap length cut_by_place, cut_counted (pages_by_place pages places) ino from)
 
 -- places that were taken away from the front, which changed nothing
 pub record TrimmedSoFar (pages : ByName) (old places : List Place) : Type 0 where
-  pub order : in_order pages places ≡ in_order pages old
-  pub below : (next : ℕ) → AreBelow next old → AreBelow next places
+  pub order : pages_by_place pages places ≡ pages_by_place pages old
+  pub below : (next : ℕ) → ArePlacesBelow next old → ArePlacesBelow next places
 
 pub trimmed_more : (pages : ByName) (old places new : List Place) → TrimmedSoFar pages old places → 0 < length places → new ≡ drop 1 places
-    → ((first : Place) (rest : List Place) → places ≡ first ∷ rest → is_some (page_at pages first) ≡ false) → TrimmedSoFar pages old new
+    → ((first : Place) (rest : List Place) → places ≡ first ∷ rest → is_some (page_placed pages first) ≡ false) → TrimmedSoFar pages old new
 trimmed_more pages old [] new so some is left = absurd (omega (arith, some))
 trimmed_more pages old (p ∷ ps) new so some is left = record {
-  order = ap (in_order pages) is ∙ (sym (order_trimmed pages p ps (left p ps refl)) ∙ so.order);
-  below = λ next all. subst (AreBelow next) (sym is) (so.below next all).1;
+  order = ap (pages_by_place pages) is ∙ (sym (order_trimmed pages p ps (left p ps refl)) ∙ so.order);
+  below = λ next all. subst (ArePlacesBelow next) (sym is) (so.below next all).1;
 }
 
 pub trimmed_shorter : (places new : List Place) → 0 < length places → new ≡ drop 1 places → length new < length places
@@ -235,38 +261,38 @@ trimmed_shorter (p ∷ ps) new some is = omega (arith, ap length is)
 -- pages that were taken away from the end, none of the first
 pub record KeptSoFar (old : List ((ℕ × ℕ) × DirtyPage)) (len : ℕ) (pages : ByName) (places : List Place) (next : ℕ) : Type 0 where
   pub queue : IsQueue pages places next
-  pub front : take len (in_order pages places) ≡ take len old
+  pub front : take len (pages_by_place pages places) ≡ take len old
 
 module _ (old : List ((ℕ × ℕ) × DirtyPage)) (len : ℕ) (pages : ByName) (places fewer : List Place) (next : ℕ) (p : Place) (kept : KeptSoFar old len pages places next) (is : places ≡ fewer ++ p ∷ []) where
-  at_end : in_order pages places ≡ in_order pages fewer ++ option_map_or (λ page. (p.name, page) ∷ []) (page_at pages p) []
-  at_end = ap (in_order pages) is ∙ order_last pages fewer p
+  at_end : pages_by_place pages places ≡ pages_by_place pages fewer ++ option_map_or (λ page. (p.name, page) ∷ []) (page_placed pages p) []
+  at_end = ap (pages_by_place pages) is ∙ order_last pages fewer p
 
-  below_fewer : AreBelow next fewer
-  below_fewer = below_front next fewer (p ∷ []) (subst (AreBelow next) is kept.queue.below)
+  below_fewer : ArePlacesBelow next fewer
+  below_fewer = below_front next fewer (p ∷ []) (subst (ArePlacesBelow next) is kept.queue.below)
 
   -- the last place was left
-  pub kept_without_place : is_some (page_at pages p) ≡ false → KeptSoFar old len pages fewer next
+  pub kept_without_place : is_some (page_placed pages p) ≡ false → KeptSoFar old len pages fewer next
   kept_without_place left =
-      let same : in_order pages fewer ≡ in_order pages places = sym (at_end ∙ (ap (λ o. in_order pages fewer ++ option_map_or (λ page. (p.name, page) ∷ []) o []) (none_of (page_at pages p) left) ∙ append-nil (in_order pages fewer))) in
+      let same : pages_by_place pages fewer ≡ pages_by_place pages places = sym (at_end ∙ (ap (λ o. pages_by_place pages fewer ++ option_map_or (λ page. (p.name, page) ∷ []) o []) (none_of (page_placed pages p) left) ∙ append-nil (pages_by_place pages fewer))) in
       record {
         queue = queue_tidied pages places next kept.queue fewer same below_fewer;
         front = ap (take len) same ∙ kept.front;
       }
 
   -- the page at the last place was taken out
-  pub kept_without_page : is_some (page_at pages p) ≡ true → (now : ByName) → ChangesAt p.name None pages now → IsDistinct is_page (keys_of pages) → len < length pages → KeptSoFar old len now fewer next
-  kept_without_page there now changes unique more = by (page_at pages p) refl there
+  pub kept_without_page : is_some (page_placed pages p) ≡ true → (now : ByName) → IsChangedAt p.name None pages now → IsDistinct is_page (keys_of pages) → len < length pages → KeptSoFar old len now fewer next
+  kept_without_page there now changes unique more = by (page_placed pages p) refl there
     where
-      by : (o : Option DirtyPage) → page_at pages p ≡ o → is_some o ≡ true → KeptSoFar old len now fewer next
+      by : (o : Option DirtyPage) → page_placed pages p ≡ o → is_some o ≡ true → KeptSoFar old len now fewer next
       by None at some = absurd (false≢true some)
       by (Some page) at some =
-          let front = in_order pages fewer in
-          let end : in_order pages places ≡ front ++ (p.name, page) ∷ [] = at_end ∙ ap (λ o. front ++ option_map_or (λ page. (p.name, page) ∷ []) o []) at in
-          let without : in_order now places ≡ remove_entry (is_page p.name) (in_order pages places) = order_without pages now p.name changes places kept.queue.once in
+          let front = pages_by_place pages fewer in
+          let end : pages_by_place pages places ≡ front ++ (p.name, page) ∷ [] = at_end ∙ ap (λ o. front ++ option_map_or (λ page. (p.name, page) ∷ []) o []) at in
+          let without : pages_by_place now places ≡ remove_entry (is_page p.name) (pages_by_place pages places) = order_without pages now p.name changes places kept.queue.once in
           let last = last_found is_page is_page_laws front (p.name, page) (subst (λ l. IsDistinct is_page (keys_of l)) end kept.queue.once) in
-          let gone : page_at now p ≡ None = left_place pages now p changes in
-          let shorter : in_order now places ≡ in_order now fewer = ap (in_order now) is ∙ (order_last now fewer p ∙ (ap (λ o. in_order now fewer ++ option_map_or (λ page. (p.name, page) ∷ []) o []) gone ∙ append-nil (in_order now fewer))) in
-          let order : in_order now fewer ≡ front = sym shorter ∙ (without ∙ (ap (remove_entry (is_page p.name)) end ∙ last.1)) in
+          let gone : page_placed now p ≡ None = left_place pages now p changes in
+          let shorter : pages_by_place now places ≡ pages_by_place now fewer = ap (pages_by_place now) is ∙ (order_last now fewer p ∙ (ap (λ o. pages_by_place now fewer ++ option_map_or (λ page. (p.name, page) ∷ []) o []) gone ∙ append-nil (pages_by_place now fewer))) in
+          let order : pages_by_place now fewer ≡ front = sym shorter ∙ (without ∙ (ap (remove_entry (is_page p.name)) end ∙ last.1)) in
           let long : len ≤ length front = omega (arith, more, as_many pages places next kept.queue unique, ap length end, length-append front ((p.name, page) ∷ [])) in
           record {
             queue = queue_tidied now places next (queue_without pages places next kept.queue p.name now changes) fewer (sym shorter) below_fewer;

@@ -1,3 +1,3 @@
-pub mod InOrder
 pub mod PageLaws
 pub mod Pages
+pub mod Queue

@@ -1,14 +1,14 @@
 // Dirty pages, in the order in which they became dirty.
 
 ghost use Rattle.std.specs.Prelude.{◌≡◌, not, filter, [], ◌++◌, ◌∷◌, IfOk, OnOk, OnErr, IsOk, IfSome, is_some, IsSome, IsNone, length, map, slice_get, take};
-ghost use Rattle.std.specs.List.{IsDistinct};
+ghost use Rattle.std.specs.List.{IsDistinct, list_any};
 ghost use Rattle.std.specs.Option.{option_map, option_copied};
 ghost use Rattle.std.specs.Map.{keys_of, lookup, remove_entry, set_value};
 ghost use Rattle.page_cache.specs.Pages.{is_page, is_cut, pages_of, put_last, cut_list, cut_count, ticket_of};
 
 use crate::dirty_page::DirtyPage;
 use crate::place::{Place, Placed, is_within};
-use crate::places::{add_page, first, first_of, page_at, set_page, tickets_of, tidy};
+use crate::places::{add_page, first, first_of, page_placed, set_page, tickets_of, tidy};
 use crate::ticket::Ticket;
 use indexmap::IndexMap;
 use std::alloc::{AllocError, Global};
@@ -27,11 +27,11 @@ pub(crate) struct DirtyQueue {
 impl Model for DirtyQueue {
     ghost use Rattle.std.specs.Prelude.{ℕ, List};
     ghost use Rattle.page_cache.specs.declared.dirty_page.DirtyPage.{DirtyPage};
-    ghost use Rattle.page_cache.specs.InOrder.{in_order, IsQueue};
+    ghost use Rattle.page_cache.specs.Queue.{pages_by_place, IsQueue};
 
     ghost Value = { List ((ℕ × ℕ) × DirtyPage) };
 
-    ghost view = { λ q. in_order q.pages.entries q.places.items };
+    ghost view = { λ q. pages_by_place q.pages.entries q.places.items };
 
     ghost invariant = { λ q. IsQueue q.pages.entries q.places.items q.next };
 }
@@ -154,7 +154,7 @@ impl DirtyQueue {
             let Some(place) = self.places.pop_back() else {
                 return;
             };
-            if page_at(&self.pages, &place).is_some() {
+            if page_placed(&self.pages, &place).is_some() {
                 self.pages.swap_remove(&place.name);
             }
         }
@@ -166,11 +166,26 @@ impl DirtyQueue {
         ensures rest { self.new ≡ cut_list self.old ino from }
         ensures count { result ≡ cut_count self.old ino from }
     {
+        if !is_any_within(&self.places, ino, from) {
+            return 0;
+        }
         let before = self.pages.len();
         cut_pages(&mut self.pages, ino, from);
         cut_places(&mut self.places, ino, from);
         (before - self.pages.len()) as u64
     }
+}
+
+// Whether a place is that of a page of an inode, from a block on.
+fn is_any_within(places: &VecDeque<Place>, ino: u32, from: u32) -> bool
+    ensures { result ≡ list_any (λ place. is_cut ino from place.name) places.now.items }
+{
+    for place in places.iter() {
+        if is_within(place.name, ino, from) {
+            return true;
+        }
+    }
+    false
 }
 
 // Takes out the pages of an inode from a block on.

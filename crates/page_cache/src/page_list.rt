@@ -1,12 +1,13 @@
 // Pages by name, in an order.
 
-ghost use Rattle.std.specs.Prelude.{◌≡◌, ◌-◌, ◌^◌, ◌<◌, ◌≤◌, ℕ, true, false, not, List, [], ◌∷◌, ◌++◌, if◌then◌else◌, IfOk, OnOk, OnErr, IsOk, IfSome, is_some, IsSome, IsNone, length, map, slice_get, take};
-ghost use Rattle.std.specs.Option.{option_map, option_copied};
+ghost use Rattle.std.specs.Prelude.{◌≡◌, ◌-◌, ◌^◌, ◌<◌, ◌≤◌, ℕ, List, [], ◌∷◌, ◌++◌, if◌then◌else◌, IfOk, OnOk, OnErr, is_some, IsNone, length, slice_get, take};
+ghost use Rattle.std.specs.List.{list_any};
+ghost use Rattle.std.specs.Option.{option_map};
 ghost use Rattle.std.specs.NonZero.{non_zero_usize_get};
-ghost use Rattle.std.specs.Map.{lookup, remove_entry, set_value};
+ghost use Rattle.std.specs.Map.{lookup, remove_entry};
 ghost use Rattle.std.specs.Map.Iter.{deref_pair};
 ghost use Rattle.lru.specs.LruCache.{lru_cache, promoted, put_entries, last_entry, IsValid};
-ghost use Rattle.page_cache.specs.Pages.{is_page, is_cut, pages_of, put_last, cut_list, cut_count, ticket_of};
+ghost use Rattle.page_cache.specs.Pages.{is_page, is_cut, cut_list, cut_count};
 
 use crate::place::is_within;
 use lru::LruCache;
@@ -95,6 +96,9 @@ impl<V: Drop> PageList<V> {
         ensures rest { self.new ≡ lru_cache (cut_list self.old.entries ino from) self.old.cap }
         ensures count { result ≡ cut_count self.old.entries ino from }
     {
+        if !self.is_any_within(ino, from) {
+            return 0;
+        }
         let mut left = self.len();
         let mut gone = 0;
         while left > 0 {
@@ -102,6 +106,18 @@ impl<V: Drop> PageList<V> {
             left -= 1;
         }
         gone
+    }
+
+    // Whether there is a page of an inode, from a block on.
+    fn is_any_within(&self, ino: u32, from: u32) -> bool
+        ensures { result ≡ list_any (λ e. is_cut ino from e.0) self.now.entries }
+    {
+        for (name, _) in self.pages.iter() {
+            if is_within(*name, ino, from) {
+                return true;
+            }
+        }
+        false
     }
 
     // Takes the page at the end out where it is cut, and else moves it to the front. Answers how many were taken out.

@@ -5,7 +5,7 @@ ghost use Rattle.std.specs.Option.{option_map, option_copied};
 ghost use Rattle.std.specs.Map.{lookup};
 ghost use Rattle.page_cache.specs.declared.place.Placed.{Placed};
 ghost use Rattle.page_cache.specs.declared.place.Place.{Place};
-ghost use Rattle.page_cache.specs.InOrder.{page_at, in_order, AreBelow, ChangesAt};
+ghost use Rattle.page_cache.specs.Queue.{page_placed, pages_by_place, ArePlacesBelow, IsChangedAt};
 ghost use Rattle.page_cache.specs.Pages.{is_page, is_cut, pages_of, ticket_of};
 
 use crate::dirty_page::DirtyPage;
@@ -17,12 +17,12 @@ use std::collections::VecDeque;
 use ubifs_base::Memory;
 
 /// The page of a place, unless it left the place.
-pub(crate) fn page_at<'a>(
+pub(crate) fn page_placed<'a>(
     pages: &'a IndexMap<(u32, u32), Placed>,
     place: &Place,
 ) -> Option<&'a DirtyPage>
-    ensures page { option_copied result ≡ page_at pages.now.entries place.now }
-    ensures there { is_some result ≡ is_some (page_at pages.now.entries place.now) }
+    ensures page { option_copied result ≡ page_placed pages.now.entries place.now }
+    ensures there { is_some result ≡ is_some (page_placed pages.now.entries place.now) }
 {
     match pages.get(&place.name) {
         Some(placed) => {
@@ -41,10 +41,10 @@ pub(crate) fn first(
     pages: &IndexMap<(u32, u32), Placed>,
     places: &VecDeque<Place>,
 ) -> Option<Ticket>
-    ensures { result ≡ option_map ticket_of (slice_get (in_order pages.now.entries places.now.items) 0) }
+    ensures { result ≡ option_map ticket_of (slice_get (pages_by_place pages.now.entries places.now.items) 0) }
 {
     for place in places.iter() {
-        if let Some(page) = page_at(pages, place) {
+        if let Some(page) = page_placed(pages, place) {
             return Some(ticket_of(place.name, page));
         }
     }
@@ -57,11 +57,11 @@ pub(crate) fn first_of(
     places: &VecDeque<Place>,
     ino: u32,
 ) -> Option<Ticket>
-    ensures { result ≡ option_map ticket_of (slice_get (pages_of (in_order pages.now.entries places.now.items) ino) 0) }
+    ensures { result ≡ option_map ticket_of (slice_get (pages_of (pages_by_place pages.now.entries places.now.items) ino) 0) }
 {
     for place in places.iter() {
         if place.name.0 == ino {
-            if let Some(page) = page_at(pages, place) {
+            if let Some(page) = page_placed(pages, place) {
                 return Some(ticket_of(place.name, page));
             }
         }
@@ -76,12 +76,12 @@ pub(crate) fn tickets_of(
     places: &VecDeque<Place>,
     ino: u32,
 ) -> Result<Vec<Ticket>, AllocError>
-    ensures { IfOk result (λ tickets. tickets.items ≡ map ticket_of (pages_of (in_order pages.now.entries places.now.items) ino)) }
+    ensures { IfOk result (λ tickets. tickets.items ≡ map ticket_of (pages_of (pages_by_place pages.now.entries places.now.items) ino)) }
 {
     let mut tickets = Vec::new(alloc);
     for place in places.iter() {
         if place.name.0 == ino {
-            if let Some(page) = page_at(pages, place) {
+            if let Some(page) = page_placed(pages, place) {
                 tickets.push(ticket_of(place.name, page))?;
             }
         }
@@ -95,7 +95,7 @@ pub(crate) fn set_page(
     name: (u32, u32),
     page: DirtyPage,
 ) -> Option<DirtyPage>
-    ensures set { (placed : Placed) → lookup (is_page name) pages.old.entries ≡ Some placed → ChangesAt name (Some (record { page = page; place = placed.place })) pages.old.entries pages.new.entries }
+    ensures set { (placed : Placed) → lookup (is_page name) pages.old.entries ≡ Some placed → IsChangedAt name (Some (record { page = page; place = placed.place })) pages.old.entries pages.new.entries }
     ensures found { is_some result ≡ not (is_some (lookup (is_page name) pages.old.entries)) }
     ensures back { IfSome result (λ back. (back ≡ page) × (pages.new.entries ≡ pages.old.entries)) }
 {
@@ -115,7 +115,7 @@ pub(crate) fn add_page(
     place: Place,
     page: DirtyPage,
 ) -> Result<(), Memory>
-    ensures pages { OnOk result (ChangesAt place.name (Some (record { page = page; place = place.number })) pages.old.entries pages.new.entries) }
+    ensures pages { OnOk result (IsChangedAt place.name (Some (record { page = page; place = place.number })) pages.old.entries pages.new.entries) }
     ensures places { OnOk result (places.new.items ≡ places.old.items ++ place ∷ []) }
     ensures err { OnErr result ((pages.new.entries ≡ pages.old.entries) × (places.new.items ≡ places.old.items)) }
 {
@@ -133,8 +133,8 @@ pub(crate) fn add_page(
 
 /// Takes the places that were left away from the front, and all such places once they are more than the others.
 pub(crate) fn tidy(pages: &IndexMap<(u32, u32), Placed>, places: &mut VecDeque<Place>)
-    ensures order { in_order pages.now.entries places.new.items ≡ in_order pages.now.entries places.old.items }
-    ensures below { (next : ℕ) → AreBelow next places.old.items → AreBelow next places.new.items }
+    ensures order { pages_by_place pages.now.entries places.new.items ≡ pages_by_place pages.now.entries places.old.items }
+    ensures below { (next : ℕ) → ArePlacesBelow next places.old.items → ArePlacesBelow next places.new.items }
 {
     trim(pages, places);
     if places.len() / 2 > pages.len() {
@@ -144,8 +144,8 @@ pub(crate) fn tidy(pages: &IndexMap<(u32, u32), Placed>, places: &mut VecDeque<P
 
 // Takes the places that were left away from the front.
 fn trim(pages: &IndexMap<(u32, u32), Placed>, places: &mut VecDeque<Place>)
-    ensures order { in_order pages.now.entries places.new.items ≡ in_order pages.now.entries places.old.items }
-    ensures below { (next : ℕ) → AreBelow next places.old.items → AreBelow next places.new.items }
+    ensures order { pages_by_place pages.now.entries places.new.items ≡ pages_by_place pages.now.entries places.old.items }
+    ensures below { (next : ℕ) → ArePlacesBelow next places.old.items → ArePlacesBelow next places.new.items }
 {
     while is_front_left(pages, places) {
         places.pop_front();
@@ -155,17 +155,17 @@ fn trim(pages: &IndexMap<(u32, u32), Placed>, places: &mut VecDeque<Place>)
 // Whether there is a place whose page left it at the front.
 fn is_front_left(pages: &IndexMap<(u32, u32), Placed>, places: &VecDeque<Place>) -> bool
     ensures some { IsTrue result → 0 < length places.now.items }
-    ensures left { IsTrue result → (first : Place) (rest : List Place) → places.now.items ≡ first ∷ rest → is_some (page_at pages.now.entries first) ≡ false }
+    ensures left { IsTrue result → (first : Place) (rest : List Place) → places.now.items ≡ first ∷ rest → is_some (page_placed pages.now.entries first) ≡ false }
 {
     match places.front() {
-        Some(place) => page_at(pages, place).is_none(),
+        Some(place) => page_placed(pages, place).is_none(),
         None => false,
     }
 }
 
 // Takes the places that were left away.
 fn sweep(pages: &IndexMap<(u32, u32), Placed>, places: &mut VecDeque<Place>)
-    ensures { places.new.items ≡ filter (λ place. is_some (page_at pages.now.entries place)) places.old.items }
+    ensures { places.new.items ≡ filter (λ place. is_some (page_placed pages.now.entries place)) places.old.items }
 {
-    places.retain(|place: &Place| page_at(pages, place).is_some());
+    places.retain(|place: &Place| page_placed(pages, place).is_some());
 }

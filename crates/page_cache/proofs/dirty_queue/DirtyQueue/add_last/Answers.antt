@@ -1,7 +1,7 @@
 use Rattle.std.proofs.Common.{◌≡◌, ◌+◌, ◌++◌, ◌∷◌, [], IsNone, refl, sym, ap, subst, ◌∙◌, arith}
 use Rattle.std.specs.Map.{lookup}
 use Rattle.page_cache.specs.declared.place.Place.{Place}
-use Rattle.page_cache.specs.InOrder.{in_order, IsQueue}
+use Rattle.page_cache.specs.Queue.{pages_by_place, IsQueue}
 use Rattle.page_cache.specs.Pages.{is_page}
 use Rattle.page_cache.proofs.Queue.{none_of, queue_added, with_added}
 use Rattle.page_cache.proofs.dirty_queue.DirtyQueue.add_last.Goals as goal
@@ -18,6 +18,6 @@ invariant_of-self-2 c =
 pub returns-clause-ok : goal.returns-clause-ok
 returns-clause-ok c =
     let none = none_of _ (subst (λ l. IsNone (lookup (is_page c.args.name) l)) (sym c.self.view_is) c.requires) in
-    ap (in_order c.add_page.new.pages.entries) c.in_ok-add_page.ensures.places
+    ap (pages_by_place c.add_page.new.pages.entries) c.in_ok-add_page.ensures.places
     ∙ (with_added _ _ _ c.self.invariant _ c.args.page _ refl none c.in_ok-add_page.ensures.pages
     ∙ ap (λ l. l ++ (c.args.name, c.args.page) ∷ []) c.self.view_is)

@@ -1,7 +1,8 @@
-use Rattle.std.proofs.Common.{ap, length, ◌∙◌, arith}
-use Rattle.page_cache.specs.InOrder.{in_order}
-use Rattle.page_cache.specs.Pages.{cut_list, cut_count}
-use Rattle.page_cache.proofs.Queue.{cut_in_order, queue_cut, cut_counted, cut_many}
+use Rattle.std.proofs.Common.{◌≡◌, false, sym, subst, ap, length, ◌∙◌, arith}
+use Rattle.std.specs.List.{list_any}
+use Rattle.page_cache.specs.Queue.{pages_by_place}
+use Rattle.page_cache.specs.Pages.{is_cut, cut_list, cut_count}
+use Rattle.page_cache.proofs.Queue.{cut_by_place, queue_cut, cut_counted, cut_many, cut_none, none_counted, none_by_place}
 use Rattle.page_cache.proofs.dirty_queue.DirtyQueue.cut.Goals as goal
 
 pub invariant_of-self : goal.invariant_of-self
@@ -14,11 +15,22 @@ overflow_sub-result c =
 
 pub returns-clause-rest : goal.returns-clause-rest
 returns-clause-rest c =
-    ap (λ ps. in_order ps c.cut_places.new.places.items) c.cut_pages.ensures
-    ∙ (ap (in_order (cut_list c.self.inside.pages.entries c.args.ino c.args.from)) c.cut_places.ensures
-    ∙ (cut_in_order _ _ _ c.self.invariant c.args.ino c.args.from ∙ ap (λ l. cut_list l c.args.ino c.args.from) c.self.view_is))
+    ap (λ ps. pages_by_place ps c.cut_places.new.places.items) c.cut_pages.ensures
+    ∙ (ap (pages_by_place (cut_list c.self.inside.pages.entries c.args.ino c.args.from)) c.cut_places.ensures
+    ∙ (cut_by_place _ _ _ c.self.invariant c.args.ino c.args.from ∙ ap (λ l. cut_list l c.args.ino c.args.from) c.self.view_is))
 
 pub returns-clause-count : goal.returns-clause-count
 returns-clause-count c =
     let all = cut_many _ _ _ c.self.invariant c.args.ino c.args.from c.len-before.ensures.unique in
     omega (arith, c.len.ensures.len, c.len-before.ensures.len, ap length c.cut_pages.ensures, all, ap (λ l. cut_count l c.args.ino c.args.from) c.self.view_is)
+
+pub returns-then-not-is_any_within-clause-rest : goal.returns-then-not-is_any_within-clause-rest
+returns-then-not-is_any_within-clause-rest c =
+    let none : list_any (λ place. is_cut c.args.ino c.args.from place.name) c.self.inside.places.items ≡ false = cc in
+    let same = cut_none _ c.args.ino c.args.from (none_by_place c.self.inside.pages.entries _ c.args.ino c.args.from none) in
+    subst (λ l. l ≡ cut_list l c.args.ino c.args.from) c.self.view_is (sym same)
+
+pub returns-then-not-is_any_within-clause-count : goal.returns-then-not-is_any_within-clause-count
+returns-then-not-is_any_within-clause-count c =
+    let none : list_any (λ place. is_cut c.args.ino c.args.from place.name) c.self.inside.places.items ≡ false = cc in
+    subst (λ l. 0 ≡ cut_count l c.args.ino c.args.from) c.self.view_is (none_counted _ c.args.ino c.args.from (none_by_place c.self.inside.pages.entries _ c.args.ino c.args.from none))
