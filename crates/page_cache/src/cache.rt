@@ -275,11 +275,8 @@ impl Cache {
         ensures current { result ≡ is_current self.old ticket.now }
         ensures pages { self.new ≡ (if result then without_dirty self.old ticket.now.ino ticket.now.block else self.old) }
     {
-        let current = self.is_current(ticket);
-        if current {
-            self.dirty.remove((ticket.ino, ticket.block));
-        }
-        current
+        self.dirty
+            .remove((ticket.ino, ticket.block), ticket.version)
     }
 
     /// Whether a ticket's page is dirty and has the ticket's version. Takes no memory.

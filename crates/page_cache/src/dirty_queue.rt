@@ -1,14 +1,16 @@
 // Dirty pages, in the order in which they became dirty.
 
-ghost use Rattle.std.specs.Prelude.{◌≡◌, not, filter, [], ◌++◌, ◌∷◌, IfOk, OnOk, OnErr, IsOk, IfSome, is_some, IsSome, IsNone, length, map, slice_get, take};
+ghost use Rattle.std.specs.Prelude.{◌≡◌, ◌==◌, if◌then◌else◌, false, not, filter, [], ◌++◌, ◌∷◌, IfOk, OnOk, OnErr, IsOk, IfSome, is_some, IsSome, IsNone, length, map, slice_get, take};
 ghost use Rattle.std.specs.List.{IsDistinct, list_any};
-ghost use Rattle.std.specs.Option.{option_map, option_copied};
+ghost use Rattle.std.specs.Option.{option_map, option_map_or, option_copied};
 ghost use Rattle.std.specs.Map.{keys_of, lookup, remove_entry, set_value};
 ghost use Rattle.page_cache.specs.Pages.{is_page, is_cut, pages_of, put_last, cut_list, cut_count, ticket_of};
 
 use crate::dirty_page::DirtyPage;
 use crate::place::{Place, Placed, is_within};
-use crate::places::{add_page, first, first_of, page_placed, set_page, tickets_of, tidy};
+use crate::places::{
+    add_page, first, first_of, page_placed, set_page, take_page, tickets_of, tidy,
+};
 use crate::ticket::Ticket;
 use indexmap::IndexMap;
 use std::alloc::{AllocError, Global};
@@ -138,12 +140,16 @@ impl DirtyQueue {
         Ok(())
     }
 
-    /// Takes the page of a name out. Takes no memory.
-    pub(crate) fn remove(&mut self, name: (u32, u32))
-        ensures { self.new ≡ remove_entry (is_page name) self.old }
+    /// Takes the page of a name out if it has this version, and answers whether it had. Takes no memory.
+    pub(crate) fn remove(&mut self, name: (u32, u32), version: u64) -> bool
+        ensures current { result ≡ option_map_or (λ page. page.version == version) (lookup (is_page name) self.old) false }
+        ensures rest { self.new ≡ (if result then remove_entry (is_page name) self.old else self.old) }
     {
-        self.pages.swap_remove(&name);
-        tidy(&self.pages, &mut self.places);
+        let current = take_page(&mut self.pages, name, version);
+        if current {
+            tidy(&self.pages, &mut self.places);
+        }
+        current
     }
 
     /// Takes out the pages behind so many from the front on. Takes no memory.

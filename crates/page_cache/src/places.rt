@@ -1,7 +1,7 @@
 // Dirty pages by name, and their places in the order in which they became dirty.
 
-ghost use Rattle.std.specs.Prelude.{◌≡◌, ◌<◌, ℕ, false, not, List, length, IsTrue, ◌++◌, [], ◌∷◌, Some, IfOk, OnOk, OnErr, IfSome, is_some, map, slice_get, filter};
-ghost use Rattle.std.specs.Option.{option_map, option_copied};
+ghost use Rattle.std.specs.Prelude.{◌≡◌, ◌<◌, ◌==◌, None, ℕ, false, not, List, length, IsTrue, ◌++◌, [], ◌∷◌, Some, IfOk, OnOk, OnErr, IfSome, is_some, map, slice_get, filter};
+ghost use Rattle.std.specs.Option.{option_map, option_map_or, option_copied};
 ghost use Rattle.std.specs.Map.{lookup};
 ghost use Rattle.page_cache.specs.declared.place.Placed.{Placed};
 ghost use Rattle.page_cache.specs.declared.place.Place.{Place};
@@ -129,6 +129,28 @@ pub(crate) fn add_page(
     }
     places.push_back_reserved(place);
     Ok(())
+}
+
+/// Takes the page of a name out if it has this version, and answers whether it had.
+pub(crate) fn take_page(
+    pages: &mut IndexMap<(u32, u32), Placed>,
+    name: (u32, u32),
+    version: u64,
+) -> bool
+    ensures current { result ≡ option_map_or (λ placed. placed.page.version == version) (lookup (is_page name) pages.old.entries) false }
+    ensures gone { IsTrue result → IsChangedAt name None pages.old.entries pages.new.entries }
+    ensures same { result ≡ false → pages.new.entries ≡ pages.old.entries }
+{
+    match pages.get_full(&name) {
+        Some((index, _, placed)) => {
+            let current = placed.page.version == version;
+            if current {
+                pages.swap_remove_index(index);
+            }
+            current
+        }
+        None => false,
+    }
 }
 
 /// Takes the places that were left away from the front, and all such places once they are more than the others.
