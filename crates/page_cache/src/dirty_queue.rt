@@ -178,6 +178,7 @@ impl DirtyQueue {
         let before = self.pages.len();
         cut_pages(&mut self.pages, ino, from);
         cut_places(&mut self.places, ino, from);
+        tidy(&self.pages, &mut self.places);
         (before - self.pages.len()) as u64
     }
 }
