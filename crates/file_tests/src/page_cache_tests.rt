@@ -127,8 +127,8 @@ fn answer(
 }
 
 // Pages are written, written again, marked clean and cut; of three clean pages the one that wasn't used goes, and a dirty
-// one hides none; tickets come in the order in which the pages became dirty. A row is a call, the page that it is of, its
-// byte or version, and the answer.
+// one hides none; tickets come in the order in which the pages became dirty, and a page that is taken out from between others
+// goes last when it is dirty again. A row is a call, the page that it is of, its byte or version, and the answer.
 const ROWS: &[(u8, (u32, u32, u8), (u32, u32, u64))] = &[
     (b'o', (0, 0, 0), (0, 0, 0)),
     (b'd', (64, 1, 1), (0, 0, 1)),
@@ -171,6 +171,23 @@ const ROWS: &[(u8, (u32, u32, u8), (u32, u32, u64))] = &[
     (b'g', (64, 2, 0), (0, 0, 4)),
     (b'x', (64, 0, 0), (0, 0, 1)),
     (b'g', (64, 0, 0), (0, 0, 0)),
+    (b'd', (70, 0, 1), (0, 0, 1)),
+    (b'd', (70, 1, 2), (0, 0, 1)),
+    (b'd', (71, 0, 3), (0, 0, 1)),
+    (b'm', (70, 1, 7), (0, 0, 1)),
+    (b'd', (70, 1, 4), (0, 0, 1)),
+    (b't', (70, 0, 0), (70, 0, 6)),
+    (b't', (70, 1, 0), (70, 1, 9)),
+    (b'm', (70, 0, 6), (0, 0, 1)),
+    (b'o', (0, 0, 0), (71, 0, 8)),
+    (b'm', (71, 0, 8), (0, 0, 1)),
+    (b'o', (0, 0, 0), (70, 1, 9)),
+    (b'd', (70, 1, 5), (0, 0, 0)),
+    (b'm', (70, 1, 9), (0, 0, 0)),
+    (b'x', (70, 2, 0), (0, 0, 0)),
+    (b'v', (70, 1, 0), (5, 0, 10)),
+    (b'x', (70, 1, 0), (0, 0, 1)),
+    (b'n', (70, 1, 0), (0, 0, 0)),
 ];
 
 #[test]

@@ -3,6 +3,8 @@ pub mod Counted
 pub mod Lists
 pub mod Names
 pub mod OnePage
+pub mod Order
 pub mod Putting
+pub mod Queue
 pub mod Reading
 pub mod Turning

@@ -3,7 +3,7 @@ use Rattle.std.proofs.Common.{◌≡◌, ◌-◌, ◌<◌, ◌≤◌, Bool, true
 use Rattle.std.specs.Cmp.{IsEquivalence}
 use Rattle.std.specs.List.{AllByRecursion, IsDistinct}
 use Rattle.std.specs.Option.{option_map_or}
-use Rattle.std.specs.Map.{keys_of, lookup, lookup_entry, remove_entry, set_value}
+use Rattle.std.specs.Map.{keys_of, lookup, lookup_key, lookup_entry, remove_entry, set_value}
 use Rattle.std.proofs.lemmas.Bool.{false≢true}
 use Rattle.std.proofs.lemmas.List.{take_all, take-append-le}
 use Rattle.std.proofs.lemmas.Map.Keys.{IsDistinct-head, IsDistinct-tail}
@@ -17,6 +17,14 @@ last_of (x ∷ []) h = ([], x, refl)
 last_of (x ∷ z ∷ zs) h = let r = last_of (z ∷ zs) (omega arith) in (x ∷ r.0, r.1, ap (λ l. x ∷ l) r.2)
 
 module _ {K V : Type 0} (test : K → Bool) where
+  -- a key that is found passes the test
+  pub key_passes : (es : List (K × V)) (k : K) → lookup_key test es ≡ Some k → test k ≡ true
+  key_passes [] k h = absurd cc
+  key_passes (e ∷ es) k h = (elim (test e.0) as (λ b. test e.0 ≡ b → test k ≡ true) [
+    | true ↦ λ t. let h' = rw t at h in let same : e.0 ≡ k = cc in subst (λ n. test n ≡ true) same t
+    | false ↦ λ t. key_passes es k (rw t at h)
+  ]) refl
+
   -- a key that isn't there has no entry
   pub none_found : (es : List (K × V)) → is_some (lookup test es) ≡ false → lookup_entry test es ≡ None
   none_found [] h = refl
@@ -54,7 +62,7 @@ module _ {K V : Type 0} (eq : K → K → Bool) (laws : IsEquivalence eq) where
   last_key P [] e h = h.0
   last_key P (f ∷ es) e h = last_key P es e h.1
 
-  last_found : (es : List (K × V)) (e : K × V) → IsDistinct eq (keys_of (es ++ e ∷ [])) → (lookup_entry (eq e.0) (es ++ e ∷ []) ≡ Some e) × (remove_entry (eq e.0) (es ++ e ∷ []) ≡ es)
+  pub last_found : (es : List (K × V)) (e : K × V) → IsDistinct eq (keys_of (es ++ e ∷ [])) → (lookup_entry (eq e.0) (es ++ e ∷ []) ≡ Some e) × (remove_entry (eq e.0) (es ++ e ∷ []) ≡ es)
   last_found [] e h = (rw (laws.refl e.0) refl, rw (laws.refl e.0) refl)
   last_found (f ∷ es) e h =
       let other : eq e.0 f.0 ≡ false = laws.symm e.0 f.0 ∙ last_key (λ y. eq f.0 y ≡ false) es e (IsDistinct-head eq f.0 (keys_of (es ++ e ∷ [])) h) in

@@ -50,11 +50,10 @@ pub record IsCache (pages : Pages) : Type 0 where
   pub counted : AreCounted pages.calls pages.dirty
   pub few : length pages.clean ≤ pages.most
 
--- What a cache keeps of its two lists: that of the dirty pages has no bound.
-pub record IsKept (dirty : LruCache (ℕ × ℕ) DirtyPage) (clean : LruCache (ℕ × ℕ) (List ℕ)) (calls : ℕ) : Type 0 where
-  pub unbounded : dirty.cap ≡ 2 ^ 64 - 1
-  pub apart : AreApart dirty.entries clean.entries
-  pub counted : AreCounted calls dirty.entries
+-- What a cache keeps of its two lists.
+pub record IsKept (dirty : List ((ℕ × ℕ) × DirtyPage)) (clean : LruCache (ℕ × ℕ) (List ℕ)) (calls : ℕ) : Type 0 where
+  pub apart : AreApart dirty clean.entries
+  pub counted : AreCounted calls dirty
 
 -- a count after one more, which stays at its end
 abbrev pub counted : ℕ → ℕ

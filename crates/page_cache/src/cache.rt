@@ -6,8 +6,9 @@ ghost use Rattle.std.specs.Option.{option_copied, option_map};
 ghost use Rattle.page_cache.specs.Pages.{IsCache, dirty_at, bytes_at, with_dirty, with_all_dirty, new_pages, old_pages, with_clean, with_used, IsTakenBack, oldest_of, next_of, ticket_of, tickets_of, is_current, without_dirty, without_cut, cut_count};
 
 use crate::dirty_page::DirtyPage;
-use crate::page_list::{PageList, tickets_of};
-use crate::ticket::{Ticket, ticket_of};
+use crate::dirty_queue::DirtyQueue;
+use crate::page_list::PageList;
+use crate::ticket::Ticket;
 use std::alloc::{AllocError, Global};
 use std::marker::Model;
 use std::num::NonZeroUsize;
@@ -17,7 +18,7 @@ use ubifs_base::{Bytes, Memory};
 /// of `specs/Pages.antt`.
 #[derive(Drop)]
 pub struct Cache {
-    dirty: PageList<DirtyPage>,
+    dirty: DirtyQueue,
     clean: PageList<Bytes>,
     calls: u64,
 }
@@ -27,7 +28,7 @@ impl Model for Cache {
 
     ghost Value = { Pages };
 
-    ghost view = { λ c. record { dirty = c.dirty.entries; clean = c.clean.entries; most = c.clean.cap; calls = c.calls } };
+    ghost view = { λ c. record { dirty = c.dirty; clean = c.clean.entries; most = c.clean.cap; calls = c.calls } };
 
     ghost invariant = { λ c. IsKept c.dirty c.clean c.calls };
 }
@@ -45,7 +46,7 @@ impl Cache {
     {
         match NonZeroUsize::new(clean as usize) {
             Some(most) => Ok(Cache {
-                dirty: PageList::new(alloc, NonZeroUsize::MAX)?,
+                dirty: DirtyQueue::new(alloc),
                 clean: PageList::new(alloc, most)?,
                 calls: 0,
             }),
@@ -249,10 +250,7 @@ impl Cache {
     pub fn oldest(&self) -> Option<Ticket>
         ensures { result ≡ oldest_of self.now }
     {
-        match self.dirty.first() {
-            Some((name, page)) => Some(ticket_of(*name, page)),
-            None => None,
-        }
+        self.dirty.first()
     }
 
     /// The page of an inode that became dirty first, with its present version, and `None` exactly where the inode has no
@@ -260,10 +258,7 @@ impl Cache {
     pub fn next_of(&self, ino: u32) -> Option<Ticket>
         ensures { result ≡ next_of self.now ino }
     {
-        match self.dirty.first_of(ino) {
-            Some((name, page)) => Some(ticket_of(*name, page)),
-            None => None,
-        }
+        self.dirty.first_of(ino)
     }
 
     /// The tickets of an inode's dirty pages, in the order in which they became dirty. The time goes with the number of dirty
@@ -271,7 +266,7 @@ impl Cache {
     pub fn tickets_of(&self, alloc: Global, ino: u32) -> Result<Vec<Ticket>, AllocError>
         ensures { IfOk result (λ tickets. tickets.items ≡ tickets_of self.now ino) }
     {
-        tickets_of(alloc, &self.dirty, ino)
+        self.dirty.tickets_of(alloc, ino)
     }
 
     /// Takes a page from the dirty ones if it has the ticket's version still, and answers whether it had. It isn't kept as a
@@ -280,11 +275,8 @@ impl Cache {
         ensures current { result ≡ is_current self.old ticket.now }
         ensures pages { self.new ≡ (if result then without_dirty self.old ticket.now.ino ticket.now.block else self.old) }
     {
-        let current = self.is_current(ticket);
-        if current {
-            self.dirty.remove((ticket.ino, ticket.block));
-        }
-        current
+        self.dirty
+            .remove((ticket.ino, ticket.block), ticket.version)
     }
 
     /// Whether a ticket's page is dirty and has the ticket's version. Takes no memory.

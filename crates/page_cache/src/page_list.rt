@@ -1,17 +1,17 @@
 // Pages by name, in an order.
 
-ghost use Rattle.std.specs.Prelude.{◌≡◌, ◌-◌, ◌^◌, ◌<◌, ◌≤◌, ℕ, true, false, not, List, [], ◌∷◌, ◌++◌, if◌then◌else◌, IfOk, OnOk, OnErr, IsOk, IfSome, is_some, IsSome, IsNone, length, map, slice_get, take};
-ghost use Rattle.std.specs.Option.{option_map, option_copied};
+ghost use Rattle.std.specs.Prelude.{◌≡◌, ◌-◌, ◌^◌, ◌<◌, ◌≤◌, ℕ, List, [], ◌∷◌, ◌++◌, if◌then◌else◌, IfOk, OnOk, OnErr, is_some, IsNone, length, slice_get, take};
+ghost use Rattle.std.specs.List.{list_any};
+ghost use Rattle.std.specs.Option.{option_map};
 ghost use Rattle.std.specs.NonZero.{non_zero_usize_get};
-ghost use Rattle.std.specs.Map.{lookup, remove_entry, set_value};
+ghost use Rattle.std.specs.Map.{lookup, remove_entry};
 ghost use Rattle.std.specs.Map.Iter.{deref_pair};
 ghost use Rattle.lru.specs.LruCache.{lru_cache, promoted, put_entries, last_entry, IsValid};
-ghost use Rattle.page_cache.specs.Pages.{is_page, is_cut, pages_of, put_last, cut_list, cut_count, ticket_of};
+ghost use Rattle.page_cache.specs.Pages.{is_page, is_cut, cut_list, cut_count};
 
-use crate::dirty_page::DirtyPage;
-use crate::ticket::{Ticket, ticket_of};
+use crate::place::is_within;
 use lru::LruCache;
-use std::alloc::{AllocError, Global};
+use std::alloc::Global;
 use std::marker::Model;
 use std::num::NonZeroUsize;
 use ubifs_base::Memory;
@@ -44,82 +44,11 @@ impl<V: Drop> PageList<V> {
         })
     }
 
-    /// The page of a name.
-    pub(crate) fn get(&self, name: (u32, u32)) -> Option<&V>
-        ensures { option_copied result ≡ lookup (is_page name) self.now.entries }
-    {
-        self.pages.peek(&name)
-    }
-
-    /// Whether there is a page of a name.
-    pub(crate) fn contains(&self, name: (u32, u32)) -> bool
-        ensures { result ≡ is_some (lookup (is_page name) self.now.entries) }
-    {
-        self.pages.contains(&name)
-    }
-
     /// The page at the front.
     pub(crate) fn first(&self) -> Option<(&(u32, u32), &V)>
         ensures { option_map deref_pair result ≡ slice_get self.now.entries 0 }
     {
         self.pages.peek_mru()
-    }
-
-    /// The page of an inode that is nearest to the front. The time goes with the number of pages.
-    pub(crate) fn first_of(&self, ino: u32) -> Option<(&(u32, u32), &V)>
-        ensures { option_map deref_pair result ≡ slice_get (pages_of self.now.entries ino) 0 }
-    {
-        for (name, page) in self.pages.iter() {
-            if name.0 == ino {
-                return Some((name, page));
-            }
-        }
-        None
-    }
-
-    /// Puts a page: one that is there is set at its place, another goes to the end. Answers whether it is a new one; where
-    /// there is no memory all is as it was.
-    pub(crate) fn put_last(&mut self, name: (u32, u32), page: V) -> Result<bool, Memory>
-        requires unbounded { self.old.cap ≡ 2 ^ 64 - 1 }
-        ensures new { IfOk result (λ new. new ≡ not (is_some (lookup (is_page name) self.old.entries))) }
-        ensures ok { OnOk result (self.new ≡ lru_cache (put_last self.old.entries name page) self.old.cap) }
-        ensures err { OnErr result (self.new ≡ self.old) }
-        ensures succeeds { IsSome (lookup (is_page name) self.old.entries) → IsOk result }
-    {
-        match self.set(name, page) {
-            None => Ok(false),
-            Some(page) => {
-                self.add_last(name, page)?;
-                Ok(true)
-            }
-        }
-    }
-
-    // Sets the page of a name, at its place. Where there is none the new one is given back.
-    fn set(&mut self, name: (u32, u32), page: V) -> Option<V>
-        ensures set { self.new ≡ lru_cache (set_value (is_page name) self.old.entries page) self.old.cap }
-        ensures found { is_some result ≡ not (is_some (lookup (is_page name) self.old.entries)) }
-        ensures back { IfSome result (λ back. (back ≡ page) × (self.new ≡ self.old)) }
-    {
-        set_page(&mut self.pages, name, page)
-    }
-
-    // Adds a page of a new name at the end. Where there is no memory all is as it was.
-    fn add_last(&mut self, name: (u32, u32), page: V) -> Result<(), Memory>
-        requires absent { is_some (lookup (is_page name) self.old.entries) ≡ false }
-        requires unbounded { self.old.cap ≡ 2 ^ 64 - 1 }
-        ensures ok { OnOk result (self.new ≡ lru_cache (self.old.entries ++ (name, page) ∷ []) self.old.cap) }
-        ensures err { OnErr result (self.new ≡ self.old) }
-    {
-        // Its proof knows from this that there are fewer pages than there may be.
-        let _len = self.pages.len();
-        match self.pages.put(name, page) {
-            Ok(_) => {
-                self.pages.demote(&name);
-                Ok(())
-            }
-            Err(_) => Err(Memory),
-        }
     }
 
     /// Puts a page at the front, with the one at the end gone where there are too many. Where there is no memory all is as
@@ -152,15 +81,6 @@ impl<V: Drop> PageList<V> {
         self.pages.pop(&name);
     }
 
-    /// Takes out the pages behind so many from the front on. Takes no memory.
-    pub(crate) fn keep_first(&mut self, len: usize)
-        ensures { self.new ≡ lru_cache (take len self.old.entries) self.old.cap }
-    {
-        while self.len() > len {
-            self.pages.pop_lru();
-        }
-    }
-
     /// The number of pages.
     pub(crate) fn len(&self) -> usize
         ensures len { result ≡ length self.now.entries }
@@ -176,6 +96,9 @@ impl<V: Drop> PageList<V> {
         ensures rest { self.new ≡ lru_cache (cut_list self.old.entries ino from) self.old.cap }
         ensures count { result ≡ cut_count self.old.entries ino from }
     {
+        if !self.is_any_within(ino, from) {
+            return 0;
+        }
         let mut left = self.len();
         let mut gone = 0;
         while left > 0 {
@@ -183,6 +106,18 @@ impl<V: Drop> PageList<V> {
             left -= 1;
         }
         gone
+    }
+
+    // Whether there is a page of an inode, from a block on.
+    fn is_any_within(&self, ino: u32, from: u32) -> bool
+        ensures { result ≡ list_any (λ e. is_cut ino from e.0) self.now.entries }
+    {
+        for (name, _) in self.pages.iter() {
+            if is_within(*name, ino, from) {
+                return true;
+            }
+        }
+        false
     }
 
     // Takes the page at the end out where it is cut, and else moves it to the front. Answers how many were taken out.
@@ -221,43 +156,4 @@ impl<V: Drop> PageList<V> {
         self.pages.promote(&name);
         0
     }
-}
-
-/// The tickets of an inode's dirty pages, in their order. The time goes with the number of pages.
-pub(crate) fn tickets_of(
-    alloc: Global,
-    list: &PageList<DirtyPage>,
-    ino: u32,
-) -> Result<Vec<Ticket>, AllocError>
-    ensures { IfOk result (λ tickets. tickets.items ≡ map ticket_of (pages_of list.now.entries ino)) }
-{
-    let mut tickets = Vec::new(alloc);
-    for (name, page) in list.pages.iter() {
-        if name.0 == ino {
-            tickets.push(ticket_of(*name, page))?;
-        }
-    }
-    Ok(tickets)
-}
-
-// Sets the page of a name, at its place. Where there is none the new one is given back.
-fn set_page<V: Drop>(pages: &mut LruCache<(u32, u32), V>, name: (u32, u32), page: V) -> Option<V>
-    ensures set { pages.new ≡ lru_cache (set_value (is_page name) pages.old.entries page) pages.old.cap }
-    ensures found { is_some result ≡ not (is_some (lookup (is_page name) pages.old.entries)) }
-    ensures back { IfSome result (λ back. (back ≡ page) × (pages.new ≡ pages.old)) }
-{
-    match pages.peek_mut(&name) {
-        Some(place) => {
-            *place = page;
-            None
-        }
-        None => Some(page),
-    }
-}
-
-// Whether a page is of an inode, from a block on.
-fn is_within(name: (u32, u32), ino: u32, from: u32) -> bool
-    ensures { result ≡ is_cut ino from name }
-{
-    if name.0 == ino { from <= name.1 } else { false }
 }

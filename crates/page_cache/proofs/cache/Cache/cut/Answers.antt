@@ -6,7 +6,6 @@ pub invariant_of-self : goal.invariant_of-self
 invariant_of-self c =
     let was = c.self.invariant in
     rw (c.cut-2.ensures.rest, c.cut.ensures.rest) (record {
-      unbounded = was.unbounded;
       apart = apart_cut _ _ was.apart c.args.ino c.args.from;
       counted = counted_cut _ _ was.counted c.args.ino c.args.from;
     })

@@ -5,7 +5,6 @@ pub invariant_of-self : goal.invariant_of-self
 invariant_of-self c =
     let was = c.self.invariant in
     rw c.keep_first.ensures (record {
-      unbounded = was.unbounded;
       apart = apart_front _ _ c.args.len was.apart;
       counted = counted_front _ _ c.args.len was.counted;
     })

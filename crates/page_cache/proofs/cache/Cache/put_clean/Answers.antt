@@ -14,13 +14,12 @@ either dirty old new put (Err e) ok err was is = subst (λ l. AreApart dirty l.e
 pub invariant_of-self : goal.invariant_of-self
 invariant_of-self c =
     let was = c.self.invariant in
-    let dirty = c.self.inside.dirty.entries in
+    let dirty = c.self.inside.dirty in
     let old = c.self.inside.clean in
     let name : ℕ × ℕ = (c.args.ino, c.args.block) in
     let put = lru_cache (put_entries is_page old name c.args.page) old.cap in
     let is = apart_clean dirty old.entries was.apart name old.cap c.args.page (sym c.contains.ensures ∙ c.if-contains.false) in
     record {
-      unbounded = was.unbounded;
       apart = either dirty old c.put_first.new.self put c.put_first.result c.put_first.ensures.ok c.put_first.ensures.err was.apart is;
       counted = was.counted;
     }

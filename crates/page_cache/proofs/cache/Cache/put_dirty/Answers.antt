@@ -1,5 +1,4 @@
-use Rattle.std.proofs.Common.{ℕ, ◌≤◌, sym, ap, ◌∙◌, arith}
-use Rattle.lru.specs.LruCache.{LruCache}
+use Rattle.std.proofs.Common.{ℕ, List, ◌≤◌, sym, ap, ◌∙◌, arith}
 use Rattle.page_cache.specs.declared.dirty_page.DirtyPage.{DirtyPage}
 use Rattle.page_cache.specs.Pages.{Pages, is_page, counted, put_last, with_dirty}
 use Rattle.page_cache.proofs.Apart.{apart_dirty, removed_absent, was_there}
@@ -11,7 +10,6 @@ invariant_of-self c =
     let was = c.self.invariant in
     let grows : c.self.inside.calls ≤ c.saturating_add-version.result = omega arith in
     rw c.in-Ok-true.ensures.ok (record {
-      unbounded = was.unbounded;
       apart = apart_dirty _ _ was.apart (c.args.ino, c.args.block) _ _ (ap (λ l. l.entries) c.remove.ensures.rest) c.remove.ensures.gone;
       counted = counted_dirty _ _ was.counted (c.args.ino, c.args.block) _ _ grows (omega arith);
     })
@@ -23,7 +21,6 @@ invariant_of-self-in-Ok-false c =
     let grows : c.self.inside.calls ≤ c.saturating_add-version.result = omega arith in
     let none = was.apart c.args.ino c.args.block (was_there _ (sym c.in-Ok-false.field-0-test ∙ c.in-Ok-false.ensures.new)) in
     rw c.in-Ok-false.ensures.ok (record {
-      unbounded = was.unbounded;
       apart = apart_dirty _ _ was.apart (c.args.ino, c.args.block) _ _ (sym (removed_absent _ _ none)) none;
       counted = counted_dirty _ _ was.counted (c.args.ino, c.args.block) _ _ grows (omega arith);
     })
@@ -33,12 +30,12 @@ returns-in-Ok-false-clause-ok c =
     let inside = c.self.inside in
     let none = c.self.invariant.apart c.args.ino c.args.block (was_there _ (sym c.in-Ok-false.field-0-test ∙ c.in-Ok-false.ensures.new)) in
     let put : ℕ → Pages = λ version. record {
-      dirty = put_last inside.dirty.entries (c.args.ino, c.args.block) (record { bytes = c.args.page; version = version });
+      dirty = put_last inside.dirty (c.args.ino, c.args.block) (record { bytes = c.args.page; version = version });
       clean = inside.clean.entries;
       most = inside.clean.cap;
       calls = version;
     } in
-    ap (λ (l : LruCache (ℕ × ℕ) DirtyPage). record (put c.saturating_add-version.result) { dirty = l.entries }) c.in-Ok-false.ensures.ok
+    ap (λ (l : List ((ℕ × ℕ) × DirtyPage)). record (put c.saturating_add-version.result) { dirty = l }) c.in-Ok-false.ensures.ok
     ∙ (ap put c.saturating_add-version.ensures
     ∙ (ap (λ es. record (put (counted inside.calls)) { clean = es }) (sym (removed_absent (is_page (c.args.ino, c.args.block)) inside.clean.entries none))
     ∙ ap (λ (held : Pages). with_dirty held c.args.ino c.args.block c.args.page) c.self.view_is))

@@ -5,7 +5,6 @@ pub invariant_of-self : goal.invariant_of-self
 invariant_of-self c =
     let was = c.self.invariant in
     rw c.promote.ensures.list (record {
-      unbounded = was.unbounded;
       apart = apart_used _ _ was.apart (c.args.ino, c.args.block);
       counted = was.counted;
     })
