@@ -1,6 +1,9 @@
 pub mod Standing
+pub mod Rooms
+pub mod LastTaken
 pub mod Laid
 pub mod Whole
 pub mod Lebs
+pub mod Rooming
 pub mod Committed
 pub mod Changes

@@ -1,4 +1,5 @@
 pub mod Lebs
+pub mod Rooms
 pub mod Standing
 pub mod Answers
 pub mod Written

@@ -1,5 +1,5 @@
 -- What a commit leaves of an index, in memory and on the volume.
-use Rattle.std.specs.Prelude.{◌≡◌, ◌⊎◌, ◌<◌, ◌≤◌, ◌+◌, ◌*◌, ◌%◌, ◌==◌, ℕ, zero, suc, if◌then◌else◌, List, [], ◌++◌, Option, None, Some, length, slice_get, All}
+use Rattle.std.specs.Prelude.{◌≡◌, ◌⊎◌, ◌<◌, ◌≤◌, ◌+◌, ◌*◌, ◌%◌, ◌==◌, ℕ, if◌then◌else◌, List, [], ◌∷◌, ◌++◌, Option, None, Some, length, slice_get, All}
 use Rattle.index_media.specs.KeyedRow.{KeyedRow, no_more, all_clean}
 use Rattle.index_media.specs.PlacedRow.{PlacedRow, Stretch, lebs_of}
 use Rattle.index_media.specs.Stored.{IsStoredIndex}
@@ -10,32 +10,37 @@ use Rattle.node_table.specs.Placing.{KeepsPlaces, without_number}
 use Rattle.node_table.specs.declared.node.Root.{Root}
 use Rattle.ubi_volume.specs.Frame.{Elsewhere, IsSameLeb, Works}
 use Rattle.ubi_volume.specs.Volume.{VolumeState, Leaves, Only}
+use Rattle.index_cache.specs.Commit.{said_of}
 use Rattle.index_cache.specs.Paged.{dirty_of, frozen_of, tree_of, KeepsRoots}
 use Rattle.index_cache.specs.declared.paged.PagedIndex.{PagedIndex}
 use Rattle.index_commit.specs.Lebs.{AreApart, IsGiven}
+use Rattle.index_commit.specs.Rooms.{Room, room_in, AreDistinct, AreInRooms}
 use Rattle.index_commit.specs.Standing.{AreOutside, AreStandingAs}
 use Rattle.index_commit.specs.declared.index_at.IndexAt.{IndexAt}
 use Rattle.index_commit.specs.declared.index_at.IndexHead.{IndexHead}
 
 -- The index in memory: below each root, the frozen one and the one that is seen included, stands what stood there, but that
--- nodes that were dirty may have places
+-- nodes that were dirty may have places. A node keeps its level
 pub record IsIndexKept (old new : PagedIndex) : Type 0 where
+  pub levels : (number : ℕ) → (said_of new number).level ≡ (said_of old number).level
   pub frozen : KeepsPlaces (frozen_of old) (frozen_of new)
   pub tree : KeepsPlaces (tree_of old) (tree_of new)
   pub trees : (root : Option Root) → KeepsPlaces (tree_at old.table.nodes.items root) (tree_at new.table.nodes.items root)
   pub roots : KeepsRoots old new
 
--- so many dirty nodes were written: each time the first one, by its number
-abbrev pub AreFirstsTaken : ℕ → List ℕ → List ℕ → Type 0
-AreFirstsTaken zero old new = new ≡ old
-AreFirstsTaken (suc n) old new = (number : ℕ) × (slice_get old 0 ≡ Some number) × AreFirstsTaken n (without_number number old) new
+-- these dirty nodes were written, in this order: each time the first one, by its number
+abbrev pub AreTaken : List ℕ → List ℕ → List ℕ → Type 0
+AreTaken [] old new = new ≡ old
+AreTaken (number ∷ numbers) old new = (slice_get old 0 ≡ Some number) × AreTaken numbers (without_number number old) new
 
--- the index is kept, and each node that was written took the next sequence number
-pub record IsIndexTaken (old new : PagedIndex) (before after : ℕ) : Type 0 where
+-- The index is kept. These nodes were written, none twice: each has its place in the next room, and took the next sequence number
+pub record IsIndexTaken (room : ℕ → Room) (old new : PagedIndex) (before after : ℕ) : Type 0 where
   pub kept : IsIndexKept old new
-  pub nodes : ℕ
-  pub taken : AreFirstsTaken nodes (dirty_of old) (dirty_of new)
-  pub number : after ≡ before + nodes
+  pub numbers : List ℕ
+  pub taken : AreTaken numbers (dirty_of old) (dirty_of new)
+  pub distinct : AreDistinct numbers
+  pub rooms : AreInRooms room new numbers
+  pub number : after ≡ before + length numbers
   pub most : after + length (dirty_of new) ≤ before + length (dirty_of old)
 
 -- a LEB's bytes in the place of those that it holds
@@ -64,10 +69,10 @@ Meets asked place number group =
 -- Nodes were laid for this LEB, each in so much room. With these bytes in it clean nodes stand, and meet what is asked,
 -- if those that stood before do, and each place in the LEB with one of the numbers given since, and in no group
 pub record AreNodesLaid (lnum room : ℕ) (old new : Laying) : Type 0 where
-  pub index : IsIndexTaken old.index new.index old.sqnum new.sqnum
+  pub index : IsIndexTaken (room_in lnum room (length old.bytes)) old.index new.index old.sqnum new.sqnum
   pub more : List ℕ
   pub bytes : new.bytes ≡ old.bytes ++ more
-  pub long : length new.bytes ≡ length old.bytes + index.nodes * room
+  pub long : length new.bytes ≡ length old.bytes + length index.numbers * room
   pub stand : (contents : ℕ → List ℕ) (asked : Demand) (root : Option Root)
       → ((place : Stretch) (number : ℕ) → place.lnum ≡ lnum → old.sqnum < number → number ≤ new.sqnum → Meets asked place number 0)
       → AreStandingAs (with_leb_bytes lnum old.bytes contents) (Meets asked) (tree_at old.index.table.nodes.items root)

@@ -3,7 +3,7 @@
 ghost use Rattle.std.specs.Prelude.{◌≡◌, ◌⊎◌, ◌<◌, ◌≤◌, ◌+◌, ◌-◌, ◌*◌, ◌%◌, ◌^◌, ◌++◌, ◌∷◌, [], length, take, IfOk, OnOk};
 ghost use Rattle.std.specs.Int.{div_ceil};
 ghost use Rattle.ubifs_base.specs.Gap.{gap_of};
-ghost use Rattle.ubifs_base.specs.Geometry.{index_nodes_per_leb};
+ghost use Rattle.ubifs_base.specs.Geometry.{index_node_len, index_nodes_per_leb};
 ghost use Rattle.ubifs_base.specs.RawOf.{raw_of};
 ghost use Rattle.index_media.specs.KeyedRow.{all_clean};
 ghost use Rattle.node_table.specs.Clean.{placed_of};
@@ -13,6 +13,7 @@ ghost use Rattle.ubi_volume.specs.Volume.{Keeps};
 ghost use Rattle.index_cache.specs.Paged.{dirty_of, frozen_of, fanout_of};
 ghost use Rattle.index_commit.specs.Answers.{HasEqualKeys, IsIndexNotFailed, IsNotFull, IsFullOf, IsIndexAnswered};
 ghost use Rattle.index_commit.specs.Lebs.{AreGivable};
+ghost use Rattle.index_commit.specs.Rooms.{IsEnded, head_after, room_in, room_of, whole_units};
 ghost use Rattle.index_commit.specs.Standing.{AreOutside};
 ghost use Rattle.index_commit.specs.Written.{AreStanding, AreWritten, IsHeadAfter, IsIndexAt, IsIndexTaken, IsLebPut, KeepsOtherIndexes, WorksInLebs, with_leb_bytes};
 
@@ -48,9 +49,9 @@ pub fn write_index<V: Volume>(
     requires lebs { AreGivable (V.state volume.old).leb_cnt lebs.now }
     requires outside { AreOutside (V.state volume.old).holds lebs.now (frozen_of index.old) }
     requires number { sqnum.old + length (dirty_of index.old) < 2 ^ 64 }
-    ensures written { IfOk result (λ at. IsIndexAt (V.state volume.new) geometry.now.fanout lebs.now index.old index.new at) }
+    ensures written { IfOk result (λ at. IsIndexAt (V.state volume.new) geometry.now.fanout lebs.now index.old index.new at × IsEnded (raw_of geometry.now) lebs.now (sqnum.new - sqnum.old) at) }
     ensures standing { IsIndexNotFailed result → AreStanding (V.state volume.old) (V.state volume.new) lebs.now index.old index.new sqnum.old sqnum.new }
-    ensures index { IsIndexTaken index.old index.new sqnum.old sqnum.new }
+    ensures index { IsIndexTaken (room_of (raw_of geometry.now) lebs.now) index.old index.new sqnum.old sqnum.new }
     ensures works { WorksInLebs (V.state volume.old) (V.state volume.new) lebs.now }
     ensures old_stays { KeepsOtherIndexes (V.state volume.old) (V.state volume.new) lebs.now }
     ensures answer { IsIndexAnswered (V.state volume.old) (V.state volume.new) result
@@ -93,8 +94,9 @@ fn write_lebs<V: Volume>(
     ensures clean { OnOk result (frozen_of index.new ≡ all_clean (placed_of (frozen_of index.new))) }
     ensures none { OnOk result (dirty_of index.new ≡ []) }
     ensures head { IfOk result (λ found. IsHeadAfter (V.state volume.new) lebs.now (dirty_of index.old) head found) }
+    ensures end { IfOk result (λ found. found ≡ head_after (raw_of geometry.now) lebs.now head (sqnum.new - sqnum.old)) }
     ensures standing { IsIndexNotFailed result → AreWritten (V.state volume.old) (V.state volume.new) lebs.now index.old index.new sqnum.old sqnum.new }
-    ensures index { IsIndexTaken index.old index.new sqnum.old sqnum.new }
+    ensures index { IsIndexTaken (room_of (raw_of geometry.now) lebs.now) index.old index.new sqnum.old sqnum.new }
     ensures works { WorksInLebs (V.state volume.old) (V.state volume.new) lebs.now }
     ensures answer { IsIndexAnswered (V.state volume.old) (V.state volume.new) result }
     ensures fault { IsNotFull result }
@@ -130,9 +132,13 @@ fn write_leb<V: Volume>(
     requires whole { length leb.old ≡ geometry.now.leb_size }
     requires some { 0 < length (dirty_of index.old) }
     ensures all { OnOk result ((dirty_of index.new ≡ []) ⊎ (length (dirty_of index.new) + index_nodes_per_leb (raw_of geometry.now) ≤ length (dirty_of index.old))) }
+    ensures most { sqnum.new ≤ sqnum.old + index_nodes_per_leb (raw_of geometry.now) }
+    ensures full { OnOk result ((dirty_of index.new ≡ []) ⊎ (sqnum.new ≡ sqnum.old + index_nodes_per_leb (raw_of geometry.now))) }
+    ensures some { OnOk result (sqnum.old < sqnum.new) }
     ensures end { IfOk result (λ end. ((V.state volume.new).written lnum ≡ end) × (end % (V.state volume.new).min_io ≡ 0)) }
+    ensures units { IfOk result (λ end. end ≡ whole_units (raw_of geometry.now) ((sqnum.new - sqnum.old) * index_node_len (raw_of geometry.now))) }
     ensures standing { IsIndexNotFailed result → AreWritten (V.state volume.old) (V.state volume.new) (lnum ∷ []) index.old index.new sqnum.old sqnum.new }
-    ensures index { IsIndexTaken index.old index.new sqnum.old sqnum.new }
+    ensures index { IsIndexTaken (room_in lnum (index_node_len (raw_of geometry.now)) 0) index.old index.new sqnum.old sqnum.new }
     ensures works { WorksInLebs (V.state volume.old) (V.state volume.new) (lnum ∷ []) }
     ensures answer { IsIndexAnswered (V.state volume.old) (V.state volume.new) result }
     ensures fault { IsNotFull result }
@@ -161,6 +167,7 @@ fn put_leb<V: Volume>(
     requires whole { length leb.old ≡ geometry.now.leb_size }
     requires used { used ≤ length leb.old }
     ensures put { IfOk result (λ end. IsLebPut (V.state volume.old) (V.state volume.new) lnum (take used leb.old) used end) }
+    ensures units { IfOk result (λ end. end ≡ whole_units (raw_of geometry.now) used) }
     ensures works { WorksInLebs (V.state volume.old) (V.state volume.new) (lnum ∷ []) }
     ensures answer { HasAnswer (V.state volume.old) (V.state volume.new) result }
     ensures len { length leb.new ≡ length leb.old }
@@ -180,6 +187,7 @@ fn in_units(geometry: &Geometry, len: u32) -> u32
     ensures more { len ≤ result }
     ensures fits { result ≤ geometry.now.leb_size }
     ensures whole { result % geometry.now.min_io ≡ 0 }
+    ensures units { result ≡ whole_units (raw_of geometry.now) len }
 {
     let unit = geometry.min_io;
     (len + (unit - 1)) / unit * unit

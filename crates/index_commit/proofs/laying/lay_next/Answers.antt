@@ -43,6 +43,7 @@ returns-clause-laid c =
       frozen = c.place.ensures.frozen;
       tree = c.place.ensures.tree;
       trees = c.place.ensures.trees;
+      nodes = c.place.ensures.nodes;
       dirty = c.place.ensures.dirty;
       roots = c.place.ensures.kept;
     } in

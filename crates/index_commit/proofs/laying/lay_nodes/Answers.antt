@@ -14,7 +14,7 @@ loop-used-init c =
 pub lay_next-requires-clause-number : goal.lay_next-requires-clause-number
 lay_next-requires-clause-number c =
     let so_far = c.loop-used.invariant.0.index in
-    let fewer = taken_fewer c.places_are_kept.ensures.fewer so_far.nodes (dirty_of c.args.index.now) (dirty_of c.loop-used.index) so_far.taken in
+    let fewer = taken_fewer c.places_are_kept.ensures.fewer so_far.numbers (dirty_of c.args.index.now) (dirty_of c.loop-used.index) so_far.taken in
     let number = so_far.number in
     let most = c.requires.number in
     omega (arith, fewer, number, most)

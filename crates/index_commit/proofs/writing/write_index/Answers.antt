@@ -7,19 +7,21 @@ use Rattle.index_commit.specs.Answers.{IsIndexNotFailed}
 use Rattle.index_commit.proofs.Committed.{index_at, lebs_suffice, some_nodes}
 use Rattle.index_commit.proofs.Laid.{index_none}
 use Rattle.index_commit.proofs.Lebs.{keeps_indexes, none_standing, written_standing}
+use Rattle.index_commit.specs.Rooms.{room_of}
+use Rattle.index_commit.proofs.Rooming.{ended}
 use Rattle.index_commit.proofs.writing.write_index.Goals as goal
 
 pub returns-then-need-given-clause-standing : goal.returns-then-need-given-clause-standing
 returns-then-need-given-clause-standing g c = λ full. none_standing (g.V.Volume.state c.args.volume.now) c.args.lebs.now c.args.index.now c.args.sqnum.now
 
 pub returns-then-need-given-clause-index : goal.returns-then-need-given-clause-index
-returns-then-need-given-clause-index g c = index_none c.places_are_kept.ensures.none c.args.index.now c.args.sqnum.now
+returns-then-need-given-clause-index g c = index_none c.places_are_kept.ensures.none (room_of (raw_of c.args.geometry.now) c.args.lebs.now) c.args.index.now c.args.sqnum.now
 
 pub returns-in_err-leb-clause-standing : goal.returns-in_err-leb-clause-standing
 returns-in_err-leb-clause-standing g c = λ other. none_standing (g.V.Volume.state c.args.volume.now) c.args.lebs.now c.args.index.now c.args.sqnum.now
 
 pub returns-in_err-leb-clause-index : goal.returns-in_err-leb-clause-index
-returns-in_err-leb-clause-index g c = index_none c.places_are_kept.ensures.none c.args.index.now c.args.sqnum.now
+returns-in_err-leb-clause-index g c = index_none c.places_are_kept.ensures.none (room_of (raw_of c.args.geometry.now) c.args.lebs.now) c.args.index.now c.args.sqnum.now
 
 pub write_lebs-requires-clause-fits : goal.write_lebs-requires-clause-fits
 write_lebs-requires-clause-fits g c =
@@ -43,9 +45,13 @@ returns-clause-written g c =
     let branch = c.frozen_branch.ensures in
     let standing = written_standing (g.V.Volume.state c.args.volume.now) (g.V.Volume.state c.write_lebs.new.volume) c.args.lebs.now c.args.index.now c.write_lebs.new.index c.args.sqnum.now
     c.write_lebs.new.sqnum (c.in_ok-head.ensures.standing tt) in
-    index_at (g.V.Volume.state c.args.volume.now) (g.V.Volume.state c.write_lebs.new.volume) c.args.geometry.now.fanout c.args.sqnum.now c.write_lebs.new.sqnum c.args.lebs.now c.args.index.now
-    c.write_lebs.new.index c.frozen_branch.result c.in_ok-head.head c.write_lebs.ensures.index standing c.requires.outside c.in_ok-head.ensures.none c.requires.fanout c.in_ok-head.ensures.clean branch.fits
-    branch.whole branch.levels branch.sound.bounded branch.first c.in_ok-head.ensures.head
+    (
+      index_at (g.V.Volume.state c.args.volume.now) (g.V.Volume.state c.write_lebs.new.volume) c.args.geometry.now.fanout c.args.sqnum.now c.write_lebs.new.sqnum c.args.lebs.now c.args.index.now
+          c.write_lebs.new.index c.frozen_branch.result c.in_ok-head.head c.write_lebs.ensures.index standing c.requires.outside c.in_ok-head.ensures.none c.requires.fanout c.in_ok-head.ensures.clean branch.fits
+          branch.whole branch.levels branch.sound.bounded branch.first c.in_ok-head.ensures.head,
+      ended (raw_of c.args.geometry.now) c.args.lebs.now c.args.index.now c.write_lebs.new.index c.args.sqnum.now c.write_lebs.new.sqnum c.frozen_branch.result c.in_ok-head.head
+          c.write_lebs.ensures.index c.in_ok-head.ensures.none branch.first c.in_ok-head.ensures.end,
+    )
 
 pub returns-clause-old_stays : goal.returns-clause-old_stays
 returns-clause-old_stays g c =
