@@ -23,7 +23,9 @@ use Rattle.index_cache.specs.declared.paged.PagedIndex.{PagedIndex}
 use Rattle.index_commit.specs.Rooms.{IsInRoom, Room, room_in}
 use Rattle.index_commit.specs.Standing.{AreStandingAs, StandsAs}
 use Rattle.index_commit.specs.Written.{AreTaken, IsIndexKept, IsIndexTaken, AreNodesLaid, Laying, Meets, with_leb_bytes}
-use Rattle.index_commit.proofs.Rooms.{clean_kept, level_stays, node_kept, none_there, place_given, rooms_both, said_stays, taken_distinct}
+use Rattle.index_commit.specs.LebTexts.{in_room, in_rooms}
+use Rattle.index_commit.proofs.LebTexts.{both_texts, one_text}
+use Rattle.index_commit.proofs.Rooms.{clean_kept, level_stays, node_kept, none_there, place_given, rooms_both, said_stays, taken_distinct, taken_then}
 use Rattle.index_commit.proofs.Standing.{Grows, row_placed}
 
 -- ---- the laws of the table on places
@@ -40,12 +42,6 @@ abbrev pub AreFewer : Type 0
 AreFewer = (number : ℕ) (numbers : List ℕ) → slice_get numbers 0 ≡ Some number → length (without_number number numbers) < length numbers
 
 -- ---- numbers that are taken
-pub taken_then : (xs ys a b c : List ℕ) → AreTaken xs a b → AreTaken ys b c → AreTaken (xs ++ ys) a c
-taken_then [] ys a b c h k =
-    let P : List ℕ → Type 0 = λ x. AreTaken ys x c in
-    subst P h k
-taken_then (x ∷ xs) ys a b c h k = (h.0, taken_then xs ys (without_number x a) b c h.1 k)
-
 pub taken_fewer : AreFewer → (xs a b : List ℕ) → AreTaken xs a b → length b + length xs ≤ length a
 taken_fewer fewer [] a b h = let same = ap length h in omega (arith, same)
 taken_fewer fewer (x ∷ xs) a b h =
@@ -145,6 +141,7 @@ laid_same none lnum room a sqnum front bytes e =
       more = [];
       bytes = e ∙ sym (append-nil front);
       long = omega (arith, long);
+      text = refl;
       stand = λ contents asked root own h. subst (λ x. AreStandingAs (with_leb_bytes lnum x contents) (Meets asked) (tree_at a.table.nodes.items root)) (sym e) h;
     }
 
@@ -173,6 +170,7 @@ laid_then both lnum room a b c h k =
       more = h.more ++ k.more;
       bytes = k.bytes ∙ ap (λ x. x ++ k.more) h.bytes ∙ append_assoc a.bytes h.more k.more;
       long = omega (arith, first, second, sum, whole);
+      text = both_texts (room_in lnum room (length a.bytes)) room a.sqnum b.sqnum b.index c.index h.index.numbers k.index.numbers h.more k.more k.index.kept h.index.rooms i h.text k.text;
       stand = λ contents asked root own x. k.stand contents asked root (λ place n e low most. own place n e (omega (arith, low, i)) most) (h.stand contents asked root (λ place n e low most. own place n e low (omega (arith, most, j))) x);
     }
 
@@ -257,9 +255,9 @@ one_room lnum room from offs node (suc n) number old new p kept start is = absur
 
 pub laid_one : GivenIsKept → AreFewer → (lnum room node offs sqnum after : ℕ) (old new : PagedIndex) (front own bytes : List ℕ) → IsPlaced lnum offs node old new
     → IsLaidBehind (node_length (said_of old node)) room offs front own bytes → after ≡ sqnum + 1
-    → IsSystemNode (take (node_length (said_of old node)) own) after 0 (index (said_of old node))
+    → IsSystemNode (take (node_length (said_of old node)) own) after 0 (index (said_of old node)) → own ≡ in_room room after (said_of old node)
     → AreNodesLaid lnum room (record { index = old; sqnum = sqnum; bytes = front }) (record { index = new; sqnum = after; bytes = bytes })
-laid_one given fewer lnum room node offs sqnum after old new front own bytes p b e is =
+laid_one given fewer lnum room node offs sqnum after old new front own bytes p b e is text =
     let place = place_for lnum offs (said_of old node) in
     let below = below_node old node in
     let whole = ap length b.whole ∙ length-append front own in
@@ -281,6 +279,7 @@ laid_one given fewer lnum room node offs sqnum after old new front own bytes p b
       more = own;
       bytes = b.whole;
       long = omega (arith, whole, own_long);
+      text = one_text room sqnum after old new node own kept p.next.ready.below e text;
       stand = λ contents asked root said h.
           let grows : Grows (with_leb_bytes lnum front contents) (with_leb_bytes lnum bytes contents) = subst (λ x. Grows (with_leb_bytes lnum front contents) (with_leb_bytes lnum x contents)) (sym b.whole) (leb_grows lnum front own contents) in
           row_placed (with_leb_bytes lnum front contents) (with_leb_bytes lnum bytes contents) (Meets asked) place below (tree_at old.table.nodes.items root) (tree_at new.table.nodes.items root) grows

@@ -1,5 +1,6 @@
 pub mod Standing
 pub mod Rooms
+pub mod LebTexts
 pub mod LastTaken
 pub mod Laid
 pub mod Whole

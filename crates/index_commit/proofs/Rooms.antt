@@ -175,6 +175,12 @@ rooms_both r r1 r2 b c xs ys kept one other first second n number h = elim (get_
 ]
 
 -- ---- numbers that are taken
+pub taken_then : (xs ys a b c : List ℕ) → AreTaken xs a b → AreTaken ys b c → AreTaken (xs ++ ys) a c
+taken_then [] ys a b c h k =
+    let P : List ℕ → Type 0 = λ x. AreTaken ys x c in
+    subst P h k
+taken_then (x ∷ xs) ys a b c h k = (h.0, taken_then xs ys (without_number x a) b c h.1 k)
+
 is_number : ℕ → ℕ → Bool
 is_number number n = n == number
 

@@ -1,5 +1,6 @@
 pub mod Lebs
 pub mod Rooms
+pub mod LebTexts
 pub mod Standing
 pub mod Answers
 pub mod Written

@@ -1,5 +1,6 @@
 -- What a commit leaves of an index, in memory and on the volume.
-use Rattle.std.specs.Prelude.{◌≡◌, ◌⊎◌, ◌<◌, ◌≤◌, ◌+◌, ◌*◌, ◌%◌, ◌==◌, ℕ, if◌then◌else◌, List, [], ◌∷◌, ◌++◌, Option, None, Some, length, slice_get, All}
+use Rattle.std.specs.Prelude.{◌≡◌, ◌⊎◌, ◌<◌, ◌≤◌, ◌+◌, ◌-◌, ◌*◌, ◌%◌, ◌==◌, ℕ, if◌then◌else◌, List, [], ◌∷◌, ◌++◌, Option, None, Some, length, slice_get, All}
+use Rattle.ubifs_base.specs.Gap.{gap_of}
 use Rattle.index_media.specs.KeyedRow.{KeyedRow, no_more, all_clean}
 use Rattle.index_media.specs.PlacedRow.{PlacedRow, Stretch, lebs_of}
 use Rattle.index_media.specs.Stored.{IsStoredIndex}
@@ -9,11 +10,12 @@ use Rattle.node_table.specs.NodeView.{tree_at}
 use Rattle.node_table.specs.Placing.{KeepsPlaces, without_number}
 use Rattle.node_table.specs.declared.node.Root.{Root}
 use Rattle.ubi_volume.specs.Frame.{Elsewhere, IsSameLeb, Works}
-use Rattle.ubi_volume.specs.Volume.{VolumeState, Leaves, Only}
+use Rattle.ubi_volume.specs.Volume.{VolumeState, Leaves, Only, filled}
 use Rattle.index_cache.specs.Commit.{said_of}
 use Rattle.index_cache.specs.Paged.{dirty_of, frozen_of, tree_of, KeepsRoots}
 use Rattle.index_cache.specs.declared.paged.PagedIndex.{PagedIndex}
 use Rattle.index_commit.specs.Lebs.{AreApart, IsGiven}
+use Rattle.index_commit.specs.LebTexts.{in_rooms, said_by}
 use Rattle.index_commit.specs.Rooms.{Room, room_in, AreDistinct, AreInRooms}
 use Rattle.index_commit.specs.Standing.{AreOutside, AreStandingAs}
 use Rattle.index_commit.specs.declared.index_at.IndexAt.{IndexAt}
@@ -66,13 +68,14 @@ abbrev pub Meets : Demand → Stretch → ℕ → ℕ → Type 0
 Meets asked place number group =
     (IsGiven asked.outside place.lnum → ⊥) × (IsGiven asked.lebs place.lnum → (asked.first < number) × (number ≤ asked.last) × (group ≡ 0))
 
--- Nodes were laid for this LEB, each in so much room. With these bytes in it clean nodes stand, and meet what is asked,
+-- Nodes were laid for this LEB, each in so much room, behind the bytes that were there. With these bytes in it clean nodes stand, and meet what is asked,
 -- if those that stood before do, and each place in the LEB with one of the numbers given since, and in no group
 pub record AreNodesLaid (lnum room : ℕ) (old new : Laying) : Type 0 where
   pub index : IsIndexTaken (room_in lnum room (length old.bytes)) old.index new.index old.sqnum new.sqnum
   pub more : List ℕ
   pub bytes : new.bytes ≡ old.bytes ++ more
   pub long : length new.bytes ≡ length old.bytes + length index.numbers * room
+  pub text : more ≡ in_rooms room old.sqnum (said_by new.index index.numbers)
   pub stand : (contents : ℕ → List ℕ) (asked : Demand) (root : Option Root)
       → ((place : Stretch) (number : ℕ) → place.lnum ≡ lnum → old.sqnum < number → number ≤ new.sqnum → Meets asked place number 0)
       → AreStandingAs (with_leb_bytes lnum old.bytes contents) (Meets asked) (tree_at old.index.table.nodes.items root)
@@ -120,9 +123,11 @@ pub record AreWritten (old new : VolumeState) (lebs : List ℕ) (before after : 
       → AreStandingAs new.holds (Meets asked) (tree_at after.table.nodes.items root)
   pub settled : (k : ℕ) → IsGiven lebs k → (IsGiven idle k × IsSameLeb old new k) ⊎ Only (new.holds k) (new.left_now k)
 
--- These bytes were put into a LEB, if there are any: other LEBs hold what they held, and behind the bytes more may stand
+-- These bytes were put into a LEB, if there are any, and a gap to the end of the unit: other LEBs hold what they held
 pub record IsLebPut (old new : VolumeState) (lnum : ℕ) (bytes : List ℕ) (used end : ℕ) : Type 0 where
   pub grown : (k : ℕ) → (more : List ℕ) × (new.holds k ≡ with_leb_bytes lnum bytes old.holds k ++ more)
+  pub whole : 0 < used → new.holds lnum ≡ filled old.leb_size (bytes ++ gap_of (end - used))
+  pub same : used ≡ 0 → IsSameLeb old new lnum
   pub settled : IsSameLeb old new lnum ⊎ Only (new.holds lnum) (new.left_now lnum)
   pub left : 0 < used → Only (new.holds lnum) (new.left_now lnum)
   pub ended : 0 < used → (new.written lnum ≡ end) × (end % new.min_io ≡ 0)

@@ -5,6 +5,7 @@ ghost use Rattle.media_sys.specs.SystemNode.{IsSystemNode, index as index_node};
 ghost use Rattle.index_cache.specs.Commit.{IsNextNode, node_length, said_of};
 ghost use Rattle.index_cache.specs.Paged.{dirty_of, fanout_of};
 ghost use Rattle.index_commit.specs.Answers.{HasEqualKeys, IsLayingFault};
+ghost use Rattle.index_commit.specs.LebTexts.{in_room};
 ghost use Rattle.index_commit.specs.Written.{AreNodesLaid};
 
 use crate::index_fault::IndexFault;
@@ -27,6 +28,7 @@ fn lay_node(
     requires fits { found.now.len ≤ length room.old }
     requires size { length room.old < 2 ^ 32 }
     ensures node { OnOk result (IsSystemNode (take (node_length (said_of index.now found.now.node)) room.new) sqnum 0 (index_node (said_of index.now found.now.node))) }
+    ensures bytes { OnOk result (room.new ≡ in_room (length room.old) sqnum (said_of index.now found.now.node)) }
     ensures fault { IsLayingFault result }
     ensures equal { HasEqualKeys index.now result }
     ensures len { length room.new ≡ length room.old }

@@ -12,6 +12,7 @@ ghost use Rattle.ubi_volume.specs.Geometry.{IsGeometryOf};
 ghost use Rattle.ubi_volume.specs.Volume.{Keeps};
 ghost use Rattle.index_cache.specs.Paged.{dirty_of, frozen_of, fanout_of};
 ghost use Rattle.index_commit.specs.Answers.{HasEqualKeys, IsIndexNotFailed, IsNotFull, IsFullOf, IsIndexAnswered};
+ghost use Rattle.index_commit.specs.LebTexts.{AreLebsOf, IsLebOf, nodes_written};
 ghost use Rattle.index_commit.specs.Lebs.{AreGivable};
 ghost use Rattle.index_commit.specs.Rooms.{IsEnded, head_after, room_in, room_of, whole_units};
 ghost use Rattle.index_commit.specs.Standing.{AreOutside};
@@ -50,7 +51,8 @@ pub fn write_index<V: Volume>(
     requires outside { AreOutside (V.state volume.old).holds lebs.now (frozen_of index.old) }
     requires number { sqnum.old + length (dirty_of index.old) < 2 ^ 64 }
     ensures written { IfOk result (λ at. IsIndexAt (V.state volume.new) geometry.now.fanout lebs.now index.old index.new at × IsEnded (raw_of geometry.now) lebs.now (sqnum.new - sqnum.old) at) }
-    ensures standing { IsIndexNotFailed result → AreStanding (V.state volume.old) (V.state volume.new) lebs.now index.old index.new sqnum.old sqnum.new }
+    ensures standing { IsIndexNotFailed result → AreStanding (V.state volume.old) (V.state volume.new) lebs.now index.old index.new sqnum.old sqnum.new
+        × AreLebsOf (raw_of geometry.now) lebs.now (V.state volume.old) (V.state volume.new) sqnum.old (nodes_written index.old index.new (sqnum.new - sqnum.old)) }
     ensures index { IsIndexTaken (room_of (raw_of geometry.now) lebs.now) index.old index.new sqnum.old sqnum.new }
     ensures works { WorksInLebs (V.state volume.old) (V.state volume.new) lebs.now }
     ensures old_stays { KeepsOtherIndexes (V.state volume.old) (V.state volume.new) lebs.now }
@@ -96,6 +98,7 @@ fn write_lebs<V: Volume>(
     ensures head { IfOk result (λ found. IsHeadAfter (V.state volume.new) lebs.now (dirty_of index.old) head found) }
     ensures end { IfOk result (λ found. found ≡ head_after (raw_of geometry.now) lebs.now head (sqnum.new - sqnum.old)) }
     ensures standing { IsIndexNotFailed result → AreWritten (V.state volume.old) (V.state volume.new) lebs.now index.old index.new sqnum.old sqnum.new }
+    ensures text { IsIndexNotFailed result → AreLebsOf (raw_of geometry.now) lebs.now (V.state volume.old) (V.state volume.new) sqnum.old (nodes_written index.old index.new (sqnum.new - sqnum.old)) }
     ensures index { IsIndexTaken (room_of (raw_of geometry.now) lebs.now) index.old index.new sqnum.old sqnum.new }
     ensures works { WorksInLebs (V.state volume.old) (V.state volume.new) lebs.now }
     ensures answer { IsIndexAnswered (V.state volume.old) (V.state volume.new) result }
@@ -138,6 +141,7 @@ fn write_leb<V: Volume>(
     ensures end { IfOk result (λ end. ((V.state volume.new).written lnum ≡ end) × (end % (V.state volume.new).min_io ≡ 0)) }
     ensures units { IfOk result (λ end. end ≡ whole_units (raw_of geometry.now) ((sqnum.new - sqnum.old) * index_node_len (raw_of geometry.now))) }
     ensures standing { IsIndexNotFailed result → AreWritten (V.state volume.old) (V.state volume.new) (lnum ∷ []) index.old index.new sqnum.old sqnum.new }
+    ensures text { IsIndexNotFailed result → IsLebOf (raw_of geometry.now) (V.state volume.old) (V.state volume.new) lnum sqnum.old (nodes_written index.old index.new (sqnum.new - sqnum.old)) }
     ensures index { IsIndexTaken (room_in lnum (index_node_len (raw_of geometry.now)) 0) index.old index.new sqnum.old sqnum.new }
     ensures works { WorksInLebs (V.state volume.old) (V.state volume.new) (lnum ∷ []) }
     ensures answer { IsIndexAnswered (V.state volume.old) (V.state volume.new) result }

@@ -3,6 +3,7 @@ use Rattle.index_tree.specs.Levels.{levelled}
 use Rattle.index_media.specs.KeyedRow.{bare}
 use Rattle.index_cache.specs.Commit.{below_node, node_length, said_of}
 use Rattle.index_cache.specs.Paged.{dirty_of}
+use Rattle.index_commit.specs.LebTexts.{in_room}
 use Rattle.index_commit.proofs.Laid.{IsPlaced, IsLaidBehind, front_kept, laid_one, laid_same, own_kept}
 use Rattle.index_commit.proofs.Lebs.{none_dirty}
 use Rattle.index_commit.proofs.laying.lay_next.Goals as goal
@@ -54,3 +55,4 @@ returns-clause-laid c =
       fits = omega (arith, most, fits);
     } in
     laid_one c.places_are_kept.ensures.given c.places_are_kept.ensures.fewer c.args.lnum c.args.room found.found.node used c.args.sqnum.now (c.args.sqnum.now + 1) old c.place.new.self front own bytes placed laid refl c.in_ok-lay_node.ensures.node
+    (c.in_ok-lay_node.ensures.bytes ∙ ap (λ (n : ℕ). in_room n (c.args.sqnum.now + 1) (said_of old found.found.node)) c.split_at_mut-own.ensures.front_len)

@@ -11,7 +11,7 @@ use Rattle.index_commit.proofs.Committed.{some_nodes}
 use Rattle.index_commit.proofs.Laid.{index_none, taken_fewer}
 use Rattle.index_commit.proofs.LastTaken.{none_from_none}
 use Rattle.index_commit.proofs.Rooming.{both_taken, first_taken, head_both}
-use Rattle.index_commit.proofs.Lebs.{both_worked, both_written, fits_then, geometry_then, givable_then, head_behind, if_ok, none_written, one_written, one_worked, some_dirty}
+use Rattle.index_commit.proofs.Lebs.{all_lebs, both_worked, both_written, first_lebs, fits_then, geometry_then, givable_then, head_behind, idle_lebs, if_ok, none_written, one_written, one_worked, some_dirty}
 use Rattle.index_commit.proofs.writing.+write_lebs.Goals as goal
 
 pub returns-then-is_none-clause-standing : goal.returns-then-is_none-clause-standing
@@ -137,3 +137,32 @@ pub returns-clause-works : goal.returns-clause-works
 returns-clause-works g t c =
     both_worked (g.V.Volume.state c.args.volume.now) (g.V.Volume.state c.write_leb.new.volume) (g.V.Volume.state c.write_lebs.new.volume) c.in-Some.lnum.now c.in-Some.rest.now c.args.lebs.now
     c.in-Some.ensures.cases.0 c.write_leb.ensures.works c.write_lebs.ensures.works
+
+pub returns-then-is_none-clause-text : goal.returns-then-is_none-clause-text
+returns-then-is_none-clause-text g t c = λ done. idle_lebs (raw_of c.args.geometry.now) (g.V.Volume.state c.args.volume.now) c.args.lebs.now c.args.index.now c.args.sqnum.now
+
+pub returns-in_err-offs-clause-text : goal.returns-in_err-offs-clause-text
+returns-in_err-offs-clause-text g t c = λ failed.
+    let a = g.V.Volume.state c.args.volume.now in
+    let lnum = c.in-Some.lnum.now in
+    let rest = c.in-Some.rest.now in
+    let is = c.in-Some.ensures.cases.0 in
+    let apart = (givable_then a.leb_cnt a.leb_cnt lnum rest c.args.lebs.now refl is c.requires.lebs).1 in
+    let other : IsIndexNotFailed c.write_leb.result = search (rules, failed) in
+    first_lebs (raw_of c.args.geometry.now) a (g.V.Volume.state c.write_leb.new.volume) lnum rest c.args.lebs.now c.args.index.now c.write_leb.new.index c.args.sqnum.now c.write_leb.new.sqnum is apart
+    c.write_leb.ensures.works c.write_leb.ensures.index c.write_leb.ensures.most (c.write_leb.ensures.text other)
+
+pub returns-clause-text : goal.returns-clause-text
+returns-clause-text g t c = λ other.
+    let a = g.V.Volume.state c.args.volume.now in
+    let lnum = c.in-Some.lnum.now in
+    let rest = c.in-Some.rest.now in
+    let is = c.in-Some.ensures.cases.0 in
+    let geo = raw_of c.args.geometry.now in
+    let apart = (givable_then a.leb_cnt a.leb_cnt lnum rest c.args.lebs.now refl is c.requires.lebs).1 in
+    let one = c.in_ok-offs.ensures in
+    let whole = both_taken c.places_are_kept.ensures.both geo lnum rest c.args.lebs.now c.args.index.now c.write_leb.new.index c.write_lebs.new.index c.args.sqnum.now c.write_leb.new.sqnum
+    c.write_lebs.new.sqnum is (some_nodes c.args.geometry.now) one.most one.full one.index c.write_lebs.ensures.index in
+    all_lebs geo a (g.V.Volume.state c.write_leb.new.volume) (g.V.Volume.state c.write_lebs.new.volume) lnum rest c.args.lebs.now c.args.index.now c.write_leb.new.index c.write_lebs.new.index
+    c.args.sqnum.now c.write_leb.new.sqnum c.write_lebs.new.sqnum is apart c.write_leb.ensures.works c.write_lebs.ensures.works one.index c.write_lebs.ensures.index whole one.most one.full
+    (one.text tt) (c.write_lebs.ensures.text other)

@@ -19,7 +19,8 @@ returns-clause-put g c =
     let size = c.fill_unit.ensures.size in
     let whole = c.requires.whole in
     let unit : b.min_io ≡ c.args.geometry.now.min_io = c.change.ensures.shape.min_io ∙ sym c.requires.geometry.min_io in
-    leb_put a b c.args.lnum c.args.used end _ (take c.args.used c.args.leb.now) _ (take end leb) c.fill_unit.ensures.front c.in_ok-change.ensures.done c.change.ensures.works
+    let busy = c.if-used-eq0.false in
+    leb_put a b c.args.lnum c.args.used end _ (take c.args.used c.args.leb.now) (take end leb) (omega (arith, busy)) c.fill_unit.ensures.front c.in_ok-change.ensures.done c.change.ensures.works
     (length-take-le end leb (omega (arith, fits, size, whole))) (ap (λ (n : ℕ). end % n) unit ∙ c.in_units-end.ensures.whole)
 
 pub returns-clause-works : goal.returns-clause-works

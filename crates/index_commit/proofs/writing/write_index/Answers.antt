@@ -6,19 +6,25 @@ use Rattle.index_cache.specs.Paged.{dirty_of}
 use Rattle.index_commit.specs.Answers.{IsIndexNotFailed}
 use Rattle.index_commit.proofs.Committed.{index_at, lebs_suffice, some_nodes}
 use Rattle.index_commit.proofs.Laid.{index_none}
-use Rattle.index_commit.proofs.Lebs.{keeps_indexes, none_standing, written_standing}
+use Rattle.index_commit.proofs.Lebs.{idle_lebs, keeps_indexes, none_standing, written_standing}
 use Rattle.index_commit.specs.Rooms.{room_of}
 use Rattle.index_commit.proofs.Rooming.{ended}
 use Rattle.index_commit.proofs.writing.write_index.Goals as goal
 
 pub returns-then-need-given-clause-standing : goal.returns-then-need-given-clause-standing
-returns-then-need-given-clause-standing g c = λ full. none_standing (g.V.Volume.state c.args.volume.now) c.args.lebs.now c.args.index.now c.args.sqnum.now
+returns-then-need-given-clause-standing g c = λ full. (
+  none_standing (g.V.Volume.state c.args.volume.now) c.args.lebs.now c.args.index.now c.args.sqnum.now,
+  idle_lebs (raw_of c.args.geometry.now) (g.V.Volume.state c.args.volume.now) c.args.lebs.now c.args.index.now c.args.sqnum.now,
+)
 
 pub returns-then-need-given-clause-index : goal.returns-then-need-given-clause-index
 returns-then-need-given-clause-index g c = index_none c.places_are_kept.ensures.none (room_of (raw_of c.args.geometry.now) c.args.lebs.now) c.args.index.now c.args.sqnum.now
 
 pub returns-in_err-leb-clause-standing : goal.returns-in_err-leb-clause-standing
-returns-in_err-leb-clause-standing g c = λ other. none_standing (g.V.Volume.state c.args.volume.now) c.args.lebs.now c.args.index.now c.args.sqnum.now
+returns-in_err-leb-clause-standing g c = λ other. (
+  none_standing (g.V.Volume.state c.args.volume.now) c.args.lebs.now c.args.index.now c.args.sqnum.now,
+  idle_lebs (raw_of c.args.geometry.now) (g.V.Volume.state c.args.volume.now) c.args.lebs.now c.args.index.now c.args.sqnum.now,
+)
 
 pub returns-in_err-leb-clause-index : goal.returns-in_err-leb-clause-index
 returns-in_err-leb-clause-index g c = index_none c.places_are_kept.ensures.none (room_of (raw_of c.args.geometry.now) c.args.lebs.now) c.args.index.now c.args.sqnum.now
@@ -59,11 +65,15 @@ returns-clause-old_stays g c =
 
 pub returns-in_err-head-clause-standing : goal.returns-in_err-head-clause-standing
 returns-in_err-head-clause-standing g c = λ other.
-    let failed : IsIndexNotFailed c.write_lebs.result = search (rules, other) in
-    written_standing (g.V.Volume.state c.args.volume.now) (g.V.Volume.state c.write_lebs.new.volume) c.args.lebs.now c.args.index.now c.write_lebs.new.index c.args.sqnum.now c.write_lebs.new.sqnum
-    (c.write_lebs.ensures.standing failed)
+    let failed : IsIndexNotFailed c.write_lebs.result = search (rules, other) in (
+      written_standing (g.V.Volume.state c.args.volume.now) (g.V.Volume.state c.write_lebs.new.volume) c.args.lebs.now c.args.index.now c.write_lebs.new.index c.args.sqnum.now c.write_lebs.new.sqnum
+          (c.write_lebs.ensures.standing failed),
+      c.write_lebs.ensures.text failed,
+    )
 
 pub returns-clause-standing : goal.returns-clause-standing
-returns-clause-standing g c = λ done.
-    written_standing (g.V.Volume.state c.args.volume.now) (g.V.Volume.state c.write_lebs.new.volume) c.args.lebs.now c.args.index.now c.write_lebs.new.index c.args.sqnum.now c.write_lebs.new.sqnum
-    (c.in_ok-head.ensures.standing tt)
+returns-clause-standing g c = λ done. (
+  written_standing (g.V.Volume.state c.args.volume.now) (g.V.Volume.state c.write_lebs.new.volume) c.args.lebs.now c.args.index.now c.write_lebs.new.index c.args.sqnum.now c.write_lebs.new.sqnum
+      (c.in_ok-head.ensures.standing tt),
+  c.in_ok-head.ensures.text tt,
+)

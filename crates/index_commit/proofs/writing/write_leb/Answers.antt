@@ -5,7 +5,7 @@ use Rattle.ubifs_base.specs.RawOf.{raw_of}
 use Rattle.index_cache.specs.Paged.{dirty_of}
 use Rattle.index_commit.specs.Rooms.{room_in, whole_units}
 use Rattle.index_commit.specs.Written.{IsIndexTaken}
-use Rattle.index_commit.proofs.Lebs.{laid_all, laid_bytes, laid_most, leb_full, leb_more, leb_standing, leb_used}
+use Rattle.index_commit.proofs.Lebs.{laid_all, laid_bytes, laid_most, leb_full, leb_more, leb_standing, leb_text, leb_used}
 use Rattle.index_commit.proofs.writing.write_leb.Goals as goal
 
 pub returns-in_err-laid-clause-standing : goal.returns-in_err-laid-clause-standing
@@ -147,3 +147,21 @@ returns-clause-units g c =
     (length-take-le laid.new.used laid.new.leb (omega (arith, fits, len))) laid.ensures.laid in
     let count = laid.new.sqnum - c.args.sqnum.now in
     c.in_ok-end.ensures.units ∙ ap (whole_units geo) (bytes ∙ ap (λ (n : ℕ). count * n) c.index_node_len-room.ensures)
+
+pub returns-in_err-laid-clause-text : goal.returns-in_err-laid-clause-text
+returns-in_err-laid-clause-text g c =
+    let laid = c.lay_nodes-laid in
+    let fits = laid.ensures.fits in
+    let len = laid.ensures.len in
+    λ done. leb_text (raw_of c.args.geometry.now) (g.V.Volume.state c.args.volume.now) (g.V.Volume.state c.put_leb.new.volume) c.args.lnum c.index_node_len-room.result laid.new.used c.in_ok-end.end
+    c.args.sqnum.now laid.new.sqnum c.args.index.now laid.new.index (take laid.new.used laid.new.leb) c.index_node_len-room.ensures c.requires.geometry.leb_size c.in_ok-end.ensures.units
+    (length-take-le laid.new.used laid.new.leb (omega (arith, fits, len))) laid.ensures.laid c.in_ok-end.ensures.put
+
+pub returns-clause-text : goal.returns-clause-text
+returns-clause-text g c =
+    let laid = c.lay_nodes-laid in
+    let fits = laid.ensures.fits in
+    let len = laid.ensures.len in
+    λ done. leb_text (raw_of c.args.geometry.now) (g.V.Volume.state c.args.volume.now) (g.V.Volume.state c.put_leb.new.volume) c.args.lnum c.index_node_len-room.result laid.new.used c.in_ok-end.end
+    c.args.sqnum.now laid.new.sqnum c.args.index.now laid.new.index (take laid.new.used laid.new.leb) c.index_node_len-room.ensures c.requires.geometry.leb_size c.in_ok-end.ensures.units
+    (length-take-le laid.new.used laid.new.leb (omega (arith, fits, len))) laid.ensures.laid c.in_ok-end.ensures.put
