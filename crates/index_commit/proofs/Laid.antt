@@ -25,7 +25,7 @@ use Rattle.index_commit.specs.Standing.{AreStandingAs, StandsAs}
 use Rattle.index_commit.specs.Written.{AreTaken, IsIndexKept, IsIndexTaken, AreNodesLaid, Laying, Meets, with_leb_bytes}
 use Rattle.index_commit.specs.LebTexts.{in_room, in_rooms}
 use Rattle.index_commit.proofs.LebTexts.{both_texts, one_text}
-use Rattle.index_commit.proofs.Rooms.{clean_kept, level_stays, node_kept, none_there, place_given, rooms_both, said_stays, taken_distinct, taken_then}
+use Rattle.index_commit.proofs.Rooms.{clean_kept, level_stays, node_kept, none_there, not_behind, not_front, other_places, place_given, rooms_both, said_stays, taken_distinct, taken_then}
 use Rattle.index_commit.proofs.Standing.{Grows, row_placed}
 
 -- ---- the laws of the table on places
@@ -77,6 +77,7 @@ index_rooms r r1 a b i j h same = record {
   rooms = λ n number is.
       let P : Room → Type 0 = λ room. IsInRoom b room number in
       subst P (same n (slice_get_within h.numbers n number is)) (h.rooms n number is);
+  others = h.others;
   number = h.number;
   most = h.most;
 }
@@ -97,6 +98,7 @@ index_then both r r1 r2 a b c i j k h g front back =
       taken = taken;
       distinct = taken_distinct (h.numbers ++ g.numbers) (dirty_of a) (dirty_of c) taken;
       rooms = rooms_both r r1 r2 b c h.numbers g.numbers g.kept h.rooms g.rooms front back;
+      others = λ number none. g.others number (not_behind h.numbers g.numbers number none) ∙ h.others number (not_front h.numbers g.numbers number none);
       number = omega (arith, first, second, sum);
       most = omega (arith, one, other);
     }
@@ -117,6 +119,7 @@ index_none none r a i = record {
   taken = refl;
   distinct = λ n m k is other. absurd (none_there n k is);
   rooms = λ n number is. absurd (none_there n number is);
+  others = λ number none. refl;
   number = omega arith;
   most = omega arith;
 }
@@ -273,6 +276,7 @@ laid_one given fewer lnum room node offs sqnum after old new front own bytes p b
         taken = taken;
         distinct = taken_distinct (node ∷ []) (dirty_of old) (dirty_of new) taken;
         rooms = λ n number is. one_room lnum room (length front) offs node n number old new p kept b.start is;
+        others = λ number none. other_places node number place old.table.nodes.items new.table.nodes.items (λ e. none 0 (ap (λ (k : ℕ). Some k) (sym e))) p.nodes;
         number = e;
         most = omega (arith, e, less, gone);
       };

@@ -143,8 +143,8 @@ none_put state lnum end leb = record {
 pub leb_put : (old new : VolumeState) (lnum used end : ℕ) (P : List ℕ → Type 0) (front bytes : List ℕ) → 0 < used → bytes ≡ front ++ gap_of (end - used) → IsChanged old new lnum bytes → WorksOn old new lnum P
     → length bytes ≡ end → end % new.min_io ≡ 0 → IsLebPut old new lnum front used end
 leb_put old new lnum used end P front bytes some e done works long whole =
-    let gap = gap_of (end - used) in
-    let behind = replicate (old.leb_size - length bytes) 255 in
+    let gap : List ℕ = gap_of (end - used) in
+    let behind : List ℕ = replicate (old.leb_size - length bytes) 255 in
     let here : new.holds lnum ≡ front ++ (gap ++ behind) = done.holds ∙ ap (λ x. x ++ behind) e ∙ append_assoc front gap behind in
     record {
       grown = λ k. elim (cases_Bool (k == lnum)) [
@@ -188,7 +188,7 @@ given_behind : (xs ys : List ℕ) (k : ℕ) → IsGiven ys k → IsGiven (xs ++ 
 given_behind [] ys k h = h
 given_behind (x ∷ xs) ys k h = inr (given_behind xs ys k h)
 
-given_of : (xs ys : List ℕ) (k : ℕ) → IsGiven (xs ++ ys) k → IsGiven xs k ⊎ IsGiven ys k
+pub given_of : (xs ys : List ℕ) (k : ℕ) → IsGiven (xs ++ ys) k → IsGiven xs k ⊎ IsGiven ys k
 given_of [] ys k h = inr h
 given_of (x ∷ xs) ys k (inl e) = inl (inl e)
 given_of (x ∷ xs) ys k (inr h) = elim (given_of xs ys k h) [

@@ -8,3 +8,4 @@ pub mod Lebs
 pub mod Rooming
 pub mod Committed
 pub mod Changes
+pub mod Ordered

@@ -20,7 +20,7 @@ use Rattle.node_table.specs.declared.node.Root.{Root}
 use Rattle.node_table.specs.declared.node.TableNode.{TableNode}
 use Rattle.index_cache.specs.Commit.{below_node, level_in, node_length, said_of}
 use Rattle.index_cache.specs.declared.paged.PagedIndex.{PagedIndex}
-use Rattle.index_commit.specs.Rooms.{Room, AreDistinct, AreInRooms, IsInRoom, place_of_node}
+use Rattle.index_commit.specs.Rooms.{Room, AreDistinct, AreInRooms, IsInRoom, IsNotAmong, place_of_node}
 use Rattle.index_commit.specs.Written.{AreTaken, IsIndexKept}
 use Rattle.index_commit.proofs.Standing.{clean_node}
 
@@ -69,6 +69,13 @@ place_with n p [] there = absurd (omega (arith, there))
 place_with zero p (node ∷ nodes) there = refl
 place_with (suc n) p (node ∷ nodes) there = place_with n p nodes (omega (arith, there))
 
+other_with : (n k : ℕ) (p : NodePlace) (nodes : List TableNode) → (k ≡ n → ⊥) → get_or (map place_kept (with_place n p nodes)) k None ≡ get_or (map place_kept nodes) k None
+other_with n k p [] other = refl
+other_with zero zero p (node ∷ nodes) other = absurd (other refl)
+other_with zero (suc k) p (node ∷ nodes) other = refl
+other_with (suc n) zero p (node ∷ nodes) other = refl
+other_with (suc n) (suc k) p (node ∷ nodes) other = other_with n k p nodes (λ e. other (ap (λ (i : ℕ). suc i) e))
+
 -- a node that gets its place has it, and all keep their levels
 pub level_stays : (n number : ℕ) (p : NodePlace) (old new : List TableNode) → new ≡ with_place n p old → level_in (slice_get (views new) number) ≡ level_in (slice_get (views old) number)
 level_stays n number p old new e =
@@ -78,6 +85,11 @@ level_stays n number p old new e =
 pub place_given : (n : ℕ) (p : NodePlace) (old new : List TableNode) → n < length old → new ≡ with_place n p old → place_in (slice_get (views new) n) ≡ stretch_at (Some p)
 place_given n p old new there e =
     place_at (views new) n ∙ ap (λ (l : List (Option Stretch)). get_or l n None) (places_behind [] new ∙ ap (map place_kept) e) ∙ place_with n p old there
+
+pub other_places : (n k : ℕ) (p : NodePlace) (old new : List TableNode) → (k ≡ n → ⊥) → new ≡ with_place n p old → place_in (slice_get (views new) k) ≡ place_in (slice_get (views old) k)
+other_places n k p old new other e =
+    place_at (views new) k ∙ ap (λ (l : List (Option Stretch)). get_or l k None) (places_behind [] new ∙ ap (map place_kept) e) ∙ other_with n k p old other
+    ∙ ap (λ (l : List (Option Stretch)). get_or l k None) (sym (places_behind [] old)) ∙ sym (place_at (views old) k)
 
 -- ---- a node by its number
 pub view_node : (key : Key) (v : Option NodeView) → node_before key v no_more ≡ node_in key (place_in v) (children_in v) no_more
@@ -161,6 +173,28 @@ get_both (y ∷ xs) ys (suc n) x h = elim (get_both xs ys n x h) [
   | inl one ↦ let less = one.0 in inl (omega (arith, less), one.1)
   | inr other ↦ let is = other.1 in inr (other.0, omega (arith, is), other.2)
 ]
+
+get_front : (xs ys : List ℕ) (n x : ℕ) → slice_get xs n ≡ Some x → slice_get (xs ++ ys) n ≡ Some x
+get_front [] ys n x h = absurd cc
+get_front (y ∷ xs) ys zero x h = h
+get_front (y ∷ xs) ys (suc n) x h = get_front xs ys n x h
+
+get_behind : (xs ys : List ℕ) (n x : ℕ) → slice_get ys n ≡ Some x → slice_get (xs ++ ys) (length xs + n) ≡ Some x
+get_behind [] ys n x h =
+    let same : n ≡ 0 + n = omega arith in
+    let P : ℕ → Type 0 = λ k. slice_get ys k ≡ Some x in
+    subst P same h
+get_behind (y ∷ xs) ys n x h =
+    let same : suc (length xs + n) ≡ suc (length xs) + n = omega arith in
+    let P : ℕ → Type 0 = λ k. slice_get (y ∷ (xs ++ ys)) k ≡ Some x in
+    subst P same (get_behind xs ys n x h)
+
+-- a number that isn't in both lists isn't in one
+pub not_front : (xs ys : List ℕ) (number : ℕ) → IsNotAmong (xs ++ ys) number → IsNotAmong xs number
+not_front xs ys number none n is = none n (get_front xs ys n number is)
+
+pub not_behind : (xs ys : List ℕ) (number : ℕ) → IsNotAmong (xs ++ ys) number → IsNotAmong ys number
+not_behind xs ys number none n is = none (length xs + n) (get_behind xs ys n number is)
 
 pub rooms_both : (r r1 r2 : ℕ → Room) (b c : PagedIndex) (xs ys : List ℕ) → IsIndexKept b c → AreInRooms r1 b xs → AreInRooms r2 c ys → ((n : ℕ) → n < length xs → r1 n ≡ r n)
     → ((n : ℕ) → n < length ys → r2 n ≡ r (length xs + n)) → AreInRooms r c (xs ++ ys)

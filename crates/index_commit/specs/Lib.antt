@@ -4,3 +4,4 @@ pub mod LebTexts
 pub mod Standing
 pub mod Answers
 pub mod Written
+pub mod Ordered

@@ -42,6 +42,10 @@ AreInRooms room index numbers = (n number : ℕ) → slice_get numbers n ≡ Som
 abbrev pub AreDistinct : List ℕ → Type 0
 AreDistinct numbers = (n m number : ℕ) → slice_get numbers n ≡ Some number → slice_get numbers m ≡ Some number → n ≡ m
 
+-- a number isn't in a list
+abbrev pub IsNotAmong : List ℕ → ℕ → Type 0
+IsNotAmong numbers number = (n : ℕ) → slice_get numbers n ≡ Some number → ⊥
+
 -- so many bytes, rounded up to whole units
 abbrev pub whole_units : RawGeometry → ℕ → ℕ
 whole_units geo n = (n + geo.min_io - 1) / geo.min_io * geo.min_io

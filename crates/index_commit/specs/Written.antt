@@ -16,7 +16,7 @@ use Rattle.index_cache.specs.Paged.{dirty_of, frozen_of, tree_of, KeepsRoots}
 use Rattle.index_cache.specs.declared.paged.PagedIndex.{PagedIndex}
 use Rattle.index_commit.specs.Lebs.{AreApart, IsGiven}
 use Rattle.index_commit.specs.LebTexts.{in_rooms, said_by}
-use Rattle.index_commit.specs.Rooms.{Room, room_in, AreDistinct, AreInRooms}
+use Rattle.index_commit.specs.Rooms.{Room, room_in, place_of_node, AreDistinct, AreInRooms, IsNotAmong}
 use Rattle.index_commit.specs.Standing.{AreOutside, AreStandingAs}
 use Rattle.index_commit.specs.declared.index_at.IndexAt.{IndexAt}
 use Rattle.index_commit.specs.declared.index_at.IndexHead.{IndexHead}
@@ -35,13 +35,15 @@ abbrev pub AreTaken : List ℕ → List ℕ → List ℕ → Type 0
 AreTaken [] old new = new ≡ old
 AreTaken (number ∷ numbers) old new = (slice_get old 0 ≡ Some number) × AreTaken numbers (without_number number old) new
 
--- The index is kept. These nodes were written, none twice: each has its place in the next room, and took the next sequence number
+-- The index is kept. These nodes were written, none twice: each has its place in the next room, and took the next sequence number.
+-- All other nodes have the places that they had
 pub record IsIndexTaken (room : ℕ → Room) (old new : PagedIndex) (before after : ℕ) : Type 0 where
   pub kept : IsIndexKept old new
   pub numbers : List ℕ
   pub taken : AreTaken numbers (dirty_of old) (dirty_of new)
   pub distinct : AreDistinct numbers
   pub rooms : AreInRooms room new numbers
+  pub others : (number : ℕ) → IsNotAmong numbers number → place_of_node new number ≡ place_of_node old number
   pub number : after ≡ before + length numbers
   pub most : after + length (dirty_of new) ≤ before + length (dirty_of old)
 

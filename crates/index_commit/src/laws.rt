@@ -1,4 +1,4 @@
-// Of which indexes each clean node stands: of one that is loaded, and of one that is changed then.
+// What holds of an index that is loaded, and of one that is changed then: each clean node stands, and keys are in order.
 
 ghost use Rattle.std.specs.Prelude.{◌≡◌, ℕ, All, List, true};
 ghost use Rattle.index_tree.specs.Shape.{fits};
@@ -9,6 +9,7 @@ ghost use Rattle.media_sys.specs.declared.branch.Branch.{Branch as ABranch};
 ghost use Rattle.node_table.specs.Changing.{changed};
 ghost use Rattle.node_table.specs.declared.change.Change.{Change as AChange};
 ghost use Rattle.index_commit.specs.Lebs.{IsGiven};
+ghost use Rattle.index_commit.specs.Ordered.{AreInOrder};
 ghost use Rattle.index_commit.specs.Standing.{AreOutside};
 
 use index_media::a_range_removal_leaves_the_keys_of_branches;
@@ -23,3 +24,8 @@ pub fn changes_keep_what_stands()
 {
     a_range_removal_leaves_the_keys_of_branches();
 }
+
+/// In each node of an index that was loaded the keys of branches are in order.
+pub fn loaded_keys_are_in_order()
+    ensures { (contents : ℕ → List ℕ) (fanout : ℕ) (root : ABranch) (placed : PlacedRow) → IsStoredIndex contents fanout root placed → AreInOrder (all_clean placed) }
+{}

@@ -15,5 +15,5 @@ mod writing;
 
 pub use crate::index_at::{IndexAt, IndexHead};
 pub use crate::index_fault::IndexFault;
-pub use crate::laws::changes_keep_what_stands;
+pub use crate::laws::{changes_keep_what_stands, loaded_keys_are_in_order};
 pub use crate::writing::write_index;

@@ -14,6 +14,7 @@ ghost use Rattle.index_cache.specs.Paged.{dirty_of, frozen_of, fanout_of};
 ghost use Rattle.index_commit.specs.Answers.{HasEqualKeys, IsIndexNotFailed, IsNotFull, IsFullOf, IsIndexAnswered};
 ghost use Rattle.index_commit.specs.LebTexts.{AreLebsOf, IsLebOf, nodes_written};
 ghost use Rattle.index_commit.specs.Lebs.{AreGivable};
+ghost use Rattle.index_commit.specs.Ordered.{AreInOrder, IsNotEqualKeys};
 ghost use Rattle.index_commit.specs.Rooms.{IsEnded, head_after, room_in, room_of, whole_units};
 ghost use Rattle.index_commit.specs.Standing.{AreOutside};
 ghost use Rattle.index_commit.specs.Written.{AreStanding, AreWritten, IsHeadAfter, IsIndexAt, IsIndexTaken, IsLebPut, KeepsOtherIndexes, WorksInLebs, with_leb_bytes};
@@ -58,7 +59,7 @@ pub fn write_index<V: Volume>(
     ensures old_stays { KeepsOtherIndexes (V.state volume.old) (V.state volume.new) lebs.now }
     ensures answer { IsIndexAnswered (V.state volume.old) (V.state volume.new) result
         × IsFullOf (Keeps (V.state volume.old) (V.state volume.new) × (index.new ≡ index.old)) (div_ceil (length (dirty_of index.old)) (index_nodes_per_leb (raw_of geometry.now))) (length lebs.now) result
-        × HasEqualKeys index.new result }
+        × HasEqualKeys index.new result × (AreInOrder (frozen_of index.old) → IsNotEqualKeys result) }
 {
     an_index_depends_on_its_lebs_alone();
     places_are_kept();

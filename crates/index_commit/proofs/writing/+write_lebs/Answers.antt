@@ -1,10 +1,10 @@
 use Rattle.std.proofs.Common.{◌≡◌, ◌+◌, ◌-◌, ◌<◌, ℕ, List, [], rules, refl, ap, ◌∙◌, subst, arith, inl, inr, length}
 use Rattle.std.specs.Prelude.{◌⊎◌, Option, Some}
-use Rattle.ubifs_base.specs.Geometry.{index_nodes_per_leb}
+use Rattle.ubifs_base.specs.Geometry.{index_node_len, index_nodes_per_leb}
 use Rattle.ubifs_base.specs.RawOf.{raw_of}
 use Rattle.index_cache.specs.Paged.{dirty_of}
 use Rattle.index_commit.specs.Answers.{IsIndexNotFailed}
-use Rattle.index_commit.specs.Rooms.{head_after, room_of}
+use Rattle.index_commit.specs.Rooms.{head_after, room_in, room_of}
 use Rattle.index_commit.specs.Written.{AreTaken, IsHeadAfter}
 use Rattle.index_commit.specs.declared.index_at.IndexHead.{IndexHead}
 use Rattle.index_commit.proofs.Committed.{some_nodes}
@@ -149,7 +149,7 @@ returns-in_err-offs-clause-text g t c = λ failed.
     let is = c.in-Some.ensures.cases.0 in
     let apart = (givable_then a.leb_cnt a.leb_cnt lnum rest c.args.lebs.now refl is c.requires.lebs).1 in
     let other : IsIndexNotFailed c.write_leb.result = search (rules, failed) in
-    first_lebs (raw_of c.args.geometry.now) a (g.V.Volume.state c.write_leb.new.volume) lnum rest c.args.lebs.now c.args.index.now c.write_leb.new.index c.args.sqnum.now c.write_leb.new.sqnum is apart
+    first_lebs {r = room_in lnum (index_node_len (raw_of c.args.geometry.now)) 0} (raw_of c.args.geometry.now) a (g.V.Volume.state c.write_leb.new.volume) lnum rest c.args.lebs.now c.args.index.now c.write_leb.new.index c.args.sqnum.now c.write_leb.new.sqnum is apart
     c.write_leb.ensures.works c.write_leb.ensures.index c.write_leb.ensures.most (c.write_leb.ensures.text other)
 
 pub returns-clause-text : goal.returns-clause-text
@@ -163,6 +163,6 @@ returns-clause-text g t c = λ other.
     let one = c.in_ok-offs.ensures in
     let whole = both_taken c.places_are_kept.ensures.both geo lnum rest c.args.lebs.now c.args.index.now c.write_leb.new.index c.write_lebs.new.index c.args.sqnum.now c.write_leb.new.sqnum
     c.write_lebs.new.sqnum is (some_nodes c.args.geometry.now) one.most one.full one.index c.write_lebs.ensures.index in
-    all_lebs geo a (g.V.Volume.state c.write_leb.new.volume) (g.V.Volume.state c.write_lebs.new.volume) lnum rest c.args.lebs.now c.args.index.now c.write_leb.new.index c.write_lebs.new.index
+    all_lebs {r1 = room_in lnum (index_node_len geo) 0} {r2 = room_of geo rest} {r = room_of geo c.args.lebs.now} geo a (g.V.Volume.state c.write_leb.new.volume) (g.V.Volume.state c.write_lebs.new.volume) lnum rest c.args.lebs.now c.args.index.now c.write_leb.new.index c.write_lebs.new.index
     c.args.sqnum.now c.write_leb.new.sqnum c.write_lebs.new.sqnum is apart c.write_leb.ensures.works c.write_lebs.ensures.works one.index c.write_lebs.ensures.index whole one.most one.full
     (one.text tt) (c.write_lebs.ensures.text other)

@@ -2,12 +2,14 @@ use Rattle.std.proofs.Common.{rules, ◌≡◌, ◌≤◌, ℕ, ap, ◌∙◌, s
 use Rattle.std.specs.Int.{div_ceil}
 use Rattle.ubifs_base.specs.Geometry.{index_nodes_per_leb}
 use Rattle.ubifs_base.specs.RawOf.{raw_of}
-use Rattle.index_cache.specs.Paged.{dirty_of}
+use Rattle.index_cache.specs.Paged.{dirty_of, frozen_of}
 use Rattle.index_commit.specs.Answers.{IsIndexNotFailed}
 use Rattle.index_commit.proofs.Committed.{index_at, lebs_suffice, some_nodes}
 use Rattle.index_commit.proofs.Laid.{index_none}
 use Rattle.index_commit.proofs.Lebs.{idle_lebs, keeps_indexes, none_standing, written_standing}
+use Rattle.index_commit.specs.Ordered.{AreInOrder, IsNotEqualKeys}
 use Rattle.index_commit.specs.Rooms.{room_of}
+use Rattle.index_commit.proofs.Ordered.{never_equal}
 use Rattle.index_commit.proofs.Rooming.{ended}
 use Rattle.index_commit.proofs.writing.write_index.Goals as goal
 
@@ -77,3 +79,9 @@ returns-clause-standing g c = λ done. (
       (c.in_ok-head.ensures.standing tt),
   c.in_ok-head.ensures.text tt,
 )
+
+pub returns-in_err-head-clause-answer : goal.returns-in_err-head-clause-answer
+returns-in_err-head-clause-answer g c =
+    let fine : AreInOrder (frozen_of c.args.index.now) → IsNotEqualKeys c.write_lebs.result =
+    λ order. never_equal c.args.index.now c.write_lebs.new.index c.write_lebs.result c.write_lebs.ensures.index.kept.frozen order c.write_lebs.ensures.equal in
+    (search rules, search rules, search rules, λ order. let fact = fine order in search (rules, fact))
