@@ -23,7 +23,7 @@ use Rattle.index_cache.specs.declared.paged.PagedIndex.{PagedIndex}
 use Rattle.index_commit.specs.Rooms.{IsInRoom, Room, room_in}
 use Rattle.index_commit.specs.Standing.{AreStandingAs, StandsAs}
 use Rattle.index_commit.specs.Written.{AreTaken, IsIndexKept, IsIndexTaken, AreNodesLaid, Laying, Meets, with_leb_bytes}
-use Rattle.index_commit.specs.LebTexts.{in_room, in_rooms}
+use Rattle.index_commit.specs.LebTexts.{in_room}
 use Rattle.index_commit.proofs.LebTexts.{both_texts, one_text}
 use Rattle.index_commit.proofs.Rooms.{clean_kept, level_stays, node_kept, none_there, not_behind, not_front, other_places, place_given, rooms_both, said_stays, taken_distinct, taken_then}
 use Rattle.index_commit.proofs.Standing.{Grows, row_placed}

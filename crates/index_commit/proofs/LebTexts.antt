@@ -1,5 +1,5 @@
 -- Nodes that are laid one behind another, and the LEBs that hold them.
-use Rattle.std.proofs.Common.{◌≡◌, ℕ, zero, suc, ◌+◌, ◌-◌, ◌*◌, ◌<◌, ◌≤◌, List, [], ◌∷◌, ◌++◌, length, map, take, drop, true, refl, ap, sym, ◌∙◌, subst, arith, inl, inr, append-nil, append_assoc, length-append}
+use Rattle.std.proofs.Common.{◌≡◌, ℕ, zero, suc, ◌+◌, ◌-◌, ◌*◌, ◌<◌, ◌≤◌, List, [], ◌∷◌, ◌++◌, length, take, drop, true, refl, ap, sym, ◌∙◌, subst, arith, inl, inr, append-nil, append_assoc, length-append}
 use Rattle.std.specs.Prelude.{◌⊎◌, Some, slice_get}
 use Rattle.std.proofs.Math.Nat.{add-mul}
 use Rattle.std.proofs.Math.Seq.{drop-append-add, take-append_seam}
@@ -191,4 +191,3 @@ none_lebs geo state lebs sqnum nodes none k lnum is =
 -- nothing is written where no number was given
 pub none_written_nodes : (a : PagedIndex) (i : ℕ) → nodes_written a a (i - i) ≡ []
 none_written_nodes a i = let none : i - i ≡ 0 = omega arith in ap (λ (n : ℕ). nodes_written a a n) none
-

@@ -478,7 +478,7 @@ first_lebs geo a b lnum lebs all x y i j e apart works taken most one =
     let P : List ℕ → Type 0 = λ l. AreLebsOf geo l a b i nodes in
     let Q : List Index → Type 0 = λ l. AreLebsOf geo (lnum ∷ lebs) a b i l in
     subst P (sym e) (subst Q (append-nil nodes) (
-      lebs_both geo a b b lnum lebs i j nodes [] apart works (none_works b lebs) (omega (arith, count, most)) (inl refl) one (none_lebs geo b lebs j [] refl)
+    lebs_both geo a b b lnum lebs i j nodes [] apart works (none_works b lebs) (omega (arith, count, most)) (inl refl) one (none_lebs geo b lebs j [] refl)
     ))
 
 pub all_lebs : {r1 r2 r : ℕ → Room} (geo : RawGeometry) (a b c : VolumeState) (lnum : ℕ) (lebs all : List ℕ) (x y z : PagedIndex) (i j k : ℕ) → all ≡ lnum ∷ lebs → (IsGiven lebs lnum → ⊥)

@@ -1,23 +1,21 @@
 -- Where the keys in each node are in order, the next dirty node can be written.
-use Rattle.std.proofs.Common.{◌≡◌, ℕ, zero, suc, ◌+◌, ◌-◌, ◌<◌, ◌≤◌, true, false, List, [], ◌∷◌, ◌++◌, length, refl, ap, sym, ◌∙◌, subst, arith, inl, inr, length-append}
+use Rattle.std.proofs.Common.{◌≡◌, ℕ, zero, suc, ◌+◌, ◌-◌, ◌<◌, true, List, [], ◌∷◌, ◌++◌, length, refl, ap, sym, ◌∙◌, subst, arith, inl, inr, length-append}
 use Rattle.std.specs.Prelude.{◌⊎◌, ◌&&◌, Option, None, Some, Result, Ok, Err, slice_get, unwrap_or, ⊤}
 use Rattle.ubifs_base.specs.declared.key.Key.{Key}
 use Rattle.index_media.specs.KeyedRow.{KeyedRow, no_more, leaf_in, node_in, all_clean}
 use Rattle.index_media.specs.PlacedRow.{PlacedRow, ended, leaf_at, node_at, Stretch, branches_of}
 use Rattle.index_media.specs.Stored.{AreStored}
 use Rattle.media_sys.specs.Index.{in_order, may_follow}
-use Rattle.media_sys.specs.declared.branch.Branch.{Branch}
 use Rattle.node_table.specs.Clean.{node_branch, placed_of}
-use Rattle.node_table.specs.Dirty.{dirty_among, dirty_behind, dirty_below, dirty_from, dirty_lists, dirty_node}
-use Rattle.node_table.specs.NodeView.{NodeView, children_in, linked_before, node_before, row_of, tree_at, view_of, views, views_behind}
+use Rattle.node_table.specs.Dirty.{dirty_among, dirty_behind, dirty_below, dirty_from, dirty_node}
+use Rattle.node_table.specs.NodeView.{NodeView, children_in, node_before, row_of, tree_at, view_of, views, views_behind}
 use Rattle.node_table.specs.Placing.{KeepsPlaces}
 use Rattle.node_table.specs.declared.link.Link.{Link}
 use Rattle.node_table.specs.declared.link.Link.TheVariants.{ToLeaf, ToNode}
 use Rattle.node_table.specs.declared.node.NodePlace.{NodePlace}
 use Rattle.node_table.specs.declared.node.Root.{Root}
 use Rattle.node_table.specs.declared.node.TableNode.{TableNode}
-use Rattle.index_cache.specs.Commit.{IsNextNode, below_node, said_of}
-use Rattle.index_cache.specs.Paged.{dirty_of, frozen_of}
+use Rattle.index_cache.specs.Paged.{frozen_of}
 use Rattle.index_cache.specs.declared.paged.PagedIndex.{PagedIndex}
 use Rattle.index_commit.specs.Answers.{HasEqualKeys}
 use Rattle.index_commit.specs.Lebs.{IsGiven}

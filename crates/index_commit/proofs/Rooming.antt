@@ -9,16 +9,15 @@ use Rattle.ubifs_base.specs.declared.raw_geometry.RawGeometry.{RawGeometry}
 use Rattle.index_media.specs.KeyedRow.{KeyedRow, no_more, node_in}
 use Rattle.index_media.specs.PlacedRow.{Stretch, branches_of}
 use Rattle.media_sys.specs.declared.branch.Branch.{Branch}
-use Rattle.node_table.specs.Clean.{node_branch, placed_of}
+use Rattle.node_table.specs.Clean.{placed_of}
 use Rattle.node_table.specs.Dirty.{dirty_below}
-use Rattle.node_table.specs.NodeView.{children_in, tree_at, views}
+use Rattle.node_table.specs.NodeView.{tree_at, views}
 use Rattle.node_table.specs.declared.node.Root.{Root}
 use Rattle.index_cache.specs.Commit.{below_node, node_length, said_of}
 use Rattle.index_cache.specs.Paged.{dirty_of, frozen_of}
 use Rattle.index_cache.specs.declared.paged.PagedIndex.{PagedIndex}
 use Rattle.index_commit.specs.Rooms.{Room, IsEnded, LeadsTo, head_after, head_behind, head_of, place_of_node, room_in, room_of, whole_units}
 use Rattle.index_commit.specs.Written.{AreTaken, IsIndexTaken}
-use Rattle.index_commit.specs.declared.index_at.IndexAt.{IndexAt}
 use Rattle.index_commit.specs.declared.index_at.IndexHead.{IndexHead}
 use Rattle.index_commit.proofs.Laid.{BothAreKept, index_rooms, index_then}
 use Rattle.index_commit.proofs.LastTaken.{none_from_none, root_is_last}

@@ -52,8 +52,7 @@ pub returns-clause-written : goal.returns-clause-written
 returns-clause-written g c =
     let branch = c.frozen_branch.ensures in
     let standing = written_standing (g.V.Volume.state c.args.volume.now) (g.V.Volume.state c.write_lebs.new.volume) c.args.lebs.now c.args.index.now c.write_lebs.new.index c.args.sqnum.now
-    c.write_lebs.new.sqnum (c.in_ok-head.ensures.standing tt) in
-    (
+    c.write_lebs.new.sqnum (c.in_ok-head.ensures.standing tt) in (
       index_at (g.V.Volume.state c.args.volume.now) (g.V.Volume.state c.write_lebs.new.volume) c.args.geometry.now.fanout c.args.sqnum.now c.write_lebs.new.sqnum c.args.lebs.now c.args.index.now
           c.write_lebs.new.index c.frozen_branch.result c.in_ok-head.head c.write_lebs.ensures.index standing c.requires.outside c.in_ok-head.ensures.none c.requires.fanout c.in_ok-head.ensures.clean branch.fits
           branch.whole branch.levels branch.sound.bounded branch.first c.in_ok-head.ensures.head,

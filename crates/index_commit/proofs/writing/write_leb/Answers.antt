@@ -1,6 +1,6 @@
 use Rattle.std.proofs.Common.{◌≡◌, ◌+◌, ◌-◌, ◌*◌, ◌/◌, ◌≤◌, [], ℕ, length, take, ap, ◌∙◌, subst, arith, length-take-le}
 use Rattle.std.specs.Prelude.{◌⊎◌}
-use Rattle.ubifs_base.specs.Geometry.{index_node_len, index_nodes_per_leb}
+use Rattle.ubifs_base.specs.Geometry.{index_nodes_per_leb}
 use Rattle.ubifs_base.specs.RawOf.{raw_of}
 use Rattle.index_cache.specs.Paged.{dirty_of}
 use Rattle.index_commit.specs.Rooms.{room_in, whole_units}
