@@ -25,7 +25,7 @@ use Rattle.index_commit.specs.Standing.{AreStandingAs, StandsAs}
 use Rattle.index_commit.specs.Written.{AreTaken, IsIndexKept, IsIndexTaken, AreNodesLaid, Laying, Meets, with_leb_bytes}
 use Rattle.index_commit.specs.LebTexts.{in_room}
 use Rattle.index_commit.proofs.LebTexts.{both_texts, one_text}
-use Rattle.index_commit.proofs.Rooms.{clean_kept, level_stays, node_kept, none_there, not_behind, not_front, other_places, place_given, rooms_both, said_stays, taken_distinct, taken_then}
+use Rattle.index_commit.proofs.Rooms.{clean_kept, level_stays, links_stay, node_kept, none_there, not_behind, not_front, other_places, place_given, rooms_both, said_stays, taken_distinct, taken_then}
 use Rattle.index_commit.proofs.Standing.{Grows, row_placed}
 
 -- ---- the laws of the table on places
@@ -61,6 +61,7 @@ roots_then a b c h k = record {
 pub kept_then : BothAreKept → (a b c : PagedIndex) → IsIndexKept a b → IsIndexKept b c → IsIndexKept a c
 kept_then both a b c h k = record {
   levels = λ number. k.levels number ∙ h.levels number;
+  links = k.links ∙ h.links;
   frozen = both (frozen_of a) (frozen_of b) (frozen_of c) h.frozen k.frozen;
   tree = both (tree_of a) (tree_of b) (tree_of c) h.tree k.tree;
   trees = λ root. both (tree_at a.table.nodes.items root) (tree_at b.table.nodes.items root) (tree_at c.table.nodes.items root) (h.trees root) (k.trees root);
@@ -106,6 +107,7 @@ index_then both r r1 r2 a b c i j k h g front back =
 pub kept_none : NoneIsKept → (a : PagedIndex) → IsIndexKept a a
 kept_none none a = record {
   levels = λ number. refl;
+  links = refl;
   frozen = none (frozen_of a);
   tree = none (tree_of a);
   trees = λ root. none (tree_at a.table.nodes.items root);
@@ -228,6 +230,7 @@ placed_kept given lnum offs node old new p =
     let below = below_node old node in
     record {
       levels = λ number. level_stays node number place old.table.nodes.items new.table.nodes.items p.nodes;
+      links = links_stay node place old.table.nodes.items new.table.nodes.items p.nodes;
       frozen = given place below (frozen_of old) (frozen_of new) p.frozen;
       tree = given place below (tree_of old) (tree_of new) p.tree;
       trees = λ root. given place below (tree_at old.table.nodes.items root) (tree_at new.table.nodes.items root) (p.trees root);

@@ -9,3 +9,4 @@ pub mod Rooming
 pub mod Committed
 pub mod Changes
 pub mod Ordered
+pub mod RowRooms

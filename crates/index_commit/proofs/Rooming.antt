@@ -1,12 +1,13 @@
 -- The rooms of several LEBs, and what stands behind the last one.
-use Rattle.std.proofs.Common.{◌≡◌, ℕ, zero, suc, ◌+◌, ◌-◌, ◌*◌, ◌/◌, ◌%◌, ◌<◌, ◌≤◌, List, [], ◌∷◌, length, refl, ap, sym, ◌∙◌, subst, arith, inl, inr}
+use Rattle.std.proofs.Common.{◌≡◌, ℕ, zero, suc, ◌+◌, ◌-◌, ◌*◌, ◌/◌, ◌%◌, ◌<◌, ◌≤◌, List, [], ◌∷◌, length, refl, ap, sym, ◌∙◌, subst, arith, inl, inr, true}
 use Rattle.std.specs.Prelude.{◌⊎◌, ◌==◌, get_or, Option, None, Some, slice_get}
 use Rattle.std.proofs.lemmas.Bool.{cases_Bool}
 use Rattle.std.proofs.lemmas.Bool.Decides.{nat_tests}
 use Rattle.std.proofs.Math.Nat.{add-mod_left, add-mul, add-mul-div_left, div-eq_of_lt, mod-eq_of_lt}
 use Rattle.ubifs_base.specs.Geometry.{index_node_len, index_nodes_per_leb}
 use Rattle.ubifs_base.specs.declared.raw_geometry.RawGeometry.{RawGeometry}
-use Rattle.index_media.specs.KeyedRow.{KeyedRow, no_more, node_in}
+use Rattle.index_tree.specs.Shape.{fits}
+use Rattle.index_media.specs.KeyedRow.{KeyedRow, no_more, node_in, bare}
 use Rattle.index_media.specs.PlacedRow.{Stretch, branches_of}
 use Rattle.media_sys.specs.declared.branch.Branch.{Branch}
 use Rattle.node_table.specs.Clean.{placed_of}
@@ -14,13 +15,14 @@ use Rattle.node_table.specs.Dirty.{dirty_below}
 use Rattle.node_table.specs.NodeView.{tree_at, views}
 use Rattle.node_table.specs.declared.node.Root.{Root}
 use Rattle.index_cache.specs.Commit.{below_node, node_length, said_of}
-use Rattle.index_cache.specs.Paged.{dirty_of, frozen_of}
+use Rattle.index_cache.specs.Paged.{dirty_of, fanout_of, frozen_of}
 use Rattle.index_cache.specs.declared.paged.PagedIndex.{PagedIndex}
-use Rattle.index_commit.specs.Rooms.{Room, IsEnded, LeadsTo, head_after, head_behind, head_of, place_of_node, room_in, room_of, whole_units}
+use Rattle.index_commit.specs.Rooms.{Room, IsLaidOut, LeadsTo, head_after, head_behind, head_of, place_of_node, room_in, room_of, whole_units}
 use Rattle.index_commit.specs.Written.{AreTaken, IsIndexTaken}
 use Rattle.index_commit.specs.declared.index_at.IndexHead.{IndexHead}
 use Rattle.index_commit.proofs.Laid.{BothAreKept, index_rooms, index_then}
 use Rattle.index_commit.proofs.LastTaken.{none_from_none, root_is_last}
+use Rattle.index_commit.proofs.RowRooms.{row_rooms}
 use Rattle.index_commit.proofs.Rooms.{view_node}
 
 abbrev room_at : ℕ → ℕ → Room
@@ -139,10 +141,11 @@ root_last geo lebs a b i k n frozen is h none count =
         leads_to (room_of geo lebs n) (node_length (said_of b root.number)) root b placed.place
 
 pub ended : (geo : RawGeometry) (lebs : List ℕ) (a b : PagedIndex) (i k : ℕ) (root : Option Branch) (head : Option IndexHead) → IsIndexTaken (room_of geo lebs) a b i k → dirty_of b ≡ []
-    → root ≡ slice_get (branches_of (placed_of (frozen_of b))) 0 → head ≡ head_after geo lebs None (k - i) → IsEnded geo lebs (k - i) (record { root = root; head = head })
-ended geo lebs a b i k root head h none first end = record {
+    → root ≡ slice_get (branches_of (placed_of (frozen_of b))) 0 → head ≡ head_after geo lebs None (k - i) → fits (fanout_of a) (bare (frozen_of a)) ≡ true → IsLaidOut geo lebs (k - i) a b (record { root = root; head = head })
+ended geo lebs a b i k root head h none first end fit = record {
   head = end ∙ same_head geo lebs (k - i);
   root = λ n count.
       let P : Option Branch → Type 0 = λ o. LeadsTo (room_of geo lebs n) o in
       subst P (sym first) (root_last geo lebs a b i k n b.frozen (sym h.kept.roots.frozen) h none count);
+  rooms = row_rooms geo lebs a b i k h none fit;
 }

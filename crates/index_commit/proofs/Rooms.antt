@@ -15,13 +15,14 @@ use Rattle.node_table.specs.Clean.{is_clean_row, placed_of}
 use Rattle.node_table.specs.NodeView.{NodeView, children_in, node_before, stretch_at, tree_at, view_of, views, views_behind}
 use Rattle.node_table.specs.Placing.{KeepsPlaces, with_place, without_number}
 use Rattle.node_table.specs.Pruning.{place_in}
+use Rattle.node_table.specs.declared.link.Link.{Link}
 use Rattle.node_table.specs.declared.node.NodePlace.{NodePlace}
 use Rattle.node_table.specs.declared.node.Root.{Root}
 use Rattle.node_table.specs.declared.node.TableNode.{TableNode}
 use Rattle.index_cache.specs.Commit.{below_node, level_in, node_length, said_of}
 use Rattle.index_cache.specs.declared.paged.PagedIndex.{PagedIndex}
 use Rattle.index_commit.specs.Rooms.{Room, AreDistinct, AreInRooms, IsInRoom, IsNotAmong, place_of_node}
-use Rattle.index_commit.specs.Written.{AreTaken, IsIndexKept}
+use Rattle.index_commit.specs.Written.{AreTaken, IsIndexKept, links_of}
 use Rattle.index_commit.proofs.Standing.{clean_node}
 
 -- ---- what is seen of the nodes of a table
@@ -63,6 +64,14 @@ levels_with : (n : ℕ) (p : NodePlace) (nodes : List TableNode) → map level_k
 levels_with n p [] = refl
 levels_with zero p (node ∷ nodes) = refl
 levels_with (suc n) p (node ∷ nodes) = ap (λ (l : List ℕ). node.level ∷ l) (levels_with n p nodes)
+
+links_with : (n : ℕ) (p : NodePlace) (nodes : List TableNode) → map links_of (with_place n p nodes) ≡ map links_of nodes
+links_with n p [] = refl
+links_with zero p (node ∷ nodes) = refl
+links_with (suc n) p (node ∷ nodes) = ap (λ (l : List (List Link)). links_of node ∷ l) (links_with n p nodes)
+
+pub links_stay : (n : ℕ) (p : NodePlace) (old new : List TableNode) → new ≡ with_place n p old → map links_of new ≡ map links_of old
+links_stay n p old new e = ap (map links_of) e ∙ links_with n p old
 
 place_with : (n : ℕ) (p : NodePlace) (nodes : List TableNode) → n < length nodes → get_or (map place_kept (with_place n p nodes)) n None ≡ stretch_at (Some p)
 place_with n p [] there = absurd (omega (arith, there))

@@ -1,13 +1,15 @@
 -- The rooms of LEBs into which a commit writes its nodes, one after another.
-use Rattle.std.specs.Prelude.{◌≡◌, ℕ, zero, suc, ◌+◌, ◌-◌, ◌*◌, ◌/◌, ◌%◌, true, List, get_or, Option, None, Some, slice_get}
+use Rattle.std.specs.Prelude.{◌≡◌, ℕ, zero, suc, ◌+◌, ◌-◌, ◌*◌, ◌/◌, ◌%◌, true, List, [], ◌∷◌, ◌++◌, get_or, Option, None, Some, option_map, slice_get}
 use Rattle.ubifs_base.specs.Geometry.{index_node_len, index_nodes_per_leb}
 use Rattle.ubifs_base.specs.declared.raw_geometry.RawGeometry.{RawGeometry}
+use Rattle.index_media.specs.KeyedRow.{KeyedRow, no_more, leaf_in, node_in}
 use Rattle.index_media.specs.PlacedRow.{Stretch}
 use Rattle.media_sys.specs.declared.branch.Branch.{Branch}
 use Rattle.node_table.specs.Clean.{is_clean_row}
 use Rattle.node_table.specs.NodeView.{views}
 use Rattle.node_table.specs.Pruning.{place_in}
 use Rattle.index_cache.specs.Commit.{below_node, node_length, said_of}
+use Rattle.index_cache.specs.Paged.{dirty_of, frozen_of}
 use Rattle.index_cache.specs.declared.paged.PagedIndex.{PagedIndex}
 use Rattle.index_commit.specs.declared.index_at.IndexAt.{IndexAt}
 use Rattle.index_commit.specs.declared.index_at.IndexHead.{IndexHead}
@@ -24,6 +26,22 @@ room_of geo lebs n = record { lnum = get_or lebs (n / index_nodes_per_leb geo) 0
 -- the n-th room of one LEB, if they begin at an offset and have this length
 abbrev pub room_in : ℕ → ℕ → ℕ → ℕ → Room
 room_in lnum len from n = record { lnum = lnum; offs = from + n * len }
+
+-- the room in which a place is
+abbrev pub place_room : Stretch → Room
+place_room place = record { lnum = place.lnum; offs = place.offs }
+
+-- where the nodes of a row stand, each behind those below it, from left to right; a dirty one stands nowhere
+abbrev pub rooms_of : KeyedRow → List (Option Room)
+rooms_of no_more = []
+rooms_of (leaf_in x rest) = rooms_of rest
+rooms_of (node_in key place children rest) = rooms_of children ++ option_map place_room place ∷ rooms_of rest
+
+-- the same once the dirty ones stand in the rooms of these LEBs, from the n-th on
+abbrev pub all_rooms : RawGeometry → List ℕ → ℕ → List (Option Room) → List (Option Room)
+all_rooms geo lebs n [] = []
+all_rooms geo lebs n (None ∷ rooms) = Some (room_of geo lebs n) ∷ all_rooms geo lebs (n + 1) rooms
+all_rooms geo lebs n (Some room ∷ rooms) = Some room ∷ all_rooms geo lebs n rooms
 
 -- where a node of the table stands, by its number; a dirty one stands nowhere
 abbrev pub place_of_node : PagedIndex → ℕ → Option Stretch
@@ -64,10 +82,12 @@ abbrev pub LeadsTo : Room → Option Branch → Type 0
 LeadsTo room None = ⊥
 LeadsTo room (Some branch) = (branch.lnum ≡ room.lnum) × (branch.offs ≡ room.offs)
 
--- Where an index stands of which so many nodes were written: the last one is the root, and the head is behind it
-pub record IsEnded (geo : RawGeometry) (lebs : List ℕ) (nodes : ℕ) (at : IndexAt) : Type 0 where
+-- Where an index stands of which so many nodes were written: the last one is the root, and the head is behind it. If no number of
+-- a dirty node stood twice, each that was dirty has the next room
+pub record IsLaidOut (geo : RawGeometry) (lebs : List ℕ) (nodes : ℕ) (old new : PagedIndex) (at : IndexAt) : Type 0 where
   pub head : at.head ≡ head_of geo lebs nodes
   pub root : (n : ℕ) → nodes ≡ n + 1 → LeadsTo (room_of geo lebs n) at.root
+  pub rooms : AreDistinct (dirty_of old) → rooms_of (frozen_of new) ≡ all_rooms geo lebs 0 (rooms_of (frozen_of old))
 
 -- the head after so many nodes were written, and that of before if there are none
 abbrev pub head_after : RawGeometry → List ℕ → Option IndexHead → ℕ → Option IndexHead

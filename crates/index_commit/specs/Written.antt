@@ -1,5 +1,5 @@
 -- What a commit leaves of an index, in memory and on the volume.
-use Rattle.std.specs.Prelude.{◌≡◌, ◌⊎◌, ◌<◌, ◌≤◌, ◌+◌, ◌-◌, ◌*◌, ◌%◌, ◌==◌, ℕ, if◌then◌else◌, List, [], ◌∷◌, ◌++◌, Option, None, Some, length, slice_get, All}
+use Rattle.std.specs.Prelude.{◌≡◌, ◌⊎◌, ◌<◌, ◌≤◌, ◌+◌, ◌-◌, ◌*◌, ◌%◌, ◌==◌, ℕ, if◌then◌else◌, List, [], ◌∷◌, ◌++◌, Option, None, Some, length, map, slice_get, All}
 use Rattle.ubifs_base.specs.Gap.{gap_of}
 use Rattle.index_media.specs.KeyedRow.{KeyedRow, no_more, all_clean}
 use Rattle.index_media.specs.PlacedRow.{PlacedRow, Stretch, lebs_of}
@@ -8,7 +8,9 @@ use Rattle.media_sys.specs.declared.branch.Branch.{Branch}
 use Rattle.node_table.specs.Clean.{placed_of}
 use Rattle.node_table.specs.NodeView.{tree_at}
 use Rattle.node_table.specs.Placing.{KeepsPlaces, without_number}
+use Rattle.node_table.specs.declared.link.Link.{Link}
 use Rattle.node_table.specs.declared.node.Root.{Root}
+use Rattle.node_table.specs.declared.node.TableNode.{TableNode}
 use Rattle.ubi_volume.specs.Frame.{Elsewhere, IsSameLeb, Works}
 use Rattle.ubi_volume.specs.Volume.{VolumeState, Leaves, Only, filled}
 use Rattle.index_cache.specs.Commit.{said_of}
@@ -21,10 +23,15 @@ use Rattle.index_commit.specs.Standing.{AreOutside, AreStandingAs}
 use Rattle.index_commit.specs.declared.index_at.IndexAt.{IndexAt}
 use Rattle.index_commit.specs.declared.index_at.IndexHead.{IndexHead}
 
+-- the links of a node of the table
+abbrev pub links_of : TableNode → List Link
+links_of node = node.links.items
+
 -- The index in memory: below each root, the frozen one and the one that is seen included, stands what stood there, but that
--- nodes that were dirty may have places. A node keeps its level
+-- nodes that were dirty may have places. A node keeps its level and its links
 pub record IsIndexKept (old new : PagedIndex) : Type 0 where
   pub levels : (number : ℕ) → (said_of new number).level ≡ (said_of old number).level
+  pub links : map links_of new.table.nodes.items ≡ map links_of old.table.nodes.items
   pub frozen : KeepsPlaces (frozen_of old) (frozen_of new)
   pub tree : KeepsPlaces (tree_of old) (tree_of new)
   pub trees : (root : Option Root) → KeepsPlaces (tree_at old.table.nodes.items root) (tree_at new.table.nodes.items root)

@@ -15,7 +15,7 @@ ghost use Rattle.index_commit.specs.Answers.{HasEqualKeys, IsIndexNotFailed, IsN
 ghost use Rattle.index_commit.specs.LebTexts.{AreLebsOf, IsLebOf, nodes_written};
 ghost use Rattle.index_commit.specs.Lebs.{AreGivable};
 ghost use Rattle.index_commit.specs.Ordered.{AreInOrder, IsNotEqualKeys};
-ghost use Rattle.index_commit.specs.Rooms.{IsEnded, head_after, room_in, room_of, whole_units};
+ghost use Rattle.index_commit.specs.Rooms.{IsLaidOut, head_after, room_in, room_of, whole_units};
 ghost use Rattle.index_commit.specs.Standing.{AreOutside};
 ghost use Rattle.index_commit.specs.Written.{AreStanding, AreWritten, IsHeadAfter, IsIndexAt, IsIndexTaken, IsLebPut, KeepsOtherIndexes, WorksInLebs, with_leb_bytes};
 
@@ -51,7 +51,7 @@ pub fn write_index<V: Volume>(
     requires lebs { AreGivable (V.state volume.old).leb_cnt lebs.now }
     requires outside { AreOutside (V.state volume.old).holds lebs.now (frozen_of index.old) }
     requires number { sqnum.old + length (dirty_of index.old) < 2 ^ 64 }
-    ensures written { IfOk result (λ at. IsIndexAt (V.state volume.new) geometry.now.fanout lebs.now index.old index.new at × IsEnded (raw_of geometry.now) lebs.now (sqnum.new - sqnum.old) at) }
+    ensures written { IfOk result (λ at. IsIndexAt (V.state volume.new) geometry.now.fanout lebs.now index.old index.new at × IsLaidOut (raw_of geometry.now) lebs.now (sqnum.new - sqnum.old) index.old index.new at) }
     ensures standing { IsIndexNotFailed result → AreStanding (V.state volume.old) (V.state volume.new) lebs.now index.old index.new sqnum.old sqnum.new
         × AreLebsOf (raw_of geometry.now) lebs.now (V.state volume.old) (V.state volume.new) sqnum.old (nodes_written index.old index.new (sqnum.new - sqnum.old)) }
     ensures index { IsIndexTaken (room_of (raw_of geometry.now) lebs.now) index.old index.new sqnum.old sqnum.new }

@@ -1,8 +1,10 @@
-use Rattle.std.proofs.Common.{rules, ◌≡◌, ◌≤◌, ℕ, ap, ◌∙◌, subst, arith, length}
+use Rattle.std.proofs.Common.{rules, ◌≡◌, ◌≤◌, ℕ, ap, ◌∙◌, subst, arith, length, true}
 use Rattle.std.specs.Int.{div_ceil}
 use Rattle.ubifs_base.specs.Geometry.{index_nodes_per_leb}
 use Rattle.ubifs_base.specs.RawOf.{raw_of}
-use Rattle.index_cache.specs.Paged.{dirty_of, frozen_of}
+use Rattle.index_tree.specs.Shape.{Shape, fits}
+use Rattle.index_media.specs.KeyedRow.{bare}
+use Rattle.index_cache.specs.Paged.{dirty_of, fanout_of, frozen_of}
 use Rattle.index_commit.specs.Answers.{IsIndexNotFailed}
 use Rattle.index_commit.proofs.Committed.{index_at, lebs_suffice, some_nodes}
 use Rattle.index_commit.proofs.Laid.{index_none}
@@ -51,13 +53,16 @@ returns-in_err-head-clause-old_stays g c =
 pub returns-clause-written : goal.returns-clause-written
 returns-clause-written g c =
     let branch = c.frozen_branch.ensures in
+    let F : Shape → Type 0 = λ s. fits (fanout_of c.args.index.now) s ≡ true in
+    let N : ℕ → Type 0 = λ n. fits n (bare (frozen_of c.write_lebs.new.index)) ≡ true in
     let standing = written_standing (g.V.Volume.state c.args.volume.now) (g.V.Volume.state c.write_lebs.new.volume) c.args.lebs.now c.args.index.now c.write_lebs.new.index c.args.sqnum.now
     c.write_lebs.new.sqnum (c.in_ok-head.ensures.standing tt) in (
       index_at (g.V.Volume.state c.args.volume.now) (g.V.Volume.state c.write_lebs.new.volume) c.args.geometry.now.fanout c.args.sqnum.now c.write_lebs.new.sqnum c.args.lebs.now c.args.index.now
           c.write_lebs.new.index c.frozen_branch.result c.in_ok-head.head c.write_lebs.ensures.index standing c.requires.outside c.in_ok-head.ensures.none c.requires.fanout c.in_ok-head.ensures.clean branch.fits
           branch.whole branch.levels branch.sound.bounded branch.first c.in_ok-head.ensures.head,
       ended (raw_of c.args.geometry.now) c.args.lebs.now c.args.index.now c.write_lebs.new.index c.args.sqnum.now c.write_lebs.new.sqnum c.frozen_branch.result c.in_ok-head.head
-          c.write_lebs.ensures.index c.in_ok-head.ensures.none branch.first c.in_ok-head.ensures.end,
+          c.write_lebs.ensures.index c.in_ok-head.ensures.none branch.first c.in_ok-head.ensures.end (subst F (c.places_are_kept.ensures.shape (frozen_of c.args.index.now) (frozen_of c.write_lebs.new.index)
+          c.write_lebs.ensures.index.kept.frozen) (subst N c.write_lebs.ensures.index.kept.roots.fanout branch.fits)),
     )
 
 pub returns-clause-old_stays : goal.returns-clause-old_stays
