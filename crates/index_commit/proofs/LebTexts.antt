@@ -191,3 +191,8 @@ none_lebs geo state lebs sqnum nodes none k lnum is =
 -- nothing is written where no number was given
 pub none_written_nodes : (a : PagedIndex) (i : ℕ) → nodes_written a a (i - i) ≡ []
 none_written_nodes a i = let none : i - i ≡ 0 = omega arith in ap (λ (n : ℕ). nodes_written a a n) none
+
+pub idle_leb : (geo : RawGeometry) (state : VolumeState) (lnum : ℕ) (a : PagedIndex) (i : ℕ) → IsLebOf geo state state lnum i (nodes_written a a (i - i))
+idle_leb geo state lnum a i =
+    let P : List Index → Type 0 = λ l. IsLebOf geo state state lnum i l in
+    subst P (sym (none_written_nodes a i)) (IsSameLeb-none state lnum)

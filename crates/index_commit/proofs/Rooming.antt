@@ -3,6 +3,8 @@ use Rattle.std.proofs.Common.{◌≡◌, ℕ, zero, suc, ◌+◌, ◌-◌, ◌*�
 use Rattle.std.specs.Prelude.{◌⊎◌, ◌==◌, get_or, Option, None, Some, slice_get}
 use Rattle.std.proofs.lemmas.Bool.{cases_Bool}
 use Rattle.std.proofs.lemmas.Bool.Decides.{nat_tests}
+use Rattle.std.proofs.lemmas.Nat.{div-mul-add, mod-mul-add}
+use Rattle.std.proofs.lemmas.Option.{get_or_from_slice_get}
 use Rattle.std.proofs.Math.Nat.{add-mod_left, add-mul, add-mul-div_left, div-eq_of_lt, mod-eq_of_lt}
 use Rattle.ubifs_base.specs.Geometry.{index_node_len, index_nodes_per_leb}
 use Rattle.ubifs_base.specs.declared.raw_geometry.RawGeometry.{RawGeometry}
@@ -75,6 +77,28 @@ both_taken both geo lnum lebs all a b c i j k e some most full h g =
           absurd (omega (arith, empty, less))
       | inr whole ↦ other_room geo lnum lebs all (length h.numbers) n e some (omega (arith, whole, number))
     ])
+
+-- the next LEB behind some that are full
+pub next_taken : BothAreKept → (geo : RawGeometry) (lebs : List ℕ) (full lnum : ℕ) (a b c : PagedIndex) (i j k : ℕ) → slice_get lebs full ≡ Some lnum → j ≡ i + full * index_nodes_per_leb geo
+    → k ≤ j + index_nodes_per_leb geo → IsIndexTaken (room_of geo lebs) a b i j → IsIndexTaken (room_in lnum (index_node_len geo) 0) b c j k → IsIndexTaken (room_of geo lebs) a c i k
+next_taken both geo lebs full lnum a b c i j k here whole most h g =
+    let number = h.number in
+    let count = g.number in
+    index_then both (room_of geo lebs) (room_of geo lebs) (room_in lnum (index_node_len geo) 0) a b c i j k h g (λ n less. refl)
+    (λ n less. next_room geo lebs full lnum (length h.numbers) n here (omega (arith, number, whole)) (omega (arith, less, count, most)))
+  where
+    next_room : (geo : RawGeometry) (lebs : List ℕ) (full lnum m n : ℕ) → slice_get lebs full ≡ Some lnum → m ≡ full * index_nodes_per_leb geo → n < index_nodes_per_leb geo
+        → room_in lnum (index_node_len geo) 0 n ≡ room_of geo lebs (m + n)
+    next_room geo lebs full lnum m n here e less =
+        let q = index_nodes_per_leb geo in
+        let len = index_node_len geo in
+        let sum : m + n ≡ full * q + n = omega (arith, e) in
+        let leb : (m + n) / q ≡ full = ap (λ (k : ℕ). k / q) sum ∙ div-mul-add full q n less in
+        let own : (m + n) % q ≡ n = ap (λ (k : ℕ). k % q) sum ∙ mod-mul-add full q n less in
+        let got : get_or lebs ((m + n) / q) 0 ≡ lnum = ap (λ (k : ℕ). get_or lebs k 0) leb ∙ get_or_from_slice_get lebs full lnum 0 here in
+        let start : 0 + n * len ≡ n * len = omega arith in
+        let offs : 0 + n * len ≡ (m + n) % q * len = start ∙ ap (λ (k : ℕ). k * len) (sym own) in
+        ap (λ (o : ℕ). room_at lnum o) offs ∙ ap (λ (k : ℕ). room_at k ((m + n) % q * len)) (sym got)
 
 -- ---- the head
 head_first : (geo : RawGeometry) (lnum : ℕ) (lebs all : List ℕ) (offs n : ℕ) → all ≡ lnum ∷ lebs → n < index_nodes_per_leb geo → offs ≡ whole_units geo ((n + 1) * index_node_len geo)

@@ -1,5 +1,5 @@
 -- What the LEBs hold in which a commit wrote nodes.
-use Rattle.std.specs.Prelude.{◌≡◌, ℕ, zero, suc, ◌+◌, ◌-◌, ◌*◌, ◌%◌, List, [], ◌∷◌, ◌++◌, drop, length, map, take, Some, slice_get}
+use Rattle.std.specs.Prelude.{◌≡◌, ◌⊎◌, ◌<◌, ◌≤◌, ℕ, zero, suc, ◌+◌, ◌-◌, ◌*◌, ◌%◌, List, [], ◌∷◌, ◌++◌, drop, length, map, take, Some, slice_get}
 use Rattle.ubifs_base.specs.Gap.{gap_of}
 use Rattle.ubifs_base.specs.Geometry.{index_node_len, index_nodes_per_leb}
 use Rattle.ubifs_base.specs.declared.raw_geometry.RawGeometry.{RawGeometry}
@@ -11,6 +11,7 @@ use Rattle.ubi_volume.specs.Volume.{VolumeState, Only, filled}
 use Rattle.index_cache.specs.Commit.{node_length, said_of}
 use Rattle.index_cache.specs.Paged.{dirty_of}
 use Rattle.index_cache.specs.declared.paged.PagedIndex.{PagedIndex}
+use Rattle.index_commit.specs.declared.index_at.IndexHead.{IndexHead}
 use Rattle.index_commit.specs.Rooms.{whole_units}
 
 -- an index node in a room of so many bytes, in no group: a gap to the next multiple of 8, and one to the end of the room
@@ -63,3 +64,11 @@ said_by paged numbers = map (λ number. said_of paged number) numbers
 -- what the nodes say that a commit wrote, if they are so many
 abbrev pub nodes_written : PagedIndex → PagedIndex → ℕ → List Index
 nodes_written old new n = said_by new (firsts n (dirty_of old))
+
+-- So many nodes were written to a LEB, and these are still dirty: at least one was, and no more than it has rooms for. All are, or
+-- it is full. The head is behind them
+pub record IsNextLeb (geo : RawGeometry) (lnum nodes : ℕ) (dirty : List ℕ) (end : IndexHead) : Type 0 where
+  pub some : 0 < nodes
+  pub most : nodes ≤ index_nodes_per_leb geo
+  pub all : (dirty ≡ []) ⊎ (nodes ≡ index_nodes_per_leb geo)
+  pub head : end ≡ record { lnum = lnum; offs = rooms_end geo nodes }

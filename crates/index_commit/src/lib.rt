@@ -11,9 +11,11 @@ mod index_at;
 mod index_fault;
 mod laws;
 mod laying;
+mod step;
 mod writing;
 
 pub use crate::index_at::{IndexAt, IndexHead};
 pub use crate::index_fault::IndexFault;
-pub use crate::laws::{changes_keep_what_stands, loaded_keys_are_in_order};
+pub use crate::laws::{a_leb_follows_those_before_it, changes_keep_what_stands, loaded_keys_are_in_order};
+pub use crate::step::write_next_leb;
 pub use crate::writing::write_index;

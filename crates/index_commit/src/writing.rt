@@ -120,7 +120,7 @@ fn write_lebs<V: Volume>(
 }
 
 // Writes as many dirty nodes to a LEB as it has room for, and answers where what is written there ends.
-fn write_leb<V: Volume>(
+pub(crate) fn write_leb<V: Volume>(
     alloc: Global,
     volume: &mut V,
     geometry: &Geometry,

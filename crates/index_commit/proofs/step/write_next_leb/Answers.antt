@@ -1,0 +1,71 @@
+use Rattle.std.proofs.Common.{◌≡◌, ◌+◌, ◌-◌, ◌*◌, ◌≤◌, ℕ, List, [], ◌∷◌, rules, ap, sym, ◌∙◌, arith, inl, inr, length}
+use Rattle.std.specs.Prelude.{◌⊎◌}
+use Rattle.ubifs_base.specs.Geometry.{index_node_len, index_nodes_per_leb}
+use Rattle.ubifs_base.specs.RawOf.{raw_of}
+use Rattle.index_cache.specs.Paged.{dirty_of, frozen_of}
+use Rattle.index_commit.specs.Answers.{IsIndexNotFailed}
+use Rattle.index_commit.specs.LebTexts.{rooms_end}
+use Rattle.index_commit.specs.Ordered.{AreInOrder, IsNotEqualKeys}
+use Rattle.index_commit.specs.Rooms.{room_in}
+use Rattle.index_commit.specs.declared.index_at.IndexHead.{IndexHead}
+use Rattle.index_commit.proofs.Laid.{index_none}
+use Rattle.index_commit.proofs.LebTexts.{idle_leb}
+use Rattle.index_commit.proofs.Lebs.{keeps_indexes, none_standing, none_works, written_standing}
+use Rattle.index_commit.proofs.Ordered.{never_equal}
+use Rattle.index_commit.proofs.step.write_next_leb.Goals as goal
+
+pub returns-in_err-leb-clause-standing : goal.returns-in_err-leb-clause-standing
+returns-in_err-leb-clause-standing g c = λ other. (
+  none_standing (g.V.Volume.state c.args.volume.now) (c.args.lnum ∷ []) c.args.index.now c.args.sqnum.now,
+  idle_leb (raw_of c.args.geometry.now) (g.V.Volume.state c.args.volume.now) c.args.lnum c.args.index.now c.args.sqnum.now,
+)
+
+pub returns-in_err-leb-clause-index : goal.returns-in_err-leb-clause-index
+returns-in_err-leb-clause-index g c = index_none c.places_are_kept.ensures.none (room_in c.args.lnum (index_node_len (raw_of c.args.geometry.now)) 0) c.args.index.now c.args.sqnum.now
+
+pub returns-in_err-offs-clause-standing : goal.returns-in_err-offs-clause-standing
+returns-in_err-offs-clause-standing g c = λ other.
+    let failed : IsIndexNotFailed c.write_leb.result = search (rules, other) in (
+      written_standing (g.V.Volume.state c.args.volume.now) (g.V.Volume.state c.write_leb.new.volume) (c.args.lnum ∷ []) c.args.index.now c.write_leb.new.index c.args.sqnum.now c.write_leb.new.sqnum
+          (c.write_leb.ensures.standing failed),
+      c.write_leb.ensures.text failed,
+    )
+
+pub returns-in_err-offs-clause-old_stays : goal.returns-in_err-offs-clause-old_stays
+returns-in_err-offs-clause-old_stays g c =
+    keeps_indexes c.an_index_depends_on_its_lebs_alone.ensures (g.V.Volume.state c.args.volume.now) (g.V.Volume.state c.write_leb.new.volume) (c.args.lnum ∷ []) c.write_leb.ensures.works
+
+pub returns-in_err-offs-clause-answer : goal.returns-in_err-offs-clause-answer
+returns-in_err-offs-clause-answer g c =
+    let fine : AreInOrder (frozen_of c.args.index.now) → IsNotEqualKeys c.write_leb.result =
+    λ order. never_equal c.args.index.now c.write_leb.new.index c.write_leb.result c.write_leb.ensures.index.kept.frozen order c.write_leb.ensures.equal in
+    (search rules, search rules, search rules, λ order. let fact = fine order in search (rules, fact))
+
+pub returns-clause-done : goal.returns-clause-done
+returns-clause-done g c =
+    let made = c.in_ok-offs.ensures in
+    let geo = raw_of c.args.geometry.now in
+    let i = c.args.sqnum.now in
+    let j = c.write_leb.new.sqnum in
+    let more = made.some in
+    let most = made.most in
+    record {
+      some = omega (arith, more);
+      most = omega (arith, most);
+      all = elim made.full [ inl none ↦ inl none | inr whole ↦ inr (omega (arith, whole)) ];
+      head = ap (λ (o : ℕ). head_at c.args.lnum o) made.units;
+    }
+  where
+    head_at : ℕ → ℕ → IndexHead
+    head_at lnum offs = record { lnum = lnum; offs = offs }
+
+pub returns-clause-standing : goal.returns-clause-standing
+returns-clause-standing g c = λ done. (
+  written_standing (g.V.Volume.state c.args.volume.now) (g.V.Volume.state c.write_leb.new.volume) (c.args.lnum ∷ []) c.args.index.now c.write_leb.new.index c.args.sqnum.now c.write_leb.new.sqnum
+      (c.in_ok-offs.ensures.standing tt),
+  c.in_ok-offs.ensures.text tt,
+)
+
+pub returns-clause-old_stays : goal.returns-clause-old_stays
+returns-clause-old_stays g c =
+    keeps_indexes c.an_index_depends_on_its_lebs_alone.ensures (g.V.Volume.state c.args.volume.now) (g.V.Volume.state c.write_leb.new.volume) (c.args.lnum ∷ []) c.write_leb.ensures.works
