@@ -22,7 +22,7 @@ use Rattle.index_cache.specs.Paged.{dirty_of, frozen_of, tree_of, KeepsRoots}
 use Rattle.index_cache.specs.declared.paged.PagedIndex.{PagedIndex}
 use Rattle.index_commit.specs.Rooms.{IsInRoom, Room, room_in}
 use Rattle.index_commit.specs.Standing.{AreStandingAs, StandsAs}
-use Rattle.index_commit.specs.Written.{AreTaken, IsIndexKept, IsIndexTaken, AreNodesLaid, Laying, Meets, with_leb_bytes}
+use Rattle.index_commit.specs.Written.{AreFirstsTaken, IsIndexKept, IsIndexTaken, AreNodesLaid, Laying, Meets, with_leb_bytes}
 use Rattle.index_commit.specs.LebTexts.{in_room}
 use Rattle.index_commit.proofs.LebTexts.{both_texts, one_text}
 use Rattle.index_commit.proofs.Rooms.{clean_kept, level_stays, links_stay, node_kept, none_there, not_behind, not_front, other_places, place_given, rooms_both, said_stays, taken_distinct, taken_then}
@@ -42,7 +42,7 @@ abbrev pub AreFewer : Type 0
 AreFewer = (number : ℕ) (numbers : List ℕ) → slice_get numbers 0 ≡ Some number → length (without_number number numbers) < length numbers
 
 -- ---- numbers that are taken
-pub taken_fewer : AreFewer → (xs a b : List ℕ) → AreTaken xs a b → length b + length xs ≤ length a
+pub taken_fewer : AreFewer → (xs a b : List ℕ) → AreFirstsTaken xs a b → length b + length xs ≤ length a
 taken_fewer fewer [] a b h = let same = ap length h in omega (arith, same)
 taken_fewer fewer (x ∷ xs) a b h =
     let one = fewer x a h.0 in
@@ -271,7 +271,7 @@ laid_one given fewer lnum room node offs sqnum after old new front own bytes p b
     let less = fewer node (dirty_of old) p.next.first in
     let gone = ap length p.dirty in
     let kept = placed_kept given lnum offs node old new p in
-    let taken : AreTaken (node ∷ []) (dirty_of old) (dirty_of new) = (p.next.first, p.dirty) in
+    let taken : AreFirstsTaken (node ∷ []) (dirty_of old) (dirty_of new) = (p.next.first, p.dirty) in
     record {
       index = record {
         kept = kept;

@@ -10,19 +10,19 @@ use Rattle.node_table.specs.declared.link.Link.TheVariants.{ToLeaf, ToNode}
 use Rattle.node_table.specs.declared.node.NodePlace.{NodePlace}
 use Rattle.node_table.specs.declared.node.Root.{Root}
 use Rattle.node_table.specs.declared.node.TableNode.{TableNode}
-use Rattle.index_commit.specs.Written.{AreTaken}
+use Rattle.index_commit.specs.Written.{AreFirstsTaken}
 
 -- each number is lower
-abbrev AreLower : ℕ → List ℕ → Type 0
+abbrev pub AreLower : ℕ → List ℕ → Type 0
 AreLower most [] = ⊤
 AreLower most (n ∷ numbers) = (n < most) × AreLower most numbers
 
 -- there are none, or the last one is this, and the others are lower
-abbrev EndsWith : ℕ → List ℕ → Type 0
+abbrev pub EndsWith : ℕ → List ℕ → Type 0
 EndsWith last numbers = (numbers ≡ []) ⊎ ((below : List ℕ) × (numbers ≡ below ++ last ∷ []) × AreLower last below)
 
 -- each list ends with its own number
-abbrev EndTheirs : ℕ → List (List ℕ) → Type 0
+abbrev pub EndTheirs : ℕ → List (List ℕ) → Type 0
 EndTheirs from [] = ⊤
 EndTheirs from (numbers ∷ lists) = EndsWith from numbers × EndTheirs (suc from) lists
 
@@ -56,17 +56,17 @@ ends_at from (suc n) (numbers ∷ lists) h =
     let P : ℕ → Type 0 = λ k. EndsWith k (unwrap_or (slice_get lists n) []) in
     subst P same (ends_at (suc from) n lists h.1)
 
-lower_among : (known : List (List ℕ)) (links : List Link) → EndTheirs 0 known → AreLower (length known) (dirty_among known links)
+pub lower_among : (known : List (List ℕ)) (links : List Link) → EndTheirs 0 known → AreLower (length known) (dirty_among known links)
 lower_among known [] h = tt
 lower_among known (ToLeaf x ∷ links) h = lower_among known links h
 lower_among known (ToNode key number ∷ links) h =
     lower_both (length known) (unwrap_or (slice_get known number) []) (dirty_among known links) (lower_at 0 (length known) number known (omega arith) h) (lower_among known links h)
 
-own_ends : (place : Option NodePlace) (number : ℕ) (below : List ℕ) → AreLower number below → EndsWith number (dirty_node place number below)
+pub own_ends : (place : Option NodePlace) (number : ℕ) (below : List ℕ) → AreLower number below → EndsWith number (dirty_node place number below)
 own_ends None number below h = inr (below, refl, h)
 own_ends (Some place) number below h = inl refl
 
-end_both : (from : ℕ) (lists : List (List ℕ)) (numbers : List ℕ) → EndTheirs from lists → EndsWith (from + length lists) numbers → EndTheirs from (lists ++ numbers ∷ [])
+pub end_both : (from : ℕ) (lists : List (List ℕ)) (numbers : List ℕ) → EndTheirs from lists → EndsWith (from + length lists) numbers → EndTheirs from (lists ++ numbers ∷ [])
 end_both from [] numbers h k =
     let same : from + 0 ≡ from = omega arith in
     let P : ℕ → Type 0 = λ n. EndsWith n numbers in
@@ -108,7 +108,7 @@ lower_without n most (k ∷ numbers) h = elim (cases_Bool (k == n)) [
   | inr e ↦ rw e (h.0, lower_without n most numbers h.1)
 ]
 
-pub none_from_none : (numbers left : List ℕ) → AreTaken numbers [] left → numbers ≡ []
+pub none_from_none : (numbers left : List ℕ) → AreFirstsTaken numbers [] left → numbers ≡ []
 none_from_none [] left h = refl
 none_from_none (n ∷ numbers) left h = let bad = h.0 in absurd cc
 
@@ -116,12 +116,12 @@ none_before : (below : List ℕ) (last : ℕ) → [] ≡ below ++ last ∷ [] �
 none_before [] last e = absurd cc
 none_before (n ∷ below) last e = absurd cc
 
-last_taken : (numbers below : List ℕ) (last n : ℕ) → AreLower last below → AreTaken numbers (below ++ last ∷ []) [] → length numbers ≡ n + 1 → slice_get numbers n ≡ Some last
+last_taken : (numbers below : List ℕ) (last n : ℕ) → AreLower last below → AreFirstsTaken numbers (below ++ last ∷ []) [] → length numbers ≡ n + 1 → slice_get numbers n ≡ Some last
 last_taken [] below last n lower h long = absurd (omega (arith, long))
 last_taken (x ∷ numbers) [] last n lower h long =
     let same : last ≡ x = let first = h.0 in cc in
     let itself : (last == x) ≡ true = grind (arith, nat_tests, same) in
-    let rest : AreTaken numbers [] [] = rw itself at h.1 in
+    let rest : AreFirstsTaken numbers [] [] = rw itself at h.1 in
     let none = ap length (none_from_none numbers [] rest) in
     let start : n ≡ 0 = omega (arith, none, long) in
     let P : ℕ → Type 0 = λ k. slice_get (x ∷ numbers) k ≡ Some last in
@@ -132,10 +132,10 @@ last_taken (x ∷ numbers) (y ∷ below) last zero lower h long =
     let sooner : x < last = omega (arith, same, less) in
     let none : length numbers ≡ 0 = omega (arith, long) in
     let left : List ℕ = without_number x (y ∷ below) in
-    let rest : AreTaken numbers (left ++ last ∷ []) [] = subst (λ (l : List ℕ). AreTaken numbers l []) (without_last x last (y ∷ below) sooner) h.1 in
+    let rest : AreFirstsTaken numbers (left ++ last ∷ []) [] = subst (λ (l : List ℕ). AreFirstsTaken numbers l []) (without_last x last (y ∷ below) sooner) h.1 in
     absurd (none_before left last (none_left numbers (left ++ last ∷ []) none rest))
   where
-    none_left : (numbers old : List ℕ) → length numbers ≡ 0 → AreTaken numbers old [] → [] ≡ old
+    none_left : (numbers old : List ℕ) → length numbers ≡ 0 → AreFirstsTaken numbers old [] → [] ≡ old
     none_left [] old none h = h
     none_left (n ∷ numbers) old none h = absurd (omega (arith, none))
 last_taken (x ∷ numbers) (y ∷ below) last (suc n) lower h long =
@@ -143,17 +143,17 @@ last_taken (x ∷ numbers) (y ∷ below) last (suc n) lower h long =
     let less : y < last = lower.0 in
     let sooner : x < last = omega (arith, same, less) in
     let left : List ℕ = without_number x (y ∷ below) in
-    let rest : AreTaken numbers (left ++ last ∷ []) [] = subst (λ (l : List ℕ). AreTaken numbers l []) (without_last x last (y ∷ below) sooner) h.1 in
+    let rest : AreFirstsTaken numbers (left ++ last ∷ []) [] = subst (λ (l : List ℕ). AreFirstsTaken numbers l []) (without_last x last (y ∷ below) sooner) h.1 in
     last_taken numbers left last n (lower_without x last (y ∷ below) lower) rest (omega (arith, long))
 
 -- where all dirty nodes below a root were written, it was the last
-pub root_is_last : (nodes : List TableNode) (root : Root) (numbers : List ℕ) (n : ℕ) → AreTaken numbers (dirty_below nodes (Some root)) [] → length numbers ≡ n + 1 → slice_get numbers n ≡ Some root.number
+pub root_is_last : (nodes : List TableNode) (root : Root) (numbers : List ℕ) (n : ℕ) → AreFirstsTaken numbers (dirty_below nodes (Some root)) [] → length numbers ≡ n + 1 → slice_get numbers n ≡ Some root.number
 root_is_last nodes root numbers n h long = elim (from_ends nodes root.number) [
   | inl none ↦
-      let P : List ℕ → Type 0 = λ l. AreTaken numbers l [] in
+      let P : List ℕ → Type 0 = λ l. AreFirstsTaken numbers l [] in
       let empty = ap length (none_from_none numbers [] (subst P none h)) in
       absurd (omega (arith, empty, long))
   | inr own ↦
-      let P : List ℕ → Type 0 = λ l. AreTaken numbers l [] in
+      let P : List ℕ → Type 0 = λ l. AreFirstsTaken numbers l [] in
       last_taken numbers own.0 root.number n own.2 (subst P own.1 h) long
 ]

@@ -19,7 +19,7 @@ use Rattle.index_cache.specs.declared.paged.PagedIndex.{PagedIndex}
 use Rattle.index_commit.specs.Lebs.{IsGiven}
 use Rattle.index_commit.specs.LebTexts.{AreLebsOf, IsLebOf, firsts, in_room, in_rooms, nodes_written, rooms_end, said_by}
 use Rattle.index_commit.specs.Rooms.{Room, AreInRooms, whole_units}
-use Rattle.index_commit.specs.Written.{AreTaken, IsIndexKept, IsIndexTaken, IsLebPut, WorksInLebs}
+use Rattle.index_commit.specs.Written.{AreFirstsTaken, IsIndexKept, IsIndexTaken, IsLebPut, WorksInLebs}
 use Rattle.index_commit.proofs.Rooms.{said_stays, taken_then}
 
 -- ---- what nodes say
@@ -56,7 +56,7 @@ one_text len sqnum after old new node own kept clean e text =
     text ∙ ap (λ (n : ℕ). in_room len n (said_of old node)) e ∙ ap (in_room len (sqnum + 1)) said ∙ sym (append-nil (in_room len (sqnum + 1) (said_of new node)))
 
 -- ---- which nodes are written
-firsts_taken : (numbers old new : List ℕ) → AreTaken numbers old new → firsts (length numbers) old ≡ numbers
+firsts_taken : (numbers old new : List ℕ) → AreFirstsTaken numbers old new → firsts (length numbers) old ≡ numbers
 firsts_taken [] old new h = refl
 firsts_taken (x ∷ numbers) [] new h = let bad = h.0 in absurd cc
 firsts_taken (x ∷ numbers) (y ∷ old) new h =

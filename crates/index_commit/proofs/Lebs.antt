@@ -33,7 +33,7 @@ use Rattle.index_commit.specs.Lebs.{AreGivable, IsGiven}
 use Rattle.index_commit.specs.LebTexts.{AreLebsOf, IsLebOf, in_rooms, nodes_written, said_by}
 use Rattle.index_commit.specs.Rooms.{Room, whole_units}
 use Rattle.index_commit.specs.Standing.{AreStandingAs, IsOutside, StandsAs}
-use Rattle.index_commit.specs.Written.{AreStanding, AreTaken, AreWritten, IsHeadAfter, IsHeadIn, IsIndexTaken, AreNodesLaid, IsLebPut, IsNewIn, IsPut, Demand, Meets, IsSettledOutside, KeepsOtherIndexes, WorksInLebs, with_leb_bytes}
+use Rattle.index_commit.specs.Written.{AreStanding, AreFirstsTaken, AreWritten, IsHeadAfter, IsHeadIn, IsIndexTaken, AreNodesLaid, IsLebPut, IsNewIn, IsPut, Demand, Meets, IsSettledOutside, KeepsOtherIndexes, WorksInLebs, with_leb_bytes}
 use Rattle.index_commit.specs.declared.index_at.IndexHead.{IndexHead}
 use Rattle.index_commit.proofs.Laid.{AreFewer, taken_fewer}
 use Rattle.index_commit.proofs.LastTaken.{none_from_none}
@@ -73,7 +73,7 @@ one_times n room some =
     let sum = add-mul (n - 1) 1 room in
     omega (arith, whole, sum)
 
-none_taken : (numbers old new : List ℕ) → length numbers ≡ 0 → AreTaken numbers old new → new ≡ old
+none_taken : (numbers old new : List ℕ) → length numbers ≡ 0 → AreFirstsTaken numbers old new → new ≡ old
 none_taken [] old new none h = h
 none_taken (n ∷ numbers) old new none h = absurd (omega (arith, none))
 
@@ -493,7 +493,7 @@ all_lebs geo a b c lnum lebs all x y z i j k e apart ab bc first then whole most
     let Q : List Index → Type 0 = λ l. AreLebsOf geo (lnum ∷ lebs) a c i l in
     let behind : (ys ≡ []) ⊎ ((length xs ≡ index_nodes_per_leb geo) × (j ≡ i + index_nodes_per_leb geo)) = elim full [
       | inl none ↦
-          let T : List ℕ → Type 0 = λ l. AreTaken then.numbers l (dirty_of z) in
+          let T : List ℕ → Type 0 = λ l. AreFirstsTaken then.numbers l (dirty_of z) in
           let empty = none_from_none then.numbers (dirty_of z) (subst T none then.taken) in
           inl (written_are y z j k then ∙ ap (said_by z) empty)
       | inr all ↦ inr (omega (arith, count, all), all)

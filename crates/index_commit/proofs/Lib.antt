@@ -10,3 +10,4 @@ pub mod Committed
 pub mod Changes
 pub mod Ordered
 pub mod RowRooms
+pub mod Twice

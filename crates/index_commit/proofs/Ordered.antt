@@ -19,7 +19,7 @@ use Rattle.index_cache.specs.Paged.{frozen_of}
 use Rattle.index_cache.specs.declared.paged.PagedIndex.{PagedIndex}
 use Rattle.index_commit.specs.Answers.{HasEqualKeys}
 use Rattle.index_commit.specs.Lebs.{IsGiven}
-use Rattle.index_commit.specs.Ordered.{AreInOrder, IsNotEqualKeys}
+use Rattle.index_commit.specs.Ordered.{AreKeysInOrder, IsNotEqualKeys}
 use Rattle.index_commit.specs.declared.index_fault.IndexFault.{IndexFault}
 use Rattle.index_commit.specs.declared.index_fault.IndexFault.TheVariants.{Memory, Full, EqualKeys, Volume}
 use Rattle.index_commit.proofs.Changes.{placed_again}
@@ -27,11 +27,11 @@ use Rattle.index_commit.proofs.Lebs.{given_of}
 
 -- ---- what holds of each node of a row
 -- the keys in a node, if it is there, and in those below it are in order
-abbrev IsInOrder : Option NodeView → Type 0
+abbrev pub IsInOrder : Option NodeView → Type 0
 IsInOrder None = ⊤
-IsInOrder (Some v) = (in_order None (branches_of (placed_of v.children)) ≡ true) × AreInOrder v.children
+IsInOrder (Some v) = (in_order None (branches_of (placed_of v.children)) ≡ true) × AreKeysInOrder v.children
 
-node_order : (key : Key) (o : Option NodeView) (rest : KeyedRow) → AreInOrder (node_before key o rest) → IsInOrder o × AreInOrder rest
+node_order : (key : Key) (o : Option NodeView) (rest : KeyedRow) → AreKeysInOrder (node_before key o rest) → IsInOrder o × AreKeysInOrder rest
 node_order key None rest h = (tt, h.2)
 node_order key (Some v) rest h = ((h.0, h.1), h.2)
 
@@ -48,7 +48,7 @@ get_end (y ∷ xs) x zero e = absurd (omega (arith, e))
 get_end (y ∷ xs) x (suc n) e = get_end xs x n (omega (arith, e))
 
 -- a number in one of these lists
-abbrev Has : List (List ℕ) → ℕ → ℕ → Type 0
+abbrev pub Has : List (List ℕ) → ℕ → ℕ → Type 0
 Has lists i number = IsGiven (unwrap_or (slice_get lists i) []) number
 
 -- in which list of more it is
@@ -62,11 +62,11 @@ has_front (list ∷ lists) own (suc i) number h = elim (has_front lists own i nu
 ]
 
 -- each number stands for a node, whose keys are in order if those of the list's node are, and those below it
-abbrev AreBelow : List NodeView → List (List ℕ) → Type 0
+abbrev pub AreBelow : List NodeView → List (List ℕ) → Type 0
 AreBelow seen known = (i number : ℕ) → Has known i number → (number < length seen) × (IsInOrder (slice_get seen i) → IsInOrder (slice_get seen number))
 
 among_below : (seen : List NodeView) (known : List (List ℕ)) (links : List Link) (number : ℕ) → AreBelow seen known → IsGiven (dirty_among known links) number
-    → (number < length seen) × (AreInOrder (row_of seen links) → IsInOrder (slice_get seen number))
+    → (number < length seen) × (AreKeysInOrder (row_of seen links) → IsInOrder (slice_get seen number))
 among_below seen known [] number all h = absurd h
 among_below seen known (ToLeaf x ∷ links) number all h = among_below seen known links number all h
 among_below seen known (ToNode key k ∷ links) number all h = elim (given_of (unwrap_or (slice_get known k) []) (dirty_among known links) number h) [
@@ -124,7 +124,7 @@ more_below seen known node same all i number h =
           )
     ]
 
-all_below : (seen : List NodeView) (known : List (List ℕ)) (nodes : List TableNode) → length known ≡ length seen → AreBelow seen known → AreBelow (views_behind seen nodes) (dirty_behind known nodes)
+pub all_below : (seen : List NodeView) (known : List (List ℕ)) (nodes : List TableNode) → length known ≡ length seen → AreBelow seen known → AreBelow (views_behind seen nodes) (dirty_behind known nodes)
 all_below seen known [] same all = all
 all_below seen known (node ∷ nodes) same all =
     let v = view_of seen node in
@@ -133,7 +133,7 @@ all_below seen known (node ∷ nodes) same all =
     let other = length-append known (own ∷ []) in
     all_below (seen ++ v ∷ []) (known ++ own ∷ []) nodes (omega (arith, one, other, same)) (more_below seen known node same all)
 
-none_below : AreBelow [] []
+pub none_below : AreBelow [] []
 none_below i number h = absurd h
 
 first_given : (numbers : List ℕ) (number : ℕ) → slice_get numbers 0 ≡ Some number → IsGiven numbers number
@@ -145,7 +145,7 @@ children_order None h = refl
 children_order (Some v) h = h.0
 
 -- the first dirty node below a root
-next_order : (nodes : List TableNode) (root : Option Root) (number : ℕ) → AreInOrder (tree_at nodes root) → slice_get (dirty_below nodes root) 0 ≡ Some number
+next_order : (nodes : List TableNode) (root : Option Root) (number : ℕ) → AreKeysInOrder (tree_at nodes root) → slice_get (dirty_below nodes root) 0 ≡ Some number
     → in_order None (branches_of (placed_of (children_in (slice_get (views nodes) number)))) ≡ true
 next_order nodes None number h first = absurd cc
 next_order nodes (Some root) number h first =
@@ -169,14 +169,14 @@ keys_kept before (node_in key old children rest) new h =
     ap (λ (k : Key). may_follow before k && in_order (Some k) (branches_of (placed_of rest))) (branch_key key old) in
     ap (λ (r : KeyedRow). in_order before (branches_of (placed_of r))) h.3 ∙ one ∙ ap (λ b. may_follow before key && b) (keys_kept (Some key) rest h.2 h.6) ∙ sym other
 
-order_kept : (row new : KeyedRow) → KeepsPlaces row new → AreInOrder row → AreInOrder new
-order_kept no_more new h order = subst AreInOrder (sym h) tt
-order_kept (leaf_in x rest) new h order = subst AreInOrder (sym h.1) (order_kept rest h.0 h.2 order)
+order_kept : (row new : KeyedRow) → KeepsPlaces row new → AreKeysInOrder row → AreKeysInOrder new
+order_kept no_more new h order = subst AreKeysInOrder (sym h) tt
+order_kept (leaf_in x rest) new h order = subst AreKeysInOrder (sym h.1) (order_kept rest h.0 h.2 order)
 order_kept (node_in key old children rest) new h order =
-    subst AreInOrder (sym h.3) (keys_kept None children h.1 h.5 ∙ order.0, order_kept children h.1 h.5 order.1, order_kept rest h.2 h.6 order.2)
+    subst AreKeysInOrder (sym h.3) (keys_kept None children h.1 h.5 ∙ order.0, order_kept children h.1 h.5 order.1, order_kept rest h.2 h.6 order.2)
 
 -- ---- so the answer never comes
-pub never_equal : {T : Type 0} (a b : PagedIndex) (result : Result T IndexFault) → KeepsPlaces (frozen_of a) (frozen_of b) → AreInOrder (frozen_of a) → HasEqualKeys b result → IsNotEqualKeys result
+pub never_equal : {T : Type 0} (a b : PagedIndex) (result : Result T IndexFault) → KeepsPlaces (frozen_of a) (frozen_of b) → AreKeysInOrder (frozen_of a) → HasEqualKeys b result → IsNotEqualKeys result
 never_equal a b (Ok x) kept order h = tt
 never_equal a b (Err Memory) kept order h = tt
 never_equal a b (Err (Full need given)) kept order h = tt
@@ -187,7 +187,7 @@ never_equal a b (Err EqualKeys) kept order h =
 never_equal a b (Err (Volume count)) kept order h = tt
 
 -- ---- what stands on a medium
-pub stored_order : (contents : ℕ → List ℕ) (levels : ℕ) (row : PlacedRow) → AreStored contents levels row → AreInOrder (all_clean row)
+pub stored_order : (contents : ℕ → List ℕ) (levels : ℕ) (row : PlacedRow) → AreStored contents levels row → AreKeysInOrder (all_clean row)
 unfolding AreStored
 stored_order contents levels ended h = tt
 stored_order contents levels (leaf_at x rest) h = stored_order contents levels rest h.1

@@ -19,8 +19,8 @@ use Rattle.node_table.specs.declared.node.Root.{Root}
 use Rattle.index_cache.specs.Commit.{below_node, node_length, said_of}
 use Rattle.index_cache.specs.Paged.{dirty_of, fanout_of, frozen_of}
 use Rattle.index_cache.specs.declared.paged.PagedIndex.{PagedIndex}
-use Rattle.index_commit.specs.Rooms.{Room, IsLaidOut, LeadsTo, head_after, head_behind, head_of, place_of_node, room_in, room_of, whole_units}
-use Rattle.index_commit.specs.Written.{AreTaken, IsIndexTaken}
+use Rattle.index_commit.specs.Rooms.{Room, IsIndexLaidOut, LeadsToRoom, head_after, head_behind, last_head, place_by_number, room_in, taken_room, whole_units}
+use Rattle.index_commit.specs.Written.{AreFirstsTaken, IsIndexTaken}
 use Rattle.index_commit.specs.declared.index_at.IndexHead.{IndexHead}
 use Rattle.index_commit.proofs.Laid.{BothAreKept, index_rooms, index_then}
 use Rattle.index_commit.proofs.LastTaken.{none_from_none, root_is_last}
@@ -31,7 +31,7 @@ abbrev room_at : ℕ → ℕ → Room
 room_at lnum offs = record { lnum = lnum; offs = offs }
 
 -- ---- the rooms of the first LEB, and those of the others
-first_room : (geo : RawGeometry) (lnum : ℕ) (lebs all : List ℕ) (n : ℕ) → all ≡ lnum ∷ lebs → n < index_nodes_per_leb geo → room_in lnum (index_node_len geo) 0 n ≡ room_of geo all n
+first_room : (geo : RawGeometry) (lnum : ℕ) (lebs all : List ℕ) (n : ℕ) → all ≡ lnum ∷ lebs → n < index_nodes_per_leb geo → room_in lnum (index_node_len geo) 0 n ≡ taken_room geo all n
 first_room geo lnum lebs all n e less =
     let q = index_nodes_per_leb geo in
     let len = index_node_len geo in
@@ -43,7 +43,7 @@ first_room geo lnum lebs all n e less =
     ap (λ (o : ℕ). room_at lnum o) offs ∙ ap (λ (k : ℕ). room_at k (n % q * len)) (sym leb)
 
 other_room : (geo : RawGeometry) (lnum : ℕ) (lebs all : List ℕ) (m n : ℕ) → all ≡ lnum ∷ lebs → 0 < index_nodes_per_leb geo → m ≡ index_nodes_per_leb geo
-    → room_of geo lebs n ≡ room_of geo all (m + n)
+    → taken_room geo lebs n ≡ taken_room geo all (m + n)
 other_room geo lnum lebs all m n e some full =
     let q = index_nodes_per_leb geo in
     let len = index_node_len geo in
@@ -58,21 +58,21 @@ other_room geo lnum lebs all m n e some full =
 
 -- the nodes of the first LEB alone
 pub first_taken : (geo : RawGeometry) (lnum : ℕ) (lebs all : List ℕ) (a b : PagedIndex) (i j : ℕ) → all ≡ lnum ∷ lebs → j ≤ i + index_nodes_per_leb geo
-    → IsIndexTaken (room_in lnum (index_node_len geo) 0) a b i j → IsIndexTaken (room_of geo all) a b i j
+    → IsIndexTaken (room_in lnum (index_node_len geo) 0) a b i j → IsIndexTaken (taken_room geo all) a b i j
 first_taken geo lnum lebs all a b i j e most h =
     let number = h.number in
-    index_rooms (room_of geo all) (room_in lnum (index_node_len geo) 0) a b i j h (λ n less. first_room geo lnum lebs all n e (omega (arith, less, number, most)))
+    index_rooms (taken_room geo all) (room_in lnum (index_node_len geo) 0) a b i j h (λ n less. first_room geo lnum lebs all n e (omega (arith, less, number, most)))
 
 -- and those of the others behind them: of which there are none, or it is full
 pub both_taken : BothAreKept → (geo : RawGeometry) (lnum : ℕ) (lebs all : List ℕ) (a b c : PagedIndex) (i j k : ℕ) → all ≡ lnum ∷ lebs → 0 < index_nodes_per_leb geo
     → j ≤ i + index_nodes_per_leb geo → (dirty_of b ≡ []) ⊎ (j ≡ i + index_nodes_per_leb geo)
-    → IsIndexTaken (room_in lnum (index_node_len geo) 0) a b i j → IsIndexTaken (room_of geo lebs) b c j k → IsIndexTaken (room_of geo all) a c i k
+    → IsIndexTaken (room_in lnum (index_node_len geo) 0) a b i j → IsIndexTaken (taken_room geo lebs) b c j k → IsIndexTaken (taken_room geo all) a c i k
 both_taken both geo lnum lebs all a b c i j k e some most full h g =
     let number = h.number in
-    index_then both (room_of geo all) (room_in lnum (index_node_len geo) 0) (room_of geo lebs) a b c i j k h g (λ n less. first_room geo lnum lebs all n e (omega (arith, less, number, most)))
+    index_then both (taken_room geo all) (room_in lnum (index_node_len geo) 0) (taken_room geo lebs) a b c i j k h g (λ n less. first_room geo lnum lebs all n e (omega (arith, less, number, most)))
     (λ n less. elim full [
       | inl none ↦
-          let P : List ℕ → Type 0 = λ l. AreTaken g.numbers l (dirty_of c) in
+          let P : List ℕ → Type 0 = λ l. AreFirstsTaken g.numbers l (dirty_of c) in
           let empty = ap length (none_from_none g.numbers (dirty_of c) (subst P none g.taken)) in
           absurd (omega (arith, empty, less))
       | inr whole ↦ other_room geo lnum lebs all (length h.numbers) n e some (omega (arith, whole, number))
@@ -80,15 +80,15 @@ both_taken both geo lnum lebs all a b c i j k e some most full h g =
 
 -- the next LEB behind some that are full
 pub next_taken : BothAreKept → (geo : RawGeometry) (lebs : List ℕ) (full lnum : ℕ) (a b c : PagedIndex) (i j k : ℕ) → slice_get lebs full ≡ Some lnum → j ≡ i + full * index_nodes_per_leb geo
-    → k ≤ j + index_nodes_per_leb geo → IsIndexTaken (room_of geo lebs) a b i j → IsIndexTaken (room_in lnum (index_node_len geo) 0) b c j k → IsIndexTaken (room_of geo lebs) a c i k
+    → k ≤ j + index_nodes_per_leb geo → IsIndexTaken (taken_room geo lebs) a b i j → IsIndexTaken (room_in lnum (index_node_len geo) 0) b c j k → IsIndexTaken (taken_room geo lebs) a c i k
 next_taken both geo lebs full lnum a b c i j k here whole most h g =
     let number = h.number in
     let count = g.number in
-    index_then both (room_of geo lebs) (room_of geo lebs) (room_in lnum (index_node_len geo) 0) a b c i j k h g (λ n less. refl)
+    index_then both (taken_room geo lebs) (taken_room geo lebs) (room_in lnum (index_node_len geo) 0) a b c i j k h g (λ n less. refl)
     (λ n less. next_room geo lebs full lnum (length h.numbers) n here (omega (arith, number, whole)) (omega (arith, less, count, most)))
   where
     next_room : (geo : RawGeometry) (lebs : List ℕ) (full lnum m n : ℕ) → slice_get lebs full ≡ Some lnum → m ≡ full * index_nodes_per_leb geo → n < index_nodes_per_leb geo
-        → room_in lnum (index_node_len geo) 0 n ≡ room_of geo lebs (m + n)
+        → room_in lnum (index_node_len geo) 0 n ≡ taken_room geo lebs (m + n)
     next_room geo lebs full lnum m n here e less =
         let q = index_nodes_per_leb geo in
         let len = index_node_len geo in
@@ -102,7 +102,7 @@ next_taken both geo lebs full lnum a b c i j k here whole most h g =
 
 -- ---- the head
 head_first : (geo : RawGeometry) (lnum : ℕ) (lebs all : List ℕ) (offs n : ℕ) → all ≡ lnum ∷ lebs → n < index_nodes_per_leb geo → offs ≡ whole_units geo ((n + 1) * index_node_len geo)
-    → Some (record { lnum = lnum; offs = offs }) ≡ head_of geo all (suc n)
+    → Some (record { lnum = lnum; offs = offs }) ≡ last_head geo all (suc n)
 head_first geo lnum lebs all offs n e less end =
     let len = index_node_len geo in
     let sum = add-mul n 1 len in
@@ -134,42 +134,42 @@ head_both geo lnum lebs all left offs i j k before now found e some more later m
 ]
 
 -- ---- the root
-same_head : (geo : RawGeometry) (lebs : List ℕ) (n : ℕ) → head_after geo lebs None n ≡ head_of geo lebs n
+same_head : (geo : RawGeometry) (lebs : List ℕ) (n : ℕ) → head_after geo lebs None n ≡ last_head geo lebs n
 same_head geo lebs zero = refl
 same_head geo lebs (suc n) = refl
 
 abbrev first_branch : KeyedRow → Option Branch
 first_branch row = slice_get (branches_of (placed_of row)) 0
 
-leads_to : (room : Room) (len : ℕ) (root : Root) (b : PagedIndex) → place_of_node b root.number ≡ Some (record { lnum = room.lnum; offs = room.offs; len = len })
-    → LeadsTo room (first_branch (tree_at b.table.nodes.items (Some root)))
+leads_to : (room : Room) (len : ℕ) (root : Root) (b : PagedIndex) → place_by_number b root.number ≡ Some (record { lnum = room.lnum; offs = room.offs; len = len })
+    → LeadsToRoom room (first_branch (tree_at b.table.nodes.items (Some root)))
 leads_to room len root b place =
-    let P : Option Branch → Type 0 = λ o. LeadsTo room o in
+    let P : Option Branch → Type 0 = λ o. LeadsToRoom room o in
     let row = view_node root.key (slice_get (views b.table.nodes.items) root.number) in
     let O : Option Stretch → KeyedRow = λ o. node_in root.key o (below_node b root.number) no_more in
     subst P (sym (ap first_branch (row ∙ ap O place))) (refl, refl)
 
-root_last : (geo : RawGeometry) (lebs : List ℕ) (a b : PagedIndex) (i k n : ℕ) (frozen : Option Root) → a.frozen ≡ frozen → IsIndexTaken (room_of geo lebs) a b i k → dirty_of b ≡ [] → k - i ≡ n + 1
-    → LeadsTo (room_of geo lebs n) (first_branch (tree_at b.table.nodes.items frozen))
+root_last : (geo : RawGeometry) (lebs : List ℕ) (a b : PagedIndex) (i k n : ℕ) (frozen : Option Root) → a.frozen ≡ frozen → IsIndexTaken (taken_room geo lebs) a b i k → dirty_of b ≡ [] → k - i ≡ n + 1
+    → LeadsToRoom (taken_room geo lebs n) (first_branch (tree_at b.table.nodes.items frozen))
 root_last geo lebs a b i k n frozen is h none count =
     let number = h.number in
     let long : length h.numbers ≡ n + 1 = omega (arith, number, count) in
-    let A : List ℕ → Type 0 = λ l. AreTaken h.numbers (dirty_of a) l in
-    let F : Option Root → Type 0 = λ o. AreTaken h.numbers (dirty_below a.table.nodes.items o) [] in
+    let A : List ℕ → Type 0 = λ l. AreFirstsTaken h.numbers (dirty_of a) l in
+    let F : Option Root → Type 0 = λ o. AreFirstsTaken h.numbers (dirty_below a.table.nodes.items o) [] in
     by frozen long (subst F is (subst A none h.taken))
   where
-    by : (o : Option Root) → length h.numbers ≡ n + 1 → AreTaken h.numbers (dirty_below a.table.nodes.items o) [] → LeadsTo (room_of geo lebs n) (first_branch (tree_at b.table.nodes.items o))
+    by : (o : Option Root) → length h.numbers ≡ n + 1 → AreFirstsTaken h.numbers (dirty_below a.table.nodes.items o) [] → LeadsToRoom (taken_room geo lebs n) (first_branch (tree_at b.table.nodes.items o))
     by None long taken = let empty = ap length (none_from_none h.numbers [] taken) in absurd (omega (arith, empty, long))
     by (Some root) long taken =
         let placed = h.rooms n root.number (root_is_last a.table.nodes.items root h.numbers n taken long) in
-        leads_to (room_of geo lebs n) (node_length (said_of b root.number)) root b placed.place
+        leads_to (taken_room geo lebs n) (node_length (said_of b root.number)) root b placed.place
 
-pub ended : (geo : RawGeometry) (lebs : List ℕ) (a b : PagedIndex) (i k : ℕ) (root : Option Branch) (head : Option IndexHead) → IsIndexTaken (room_of geo lebs) a b i k → dirty_of b ≡ []
-    → root ≡ slice_get (branches_of (placed_of (frozen_of b))) 0 → head ≡ head_after geo lebs None (k - i) → fits (fanout_of a) (bare (frozen_of a)) ≡ true → IsLaidOut geo lebs (k - i) a b (record { root = root; head = head })
+pub ended : (geo : RawGeometry) (lebs : List ℕ) (a b : PagedIndex) (i k : ℕ) (root : Option Branch) (head : Option IndexHead) → IsIndexTaken (taken_room geo lebs) a b i k → dirty_of b ≡ []
+    → root ≡ slice_get (branches_of (placed_of (frozen_of b))) 0 → head ≡ head_after geo lebs None (k - i) → fits (fanout_of a) (bare (frozen_of a)) ≡ true → IsIndexLaidOut geo lebs (k - i) a b (record { root = root; head = head })
 ended geo lebs a b i k root head h none first end fit = record {
   head = end ∙ same_head geo lebs (k - i);
   root = λ n count.
-      let P : Option Branch → Type 0 = λ o. LeadsTo (room_of geo lebs n) o in
+      let P : Option Branch → Type 0 = λ o. LeadsToRoom (taken_room geo lebs n) o in
       subst P (sym first) (root_last geo lebs a b i k n b.frozen (sym h.kept.roots.frozen) h none count);
   rooms = row_rooms geo lebs a b i k h none fit;
 }

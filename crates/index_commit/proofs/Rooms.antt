@@ -21,8 +21,8 @@ use Rattle.node_table.specs.declared.node.Root.{Root}
 use Rattle.node_table.specs.declared.node.TableNode.{TableNode}
 use Rattle.index_cache.specs.Commit.{below_node, level_in, node_length, said_of}
 use Rattle.index_cache.specs.declared.paged.PagedIndex.{PagedIndex}
-use Rattle.index_commit.specs.Rooms.{Room, AreDistinct, AreInRooms, IsInRoom, IsNotAmong, place_of_node}
-use Rattle.index_commit.specs.Written.{AreTaken, IsIndexKept, links_of}
+use Rattle.index_commit.specs.Rooms.{Room, AreDistinctNumbers, AreInRooms, IsInRoom, IsNotAmong, place_by_number}
+use Rattle.index_commit.specs.Written.{AreFirstsTaken, IsIndexKept, node_links}
 use Rattle.index_commit.proofs.Standing.{clean_node}
 
 -- ---- what is seen of the nodes of a table
@@ -65,13 +65,13 @@ levels_with n p [] = refl
 levels_with zero p (node ∷ nodes) = refl
 levels_with (suc n) p (node ∷ nodes) = ap (λ (l : List ℕ). node.level ∷ l) (levels_with n p nodes)
 
-links_with : (n : ℕ) (p : NodePlace) (nodes : List TableNode) → map links_of (with_place n p nodes) ≡ map links_of nodes
+links_with : (n : ℕ) (p : NodePlace) (nodes : List TableNode) → map node_links (with_place n p nodes) ≡ map node_links nodes
 links_with n p [] = refl
 links_with zero p (node ∷ nodes) = refl
-links_with (suc n) p (node ∷ nodes) = ap (λ (l : List (List Link)). links_of node ∷ l) (links_with n p nodes)
+links_with (suc n) p (node ∷ nodes) = ap (λ (l : List (List Link)). node_links node ∷ l) (links_with n p nodes)
 
-pub links_stay : (n : ℕ) (p : NodePlace) (old new : List TableNode) → new ≡ with_place n p old → map links_of new ≡ map links_of old
-links_stay n p old new e = ap (map links_of) e ∙ links_with n p old
+pub links_stay : (n : ℕ) (p : NodePlace) (old new : List TableNode) → new ≡ with_place n p old → map node_links new ≡ map node_links old
+links_stay n p old new e = ap (map node_links) e ∙ links_with n p old
 
 place_with : (n : ℕ) (p : NodePlace) (nodes : List TableNode) → n < length nodes → get_or (map place_kept (with_place n p nodes)) n None ≡ stretch_at (Some p)
 place_with n p [] there = absurd (omega (arith, there))
@@ -117,7 +117,7 @@ top_children (node_in key place children rest) = children
 
 -- what keeps its places keeps the place of each node, and what is below it
 pub node_kept : (a b : PagedIndex) (number : ℕ) → IsIndexKept a b
-    → ((place_of_node b number ≡ place_of_node a number) ⊎ (place_of_node a number ≡ None)) × KeepsPlaces (below_node a number) (below_node b number)
+    → ((place_by_number b number ≡ place_by_number a number) ⊎ (place_by_number a number ≡ None)) × KeepsPlaces (below_node a number) (below_node b number)
 node_kept a b number kept =
     let key : Key = Ino 0 in
     let va = slice_get (views a.table.nodes.items) number in
@@ -218,9 +218,9 @@ rooms_both r r1 r2 b c xs ys kept one other first second n number h = elim (get_
 ]
 
 -- ---- numbers that are taken
-pub taken_then : (xs ys a b c : List ℕ) → AreTaken xs a b → AreTaken ys b c → AreTaken (xs ++ ys) a c
+pub taken_then : (xs ys a b c : List ℕ) → AreFirstsTaken xs a b → AreFirstsTaken ys b c → AreFirstsTaken (xs ++ ys) a c
 taken_then [] ys a b c h k =
-    let P : List ℕ → Type 0 = λ x. AreTaken ys x c in
+    let P : List ℕ → Type 0 = λ x. AreFirstsTaken ys x c in
     subst P h k
 taken_then (x ∷ xs) ys a b c h k = (h.0, taken_then xs ys (without_number x a) b c h.1 k)
 
@@ -257,12 +257,12 @@ first_found k (n ∷ numbers) h =
     let e : (n == k) ≡ true = grind (arith, nat_tests, same) in
     rw e refl
 
-taken_found : (numbers old new : List ℕ) (n k : ℕ) → AreTaken numbers old new → slice_get numbers n ≡ Some k → list_any (is_number k) old ≡ true
+taken_found : (numbers old new : List ℕ) (n k : ℕ) → AreFirstsTaken numbers old new → slice_get numbers n ≡ Some k → list_any (is_number k) old ≡ true
 taken_found [] old new n k h is = absurd cc
 taken_found (x ∷ numbers) old new zero k h is = first_found k old (h.0 ∙ is)
 taken_found (x ∷ numbers) old new (suc n) k h is = test_without k x old (taken_found numbers (without_number x old) new n k h.1 is)
 
-once_more : (x : ℕ) (numbers old new : List ℕ) (n k : ℕ) → AreTaken numbers (without_number x old) new → Some x ≡ Some k → slice_get numbers n ≡ Some k → ⊥
+once_more : (x : ℕ) (numbers old new : List ℕ) (n k : ℕ) → AreFirstsTaken numbers (without_number x old) new → Some x ≡ Some k → slice_get numbers n ≡ Some k → ⊥
 once_more x numbers old new n k h first is =
     let found = taken_found numbers (without_number x old) new n k h is in
     let same : x ≡ k = cc in
@@ -271,7 +271,7 @@ once_more x numbers old new n k h first is =
     let bad = sym gone ∙ subst P same found in
     absurd cc
 
-pub taken_distinct : (numbers old new : List ℕ) → AreTaken numbers old new → AreDistinct numbers
+pub taken_distinct : (numbers old new : List ℕ) → AreFirstsTaken numbers old new → AreDistinctNumbers numbers
 taken_distinct [] old new h n m k is other = absurd cc
 taken_distinct (x ∷ numbers) old new h zero zero k is other = refl
 taken_distinct (x ∷ numbers) old new h zero (suc m) k is other = absurd (once_more x numbers old new m k h.1 is other)

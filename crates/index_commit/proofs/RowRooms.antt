@@ -24,8 +24,8 @@ use Rattle.node_table.specs.declared.node.Root.{Root}
 use Rattle.node_table.specs.declared.node.TableNode.{TableNode}
 use Rattle.index_cache.specs.Paged.{dirty_of, fanout_of, frozen_of}
 use Rattle.index_cache.specs.declared.paged.PagedIndex.{PagedIndex}
-use Rattle.index_commit.specs.Rooms.{Room, AreDistinct, IsNotAmong, all_rooms, place_of_node, place_room, room_of, rooms_of}
-use Rattle.index_commit.specs.Written.{AreTaken, IsIndexKept, IsIndexTaken, links_of}
+use Rattle.index_commit.specs.Rooms.{Room, AreDistinctNumbers, IsNotAmong, all_rooms, place_by_number, place_room, taken_room, rooms_of}
+use Rattle.index_commit.specs.Written.{AreFirstsTaken, IsIndexKept, IsIndexTaken, node_links}
 use Rattle.index_commit.proofs.Rooms.{node_kept}
 use Rattle.index_commit.proofs.Standing.{and_left, and_right, clean_node}
 
@@ -141,12 +141,12 @@ get_front [] x v n is = absurd cc
 get_front (y ∷ xs) x v zero is = is
 get_front (y ∷ xs) x v (suc n) is = get_front xs x v n is
 
-get_end : {X : Type 0} (xs : List X) (x : X) → slice_get (xs ++ x ∷ []) (length xs) ≡ Some x
+pub get_end : {X : Type 0} (xs : List X) (x : X) → slice_get (xs ++ x ∷ []) (length xs) ≡ Some x
 get_end [] x = refl
 get_end (y ∷ xs) x = get_end xs x
 
 -- an element of a list with one more
-get_cases : {X : Type 0} (xs : List X) (x v : X) (n : ℕ) → slice_get (xs ++ x ∷ []) n ≡ Some v → ((n < length xs) × (slice_get xs n ≡ Some v)) ⊎ ((n ≡ length xs) × (Some x ≡ Some v))
+pub get_cases : {X : Type 0} (xs : List X) (x v : X) (n : ℕ) → slice_get (xs ++ x ∷ []) n ≡ Some v → ((n < length xs) × (slice_get xs n ≡ Some v)) ⊎ ((n ≡ length xs) × (Some x ≡ Some v))
 get_cases [] x v zero is = inr (refl, is)
 get_cases [] x v (suc n) is = absurd cc
 get_cases (y ∷ xs) x v zero is = inl (omega arith, is)
@@ -155,13 +155,13 @@ get_cases (y ∷ xs) x v (suc n) is = elim (get_cases xs x v n is) [
   | inr end ↦ let same = end.0 in inr (omega (arith, same), end.1)
 ]
 
-list_front : (lists : List (List ℕ)) (own : List ℕ) (n : ℕ) → n < length lists → unwrap_or (slice_get (lists ++ own ∷ []) n) [] ≡ unwrap_or (slice_get lists n) []
+pub list_front : (lists : List (List ℕ)) (own : List ℕ) (n : ℕ) → n < length lists → unwrap_or (slice_get (lists ++ own ∷ []) n) [] ≡ unwrap_or (slice_get lists n) []
 list_front [] own n less = absurd (omega (arith, less))
 list_front (list ∷ lists) own zero less = refl
 list_front (list ∷ lists) own (suc n) less = list_front lists own n (omega (arith, less))
 
 -- what was seen of a node stays
-seen_stays : (seen : List NodeView) (nodes : List TableNode) (n : ℕ) (v : NodeView) → slice_get seen n ≡ Some v → slice_get (views_behind seen nodes) n ≡ Some v
+pub seen_stays : (seen : List NodeView) (nodes : List TableNode) (n : ℕ) (v : NodeView) → slice_get seen n ≡ Some v → slice_get (views_behind seen nodes) n ≡ Some v
 seen_stays seen [] n v is = is
 seen_stays seen (node ∷ nodes) n v is = seen_stays (seen ++ view_of seen node ∷ []) nodes n v (get_front seen (view_of seen node) v n is)
 
@@ -201,7 +201,7 @@ record AreTables (at : ℕ → Option Room) (f : ℕ) (seen later : List NodeVie
   places : (i : ℕ) (v w : NodeView) → slice_get seen i ≡ Some v → slice_get later i ≡ Some w → (at i ≡ option_map place_room w.place) × ((w.place ≡ v.place) ⊎ (v.place ≡ None))
 
 all_filled : (at : ℕ → Option Room) (f : ℕ) (seen later : List NodeView) (known : List (List ℕ)) (nodes news : List TableNode) → length later ≡ length seen → length known ≡ length seen
-    → map links_of news ≡ map links_of nodes → AreTables at f (views_behind seen nodes) (views_behind later news) → AreFilled at seen later known
+    → map node_links news ≡ map node_links nodes → AreTables at f (views_behind seen nodes) (views_behind later news) → AreFilled at seen later known
     → AreFilled at (views_behind seen nodes) (views_behind later news) (dirty_behind known nodes)
 all_filled at f seen later known [] [] same count links tables all = all
 all_filled at f seen later known [] (y ∷ news) same count links tables all = absurd cc
@@ -228,7 +228,7 @@ all_filled at f seen later known (x ∷ nodes) (y ∷ news) same count links tab
     (more_filled at seen later known v w own same count all mine)
 
 -- ---- the tables of an index before and after
-get_all : {X : Type 0} (P : X → Type 0) (xs : List X) (n : ℕ) (x : X) → All P xs → slice_get xs n ≡ Some x → P x
+pub get_all : {X : Type 0} (P : X → Type 0) (xs : List X) (n : ℕ) (x : X) → All P xs → slice_get xs n ≡ Some x → P x
 get_all P [] n x all is = absurd cc
 get_all P (y ∷ xs) zero x all is = let e : y ≡ x = cc in subst P e (All-head P y xs all)
 get_all P (y ∷ xs) (suc n) x all is = get_all P xs n x (All-tail P y xs all) is
@@ -242,7 +242,7 @@ get_clean (w ∷ seen) zero v all is =
 get_clean (w ∷ seen) (suc n) v all is = get_clean seen n v (and_right (is_clean_below w) (are_clean_below seen) all) is
 
 abbrev room_now : PagedIndex → ℕ → Option Room
-room_now index number = option_map place_room (place_of_node index number)
+room_now index number = option_map place_room (place_by_number index number)
 
 tables_are : (a b : PagedIndex) → IsIndexKept a b → AreTables (room_now b) (fanout_of a) (views a.table.nodes.items) (views b.table.nodes.items)
 tables_are a b kept = record {
@@ -252,8 +252,8 @@ tables_are a b kept = record {
       (fit_node (fanout_of a) (bare v.children) done one.0).children;
   clean = λ i v is. get_clean (views a.table.nodes.items) i v a.table.clean is;
   places = λ i v w is now.
-      let here : place_of_node a i ≡ v.place = ap place_seen is in
-      let there : place_of_node b i ≡ w.place = ap place_seen now in (
+      let here : place_by_number a i ≡ v.place = ap place_seen is in
+      let there : place_by_number b i ≡ w.place = ap place_seen now in (
         ap (option_map place_room) there,
         elim (node_kept a b i kept).0 [ inl e ↦ inl (sym there ∙ e ∙ here) | inr e ↦ inr (sym here ∙ e) ],
       );
@@ -284,7 +284,7 @@ without_absent x (n ∷ numbers) none = elim (cases_Bool (n == x)) [
   | inr e ↦ rw e (ap (λ (l : List ℕ). n ∷ l) (without_absent x numbers (λ m is. none (suc m) is)))
 ]
 
-all_taken : (numbers dirty : List ℕ) → AreTaken numbers dirty [] → AreDistinct dirty → numbers ≡ dirty
+all_taken : (numbers dirty : List ℕ) → AreFirstsTaken numbers dirty [] → AreDistinctNumbers dirty → numbers ≡ dirty
 all_taken [] dirty h distinct = h
 all_taken (x ∷ numbers) [] h distinct = let bad = h.0 in absurd cc
 all_taken (x ∷ numbers) (y ∷ dirty) h distinct =
@@ -294,28 +294,28 @@ all_taken (x ∷ numbers) (y ∷ dirty) h distinct =
         let first : slice_get (y ∷ dirty) 0 ≡ Some x = ap (λ (k : ℕ). Some k) same in
         let twice = distinct 0 (suc n) x first is in
         omega (arith, twice) in
-    let rest : AreTaken numbers (without_number x dirty) [] = rw itself at h.1 in
-    let T : List ℕ → Type 0 = λ l. AreTaken numbers l [] in
+    let rest : AreFirstsTaken numbers (without_number x dirty) [] = rw itself at h.1 in
+    let T : List ℕ → Type 0 = λ l. AreFirstsTaken numbers l [] in
     let others = all_taken numbers dirty (subst T (without_absent x dirty absent) rest) (λ n m k is other. let e = distinct (suc n) (suc m) k is other in omega (arith, e)) in
     ap (λ (l : List ℕ). x ∷ l) others ∙ ap (λ (k : ℕ). k ∷ dirty) (sym same)
 
 rooms_filled : (geo : RawGeometry) (lebs : List ℕ) (at : ℕ → Option Room) (m : ℕ) (numbers : List ℕ) (rooms : List (Option Room)) → length numbers ≡ nones rooms
-    → ((n k : ℕ) → slice_get numbers n ≡ Some k → at k ≡ Some (room_of geo lebs (m + n))) → fill (map at numbers) rooms ≡ all_rooms geo lebs m rooms
+    → ((n k : ℕ) → slice_get numbers n ≡ Some k → at k ≡ Some (taken_room geo lebs (m + n))) → fill (map at numbers) rooms ≡ all_rooms geo lebs m rooms
 rooms_filled geo lebs at m numbers [] long h = refl
 rooms_filled geo lebs at m numbers (Some room ∷ rooms) long h = ap (λ (l : List (Option Room)). Some room ∷ l) (rooms_filled geo lebs at m numbers rooms long h)
 rooms_filled geo lebs at m [] (None ∷ rooms) long h = absurd (omega (arith, long))
 rooms_filled geo lebs at m (x ∷ numbers) (None ∷ rooms) long h =
     let here : m + 0 ≡ m = omega arith in
-    let first : at x ≡ Some (room_of geo lebs m) = h 0 x refl ∙ ap (λ (n : ℕ). Some (room_of geo lebs n)) here in
+    let first : at x ≡ Some (taken_room geo lebs m) = h 0 x refl ∙ ap (λ (n : ℕ). Some (taken_room geo lebs n)) here in
     let rest = rooms_filled geo lebs at (m + 1) numbers rooms (omega (arith, long)) (λ n k is.
         let later : m + suc n ≡ m + 1 + n = omega arith in
-        h (suc n) k is ∙ ap (λ (i : ℕ). Some (room_of geo lebs i)) later) in
-    ap (λ (o : Option Room). o ∷ fill (map at numbers) rooms) first ∙ ap (λ (l : List (Option Room)). Some (room_of geo lebs m) ∷ l) rest
+        h (suc n) k is ∙ ap (λ (i : ℕ). Some (taken_room geo lebs i)) later) in
+    ap (λ (o : Option Room). o ∷ fill (map at numbers) rooms) first ∙ ap (λ (l : List (Option Room)). Some (taken_room geo lebs m) ∷ l) rest
 
-pub row_rooms : (geo : RawGeometry) (lebs : List ℕ) (a b : PagedIndex) (i k : ℕ) → IsIndexTaken (room_of geo lebs) a b i k → dirty_of b ≡ [] → fits (fanout_of a) (bare (frozen_of a)) ≡ true → AreDistinct (dirty_of a)
+pub row_rooms : (geo : RawGeometry) (lebs : List ℕ) (a b : PagedIndex) (i k : ℕ) → IsIndexTaken (taken_room geo lebs) a b i k → dirty_of b ≡ [] → fits (fanout_of a) (bare (frozen_of a)) ≡ true → AreDistinctNumbers (dirty_of a)
     → rooms_of (frozen_of b) ≡ all_rooms geo lebs 0 (rooms_of (frozen_of a))
 row_rooms geo lebs a b i k taken none fit distinct =
-    let A : List ℕ → Type 0 = λ l. AreTaken taken.numbers (dirty_of a) l in
+    let A : List ℕ → Type 0 = λ l. AreFirstsTaken taken.numbers (dirty_of a) l in
     let whole : taken.numbers ≡ dirty_of a = all_taken taken.numbers (dirty_of a) (subst A none taken.taken) distinct in
     let roots : rooms_of (frozen_of b) ≡ rooms_of (tree_at b.table.nodes.items a.frozen) = ap (λ (o : Option Root). rooms_of (tree_at b.table.nodes.items o)) taken.kept.roots.frozen in
     roots ∙ by a.frozen fit whole
@@ -329,4 +329,4 @@ row_rooms geo lebs a b i k taken none fit distinct =
         let same = ap length whole in
         filled.0 ∙ ap (λ (l : List ℕ). fill (map (room_now b) l) (rooms_of (tree_at a.table.nodes.items (Some root)))) (sym whole)
         ∙ rooms_filled geo lebs (room_now b) 0 taken.numbers (rooms_of (tree_at a.table.nodes.items (Some root))) (omega (arith, count, same))
-        (λ n number is. let later : n ≡ 0 + n = omega arith in ap (option_map place_room) (taken.rooms n number is).place ∙ ap (λ (m : ℕ). Some (room_of geo lebs m)) later)
+        (λ n number is. let later : n ≡ 0 + n = omega arith in ap (option_map place_room) (taken.rooms n number is).place ∙ ap (λ (m : ℕ). Some (taken_room geo lebs m)) later)

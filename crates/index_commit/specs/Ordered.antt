@@ -8,10 +8,10 @@ use Rattle.index_commit.specs.declared.index_fault.IndexFault.{IndexFault}
 use Rattle.index_commit.specs.declared.index_fault.IndexFault.TheVariants.{Memory, Full, EqualKeys, Volume}
 
 -- in each node of a row the keys of branches ascend, but that several may be one that is an entry's
-abbrev pub AreInOrder : KeyedRow → Type 0
-AreInOrder no_more = ⊤
-AreInOrder (leaf_in x rest) = AreInOrder rest
-AreInOrder (node_in key place children rest) = (in_order None (branches_of (placed_of children)) ≡ true) × AreInOrder children × AreInOrder rest
+abbrev pub AreKeysInOrder : KeyedRow → Type 0
+AreKeysInOrder no_more = ⊤
+AreKeysInOrder (leaf_in x rest) = AreKeysInOrder rest
+AreKeysInOrder (node_in key place children rest) = (in_order None (branches_of (placed_of children)) ≡ true) × AreKeysInOrder children × AreKeysInOrder rest
 
 -- the call didn't answer that two branches of a node have one key
 abbrev pub IsNotEqualKeys : {T : Type 0} → Result T IndexFault → Type 0

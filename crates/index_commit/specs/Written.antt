@@ -18,39 +18,39 @@ use Rattle.index_cache.specs.Paged.{dirty_of, frozen_of, tree_of, KeepsRoots}
 use Rattle.index_cache.specs.declared.paged.PagedIndex.{PagedIndex}
 use Rattle.index_commit.specs.Lebs.{AreApart, IsGiven}
 use Rattle.index_commit.specs.LebTexts.{in_rooms, said_by}
-use Rattle.index_commit.specs.Rooms.{Room, room_in, place_of_node, AreDistinct, AreInRooms, IsNotAmong}
+use Rattle.index_commit.specs.Rooms.{Room, room_in, place_by_number, AreDistinctNumbers, AreInRooms, IsNotAmong}
 use Rattle.index_commit.specs.Standing.{AreOutside, AreStandingAs}
 use Rattle.index_commit.specs.declared.index_at.IndexAt.{IndexAt}
 use Rattle.index_commit.specs.declared.index_at.IndexHead.{IndexHead}
 
 -- the links of a node of the table
-abbrev pub links_of : TableNode → List Link
-links_of node = node.links.items
+abbrev pub node_links : TableNode → List Link
+node_links node = node.links.items
 
 -- The index in memory: below each root, the frozen one and the one that is seen included, stands what stood there, but that
 -- nodes that were dirty may have places. A node keeps its level and its links
 pub record IsIndexKept (old new : PagedIndex) : Type 0 where
   pub levels : (number : ℕ) → (said_of new number).level ≡ (said_of old number).level
-  pub links : map links_of new.table.nodes.items ≡ map links_of old.table.nodes.items
+  pub links : map node_links new.table.nodes.items ≡ map node_links old.table.nodes.items
   pub frozen : KeepsPlaces (frozen_of old) (frozen_of new)
   pub tree : KeepsPlaces (tree_of old) (tree_of new)
   pub trees : (root : Option Root) → KeepsPlaces (tree_at old.table.nodes.items root) (tree_at new.table.nodes.items root)
   pub roots : KeepsRoots old new
 
 -- these dirty nodes were written, in this order: each time the first one, by its number
-abbrev pub AreTaken : List ℕ → List ℕ → List ℕ → Type 0
-AreTaken [] old new = new ≡ old
-AreTaken (number ∷ numbers) old new = (slice_get old 0 ≡ Some number) × AreTaken numbers (without_number number old) new
+abbrev pub AreFirstsTaken : List ℕ → List ℕ → List ℕ → Type 0
+AreFirstsTaken [] old new = new ≡ old
+AreFirstsTaken (number ∷ numbers) old new = (slice_get old 0 ≡ Some number) × AreFirstsTaken numbers (without_number number old) new
 
 -- The index is kept. These nodes were written, none twice: each has its place in the next room, and took the next sequence number.
 -- All other nodes have the places that they had
 pub record IsIndexTaken (room : ℕ → Room) (old new : PagedIndex) (before after : ℕ) : Type 0 where
   pub kept : IsIndexKept old new
   pub numbers : List ℕ
-  pub taken : AreTaken numbers (dirty_of old) (dirty_of new)
-  pub distinct : AreDistinct numbers
+  pub taken : AreFirstsTaken numbers (dirty_of old) (dirty_of new)
+  pub distinct : AreDistinctNumbers numbers
   pub rooms : AreInRooms room new numbers
-  pub others : (number : ℕ) → IsNotAmong numbers number → place_of_node new number ≡ place_of_node old number
+  pub others : (number : ℕ) → IsNotAmong numbers number → place_by_number new number ≡ place_by_number old number
   pub number : after ≡ before + length numbers
   pub most : after + length (dirty_of new) ≤ before + length (dirty_of old)
 

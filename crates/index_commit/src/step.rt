@@ -7,7 +7,7 @@ ghost use Rattle.ubi_volume.specs.Geometry.{IsGeometryOf};
 ghost use Rattle.index_cache.specs.Paged.{dirty_of, fanout_of, frozen_of};
 ghost use Rattle.index_commit.specs.Answers.{HasEqualKeys, IsIndexAnswered, IsIndexNotFailed, IsNotFull};
 ghost use Rattle.index_commit.specs.LebTexts.{IsLebOf, IsNextLeb, nodes_written};
-ghost use Rattle.index_commit.specs.Ordered.{AreInOrder, IsNotEqualKeys};
+ghost use Rattle.index_commit.specs.Ordered.{AreKeysInOrder, IsNotEqualKeys};
 ghost use Rattle.index_commit.specs.Rooms.{room_in};
 ghost use Rattle.index_commit.specs.Written.{AreStanding, IsIndexTaken, KeepsOtherIndexes, WorksInLebs};
 
@@ -47,7 +47,7 @@ pub fn write_next_leb<V: Volume>(
     ensures works { WorksInLebs (V.state volume.old) (V.state volume.new) (lnum ∷ []) }
     ensures old_stays { KeepsOtherIndexes (V.state volume.old) (V.state volume.new) (lnum ∷ []) }
     ensures answer { IsIndexAnswered (V.state volume.old) (V.state volume.new) result × IsNotFull result
-        × HasEqualKeys index.new result × (AreInOrder (frozen_of index.old) → IsNotEqualKeys result) }
+        × HasEqualKeys index.new result × (AreKeysInOrder (frozen_of index.old) → IsNotEqualKeys result) }
 {
     an_index_depends_on_its_lebs_alone();
     places_are_kept();

@@ -14,8 +14,8 @@ ghost use Rattle.index_cache.specs.Paged.{dirty_of, frozen_of, fanout_of};
 ghost use Rattle.index_commit.specs.Answers.{HasEqualKeys, IsIndexNotFailed, IsNotFull, IsFullOf, IsIndexAnswered};
 ghost use Rattle.index_commit.specs.LebTexts.{AreLebsOf, IsLebOf, nodes_written};
 ghost use Rattle.index_commit.specs.Lebs.{AreGivable};
-ghost use Rattle.index_commit.specs.Ordered.{AreInOrder, IsNotEqualKeys};
-ghost use Rattle.index_commit.specs.Rooms.{IsLaidOut, head_after, room_in, room_of, whole_units};
+ghost use Rattle.index_commit.specs.Ordered.{AreKeysInOrder, IsNotEqualKeys};
+ghost use Rattle.index_commit.specs.Rooms.{IsIndexLaidOut, head_after, room_in, taken_room, whole_units};
 ghost use Rattle.index_commit.specs.Standing.{AreOutside};
 ghost use Rattle.index_commit.specs.Written.{AreStanding, AreWritten, IsHeadAfter, IsIndexAt, IsIndexTaken, IsLebPut, KeepsOtherIndexes, WorksInLebs, with_leb_bytes};
 
@@ -51,15 +51,15 @@ pub fn write_index<V: Volume>(
     requires lebs { AreGivable (V.state volume.old).leb_cnt lebs.now }
     requires outside { AreOutside (V.state volume.old).holds lebs.now (frozen_of index.old) }
     requires number { sqnum.old + length (dirty_of index.old) < 2 ^ 64 }
-    ensures written { IfOk result (λ at. IsIndexAt (V.state volume.new) geometry.now.fanout lebs.now index.old index.new at × IsLaidOut (raw_of geometry.now) lebs.now (sqnum.new - sqnum.old) index.old index.new at) }
+    ensures written { IfOk result (λ at. IsIndexAt (V.state volume.new) geometry.now.fanout lebs.now index.old index.new at × IsIndexLaidOut (raw_of geometry.now) lebs.now (sqnum.new - sqnum.old) index.old index.new at) }
     ensures standing { IsIndexNotFailed result → AreStanding (V.state volume.old) (V.state volume.new) lebs.now index.old index.new sqnum.old sqnum.new
         × AreLebsOf (raw_of geometry.now) lebs.now (V.state volume.old) (V.state volume.new) sqnum.old (nodes_written index.old index.new (sqnum.new - sqnum.old)) }
-    ensures index { IsIndexTaken (room_of (raw_of geometry.now) lebs.now) index.old index.new sqnum.old sqnum.new }
+    ensures index { IsIndexTaken (taken_room (raw_of geometry.now) lebs.now) index.old index.new sqnum.old sqnum.new }
     ensures works { WorksInLebs (V.state volume.old) (V.state volume.new) lebs.now }
     ensures old_stays { KeepsOtherIndexes (V.state volume.old) (V.state volume.new) lebs.now }
     ensures answer { IsIndexAnswered (V.state volume.old) (V.state volume.new) result
         × IsFullOf (Keeps (V.state volume.old) (V.state volume.new) × (index.new ≡ index.old)) (div_ceil (length (dirty_of index.old)) (index_nodes_per_leb (raw_of geometry.now))) (length lebs.now) result
-        × HasEqualKeys index.new result × (AreInOrder (frozen_of index.old) → IsNotEqualKeys result) }
+        × HasEqualKeys index.new result × (AreKeysInOrder (frozen_of index.old) → IsNotEqualKeys result) }
 {
     an_index_depends_on_its_lebs_alone();
     places_are_kept();
@@ -100,7 +100,7 @@ fn write_lebs<V: Volume>(
     ensures end { IfOk result (λ found. found ≡ head_after (raw_of geometry.now) lebs.now head (sqnum.new - sqnum.old)) }
     ensures standing { IsIndexNotFailed result → AreWritten (V.state volume.old) (V.state volume.new) lebs.now index.old index.new sqnum.old sqnum.new }
     ensures text { IsIndexNotFailed result → AreLebsOf (raw_of geometry.now) lebs.now (V.state volume.old) (V.state volume.new) sqnum.old (nodes_written index.old index.new (sqnum.new - sqnum.old)) }
-    ensures index { IsIndexTaken (room_of (raw_of geometry.now) lebs.now) index.old index.new sqnum.old sqnum.new }
+    ensures index { IsIndexTaken (taken_room (raw_of geometry.now) lebs.now) index.old index.new sqnum.old sqnum.new }
     ensures works { WorksInLebs (V.state volume.old) (V.state volume.new) lebs.now }
     ensures answer { IsIndexAnswered (V.state volume.old) (V.state volume.new) result }
     ensures fault { IsNotFull result }

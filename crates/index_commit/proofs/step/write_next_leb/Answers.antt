@@ -5,7 +5,7 @@ use Rattle.ubifs_base.specs.RawOf.{raw_of}
 use Rattle.index_cache.specs.Paged.{dirty_of, frozen_of}
 use Rattle.index_commit.specs.Answers.{IsIndexNotFailed}
 use Rattle.index_commit.specs.LebTexts.{rooms_end}
-use Rattle.index_commit.specs.Ordered.{AreInOrder, IsNotEqualKeys}
+use Rattle.index_commit.specs.Ordered.{AreKeysInOrder, IsNotEqualKeys}
 use Rattle.index_commit.specs.Rooms.{room_in}
 use Rattle.index_commit.specs.declared.index_at.IndexHead.{IndexHead}
 use Rattle.index_commit.proofs.Laid.{index_none}
@@ -37,7 +37,7 @@ returns-in_err-offs-clause-old_stays g c =
 
 pub returns-in_err-offs-clause-answer : goal.returns-in_err-offs-clause-answer
 returns-in_err-offs-clause-answer g c =
-    let fine : AreInOrder (frozen_of c.args.index.now) → IsNotEqualKeys c.write_leb.result =
+    let fine : AreKeysInOrder (frozen_of c.args.index.now) → IsNotEqualKeys c.write_leb.result =
     λ order. never_equal c.args.index.now c.write_leb.new.index c.write_leb.result c.write_leb.ensures.index.kept.frozen order c.write_leb.ensures.equal in
     (search rules, search rules, search rules, λ order. let fact = fine order in search (rules, fact))
 

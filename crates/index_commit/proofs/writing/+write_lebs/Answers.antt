@@ -4,8 +4,8 @@ use Rattle.ubifs_base.specs.Geometry.{index_node_len, index_nodes_per_leb}
 use Rattle.ubifs_base.specs.RawOf.{raw_of}
 use Rattle.index_cache.specs.Paged.{dirty_of}
 use Rattle.index_commit.specs.Answers.{IsIndexNotFailed}
-use Rattle.index_commit.specs.Rooms.{head_after, room_in, room_of}
-use Rattle.index_commit.specs.Written.{AreTaken, IsHeadAfter}
+use Rattle.index_commit.specs.Rooms.{head_after, room_in, taken_room}
+use Rattle.index_commit.specs.Written.{AreFirstsTaken, IsHeadAfter}
 use Rattle.index_commit.specs.declared.index_at.IndexHead.{IndexHead}
 use Rattle.index_commit.proofs.Committed.{some_nodes}
 use Rattle.index_commit.proofs.Laid.{index_none, taken_fewer}
@@ -18,7 +18,7 @@ pub returns-then-is_none-clause-standing : goal.returns-then-is_none-clause-stan
 returns-then-is_none-clause-standing g t c = λ done. none_written (g.V.Volume.state c.args.volume.now) c.args.lebs.now c.args.index.now c.args.sqnum.now
 
 pub returns-then-is_none-clause-index : goal.returns-then-is_none-clause-index
-returns-then-is_none-clause-index g t c = index_none c.places_are_kept.ensures.none (room_of (raw_of c.args.geometry.now) c.args.lebs.now) c.args.index.now c.args.sqnum.now
+returns-then-is_none-clause-index g t c = index_none c.places_are_kept.ensures.none (taken_room (raw_of c.args.geometry.now) c.args.lebs.now) c.args.index.now c.args.sqnum.now
 
 pub returns-in_err-offs-clause-standing : goal.returns-in_err-offs-clause-standing
 returns-in_err-offs-clause-standing g t c = λ failed.
@@ -118,7 +118,7 @@ returns-clause-end g t c =
     let now : Option IndexHead = Some (record { lnum = lnum; offs = offs }) in
     let full : (k ≡ j) ⊎ (j ≡ i + index_nodes_per_leb geo) = elim one.full [
       | inl none ↦
-          let P : List ℕ → Type 0 = λ l. AreTaken later.numbers l (dirty_of c.write_lebs.new.index) in
+          let P : List ℕ → Type 0 = λ l. AreFirstsTaken later.numbers l (dirty_of c.write_lebs.new.index) in
           let empty = ap length (none_from_none later.numbers (dirty_of c.write_lebs.new.index) (subst P none later.taken)) in
           inl (omega (arith, empty, last))
       | inr whole ↦ inr whole
@@ -163,6 +163,6 @@ returns-clause-text g t c = λ other.
     let one = c.in_ok-offs.ensures in
     let whole = both_taken c.places_are_kept.ensures.both geo lnum rest c.args.lebs.now c.args.index.now c.write_leb.new.index c.write_lebs.new.index c.args.sqnum.now c.write_leb.new.sqnum
     c.write_lebs.new.sqnum is (some_nodes c.args.geometry.now) one.most one.full one.index c.write_lebs.ensures.index in
-    all_lebs {r1 = room_in lnum (index_node_len geo) 0} {r2 = room_of geo rest} {r = room_of geo c.args.lebs.now} geo a (g.V.Volume.state c.write_leb.new.volume) (g.V.Volume.state c.write_lebs.new.volume) lnum rest c.args.lebs.now c.args.index.now c.write_leb.new.index c.write_lebs.new.index
+    all_lebs {r1 = room_in lnum (index_node_len geo) 0} {r2 = taken_room geo rest} {r = taken_room geo c.args.lebs.now} geo a (g.V.Volume.state c.write_leb.new.volume) (g.V.Volume.state c.write_lebs.new.volume) lnum rest c.args.lebs.now c.args.index.now c.write_leb.new.index c.write_lebs.new.index
     c.args.sqnum.now c.write_leb.new.sqnum c.write_lebs.new.sqnum is apart c.write_leb.ensures.works c.write_lebs.ensures.works one.index c.write_lebs.ensures.index whole one.most one.full
     (one.text tt) (c.write_lebs.ensures.text other)

@@ -9,8 +9,8 @@ use Rattle.index_commit.specs.Answers.{IsIndexNotFailed}
 use Rattle.index_commit.proofs.Committed.{index_at, lebs_suffice, some_nodes}
 use Rattle.index_commit.proofs.Laid.{index_none}
 use Rattle.index_commit.proofs.Lebs.{idle_lebs, keeps_indexes, none_standing, written_standing}
-use Rattle.index_commit.specs.Ordered.{AreInOrder, IsNotEqualKeys}
-use Rattle.index_commit.specs.Rooms.{room_of}
+use Rattle.index_commit.specs.Ordered.{AreKeysInOrder, IsNotEqualKeys}
+use Rattle.index_commit.specs.Rooms.{taken_room}
 use Rattle.index_commit.proofs.Ordered.{never_equal}
 use Rattle.index_commit.proofs.Rooming.{ended}
 use Rattle.index_commit.proofs.writing.write_index.Goals as goal
@@ -22,7 +22,7 @@ returns-then-need-given-clause-standing g c = λ full. (
 )
 
 pub returns-then-need-given-clause-index : goal.returns-then-need-given-clause-index
-returns-then-need-given-clause-index g c = index_none c.places_are_kept.ensures.none (room_of (raw_of c.args.geometry.now) c.args.lebs.now) c.args.index.now c.args.sqnum.now
+returns-then-need-given-clause-index g c = index_none c.places_are_kept.ensures.none (taken_room (raw_of c.args.geometry.now) c.args.lebs.now) c.args.index.now c.args.sqnum.now
 
 pub returns-in_err-leb-clause-standing : goal.returns-in_err-leb-clause-standing
 returns-in_err-leb-clause-standing g c = λ other. (
@@ -31,7 +31,7 @@ returns-in_err-leb-clause-standing g c = λ other. (
 )
 
 pub returns-in_err-leb-clause-index : goal.returns-in_err-leb-clause-index
-returns-in_err-leb-clause-index g c = index_none c.places_are_kept.ensures.none (room_of (raw_of c.args.geometry.now) c.args.lebs.now) c.args.index.now c.args.sqnum.now
+returns-in_err-leb-clause-index g c = index_none c.places_are_kept.ensures.none (taken_room (raw_of c.args.geometry.now) c.args.lebs.now) c.args.index.now c.args.sqnum.now
 
 pub write_lebs-requires-clause-fits : goal.write_lebs-requires-clause-fits
 write_lebs-requires-clause-fits g c =
@@ -86,6 +86,6 @@ returns-clause-standing g c = λ done. (
 
 pub returns-in_err-head-clause-answer : goal.returns-in_err-head-clause-answer
 returns-in_err-head-clause-answer g c =
-    let fine : AreInOrder (frozen_of c.args.index.now) → IsNotEqualKeys c.write_lebs.result =
+    let fine : AreKeysInOrder (frozen_of c.args.index.now) → IsNotEqualKeys c.write_lebs.result =
     λ order. never_equal c.args.index.now c.write_lebs.new.index c.write_lebs.result c.write_lebs.ensures.index.kept.frozen order c.write_lebs.ensures.equal in
     (search rules, search rules, search rules, λ order. let fact = fine order in search (rules, fact))
