@@ -24,7 +24,7 @@ use Rattle.index_commit.specs.Rooms.{IsInRoom, Room, room_in}
 use Rattle.index_commit.specs.Standing.{AreStandingAs, StandsAs}
 use Rattle.index_commit.specs.Written.{AreFirstsTaken, IsIndexKept, IsIndexTaken, AreNodesLaid, Laying, Meets, with_leb_bytes}
 use Rattle.index_commit.specs.LebTexts.{in_room}
-use Rattle.index_commit.proofs.LebTexts.{both_texts, one_text}
+use Rattle.index_commit.proofs.LebTexts.{both_texts, firsts_taken, one_text}
 use Rattle.index_commit.proofs.Rooms.{clean_kept, level_stays, links_stay, node_kept, none_there, not_behind, not_front, other_places, place_given, rooms_both, said_stays, taken_distinct, taken_then}
 use Rattle.index_commit.proofs.Standing.{Grows, row_placed}
 
@@ -74,6 +74,7 @@ index_rooms r r1 a b i j h same = record {
   kept = h.kept;
   numbers = h.numbers;
   taken = h.taken;
+  firsts = h.firsts;
   distinct = h.distinct;
   rooms = λ n number is.
       let P : Room → Type 0 = λ room. IsInRoom b room number in
@@ -97,6 +98,7 @@ index_then both r r1 r2 a b c i j k h g front back =
       kept = kept_then both a b c h.kept g.kept;
       numbers = h.numbers ++ g.numbers;
       taken = taken;
+      firsts = firsts_taken (h.numbers ++ g.numbers) (dirty_of a) (dirty_of c) taken;
       distinct = taken_distinct (h.numbers ++ g.numbers) (dirty_of a) (dirty_of c) taken;
       rooms = rooms_both r r1 r2 b c h.numbers g.numbers g.kept h.rooms g.rooms front back;
       others = λ number none. g.others number (not_behind h.numbers g.numbers number none) ∙ h.others number (not_front h.numbers g.numbers number none);
@@ -119,6 +121,7 @@ index_none none r a i = record {
   kept = kept_none none a;
   numbers = [];
   taken = refl;
+  firsts = refl;
   distinct = λ n m k is other. absurd (none_there n k is);
   rooms = λ n number is. absurd (none_there n number is);
   others = λ number none. refl;
@@ -277,6 +280,7 @@ laid_one given fewer lnum room node offs sqnum after old new front own bytes p b
         kept = kept;
         numbers = node ∷ [];
         taken = taken;
+        firsts = firsts_taken (node ∷ []) (dirty_of old) (dirty_of new) taken;
         distinct = taken_distinct (node ∷ []) (dirty_of old) (dirty_of new) taken;
         rooms = λ n number is. one_room lnum room (length front) offs node n number old new p kept b.start is;
         others = λ number none. other_places node number place old.table.nodes.items new.table.nodes.items (λ e. none 0 (ap (λ (k : ℕ). Some k) (sym e))) p.nodes;

@@ -16,11 +16,15 @@ use Rattle.ubi_volume.specs.Volume.{VolumeState, filled}
 use Rattle.index_cache.specs.Commit.{below_node, said_of}
 use Rattle.index_cache.specs.Paged.{dirty_of}
 use Rattle.index_cache.specs.declared.paged.PagedIndex.{PagedIndex}
+use Rattle.index_commit.specs.declared.index_at.IndexHead.{IndexHead}
 use Rattle.index_commit.specs.Lebs.{IsGiven}
-use Rattle.index_commit.specs.LebTexts.{AreLebsOf, IsLebOf, firsts, in_room, in_rooms, nodes_written, rooms_end, said_by}
+use Rattle.index_commit.specs.LebTexts.{AreLebsOf, IsLebOf, IsNextLeb, firsts, in_room, in_rooms, nodes_written, rooms_end, said_by}
 use Rattle.index_commit.specs.Rooms.{Room, AreInRooms, whole_units}
 use Rattle.index_commit.specs.Written.{AreFirstsTaken, IsIndexKept, IsIndexTaken, IsLebPut, WorksInLebs}
 use Rattle.index_commit.proofs.Rooms.{said_stays, taken_then}
+
+abbrev pub head_at : ℕ → ℕ → IndexHead
+head_at lnum offs = record { lnum = lnum; offs = offs }
 
 -- ---- what nodes say
 -- nodes that have their places say the same later
@@ -56,7 +60,7 @@ one_text len sqnum after old new node own kept clean e text =
     text ∙ ap (λ (n : ℕ). in_room len n (said_of old node)) e ∙ ap (in_room len (sqnum + 1)) said ∙ sym (append-nil (in_room len (sqnum + 1) (said_of new node)))
 
 -- ---- which nodes are written
-firsts_taken : (numbers old new : List ℕ) → AreFirstsTaken numbers old new → firsts (length numbers) old ≡ numbers
+pub firsts_taken : (numbers old new : List ℕ) → AreFirstsTaken numbers old new → firsts (length numbers) old ≡ numbers
 firsts_taken [] old new h = refl
 firsts_taken (x ∷ numbers) [] new h = let bad = h.0 in absurd cc
 firsts_taken (x ∷ numbers) (y ∷ old) new h =
@@ -196,3 +200,13 @@ pub idle_leb : (geo : RawGeometry) (state : VolumeState) (lnum : ℕ) (a : Paged
 idle_leb geo state lnum a i =
     let P : List Index → Type 0 = λ l. IsLebOf geo state state lnum i l in
     subst P (sym (none_written_nodes a i)) (IsSameLeb-none state lnum)
+
+-- ---- one LEB alone
+pub next_leb : (geo : RawGeometry) (lnum offs i j : ℕ) (dirty : List ℕ) → i < j → j ≤ i + index_nodes_per_leb geo → (dirty ≡ []) ⊎ (j ≡ i + index_nodes_per_leb geo)
+    → offs ≡ whole_units geo ((j - i) * index_node_len geo) → IsNextLeb geo lnum (j - i) dirty (head_at lnum offs)
+next_leb geo lnum offs i j dirty more most full end = record {
+  some = omega (arith, more);
+  most = omega (arith, most);
+  all = elim full [ inl none ↦ inl none | inr whole ↦ inr (omega (arith, whole)) ];
+  head = ap (head_at lnum) end;
+}

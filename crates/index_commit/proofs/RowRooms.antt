@@ -1,7 +1,6 @@
 -- Where the nodes of a row stand once all of its dirty nodes are written.
-use Rattle.std.proofs.Common.{◌≡◌, ℕ, zero, suc, ◌+◌, ◌<◌, ◌≤◌, true, false, List, [], ◌∷◌, ◌++◌, length, map, refl, ap, sym, ◌∙◌, subst, arith, inl, inr, append-nil, append_assoc, length-append}
-use Rattle.std.specs.Prelude.{◌⊎◌, ◌==◌, ◌&&◌, ◌||◌, not, All, Option, None, Some, is_none, option_map, slice_get, unwrap_or}
-use Rattle.std.specs.List.{list_all}
+use Rattle.std.proofs.Common.{◌≡◌, ℕ, zero, suc, ◌+◌, ◌<◌, true, List, [], ◌∷◌, ◌++◌, length, map, refl, ap, sym, ◌∙◌, subst, arith, inl, inr, append-nil, append_assoc, length-append}
+use Rattle.std.specs.Prelude.{◌⊎◌, ◌==◌, ◌||◌, All, Option, None, Some, is_none, option_map, slice_get, unwrap_or}
 use Rattle.std.proofs.lemmas.Bool.{cases_Bool}
 use Rattle.std.proofs.lemmas.Bool.Decides.{nat_tests}
 use Rattle.std.proofs.lemmas.List.{length-map, map-append}
@@ -14,7 +13,7 @@ use Rattle.index_media.specs.KeyedRow.{KeyedRow, no_more, leaf_in, node_in, bare
 use Rattle.index_media.specs.PlacedRow.{Stretch}
 use Rattle.node_table.specs.Clean.{are_clean_below, is_clean_below, is_clean_row}
 use Rattle.node_table.specs.Dirty.{dirty_among, dirty_behind, dirty_below, dirty_from, dirty_lists, dirty_node}
-use Rattle.node_table.specs.NodeView.{NodeView, children_in, node_before, row_of, stretch_at, tree_at, view_of, views, views_behind}
+use Rattle.node_table.specs.NodeView.{NodeView, node_before, row_of, stretch_at, tree_at, view_of, views, views_behind}
 use Rattle.node_table.specs.Placing.{without_number}
 use Rattle.node_table.specs.Sound.{AreSoundViews, IsSoundView}
 use Rattle.node_table.specs.declared.link.Link.{Link}
@@ -291,9 +290,9 @@ all_taken (x ∷ numbers) (y ∷ dirty) h distinct =
     let same : y ≡ x = let first = h.0 in cc in
     let itself : (y == x) ≡ true = grind (arith, nat_tests, same) in
     let absent : IsNotAmong dirty x = λ n is.
-        let first : slice_get (y ∷ dirty) 0 ≡ Some x = ap (λ (k : ℕ). Some k) same in
-        let twice = distinct 0 (suc n) x first is in
-        omega (arith, twice) in
+    let first : slice_get (y ∷ dirty) 0 ≡ Some x = ap (λ (k : ℕ). Some k) same in
+    let twice = distinct 0 (suc n) x first is in
+    omega (arith, twice) in
     let rest : AreFirstsTaken numbers (without_number x dirty) [] = rw itself at h.1 in
     let T : List ℕ → Type 0 = λ l. AreFirstsTaken numbers l [] in
     let others = all_taken numbers dirty (subst T (without_absent x dirty absent) rest) (λ n m k is other. let e = distinct (suc n) (suc m) k is other in omega (arith, e)) in
@@ -308,8 +307,8 @@ rooms_filled geo lebs at m (x ∷ numbers) (None ∷ rooms) long h =
     let here : m + 0 ≡ m = omega arith in
     let first : at x ≡ Some (taken_room geo lebs m) = h 0 x refl ∙ ap (λ (n : ℕ). Some (taken_room geo lebs n)) here in
     let rest = rooms_filled geo lebs at (m + 1) numbers rooms (omega (arith, long)) (λ n k is.
-        let later : m + suc n ≡ m + 1 + n = omega arith in
-        h (suc n) k is ∙ ap (λ (i : ℕ). Some (taken_room geo lebs i)) later) in
+    let later : m + suc n ≡ m + 1 + n = omega arith in
+    h (suc n) k is ∙ ap (λ (i : ℕ). Some (taken_room geo lebs i)) later) in
     ap (λ (o : Option Room). o ∷ fill (map at numbers) rooms) first ∙ ap (λ (l : List (Option Room)). Some (taken_room geo lebs m) ∷ l) rest
 
 pub row_rooms : (geo : RawGeometry) (lebs : List ℕ) (a b : PagedIndex) (i k : ℕ) → IsIndexTaken (taken_room geo lebs) a b i k → dirty_of b ≡ [] → fits (fanout_of a) (bare (frozen_of a)) ≡ true → AreDistinctNumbers (dirty_of a)

@@ -1,6 +1,6 @@
 -- Where no leaf stands twice, no dirty node does.
 use Rattle.std.proofs.Common.{◌≡◌, ℕ, zero, suc, ◌+◌, ◌<◌, ◌≤◌, true, false, List, [], ◌∷◌, ◌++◌, length, refl, ap, sym, ◌∙◌, subst, arith, inl, inr, append-nil, length-append}
-use Rattle.std.specs.Prelude.{◌⊎◌, ◌==◌, Bool, if◌then◌else◌, Option, None, Some, slice_get, unwrap_or}
+use Rattle.std.specs.Prelude.{◌⊎◌, ◌==◌, Bool, Option, None, Some, slice_get, unwrap_or}
 use Rattle.std.specs.List.{AllByRecursion, IsDistinct}
 use Rattle.std.proofs.lemmas.Bool.{cases_Bool}
 use Rattle.std.proofs.lemmas.Bool.Decides.{nat_tests}
@@ -26,7 +26,7 @@ use Rattle.index_cache.specs.declared.paged.PagedIndex.{PagedIndex}
 use Rattle.index_commit.specs.Lebs.{IsGiven}
 use Rattle.index_commit.specs.Rooms.{AreDistinctNumbers}
 use Rattle.index_commit.proofs.LastTaken.{AreLower, EndTheirs, end_both, lower_among, own_ends}
-use Rattle.index_commit.proofs.Ordered.{Has, all_below, none_below}
+use Rattle.index_commit.proofs.Ordered.{all_below, none_below}
 use Rattle.index_commit.proofs.RowRooms.{get_all, get_cases, get_end, list_front, seen_stays}
 
 -- ---- how often
@@ -277,10 +277,10 @@ root_once a root t fit distinct given =
           let sound : (i : ℕ) (w : NodeView) → slice_get seen i ≡ Some w → (fits f (bare w.children) ≡ true) × (i ≡ t → 1 ≤ leaf_often x (contents (bare w.children))) = λ i w at. (
             (fit_node f (bare w.children) done (get_all (IsSoundView f) seen i w all at).0).children,
             (λ e.
-            let here : slice_get seen t ≡ Some w = subst (λ (k : ℕ). slice_get seen k ≡ Some w) e at in
-            let both = sym is ∙ here in
-            let same : v ≡ w = cc in
-            subst (λ (z : NodeView). 1 ≤ leaf_often x (contents (bare z.children))) same first.1),
+                let here : slice_get seen t ≡ Some w = subst (λ (k : ℕ). slice_get seen k ≡ Some w) e at in
+                let both = sym is ∙ here in
+                let same : v ≡ w = cc in
+                subst (λ (z : NodeView). 1 ≤ leaf_often x (contents (bare z.children))) same first.1),
           ) in
           let fewer = all_fewer t x f [] [] a.table.nodes.items refl tt sound (none_fewer t x) in
           let few = node_fewer t x f seen lists root.key root.number (slice_get seen root.number) [] no_more refl fewer fit (λ g. omega arith) in

@@ -17,7 +17,7 @@ use Rattle.index_cache.specs.Commit.{said_of}
 use Rattle.index_cache.specs.Paged.{dirty_of, frozen_of, tree_of, KeepsRoots}
 use Rattle.index_cache.specs.declared.paged.PagedIndex.{PagedIndex}
 use Rattle.index_commit.specs.Lebs.{AreApart, IsGiven}
-use Rattle.index_commit.specs.LebTexts.{in_rooms, said_by}
+use Rattle.index_commit.specs.LebTexts.{firsts, in_rooms, said_by}
 use Rattle.index_commit.specs.Rooms.{Room, room_in, place_by_number, AreDistinctNumbers, AreInRooms, IsNotAmong}
 use Rattle.index_commit.specs.Standing.{AreOutside, AreStandingAs}
 use Rattle.index_commit.specs.declared.index_at.IndexAt.{IndexAt}
@@ -48,6 +48,7 @@ pub record IsIndexTaken (room : ℕ → Room) (old new : PagedIndex) (before aft
   pub kept : IsIndexKept old new
   pub numbers : List ℕ
   pub taken : AreFirstsTaken numbers (dirty_of old) (dirty_of new)
+  pub firsts : firsts (length numbers) (dirty_of old) ≡ numbers
   pub distinct : AreDistinctNumbers numbers
   pub rooms : AreInRooms room new numbers
   pub others : (number : ℕ) → IsNotAmong numbers number → place_by_number new number ≡ place_by_number old number

@@ -26,7 +26,7 @@ use ubifs_base::Geometry;
 /// does, and may do other work between.
 ///
 /// After any fault but `Volume` all clean nodes stand on the volume. `Full` never comes. Memory for the bytes of the LEB is taken before
-/// anything is written.
+/// anything is written; that for a node may still be missing, and then the LEB has the nodes before it.
 pub fn write_next_leb<V: Volume>(
     alloc: Global,
     volume: &mut V,

@@ -1,16 +1,13 @@
-use Rattle.std.proofs.Common.{◌≡◌, ◌+◌, ◌-◌, ◌*◌, ◌≤◌, ℕ, List, [], ◌∷◌, rules, ap, sym, ◌∙◌, arith, inl, inr, length}
-use Rattle.std.specs.Prelude.{◌⊎◌}
-use Rattle.ubifs_base.specs.Geometry.{index_node_len, index_nodes_per_leb}
+use Rattle.std.proofs.Common.{[], ◌∷◌, rules}
+use Rattle.ubifs_base.specs.Geometry.{index_node_len}
 use Rattle.ubifs_base.specs.RawOf.{raw_of}
 use Rattle.index_cache.specs.Paged.{dirty_of, frozen_of}
 use Rattle.index_commit.specs.Answers.{IsIndexNotFailed}
-use Rattle.index_commit.specs.LebTexts.{rooms_end}
 use Rattle.index_commit.specs.Ordered.{AreKeysInOrder, IsNotEqualKeys}
 use Rattle.index_commit.specs.Rooms.{room_in}
-use Rattle.index_commit.specs.declared.index_at.IndexHead.{IndexHead}
 use Rattle.index_commit.proofs.Laid.{index_none}
-use Rattle.index_commit.proofs.LebTexts.{idle_leb}
-use Rattle.index_commit.proofs.Lebs.{keeps_indexes, none_standing, none_works, written_standing}
+use Rattle.index_commit.proofs.LebTexts.{idle_leb, next_leb}
+use Rattle.index_commit.proofs.Lebs.{keeps_indexes, none_standing, written_standing}
 use Rattle.index_commit.proofs.Ordered.{never_equal}
 use Rattle.index_commit.proofs.step.write_next_leb.Goals as goal
 
@@ -44,20 +41,7 @@ returns-in_err-offs-clause-answer g c =
 pub returns-clause-done : goal.returns-clause-done
 returns-clause-done g c =
     let made = c.in_ok-offs.ensures in
-    let geo = raw_of c.args.geometry.now in
-    let i = c.args.sqnum.now in
-    let j = c.write_leb.new.sqnum in
-    let more = made.some in
-    let most = made.most in
-    record {
-      some = omega (arith, more);
-      most = omega (arith, most);
-      all = elim made.full [ inl none ↦ inl none | inr whole ↦ inr (omega (arith, whole)) ];
-      head = ap (λ (o : ℕ). head_at c.args.lnum o) made.units;
-    }
-  where
-    head_at : ℕ → ℕ → IndexHead
-    head_at lnum offs = record { lnum = lnum; offs = offs }
+    next_leb (raw_of c.args.geometry.now) c.args.lnum c.in_ok-offs.offs c.args.sqnum.now c.write_leb.new.sqnum (dirty_of c.write_leb.new.index) made.some made.most made.full made.units
 
 pub returns-clause-standing : goal.returns-clause-standing
 returns-clause-standing g c = λ done. (
