@@ -7,18 +7,19 @@ use Rattle.std.proofs.lemmas.List.{drop_all, length-map, map-append, take_all}
 use Rattle.ubifs_base.specs.Gap.{gap_of}
 use Rattle.ubifs_base.specs.Geometry.{index_node_len, index_nodes_per_leb}
 use Rattle.ubifs_base.specs.declared.raw_geometry.RawGeometry.{RawGeometry}
+use Rattle.index_media.specs.PlacedRow.{node_end}
 use Rattle.media_sys.specs.Index.{Index}
 use Rattle.node_table.specs.Clean.{is_clean_row}
 use Rattle.node_table.specs.Placing.{without_number}
 use Rattle.ubi_volume.specs.Frame.{IsSameLeb}
 use Rattle.ubi_volume.specs.FrameLaws.{IsSameLeb-none, IsSameLeb-then, Only-same}
 use Rattle.ubi_volume.specs.Volume.{VolumeState, filled}
-use Rattle.index_cache.specs.Commit.{below_node, said_of}
+use Rattle.index_cache.specs.Commit.{IsNextNode, below_node, node_length, said_of}
 use Rattle.index_cache.specs.Paged.{dirty_of}
 use Rattle.index_cache.specs.declared.paged.PagedIndex.{PagedIndex}
 use Rattle.index_commit.specs.declared.index_at.IndexHead.{IndexHead}
 use Rattle.index_commit.specs.Lebs.{IsGiven}
-use Rattle.index_commit.specs.LebTexts.{AreLebsOf, IsLebOf, IsNextLeb, firsts, in_room, in_rooms, nodes_written, rooms_end, said_by}
+use Rattle.index_commit.specs.LebTexts.{index_bytes, AreLebsOf, IsLebOf, IsNextLeb, firsts, in_room, in_rooms, nodes_written, rooms_end, said_by}
 use Rattle.index_commit.specs.Rooms.{Room, AreInRooms, whole_units}
 use Rattle.index_commit.specs.Written.{AreFirstsTaken, IsIndexKept, IsIndexTaken, IsLebPut, WorksInLebs}
 use Rattle.index_commit.proofs.Rooms.{said_stays, taken_then}
@@ -210,3 +211,31 @@ next_leb geo lnum offs i j dirty more most full end = record {
   all = elim full [ inl none ↦ inl none | inr whole ↦ inr (omega (arith, whole)) ];
   head = ap (head_at lnum) end;
 }
+
+-- ---- the bytes of nodes
+bytes_both : (xs ys : List Index) → index_bytes (xs ++ ys) ≡ index_bytes xs + index_bytes ys
+bytes_both [] ys = omega arith
+bytes_both (x ∷ xs) ys = let more = bytes_both xs ys in omega (arith, more)
+
+pub bytes_then : {r1 r2 r : ℕ → Room} (a b c : PagedIndex) (i j k : ℕ) → IsIndexTaken r1 a b i j → IsIndexTaken r2 b c j k → IsIndexTaken r a c i k
+    → index_bytes (nodes_written a c (k - i)) ≡ index_bytes (nodes_written a b (j - i)) + index_bytes (nodes_written b c (k - j))
+bytes_then a b c i j k h g whole = ap index_bytes (written_both a b c i j k h g whole) ∙ bytes_both (nodes_written a b (j - i)) (nodes_written b c (k - j))
+
+pub no_bytes : (a : PagedIndex) (i : ℕ) → index_bytes (nodes_written a a (i - i)) ≡ 0
+no_bytes a i = ap index_bytes (none_written_nodes a i)
+
+only_number : (numbers old new : List ℕ) (node : ℕ) → length numbers ≡ 1 → AreFirstsTaken numbers old new → slice_get old 0 ≡ Some node → numbers ≡ node ∷ []
+only_number [] old new node long h first = absurd (omega (arith, long))
+only_number (x ∷ []) old new node long h first =
+    let same : x ≡ node = let own = sym h.0 ∙ first in cc in
+    ap (λ (k : ℕ). k ∷ []) same
+only_number (x ∷ y ∷ numbers) old new node long h first = absurd (omega (arith, long))
+
+-- of one node
+pub one_bytes : {r : ℕ → Room} (a b : PagedIndex) (i j node : ℕ) → IsIndexTaken r a b i j → j ≡ i + 1 → IsNextNode a node → index_bytes (nodes_written a b (j - i)) ≡ node_end (node_length (said_of a node))
+one_bytes a b i j node h e next =
+    let number = h.number in
+    let only = only_number h.numbers (dirty_of a) (dirty_of b) node (omega (arith, number, e)) h.taken next.first in
+    let said = said_stays a b node h.kept next.ready.below in
+    let none : node_end (node_length (said_of a node)) + 0 ≡ node_end (node_length (said_of a node)) = omega arith in
+    ap index_bytes (written_are a b i j h ∙ ap (said_by b) only) ∙ ap (λ (s : Index). node_end (node_length s) + 0) said ∙ none

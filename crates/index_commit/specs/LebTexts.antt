@@ -3,6 +3,7 @@ use Rattle.std.specs.Prelude.{◌≡◌, ◌⊎◌, ◌<◌, ◌≤◌, ℕ, zer
 use Rattle.ubifs_base.specs.Gap.{gap_of}
 use Rattle.ubifs_base.specs.Geometry.{index_node_len, index_nodes_per_leb}
 use Rattle.ubifs_base.specs.declared.raw_geometry.RawGeometry.{RawGeometry}
+use Rattle.index_media.specs.PlacedRow.{node_end}
 use Rattle.media_sys.specs.Index.{Index}
 use Rattle.media_sys.specs.SystemNode.{index, written}
 use Rattle.node_table.specs.Placing.{without_number}
@@ -60,6 +61,11 @@ firsts (suc n) (number ∷ numbers) = number ∷ firsts n (without_number number
 -- what nodes say as index nodes of the medium
 abbrev pub said_by : PagedIndex → List ℕ → List Index
 said_by paged numbers = map (λ number. said_of paged number) numbers
+
+-- the bytes that index nodes take, each rounded up to 8
+abbrev pub index_bytes : List Index → ℕ
+index_bytes [] = 0
+index_bytes (node ∷ nodes) = node_end (node_length node) + index_bytes nodes
 
 -- what the nodes say that a commit wrote, if they are so many
 abbrev pub nodes_written : PagedIndex → PagedIndex → ℕ → List Index

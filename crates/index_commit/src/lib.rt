@@ -14,7 +14,7 @@ mod laying;
 mod step;
 mod writing;
 
-pub use crate::index_at::{IndexAt, IndexHead};
+pub use crate::index_at::{IndexAt, IndexHead, WrittenLeb};
 pub use crate::index_fault::IndexFault;
 pub use crate::laws::{
     a_leb_follows_those_before_it, changes_keep_what_stands, dirty_nodes_are_distinct,

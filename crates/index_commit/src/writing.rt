@@ -12,7 +12,7 @@ ghost use Rattle.ubi_volume.specs.Geometry.{IsGeometryOf};
 ghost use Rattle.ubi_volume.specs.Volume.{Keeps};
 ghost use Rattle.index_cache.specs.Paged.{dirty_of, frozen_of, fanout_of};
 ghost use Rattle.index_commit.specs.Answers.{HasEqualKeys, IsIndexNotFailed, IsNotFull, IsFullOf, IsIndexAnswered};
-ghost use Rattle.index_commit.specs.LebTexts.{AreLebsOf, IsLebOf, nodes_written};
+ghost use Rattle.index_commit.specs.LebTexts.{AreLebsOf, IsLebOf, index_bytes, nodes_written};
 ghost use Rattle.index_commit.specs.Lebs.{AreGivable};
 ghost use Rattle.index_commit.specs.Ordered.{AreKeysInOrder, IsNotEqualKeys};
 ghost use Rattle.index_commit.specs.Rooms.{IsIndexLaidOut, head_after, room_in, taken_room, whole_units};
@@ -114,12 +114,13 @@ fn write_lebs<V: Volume>(
         return Ok(head);
     };
     let lnum = *lnum;
-    let offs = write_leb(alloc, volume, geometry, index, lnum, sqnum, leb)?;
+    let mut live = 0;
+    let offs = write_leb(alloc, volume, geometry, index, lnum, sqnum, leb, &mut live)?;
     let now = Some(IndexHead { lnum, offs });
     write_lebs(alloc, volume, geometry, index, rest, sqnum, leb, now)
 }
 
-// Writes as many dirty nodes to a LEB as it has room for, and answers where what is written there ends.
+// Writes as many dirty nodes to a LEB as it has room for, and answers where what is written there ends. It counts their bytes.
 pub(crate) fn write_leb<V: Volume>(
     alloc: Global,
     volume: &mut V,
@@ -128,6 +129,7 @@ pub(crate) fn write_leb<V: Volume>(
     lnum: u32,
     sqnum: &mut u64,
     leb: &mut [u8],
+    live: &mut u32,
 ) -> Result<u32, IndexFault>
     requires geometry { IsGeometryOf (raw_of geometry.now) (V.state volume.old) }
     requires fanout { fanout_of index.old ≡ geometry.now.fanout }
@@ -135,6 +137,7 @@ pub(crate) fn write_leb<V: Volume>(
     requires number { sqnum.old + length (dirty_of index.old) < 2 ^ 64 }
     requires whole { length leb.old ≡ geometry.now.leb_size }
     requires some { 0 < length (dirty_of index.old) }
+    requires none { live.old ≡ 0 }
     ensures all { OnOk result ((dirty_of index.new ≡ []) ⊎ (length (dirty_of index.new) + index_nodes_per_leb (raw_of geometry.now) ≤ length (dirty_of index.old))) }
     ensures most { sqnum.new ≤ sqnum.old + index_nodes_per_leb (raw_of geometry.now) }
     ensures full { OnOk result ((dirty_of index.new ≡ []) ⊎ (sqnum.new ≡ sqnum.old + index_nodes_per_leb (raw_of geometry.now))) }
@@ -149,11 +152,12 @@ pub(crate) fn write_leb<V: Volume>(
     ensures fault { IsNotFull result }
     ensures equal { HasEqualKeys index.new result }
     ensures len { length leb.new ≡ length leb.old }
+    ensures live { live.new ≡ index_bytes (nodes_written index.old index.new (sqnum.new - sqnum.old)) }
 {
     places_are_kept();
     let room = geometry.index_node_len();
     let mut used = 0;
-    let laid = lay_nodes(alloc, lnum, room, index, sqnum, leb, &mut used);
+    let laid = lay_nodes(alloc, lnum, room, index, sqnum, leb, &mut used, live);
     let end = put_leb(volume, geometry, lnum, leb, used)?;
     laid?;
     Ok(end)

@@ -41,7 +41,7 @@ returns-in_err-offs-clause-answer g c =
 pub returns-clause-done : goal.returns-clause-done
 returns-clause-done g c =
     let made = c.in_ok-offs.ensures in
-    next_leb (raw_of c.args.geometry.now) c.args.lnum c.in_ok-offs.offs c.args.sqnum.now c.write_leb.new.sqnum (dirty_of c.write_leb.new.index) made.some made.most made.full made.units
+    (next_leb (raw_of c.args.geometry.now) c.args.lnum c.in_ok-offs.offs c.args.sqnum.now c.write_leb.new.sqnum (dirty_of c.write_leb.new.index) made.some made.most made.full made.units, made.live)
 
 pub returns-clause-standing : goal.returns-clause-standing
 returns-clause-standing g c = λ done. (
