@@ -54,7 +54,9 @@ pub fn write_next_leb<V: Volume>(
     places_are_kept();
     let mut leb = vec![in alloc; 0; geometry.leb_size as usize]?;
     let mut live = 0;
-    let offs = write_leb(alloc, volume, geometry, index, lnum, sqnum, &mut leb, &mut live)?;
+    let offs = write_leb(
+        alloc, volume, geometry, index, lnum, sqnum, &mut leb, &mut live,
+    )?;
     Ok(WrittenLeb {
         head: IndexHead { lnum, offs },
         used: live,

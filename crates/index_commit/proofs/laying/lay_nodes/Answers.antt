@@ -48,7 +48,7 @@ loop-used-preserved c =
       omega (arith, fits, len),
       len ∙ c.loop-used.invariant.2,
       c.lay_next.ensures.live ∙ ap (λ (n : ℕ). n + index_bytes (nodes_written c.loop-used.index c.lay_next.new.index (c.lay_next.new.sqnum - c.loop-used.sqnum))) c.loop-used.invariant.3
-    ∙ sym (bytes_then c.args.index.now c.loop-used.index c.lay_next.new.index c.args.sqnum.now c.loop-used.sqnum c.lay_next.new.sqnum c.loop-used.invariant.0.index c.lay_next.ensures.laid.index whole.index),
+          ∙ sym (bytes_then c.args.index.now c.loop-used.index c.lay_next.new.index c.args.sqnum.now c.loop-used.sqnum c.lay_next.new.sqnum c.loop-used.invariant.0.index c.lay_next.ensures.laid.index whole.index),
       c.lay_next.ensures.slack,
     )
 
