@@ -11,17 +11,18 @@ use Rattle.index_media.specs.PlacedRow.{node_end}
 use Rattle.media_sys.specs.Index.{Index}
 use Rattle.node_table.specs.Clean.{is_clean_row}
 use Rattle.node_table.specs.Placing.{without_number}
-use Rattle.ubi_volume.specs.Frame.{IsSameLeb}
+use Rattle.ubi_volume.specs.Frame.{Elsewhere, IsSameLeb}
 use Rattle.ubi_volume.specs.FrameLaws.{IsSameLeb-none, IsSameLeb-then, Only-same}
-use Rattle.ubi_volume.specs.Volume.{VolumeState, filled}
+use Rattle.ubi_volume.specs.VolumeLaws.{Leaves-both, Leaves-more, Leaves-then}
+use Rattle.ubi_volume.specs.Volume.{VolumeState, Leaves, filled}
 use Rattle.index_cache.specs.Commit.{IsNextNode, below_node, node_length, said_of}
 use Rattle.index_cache.specs.Paged.{dirty_of}
 use Rattle.index_cache.specs.declared.paged.PagedIndex.{PagedIndex}
 use Rattle.index_commit.specs.declared.index_at.IndexHead.{IndexHead}
 use Rattle.index_commit.specs.Lebs.{IsGiven}
-use Rattle.index_commit.specs.LebTexts.{index_bytes, AreLebsOf, IsLebOf, IsNextLeb, firsts, in_room, in_rooms, nodes_written, rooms_end, said_by}
+use Rattle.index_commit.specs.LebTexts.{index_bytes, AreLebsLeft, AreLebsOf, IsLebLeft, leb_of_nodes, IsLebOf, IsNextLeb, firsts, in_room, in_rooms, nodes_written, rooms_end, said_by}
 use Rattle.index_commit.specs.Rooms.{Room, AreInRooms, whole_units}
-use Rattle.index_commit.specs.Written.{AreFirstsTaken, IsIndexKept, IsIndexTaken, IsLebPut, WorksInLebs}
+use Rattle.index_commit.specs.Written.{AreFirstsTaken, IsIndexKept, IsIndexTaken, IsLebPut, WorksInLebs, IsPutLeft}
 use Rattle.index_commit.proofs.Rooms.{said_stays, taken_then}
 
 abbrev pub head_at : ℕ → ℕ → IndexHead
@@ -239,3 +240,105 @@ one_bytes a b i j node h e next =
     let said = said_stays a b node h.kept next.ready.below in
     let none : node_end (node_length (said_of a node)) + 0 ≡ node_end (node_length (said_of a node)) = omega arith in
     ap index_bytes (written_are a b i j h ∙ ap (said_by b) only) ∙ ap (λ (s : Index). node_end (node_length s) + 0) said ∙ none
+
+-- ---- what a cut leaves
+left_before : (geo : RawGeometry) (a : VolumeState) (lnum sqnum : ℕ) (nodes : List Index) (c : List ℕ) → a.left_now lnum c → IsLebLeft geo a lnum sqnum nodes c
+left_before geo a lnum sqnum [] c h = h
+left_before geo a lnum sqnum (node ∷ nodes) c h = inl h
+
+-- of a LEB that was written, afterwards
+left_after : (geo : RawGeometry) (a b : VolumeState) (lnum sqnum : ℕ) (nodes : List Index) (c : List ℕ) → IsLebOf geo a b lnum sqnum nodes → b.left_now lnum c → IsLebLeft geo a lnum sqnum nodes c
+left_after geo a b lnum sqnum [] c h left = h.left c left
+left_after geo a b lnum sqnum (node ∷ nodes) c h left = inr (h.left c left ∙ h.holds)
+
+left_sooner : (geo : RawGeometry) (a b : VolumeState) (lnum sqnum : ℕ) (nodes : List Index) (c : List ℕ) → IsSameLeb a b lnum → IsLebLeft geo b lnum sqnum nodes c → IsLebLeft geo a lnum sqnum nodes c
+left_sooner geo a b lnum sqnum [] c same h = same.left c h
+left_sooner geo a b lnum sqnum (node ∷ nodes) c same (inl h) = inl (same.left c h)
+left_sooner geo a b lnum sqnum (node ∷ nodes) c same (inr e) = inr e
+
+-- while bytes are put into a LEB
+pub leb_left : (geo : RawGeometry) (old new : VolumeState) (lnum used i : ℕ) (bytes : List ℕ) (nodes : List Index) → 0 < index_node_len geo → geo.leb_size ≡ old.leb_size
+    → used ≡ length nodes * index_node_len geo → bytes ≡ in_rooms (index_node_len geo) i nodes → IsPutLeft geo old new lnum bytes used → Leaves old new (λ c. IsLebLeft geo old lnum i nodes (c lnum))
+leb_left geo old new lnum used i bytes [] some size count text put = put.idle (omega (arith, count))
+leb_left geo old new lnum used i bytes (node ∷ nodes) some size count text put =
+    let room = index_node_len geo in
+    let sum = add-mul 1 (length nodes) room in
+    let succ : suc (length nodes) ≡ 1 + length nodes = omega arith in
+    let more = ap (λ (n : ℕ). n * room) succ in
+    let busy : 0 < used = omega (arith, count, sum, more, some) in
+    let stop : whole_units geo used ≡ rooms_end geo (length (node ∷ nodes)) = ap (whole_units geo) count in
+    let gap : whole_units geo used - used ≡ rooms_end geo (length (node ∷ nodes)) - length (node ∷ nodes) * room = omega (arith, stop, count) in
+    let same : filled old.leb_size (bytes ++ gap_of (whole_units geo used - used)) ≡ leb_of_nodes geo i (node ∷ nodes) =
+    ap (λ (l : List ℕ). filled old.leb_size (l ++ gap_of (whole_units geo used - used))) text ∙ ap (λ (n : ℕ). filled old.leb_size (in_rooms room i (node ∷ nodes) ++ gap_of n)) gap
+    ∙ ap (λ (n : ℕ). filled n (in_rooms room i (node ∷ nodes) ++ gap_of (rooms_end geo (length (node ∷ nodes)) - length (node ∷ nodes) * room))) (sym size) in
+    Leaves-more old new (λ c. old.left_now lnum (c lnum) ⊎ (c lnum ≡ filled old.leb_size (bytes ++ gap_of (whole_units geo used - used)))) (λ c. IsLebLeft geo old lnum i (node ∷ nodes) (c lnum))
+    (λ c left. elim left [ inl before ↦ inl before | inr e ↦ inr (e ∙ same) ]) (put.busy busy)
+
+-- while the first LEB is written, with those behind it as they were
+left_first : (geo : RawGeometry) (a : VolumeState) (lnum : ℕ) (lebs : List ℕ) (i : ℕ) (xs ys : List Index) (c : ℕ → List ℕ) → (IsGiven lebs lnum → ⊥) → length xs ≤ index_nodes_per_leb geo
+    → (ys ≡ []) ⊎ (length xs ≡ index_nodes_per_leb geo) → IsLebLeft geo a lnum i xs (c lnum) → Elsewhere a (IsGiven (lnum ∷ [])) c → AreLebsLeft geo (lnum ∷ lebs) a i (xs ++ ys) c
+left_first geo a lnum lebs i xs ys c apart fits full one others zero m is =
+    let q = index_nodes_per_leb geo in
+    let same : lnum ≡ m = cc in
+    let start : i ≡ i + 0 * q = omega arith in
+    let P : List Index → Type 0 = λ l. IsLebLeft geo a lnum (i + 0 * q) l (c lnum) in
+    let S : ℕ → Type 0 = λ s. IsLebLeft geo a lnum s xs (c lnum) in
+    let L : ℕ → Type 0 = λ k. IsLebLeft geo a k (i + 0 * q) (take q (drop (0 * q) (xs ++ ys))) (c k) in
+    subst L same (subst P (sym (first_part q xs ys fits full)) (subst S start one))
+left_first geo a lnum lebs i xs ys c apart fits full one others (suc n) m is =
+    let q = index_nodes_per_leb geo in
+    let other : IsGiven (lnum ∷ []) m → ⊥ = λ given. elim given [
+      | inl e ↦ let Q : ℕ → Type 0 = λ k. IsGiven lebs k in apart (subst Q e (got_given lebs n m is))
+      | inr none ↦ none
+    ] in
+    left_before geo a m (i + suc n * q) (take q (drop (suc n * q) (xs ++ ys))) (c m) (others m other)
+
+-- and while those behind it are
+left_behind : (geo : RawGeometry) (a b : VolumeState) (lnum : ℕ) (lebs : List ℕ) (i j : ℕ) (xs ys : List Index) (c : ℕ → List ℕ) → (IsGiven lebs lnum → ⊥) → WorksInLebs a b (lnum ∷ [])
+    → length xs ≤ index_nodes_per_leb geo → (ys ≡ []) ⊎ ((length xs ≡ index_nodes_per_leb geo) × (j ≡ i + index_nodes_per_leb geo)) → IsLebOf geo a b lnum i xs → AreLebsLeft geo lebs b j ys c
+    → Elsewhere b (IsGiven lebs) c → AreLebsLeft geo (lnum ∷ lebs) a i (xs ++ ys) c
+left_behind geo a b lnum lebs i j xs ys c apart ab fits full one rest others zero m is =
+    let q = index_nodes_per_leb geo in
+    let same : lnum ≡ m = cc in
+    let start : i ≡ i + 0 * q = omega arith in
+    let whole : (ys ≡ []) ⊎ (length xs ≡ q) = elim full [ inl none ↦ inl none | inr both ↦ inr both.0 ] in
+    let P : List Index → Type 0 = λ l. IsLebLeft geo a lnum (i + 0 * q) l (c lnum) in
+    let S : ℕ → Type 0 = λ s. IsLebLeft geo a lnum s xs (c lnum) in
+    let L : ℕ → Type 0 = λ k. IsLebLeft geo a k (i + 0 * q) (take q (drop (0 * q) (xs ++ ys))) (c k) in
+    subst L same (subst P (sym (first_part q xs ys fits whole)) (subst S start (left_after geo a b lnum i xs (c lnum) one (others lnum apart))))
+left_behind geo a b lnum lebs i j xs ys c apart ab fits full one rest others (suc n) m is =
+    let q = index_nodes_per_leb geo in
+    let other : IsGiven (lnum ∷ []) m → ⊥ = λ given. elim given [
+      | inl e ↦ let Q : ℕ → Type 0 = λ k. IsGiven lebs k in apart (subst Q e (got_given lebs n m is))
+      | inr none ↦ none
+    ] in
+    let own = left_sooner geo a b m (j + n * q) (take q (drop (n * q) ys)) (c m) (ab.others m other) (rest n m is) in
+    let P : List Index → Type 0 = λ l. IsLebLeft geo a m (i + suc n * q) l (c m) in
+    elim full [
+      | inl none ↦
+          let B : List Index → Type 0 = λ l. IsLebLeft geo a m (j + n * q) l (c m) in
+          subst P (sym (none_part q n xs ys fits none)) (subst B (empty_part q (n * q) ys none) own)
+      | inr both ↦
+          let sum = add-mul 1 n q in
+          let succ : suc n ≡ 1 + n = omega arith in
+          let more = ap (λ (k : ℕ). k * q) succ in
+          let behind = both.1 in
+          let start : j + n * q ≡ i + suc n * q = omega (arith, sum, more, behind) in
+          let S : ℕ → Type 0 = λ s. IsLebLeft geo a m s (take q (drop (n * q) ys)) (c m) in
+          subst P (sym (next_part q n xs ys both.0)) (subst S start own)
+    ]
+
+pub lefts_first : (geo : RawGeometry) (a b : VolumeState) (lnum : ℕ) (lebs : List ℕ) (i : ℕ) (xs ys : List Index) → (IsGiven lebs lnum → ⊥) → WorksInLebs a b (lnum ∷ []) → length xs ≤ index_nodes_per_leb geo
+    → (ys ≡ []) ⊎ (length xs ≡ index_nodes_per_leb geo) → Leaves a b (λ c. IsLebLeft geo a lnum i xs (c lnum)) → Leaves a b (AreLebsLeft geo (lnum ∷ lebs) a i (xs ++ ys))
+lefts_first geo a b lnum lebs i xs ys apart works fits full one =
+    Leaves-more a b (λ c. IsLebLeft geo a lnum i xs (c lnum) × Elsewhere a (IsGiven (lnum ∷ [])) c) (AreLebsLeft geo (lnum ∷ lebs) a i (xs ++ ys))
+    (λ c h. left_first geo a lnum lebs i xs ys c apart fits full h.0 h.1) (Leaves-both a b (λ c. IsLebLeft geo a lnum i xs (c lnum)) (Elsewhere a (IsGiven (lnum ∷ []))) one works.time)
+
+pub lefts_both : (geo : RawGeometry) (a b d : VolumeState) (lnum : ℕ) (lebs : List ℕ) (i j : ℕ) (xs ys : List Index) → (IsGiven lebs lnum → ⊥) → WorksInLebs a b (lnum ∷ []) → WorksInLebs b d lebs
+    → length xs ≤ index_nodes_per_leb geo → (ys ≡ []) ⊎ ((length xs ≡ index_nodes_per_leb geo) × (j ≡ i + index_nodes_per_leb geo)) → IsLebOf geo a b lnum i xs
+    → Leaves a b (λ c. IsLebLeft geo a lnum i xs (c lnum)) → Leaves b d (AreLebsLeft geo lebs b j ys) → Leaves a d (AreLebsLeft geo (lnum ∷ lebs) a i (xs ++ ys))
+lefts_both geo a b d lnum lebs i j xs ys apart ab bd fits full is one rest =
+    let R : (ℕ → List ℕ) → Type 0 = AreLebsLeft geo (lnum ∷ lebs) a i (xs ++ ys) in
+    let first = lefts_first geo a b lnum lebs i xs ys apart ab fits (elim full [ inl none ↦ inl none | inr both ↦ inr both.0 ]) one in
+    let later = Leaves-both b d (AreLebsLeft geo lebs b j ys) (Elsewhere b (IsGiven lebs)) rest bd.time in
+    Leaves-then a b d R (λ c. AreLebsLeft geo lebs b j ys c × Elsewhere b (IsGiven lebs) c) R (λ c h. h) (λ c h. left_behind geo a b lnum lebs i j xs ys c apart ab fits full is h.0 h.1) first later

@@ -52,6 +52,17 @@ AreLebsOf geo lebs old new sqnum nodes =
     (k lnum : ℕ) → slice_get lebs k ≡ Some lnum
     → IsLebOf geo old new lnum (sqnum + k * index_nodes_per_leb geo) (take (index_nodes_per_leb geo) (drop (k * index_nodes_per_leb geo) nodes))
 
+-- what a cut leaves of a LEB while these nodes are written to it: what it might have left before, or a LEB of these nodes alone
+abbrev pub IsLebLeft : RawGeometry → VolumeState → ℕ → ℕ → List Index → List ℕ → Type 0
+IsLebLeft geo old lnum sqnum [] c = old.left_now lnum c
+IsLebLeft geo old lnum sqnum (node ∷ nodes) c = old.left_now lnum c ⊎ (c ≡ leb_of_nodes geo sqnum (node ∷ nodes))
+
+-- the same of each LEB, with the nodes of its rooms
+abbrev pub AreLebsLeft : RawGeometry → List ℕ → VolumeState → ℕ → List Index → (ℕ → List ℕ) → Type 0
+AreLebsLeft geo lebs old sqnum nodes c =
+    (k lnum : ℕ) → slice_get lebs k ≡ Some lnum
+    → IsLebLeft geo old lnum (sqnum + k * index_nodes_per_leb geo) (take (index_nodes_per_leb geo) (drop (k * index_nodes_per_leb geo) nodes)) (c lnum)
+
 -- the first of so many dirty nodes, each once, in the order in which they are written
 abbrev pub firsts : ℕ → List ℕ → List ℕ
 firsts zero numbers = []

@@ -1,6 +1,7 @@
 -- What a commit leaves of an index, in memory and on the volume.
 use Rattle.std.specs.Prelude.{◌≡◌, ◌⊎◌, ◌<◌, ◌≤◌, ◌+◌, ◌-◌, ◌*◌, ◌%◌, ◌==◌, ℕ, if◌then◌else◌, List, [], ◌∷◌, ◌++◌, Option, None, Some, length, map, slice_get, All}
 use Rattle.ubifs_base.specs.Gap.{gap_of}
+use Rattle.ubifs_base.specs.declared.raw_geometry.RawGeometry.{RawGeometry}
 use Rattle.index_media.specs.KeyedRow.{KeyedRow, no_more, all_clean}
 use Rattle.index_media.specs.PlacedRow.{PlacedRow, Stretch, lebs_of}
 use Rattle.index_media.specs.Stored.{IsStoredIndex}
@@ -18,7 +19,7 @@ use Rattle.index_cache.specs.Paged.{dirty_of, frozen_of, tree_of, KeepsRoots}
 use Rattle.index_cache.specs.declared.paged.PagedIndex.{PagedIndex}
 use Rattle.index_commit.specs.Lebs.{AreApart, IsGiven}
 use Rattle.index_commit.specs.LebTexts.{firsts, in_rooms, said_by}
-use Rattle.index_commit.specs.Rooms.{Room, room_in, place_by_number, AreDistinctNumbers, AreInRooms, IsNotAmong}
+use Rattle.index_commit.specs.Rooms.{Room, room_in, place_by_number, AreDistinctNumbers, AreInRooms, IsNotAmong, whole_units}
 use Rattle.index_commit.specs.Standing.{AreOutside, AreStandingAs}
 use Rattle.index_commit.specs.declared.index_at.IndexAt.{IndexAt}
 use Rattle.index_commit.specs.declared.index_at.IndexHead.{IndexHead}
@@ -141,6 +142,12 @@ pub record IsLebPut (old new : VolumeState) (lnum : ℕ) (bytes : List ℕ) (use
   pub settled : IsSameLeb old new lnum ⊎ Only (new.holds lnum) (new.left_now lnum)
   pub left : 0 < used → Only (new.holds lnum) (new.left_now lnum)
   pub ended : 0 < used → (new.written lnum ≡ end) × (end % new.min_io ≡ 0)
+
+-- while these bytes were put into a LEB, a cut left what it might have left before, or the bytes, a gap to the end of the unit, and
+-- nothing behind; without bytes it left what it might have left before
+pub record IsPutLeft (geo : RawGeometry) (old new : VolumeState) (lnum : ℕ) (bytes : List ℕ) (used : ℕ) : Type 0 where
+  pub busy : 0 < used → Leaves old new (λ c. old.left_now lnum (c lnum) ⊎ (c lnum ≡ filled old.leb_size (bytes ++ gap_of (whole_units geo used - used))))
+  pub idle : used ≡ 0 → Leaves old new (λ c. old.left_now lnum (c lnum))
 
 -- other LEBs are as they were, and a cut at any moment leaves of them what it might have left before
 abbrev pub WorksInLebs : VolumeState → VolumeState → List ℕ → Type 0

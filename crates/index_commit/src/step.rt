@@ -4,9 +4,10 @@ ghost use Rattle.std.specs.Prelude.{◌≡◌, ◌<◌, ◌+◌, ◌-◌, ◌^�
 ghost use Rattle.ubifs_base.specs.Geometry.{index_node_len};
 ghost use Rattle.ubifs_base.specs.RawOf.{raw_of};
 ghost use Rattle.ubi_volume.specs.Geometry.{IsGeometryOf};
+ghost use Rattle.ubi_volume.specs.Volume.{Leaves};
 ghost use Rattle.index_cache.specs.Paged.{dirty_of, fanout_of, frozen_of};
 ghost use Rattle.index_commit.specs.Answers.{HasEqualKeys, IsIndexAnswered, IsIndexNotFailed, IsNotFull};
-ghost use Rattle.index_commit.specs.LebTexts.{IsLebOf, IsNextLeb, index_bytes, nodes_written};
+ghost use Rattle.index_commit.specs.LebTexts.{IsLebLeft, IsLebOf, IsNextLeb, index_bytes, nodes_written};
 ghost use Rattle.index_commit.specs.Ordered.{AreKeysInOrder, IsNotEqualKeys};
 ghost use Rattle.index_commit.specs.Rooms.{room_in};
 ghost use Rattle.index_commit.specs.Written.{AreStanding, IsIndexTaken, KeepsOtherIndexes, WorksInLebs};
@@ -45,7 +46,8 @@ pub fn write_next_leb<V: Volume>(
     ensures standing { IsIndexNotFailed result → AreStanding (V.state volume.old) (V.state volume.new) (lnum ∷ []) index.old index.new sqnum.old sqnum.new
         × IsLebOf (raw_of geometry.now) (V.state volume.old) (V.state volume.new) lnum sqnum.old (nodes_written index.old index.new (sqnum.new - sqnum.old)) }
     ensures index { IsIndexTaken (room_in lnum (index_node_len (raw_of geometry.now)) 0) index.old index.new sqnum.old sqnum.new }
-    ensures works { WorksInLebs (V.state volume.old) (V.state volume.new) (lnum ∷ []) }
+    ensures works { WorksInLebs (V.state volume.old) (V.state volume.new) (lnum ∷ []) × Leaves (V.state volume.old) (V.state volume.new)
+        (λ c. IsLebLeft (raw_of geometry.now) (V.state volume.old) lnum sqnum.old (nodes_written index.old index.new (sqnum.new - sqnum.old)) (c lnum)) }
     ensures old_stays { KeepsOtherIndexes (V.state volume.old) (V.state volume.new) (lnum ∷ []) }
     ensures answer { IsIndexAnswered (V.state volume.old) (V.state volume.new) result × IsNotFull result
         × HasEqualKeys index.new result × (AreKeysInOrder (frozen_of index.old) → IsNotEqualKeys result) }

@@ -9,15 +9,15 @@ ghost use Rattle.index_media.specs.KeyedRow.{all_clean};
 ghost use Rattle.node_table.specs.Clean.{placed_of};
 ghost use Rattle.ubi_volume.specs.Faults.{HasAnswer};
 ghost use Rattle.ubi_volume.specs.Geometry.{IsGeometryOf};
-ghost use Rattle.ubi_volume.specs.Volume.{Keeps};
+ghost use Rattle.ubi_volume.specs.Volume.{Keeps, Leaves};
 ghost use Rattle.index_cache.specs.Paged.{dirty_of, frozen_of, fanout_of};
 ghost use Rattle.index_commit.specs.Answers.{HasEqualKeys, IsIndexNotFailed, IsNotFull, IsFullOf, IsIndexAnswered};
-ghost use Rattle.index_commit.specs.LebTexts.{AreLebsOf, IsLebOf, index_bytes, nodes_written};
+ghost use Rattle.index_commit.specs.LebTexts.{AreLebsLeft, AreLebsOf, IsLebLeft, IsLebOf, index_bytes, nodes_written};
 ghost use Rattle.index_commit.specs.Lebs.{AreGivable};
 ghost use Rattle.index_commit.specs.Ordered.{AreKeysInOrder, IsNotEqualKeys};
 ghost use Rattle.index_commit.specs.Rooms.{IsIndexLaidOut, head_after, room_in, taken_room, whole_units};
 ghost use Rattle.index_commit.specs.Standing.{AreOutside};
-ghost use Rattle.index_commit.specs.Written.{AreStanding, AreWritten, IsHeadAfter, IsIndexAt, IsIndexTaken, IsLebPut, KeepsOtherIndexes, WorksInLebs, with_leb_bytes};
+ghost use Rattle.index_commit.specs.Written.{AreStanding, AreWritten, IsHeadAfter, IsIndexAt, IsIndexTaken, IsLebPut, IsPutLeft, KeepsOtherIndexes, WorksInLebs, with_leb_bytes};
 
 use crate::index_at::{IndexAt, IndexHead};
 use crate::index_fault::IndexFault;
@@ -55,7 +55,8 @@ pub fn write_index<V: Volume>(
     ensures standing { IsIndexNotFailed result → AreStanding (V.state volume.old) (V.state volume.new) lebs.now index.old index.new sqnum.old sqnum.new
         × AreLebsOf (raw_of geometry.now) lebs.now (V.state volume.old) (V.state volume.new) sqnum.old (nodes_written index.old index.new (sqnum.new - sqnum.old)) }
     ensures index { IsIndexTaken (taken_room (raw_of geometry.now) lebs.now) index.old index.new sqnum.old sqnum.new }
-    ensures works { WorksInLebs (V.state volume.old) (V.state volume.new) lebs.now }
+    ensures works { WorksInLebs (V.state volume.old) (V.state volume.new) lebs.now × Leaves (V.state volume.old) (V.state volume.new)
+        (AreLebsLeft (raw_of geometry.now) lebs.now (V.state volume.old) sqnum.old (nodes_written index.old index.new (sqnum.new - sqnum.old))) }
     ensures old_stays { KeepsOtherIndexes (V.state volume.old) (V.state volume.new) lebs.now }
     ensures answer { IsIndexAnswered (V.state volume.old) (V.state volume.new) result
         × IsFullOf (Keeps (V.state volume.old) (V.state volume.new) × (index.new ≡ index.old)) (div_ceil (length (dirty_of index.old)) (index_nodes_per_leb (raw_of geometry.now))) (length lebs.now) result
@@ -102,6 +103,7 @@ fn write_lebs<V: Volume>(
     ensures text { IsIndexNotFailed result → AreLebsOf (raw_of geometry.now) lebs.now (V.state volume.old) (V.state volume.new) sqnum.old (nodes_written index.old index.new (sqnum.new - sqnum.old)) }
     ensures index { IsIndexTaken (taken_room (raw_of geometry.now) lebs.now) index.old index.new sqnum.old sqnum.new }
     ensures works { WorksInLebs (V.state volume.old) (V.state volume.new) lebs.now }
+    ensures left { Leaves (V.state volume.old) (V.state volume.new) (AreLebsLeft (raw_of geometry.now) lebs.now (V.state volume.old) sqnum.old (nodes_written index.old index.new (sqnum.new - sqnum.old))) }
     ensures answer { IsIndexAnswered (V.state volume.old) (V.state volume.new) result }
     ensures fault { IsNotFull result }
     ensures equal { HasEqualKeys index.new result }
@@ -148,6 +150,7 @@ pub(crate) fn write_leb<V: Volume>(
     ensures text { IsIndexNotFailed result → IsLebOf (raw_of geometry.now) (V.state volume.old) (V.state volume.new) lnum sqnum.old (nodes_written index.old index.new (sqnum.new - sqnum.old)) }
     ensures index { IsIndexTaken (room_in lnum (index_node_len (raw_of geometry.now)) 0) index.old index.new sqnum.old sqnum.new }
     ensures works { WorksInLebs (V.state volume.old) (V.state volume.new) (lnum ∷ []) }
+    ensures left { Leaves (V.state volume.old) (V.state volume.new) (λ c. IsLebLeft (raw_of geometry.now) (V.state volume.old) lnum sqnum.old (nodes_written index.old index.new (sqnum.new - sqnum.old)) (c lnum)) }
     ensures answer { IsIndexAnswered (V.state volume.old) (V.state volume.new) result }
     ensures fault { IsNotFull result }
     ensures equal { HasEqualKeys index.new result }
@@ -178,6 +181,7 @@ fn put_leb<V: Volume>(
     ensures put { IfOk result (λ end. IsLebPut (V.state volume.old) (V.state volume.new) lnum (take used leb.old) used end) }
     ensures units { IfOk result (λ end. end ≡ whole_units (raw_of geometry.now) used) }
     ensures works { WorksInLebs (V.state volume.old) (V.state volume.new) (lnum ∷ []) }
+    ensures left { IsPutLeft (raw_of geometry.now) (V.state volume.old) (V.state volume.new) lnum (take used leb.old) used }
     ensures answer { HasAnswer (V.state volume.old) (V.state volume.new) result }
     ensures len { length leb.new ≡ length leb.old }
 {

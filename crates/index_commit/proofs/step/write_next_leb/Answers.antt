@@ -2,12 +2,13 @@ use Rattle.std.proofs.Common.{[], ◌∷◌, rules}
 use Rattle.ubifs_base.specs.Geometry.{index_node_len}
 use Rattle.ubifs_base.specs.RawOf.{raw_of}
 use Rattle.index_cache.specs.Paged.{dirty_of, frozen_of}
+use Rattle.ubi_volume.specs.VolumeLaws.{Leaves-none}
 use Rattle.index_commit.specs.Answers.{IsIndexNotFailed}
 use Rattle.index_commit.specs.Ordered.{AreKeysInOrder, IsNotEqualKeys}
 use Rattle.index_commit.specs.Rooms.{room_in}
 use Rattle.index_commit.proofs.Laid.{index_none}
 use Rattle.index_commit.proofs.LebTexts.{idle_leb, next_leb}
-use Rattle.index_commit.proofs.Lebs.{keeps_indexes, none_standing, written_standing}
+use Rattle.index_commit.proofs.Lebs.{keeps_indexes, none_standing, none_works, written_standing}
 use Rattle.index_commit.proofs.Ordered.{never_equal}
 use Rattle.index_commit.proofs.step.write_next_leb.Goals as goal
 
@@ -53,3 +54,12 @@ returns-clause-standing g c = λ done. (
 pub returns-clause-old_stays : goal.returns-clause-old_stays
 returns-clause-old_stays g c =
     keeps_indexes c.an_index_depends_on_its_lebs_alone.ensures (g.V.Volume.state c.args.volume.now) (g.V.Volume.state c.write_leb.new.volume) (c.args.lnum ∷ []) c.write_leb.ensures.works
+
+pub returns-in_err-leb-clause-works : goal.returns-in_err-leb-clause-works
+returns-in_err-leb-clause-works g c = (none_works (g.V.Volume.state c.args.volume.now) (c.args.lnum ∷ []), Leaves-none (g.V.Volume.state c.args.volume.now) _)
+
+pub returns-in_err-offs-clause-works : goal.returns-in_err-offs-clause-works
+returns-in_err-offs-clause-works g c = (c.write_leb.ensures.works, c.write_leb.ensures.left)
+
+pub returns-clause-works : goal.returns-clause-works
+returns-clause-works g c = (c.write_leb.ensures.works, c.write_leb.ensures.left)

@@ -3,6 +3,7 @@ use Rattle.std.specs.Prelude.{◌⊎◌, Option, Some}
 use Rattle.ubifs_base.specs.Geometry.{index_node_len, index_nodes_per_leb}
 use Rattle.ubifs_base.specs.RawOf.{raw_of}
 use Rattle.index_cache.specs.Paged.{dirty_of}
+use Rattle.ubi_volume.specs.VolumeLaws.{Leaves-none}
 use Rattle.index_commit.specs.Answers.{IsIndexNotFailed}
 use Rattle.index_commit.specs.Rooms.{head_after, room_in, taken_room}
 use Rattle.index_commit.specs.Written.{AreFirstsTaken, IsHeadAfter}
@@ -11,7 +12,7 @@ use Rattle.index_commit.proofs.Committed.{some_nodes}
 use Rattle.index_commit.proofs.Laid.{index_none, taken_fewer}
 use Rattle.index_commit.proofs.LastTaken.{none_from_none}
 use Rattle.index_commit.proofs.Rooming.{both_taken, first_taken, head_both}
-use Rattle.index_commit.proofs.Lebs.{all_lebs, both_worked, both_written, first_lebs, fits_then, geometry_then, givable_then, head_behind, idle_lebs, if_ok, none_written, one_written, one_worked, some_dirty}
+use Rattle.index_commit.proofs.Lebs.{all_lebs, all_lefts, first_lefts, both_worked, both_written, first_lebs, fits_then, geometry_then, givable_then, head_behind, idle_lebs, if_ok, none_written, one_written, one_worked, some_dirty}
 use Rattle.index_commit.proofs.writing.+write_lebs.Goals as goal
 
 pub returns-then-is_none-clause-standing : goal.returns-then-is_none-clause-standing
@@ -166,3 +167,31 @@ returns-clause-text g t c = λ other.
     all_lebs {r1 = room_in lnum (index_node_len geo) 0} {r2 = taken_room geo rest} {r = taken_room geo c.args.lebs.now} geo a (g.V.Volume.state c.write_leb.new.volume) (g.V.Volume.state c.write_lebs.new.volume) lnum rest c.args.lebs.now c.args.index.now c.write_leb.new.index c.write_lebs.new.index
     c.args.sqnum.now c.write_leb.new.sqnum c.write_lebs.new.sqnum is apart c.write_leb.ensures.works c.write_lebs.ensures.works one.index c.write_lebs.ensures.index whole one.most one.full
     (one.text tt) (c.write_lebs.ensures.text other)
+
+pub returns-in_err-offs-clause-left : goal.returns-in_err-offs-clause-left
+returns-in_err-offs-clause-left g t c =
+    let a = g.V.Volume.state c.args.volume.now in
+    let lnum = c.in-Some.lnum.now in
+    let rest = c.in-Some.rest.now in
+    let is = c.in-Some.ensures.cases.0 in
+    let apart = (givable_then a.leb_cnt a.leb_cnt lnum rest c.args.lebs.now refl is c.requires.lebs).1 in
+    first_lefts {r = room_in lnum (index_node_len (raw_of c.args.geometry.now)) 0} (raw_of c.args.geometry.now) a (g.V.Volume.state c.write_leb.new.volume) lnum rest c.args.lebs.now c.args.index.now
+    c.write_leb.new.index c.args.sqnum.now c.write_leb.new.sqnum is apart c.write_leb.ensures.works c.write_leb.ensures.index c.write_leb.ensures.most c.write_leb.ensures.left
+
+pub returns-clause-left : goal.returns-clause-left
+returns-clause-left g t c =
+    let a = g.V.Volume.state c.args.volume.now in
+    let lnum = c.in-Some.lnum.now in
+    let rest = c.in-Some.rest.now in
+    let is = c.in-Some.ensures.cases.0 in
+    let geo = raw_of c.args.geometry.now in
+    let apart = (givable_then a.leb_cnt a.leb_cnt lnum rest c.args.lebs.now refl is c.requires.lebs).1 in
+    let one = c.in_ok-offs.ensures in
+    let whole = both_taken c.places_are_kept.ensures.both geo lnum rest c.args.lebs.now c.args.index.now c.write_leb.new.index c.write_lebs.new.index c.args.sqnum.now c.write_leb.new.sqnum
+    c.write_lebs.new.sqnum is (some_nodes c.args.geometry.now) one.most one.full one.index c.write_lebs.ensures.index in
+    all_lefts {r1 = room_in lnum (index_node_len geo) 0} {r2 = taken_room geo rest} {r = taken_room geo c.args.lebs.now} geo a (g.V.Volume.state c.write_leb.new.volume)
+    (g.V.Volume.state c.write_lebs.new.volume) lnum rest c.args.lebs.now c.args.index.now c.write_leb.new.index c.write_lebs.new.index c.args.sqnum.now c.write_leb.new.sqnum c.write_lebs.new.sqnum is apart
+    c.write_leb.ensures.works c.write_lebs.ensures.works one.index c.write_lebs.ensures.index whole one.most one.full (one.text tt) c.write_leb.ensures.left c.write_lebs.ensures.left
+
+pub returns-then-is_none-clause-left : goal.returns-then-is_none-clause-left
+returns-then-is_none-clause-left g t c = Leaves-none (g.V.Volume.state c.args.volume.now) _

@@ -5,10 +5,11 @@ use Rattle.ubifs_base.specs.RawOf.{raw_of}
 use Rattle.index_tree.specs.Shape.{Shape, fits}
 use Rattle.index_media.specs.KeyedRow.{bare}
 use Rattle.index_cache.specs.Paged.{dirty_of, fanout_of, frozen_of}
+use Rattle.ubi_volume.specs.VolumeLaws.{Leaves-none}
 use Rattle.index_commit.specs.Answers.{IsIndexNotFailed}
 use Rattle.index_commit.proofs.Committed.{index_at, lebs_suffice, some_nodes}
 use Rattle.index_commit.proofs.Laid.{index_none}
-use Rattle.index_commit.proofs.Lebs.{idle_lebs, keeps_indexes, none_standing, written_standing}
+use Rattle.index_commit.proofs.Lebs.{idle_lebs, keeps_indexes, none_standing, none_works, written_standing}
 use Rattle.index_commit.specs.Ordered.{AreKeysInOrder, IsNotEqualKeys}
 use Rattle.index_commit.specs.Rooms.{taken_room}
 use Rattle.index_commit.proofs.Ordered.{never_equal}
@@ -89,3 +90,15 @@ returns-in_err-head-clause-answer g c =
     let fine : AreKeysInOrder (frozen_of c.args.index.now) → IsNotEqualKeys c.write_lebs.result =
     λ order. never_equal c.args.index.now c.write_lebs.new.index c.write_lebs.result c.write_lebs.ensures.index.kept.frozen order c.write_lebs.ensures.equal in
     (search rules, search rules, search rules, λ order. let fact = fine order in search (rules, fact))
+
+pub returns-then-need-given-clause-works : goal.returns-then-need-given-clause-works
+returns-then-need-given-clause-works g c = (none_works (g.V.Volume.state c.args.volume.now) c.args.lebs.now, Leaves-none (g.V.Volume.state c.args.volume.now) _)
+
+pub returns-in_err-leb-clause-works : goal.returns-in_err-leb-clause-works
+returns-in_err-leb-clause-works g c = (none_works (g.V.Volume.state c.args.volume.now) c.args.lebs.now, Leaves-none (g.V.Volume.state c.args.volume.now) _)
+
+pub returns-in_err-head-clause-works : goal.returns-in_err-head-clause-works
+returns-in_err-head-clause-works g c = (c.write_lebs.ensures.works, c.write_lebs.ensures.left)
+
+pub returns-clause-works : goal.returns-clause-works
+returns-clause-works g c = (c.write_lebs.ensures.works, c.write_lebs.ensures.left)
