@@ -5,6 +5,7 @@ pub mod LastTaken
 pub mod Laid
 pub mod Whole
 pub mod Lebs
+pub mod HeldLebs
 pub mod Rooming
 pub mod Committed
 pub mod Changes

@@ -23,8 +23,10 @@ use ubi_volume::Volume;
 use ubifs_base::Geometry;
 
 /// Writes the next dirty nodes of the frozen index to this LEB: all that are left, or as many as it has rooms for. It answers where the
-/// next node could go, and how many bytes the nodes take, each rounded up to 8. Whoever calls it for one LEB after another, until no node is dirty, has written the index as `write_index`
-/// does, and may do other work between.
+/// next node could go, and how many bytes the nodes take, each rounded up to 8.
+///
+/// Whoever calls it for one LEB after another, until no node is dirty, has written the index as `write_index` does, and may do other work
+/// between.
 ///
 /// After any fault but `Volume` all clean nodes stand on the volume. `Full` never comes. Memory for the bytes of the LEB is taken before
 /// anything is written; that for a node may still be missing, and then the LEB has the nodes before it.

@@ -12,7 +12,8 @@ use Rattle.index_commit.proofs.Committed.{some_nodes}
 use Rattle.index_commit.proofs.Laid.{index_none, taken_fewer}
 use Rattle.index_commit.proofs.LastTaken.{none_from_none}
 use Rattle.index_commit.proofs.Rooming.{both_taken, first_taken, head_both}
-use Rattle.index_commit.proofs.Lebs.{all_lebs, all_lefts, first_lefts, both_worked, both_written, first_lebs, fits_then, geometry_then, givable_then, head_behind, idle_lebs, if_ok, none_written, one_written, one_worked, some_dirty}
+use Rattle.index_commit.proofs.Lebs.{both_worked, both_written, fits_then, geometry_then, givable_then, head_behind, if_ok, none_written, one_written, one_worked, some_dirty}
+use Rattle.index_commit.proofs.HeldLebs.{all_lebs, all_lefts, first_lefts, first_lebs, idle_lebs}
 use Rattle.index_commit.proofs.writing.+write_lebs.Goals as goal
 
 pub returns-then-is_none-clause-standing : goal.returns-then-is_none-clause-standing

@@ -1,7 +1,8 @@
 use Rattle.std.proofs.Common.{◌≡◌, ◌%◌, ℕ, take, ap, sym, ◌∙◌, subst, arith, length-take-le}
 use Rattle.ubifs_base.specs.RawOf.{raw_of}
 use Rattle.index_commit.specs.Written.{IsLebPut}
-use Rattle.index_commit.proofs.Lebs.{leb_put, none_left, none_put, one_works, put_left}
+use Rattle.index_commit.proofs.Lebs.{leb_put, none_put, one_works}
+use Rattle.index_commit.proofs.HeldLebs.{none_left, put_left}
 use Rattle.index_commit.proofs.writing.put_leb.Goals as goal
 
 pub returns-then-used-eq0-clause-put : goal.returns-then-used-eq0-clause-put

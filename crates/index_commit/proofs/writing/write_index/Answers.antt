@@ -9,7 +9,8 @@ use Rattle.ubi_volume.specs.VolumeLaws.{Leaves-none}
 use Rattle.index_commit.specs.Answers.{IsIndexNotFailed}
 use Rattle.index_commit.proofs.Committed.{index_at, lebs_suffice, some_nodes}
 use Rattle.index_commit.proofs.Laid.{index_none}
-use Rattle.index_commit.proofs.Lebs.{idle_lebs, keeps_indexes, none_standing, none_works, written_standing}
+use Rattle.index_commit.proofs.Lebs.{keeps_indexes, none_standing, none_works, written_standing}
+use Rattle.index_commit.proofs.HeldLebs.{idle_lebs}
 use Rattle.index_commit.specs.Ordered.{AreKeysInOrder, IsNotEqualKeys}
 use Rattle.index_commit.specs.Rooms.{taken_room}
 use Rattle.index_commit.proofs.Ordered.{never_equal}

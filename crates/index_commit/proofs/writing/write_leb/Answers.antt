@@ -5,7 +5,8 @@ use Rattle.ubifs_base.specs.RawOf.{raw_of}
 use Rattle.index_cache.specs.Paged.{dirty_of}
 use Rattle.index_commit.specs.Rooms.{room_in, whole_units}
 use Rattle.index_commit.specs.Written.{IsIndexTaken}
-use Rattle.index_commit.proofs.Lebs.{laid_all, laid_bytes, laid_most, leb_full, leb_more, leb_standing, leb_text, leb_text_left, leb_used}
+use Rattle.index_commit.proofs.Lebs.{laid_all, laid_bytes, laid_most, leb_full, leb_more, leb_standing, leb_used}
+use Rattle.index_commit.proofs.HeldLebs.{leb_text, leb_text_left}
 use Rattle.index_commit.proofs.writing.write_leb.Goals as goal
 
 pub returns-in_err-laid-clause-standing : goal.returns-in_err-laid-clause-standing
