@@ -1,44 +1,22 @@
 -- What the LEBs of a commit hold, and what a cut leaves of them.
-use Rattle.std.proofs.Common.{◌≡◌, ℕ, ◌+◌, ◌-◌, ◌*◌, ◌/◌, ◌%◌, ◌<◌, ◌≤◌, true, false, List, [], ◌∷◌, ◌++◌, length, take, drop, replicate, refl, ap, sym, ◌∙◌, subst, arith, inl, inr, append-nil, append_assoc}
-use Rattle.std.specs.Prelude.{◌⊎◌, ◌==◌, is_none, Option, None, Some, Result, Ok, Err, IfOk, OnOk, All, slice_get}
-use Rattle.std.proofs.Math.Nat.{add-mul, div-lt_iff_lt-mul, le-div_iff_mul-le, mul-add}
-use Rattle.std.proofs.lemmas.Bool.{cases_Bool}
-use Rattle.std.proofs.lemmas.Bool.Decides.{nat_tests}
+use Rattle.std.proofs.Common.{◌≡◌, ℕ, ◌+◌, ◌-◌, ◌*◌, ◌<◌, ◌≤◌, List, [], ◌∷◌, ◌++◌, length, refl, ap, sym, ◌∙◌, subst, arith, inl, inr, append-nil}
+use Rattle.std.specs.Prelude.{◌⊎◌}
 use Rattle.std.proofs.lemmas.List.{length-map}
-use Rattle.std.proofs.lemmas.List.Elements.{All-weaker}
-use Rattle.ubifs_base.specs.declared.key.Key.{Key}
 use Rattle.ubifs_base.specs.declared.raw_geometry.RawGeometry.{RawGeometry}
 use Rattle.ubifs_base.specs.Gap.{gap_of}
 use Rattle.ubifs_base.specs.Geometry.{index_node_len, index_nodes_per_leb}
-use Rattle.index_media.specs.KeyedRow.{KeyedRow}
-use Rattle.index_media.specs.PlacedRow.{PlacedRow, Stretch, branches_of, lebs_of}
-use Rattle.index_media.specs.Stored.{IsIndexNodeAt, IsStoredIndex}
 use Rattle.media_sys.specs.Index.{Index}
-use Rattle.media_sys.specs.SystemNode.{index, IsSystemNode}
-use Rattle.media_sys.specs.declared.branch.Branch.{Branch}
-use Rattle.node_table.specs.Clean.{node_branch, placed_of}
-use Rattle.node_table.specs.NodeView.{tree_at}
-use Rattle.node_table.specs.declared.node.Root.{Root}
-use Rattle.ubi_volume.specs.Frame.{Elsewhere, IsSameLeb}
-use Rattle.ubi_volume.specs.Geometry.{IsGeometryOf}
-use Rattle.ubi_volume.specs.FrameLaws.{IsSameLeb-none, IsSameLeb-then, Only-same, Works-more, Works-none, Works-on, Works-then}
-use Rattle.ubi_volume.specs.Volume.{VolumeState, IsChanged, Keeps, Only, filled, SameShape, UnderWay, WorksOn, Leaves, ChangeUnderWay}
-use Rattle.ubi_volume.specs.VolumeLaws.{Leaves-keeps, Leaves-more, Leaves-then, Leaves-none}
+use Rattle.ubi_volume.specs.Volume.{VolumeState, filled, UnderWay, WorksOn, Leaves, ChangeUnderWay}
+use Rattle.ubi_volume.specs.VolumeLaws.{Leaves-more, Leaves-none}
 use Rattle.index_cache.specs.Commit.{said_of}
 use Rattle.index_cache.specs.Paged.{dirty_of}
 use Rattle.index_cache.specs.declared.paged.PagedIndex.{PagedIndex}
-use Rattle.index_commit.specs.Answers.{IsIndexNotFailed}
-use Rattle.index_commit.specs.declared.index_fault.IndexFault.{IndexFault}
-use Rattle.index_commit.specs.Lebs.{AreGivable, IsGiven}
+use Rattle.index_commit.specs.Lebs.{IsGiven}
 use Rattle.index_commit.specs.LebTexts.{AreLebsOf, IsLebOf, in_rooms, nodes_written, said_by, AreLebsLeft, IsLebLeft}
 use Rattle.index_commit.specs.Rooms.{Room, whole_units}
-use Rattle.index_commit.specs.Standing.{AreStandingAs, IsOutside, StandsAs}
-use Rattle.index_commit.specs.Written.{AreStanding, AreFirstsTaken, AreWritten, IsHeadAfter, IsHeadIn, IsIndexTaken, AreNodesLaid, IsLebPut, IsNewIn, IsPut, Demand, Meets, IsSettledOutside, KeepsOtherIndexes, WorksInLebs, with_leb_bytes, IsPutLeft}
-use Rattle.index_commit.specs.declared.index_at.IndexHead.{IndexHead}
-use Rattle.index_commit.proofs.Laid.{AreFewer, taken_fewer}
+use Rattle.index_commit.specs.Written.{AreFirstsTaken, IsIndexTaken, AreNodesLaid, IsLebPut, WorksInLebs, IsPutLeft}
 use Rattle.index_commit.proofs.LastTaken.{none_from_none}
 use Rattle.index_commit.proofs.LebTexts.{leb_of, lebs_both, none_lebs, none_written_nodes, written_are, written_both, leb_left, lefts_both, lefts_first}
-use Rattle.index_commit.proofs.Standing.{are_standing, clean_more}
 use Rattle.index_commit.proofs.Lebs.{none_works}
 
 -- ---- what the LEBs hold
