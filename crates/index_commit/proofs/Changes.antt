@@ -168,7 +168,7 @@ all_is_clean ended = refl
 all_is_clean (leaf_at x rest) = all_is_clean rest
 all_is_clean (node_at branch children rest) = rw (all_is_clean children, all_is_clean rest) refl
 
-placed_again : (row : PlacedRow) → placed_of (all_clean row) ≡ row
+pub placed_again : (row : PlacedRow) → placed_of (all_clean row) ≡ row
 placed_again ended = refl
 placed_again (leaf_at x rest) = ap (leaf_at x) (placed_again rest)
 placed_again (node_at branch children rest) = rw (placed_again children, placed_again rest) refl

@@ -21,6 +21,7 @@ use Rattle.ubi_volume.specs.Volume.{VolumeState, Only}
 use Rattle.index_cache.specs.Paged.{dirty_of, fanout_of, frozen_of}
 use Rattle.index_cache.specs.declared.paged.PagedIndex.{PagedIndex}
 use Rattle.index_commit.specs.Lebs.{IsGiven}
+use Rattle.index_commit.specs.Rooms.{Room}
 use Rattle.index_commit.specs.Standing.{AreOutside, AreStandingAs}
 use Rattle.index_commit.specs.Written.{AreLebsSettled, AreStanding, IsHeadAfter, IsIndexAt, IsIndexTaken, IsNewIn}
 use Rattle.index_commit.specs.declared.index_at.IndexHead.{IndexHead}
@@ -33,7 +34,7 @@ all_is_clean (leaf_at x rest) = all_is_clean rest
 all_is_clean (node_at branch children rest) = rw (all_is_clean children, all_is_clean rest) refl
 
 -- the frozen index stands where it stood while it was written
-frozen_written : (old new : VolumeState) (lebs : List ℕ) (a b : PagedIndex) (i j : ℕ) → IsIndexTaken a b i j → AreStanding old new lebs a b i j → AreOutside old.holds lebs (frozen_of a)
+frozen_written : {room : ℕ → Room} (old new : VolumeState) (lebs : List ℕ) (a b : PagedIndex) (i j : ℕ) → IsIndexTaken room a b i j → AreStanding old new lebs a b i j → AreOutside old.holds lebs (frozen_of a)
     → AreStandingAs new.holds (IsNewIn new lebs i j) (frozen_of b)
 frozen_written old new lebs a b i j taken standing h =
     let P : Option Root → Type 0 = λ root. AreStandingAs new.holds (IsNewIn new lebs i j) (tree_at b.table.nodes.items root) in
@@ -58,7 +59,7 @@ row_settled state lebs i j (node_in key (Some s) children rest) c h =
     All-cons P s.lnum (map leb_of (below ++ others)) (λ given. (h.0.holds given).left)
     (both_all P below others (row_settled state lebs i j children parts.1 h.1) (row_settled state lebs i j rest parts.2 h.2))
 
-pub index_at : (old new : VolumeState) (fanout i j : ℕ) (lebs : List ℕ) (a b : PagedIndex) (root : Option Branch) (head : Option IndexHead) → IsIndexTaken a b i j → AreStanding old new lebs a b i j
+pub index_at : {room : ℕ → Room} (old new : VolumeState) (fanout i j : ℕ) (lebs : List ℕ) (a b : PagedIndex) (root : Option Branch) (head : Option IndexHead) → IsIndexTaken room a b i j → AreStanding old new lebs a b i j
     → AreOutside old.holds lebs (frozen_of a) → dirty_of b ≡ [] → fanout_of a ≡ fanout → frozen_of b ≡ all_clean (placed_of (frozen_of b)) → fits (fanout_of b) (bare (frozen_of b)) ≡ true
     → is_whole (bare (frozen_of b)) ≡ true → (level : ℕ) × (levelled level (bare (frozen_of b)) ≡ true) → AreKeysBounded 0 None (frozen_of b)
     → root ≡ slice_get (branches_of (placed_of (frozen_of b))) 0 → IsHeadAfter new lebs (dirty_of a) None head

@@ -1,12 +1,13 @@
 -- LEBs that a commit writes, one after another.
 use Rattle.std.proofs.Common.{◌≡◌, ℕ, ◌+◌, ◌-◌, ◌*◌, ◌/◌, ◌%◌, ◌<◌, ◌≤◌, true, false, List, [], ◌∷◌, ◌++◌, length, take, drop, replicate, refl, ap, sym, ◌∙◌, subst, arith, inl, inr, append-nil, append_assoc}
 use Rattle.std.specs.Prelude.{◌⊎◌, ◌==◌, is_none, Option, None, Some, Result, Ok, Err, IfOk, OnOk, All, slice_get}
-use Rattle.std.proofs.Math.Nat.{add-mul, div-lt_iff_lt-mul, mul-add}
+use Rattle.std.proofs.Math.Nat.{add-mul, div-lt_iff_lt-mul, le-div_iff_mul-le, mul-add}
 use Rattle.std.proofs.lemmas.Bool.{cases_Bool}
 use Rattle.std.proofs.lemmas.Bool.Decides.{nat_tests}
 use Rattle.std.proofs.lemmas.List.Elements.{All-weaker}
 use Rattle.ubifs_base.specs.declared.key.Key.{Key}
 use Rattle.ubifs_base.specs.declared.raw_geometry.RawGeometry.{RawGeometry}
+use Rattle.ubifs_base.specs.Gap.{gap_of}
 use Rattle.index_media.specs.KeyedRow.{KeyedRow}
 use Rattle.index_media.specs.PlacedRow.{PlacedRow, Stretch, branches_of, lebs_of}
 use Rattle.index_media.specs.Stored.{IsIndexNodeAt, IsStoredIndex}
@@ -19,7 +20,7 @@ use Rattle.node_table.specs.declared.node.Root.{Root}
 use Rattle.ubi_volume.specs.Frame.{Elsewhere, IsSameLeb}
 use Rattle.ubi_volume.specs.Geometry.{IsGeometryOf}
 use Rattle.ubi_volume.specs.FrameLaws.{IsSameLeb-none, IsSameLeb-then, Only-same, Works-more, Works-none, Works-on, Works-then}
-use Rattle.ubi_volume.specs.Volume.{VolumeState, IsChanged, Keeps, Only, SameShape, UnderWay, WorksOn}
+use Rattle.ubi_volume.specs.Volume.{VolumeState, IsChanged, Keeps, Only, filled, SameShape, UnderWay, WorksOn}
 use Rattle.ubi_volume.specs.VolumeLaws.{Leaves-keeps, Leaves-more, Leaves-then}
 use Rattle.index_cache.specs.Paged.{dirty_of}
 use Rattle.index_cache.specs.declared.paged.PagedIndex.{PagedIndex}
@@ -27,7 +28,7 @@ use Rattle.index_commit.specs.Answers.{IsIndexNotFailed}
 use Rattle.index_commit.specs.declared.index_fault.IndexFault.{IndexFault}
 use Rattle.index_commit.specs.Lebs.{AreGivable, IsGiven}
 use Rattle.index_commit.specs.Standing.{AreStandingAs, IsOutside, StandsAs}
-use Rattle.index_commit.specs.Written.{AreStanding, AreFirstsTaken, AreWritten, IsHeadAfter, IsHeadIn, IsIndexTaken, AreNodesLaid, IsLebPut, IsNewIn, IsPut, Demand, Meets, IsSettledOutside, KeepsOtherIndexes, WorksInLebs, with_leb_bytes}
+use Rattle.index_commit.specs.Written.{AreStanding, AreFirstsTaken, AreWritten, IsHeadAfter, IsHeadIn, AreNodesLaid, IsLebPut, IsNewIn, IsPut, Demand, Meets, IsSettledOutside, KeepsOtherIndexes, WorksInLebs, with_leb_bytes}
 use Rattle.index_commit.specs.declared.index_at.IndexHead.{IndexHead}
 use Rattle.index_commit.proofs.Laid.{AreFewer, taken_fewer}
 use Rattle.index_commit.proofs.Standing.{are_standing, clean_more}
@@ -65,6 +66,10 @@ one_times n room some =
     let sum = add-mul (n - 1) 1 room in
     omega (arith, whole, sum)
 
+none_taken : (numbers old new : List ℕ) → length numbers ≡ 0 → AreFirstsTaken numbers old new → new ≡ old
+none_taken [] old new none h = h
+none_taken (n ∷ numbers) old new none h = absurd (omega (arith, none))
+
 -- where a number was given, a node was laid, so the LEB is written
 some_used : (room used nodes i j n : ℕ) → 0 < room → used ≡ nodes * room → j ≡ i + nodes → i < n → n ≤ j → 0 < used
 some_used room used nodes i j n some long number low most =
@@ -77,7 +82,7 @@ pub leb_standing : (old new : VolumeState) (lnum room used end i j : ℕ) (a b :
     → AreWritten old new (lnum ∷ []) a b i j
 leb_standing old new lnum room used end i j a b bytes some size laid put =
     let long = laid.long in
-    let whole : used ≡ laid.index.nodes * room = omega (arith, long, size) in
+    let whole : used ≡ (length laid.index.numbers) * room = omega (arith, long, size) in
     let stand : (asked : Demand) (root : Option Root) → ((place : Stretch) (n : ℕ) → place.lnum ≡ lnum → i < n → n ≤ j → 0 < used → Meets asked place n 0)
     → AreStandingAs old.holds (λ place number group. (IsGiven (lnum ∷ []) place.lnum → ⊥) × Meets asked place number group) (tree_at a.table.nodes.items root)
     → AreStandingAs new.holds (Meets asked) (tree_at b.table.nodes.items root) = λ asked root own h.
@@ -85,7 +90,7 @@ leb_standing old new lnum room used end i j a b bytes some size laid put =
     let Q : Stretch → ℕ → ℕ → Type 0 = λ place number group. (IsGiven (lnum ∷ []) place.lnum → ⊥) × P place number group in
     let before = clean_more (StandsAs old.holds Q) (StandsAs (with_leb_bytes lnum [] old.holds) P) (tree_at a.table.nodes.items root)
     (λ key place children. as_there lnum [] old.holds P key place children) h in
-    let after = laid.stand old.holds asked root (λ place n e low most. own place n e low most (some_used room used laid.index.nodes i j n some whole laid.index.number low most)) before in
+    let after = laid.stand old.holds asked root (λ place n e low most. own place n e low most (some_used room used (length laid.index.numbers) i j n some whole laid.index.number low most)) before in
     are_standing (with_leb_bytes lnum bytes old.holds) new.holds P P (tree_at b.table.nodes.items root) put.grown (λ s n g x. x) after in
     let S : ℕ → Type 0 = λ m. (IsGiven (lnum ∷ []) m × IsSameLeb old new m) ⊎ Only (new.holds m) (new.left_now m) in
     let T : ℕ → Type 0 = λ m. (IsGiven [] m × IsSameLeb old new m) ⊎ Only (new.holds m) (new.left_now m) in
@@ -121,15 +126,18 @@ none_put state lnum end leb = record {
     | inl e ↦ (state.holds k, rw e refl)
     | inr e ↦ ([], rw e (sym (append-nil (state.holds k))))
   ];
+  whole = λ some. absurd (omega (arith, some));
+  same = λ none. IsSameLeb-none state lnum;
   settled = inl (IsSameLeb-none state lnum);
   left = λ some. absurd (omega (arith, some));
   ended = λ some. absurd (omega (arith, some));
 }
 
-pub leb_put : (old new : VolumeState) (lnum used end : ℕ) (P : List ℕ → Type 0) (front gap bytes : List ℕ) → bytes ≡ front ++ gap → IsChanged old new lnum bytes → WorksOn old new lnum P
+pub leb_put : (old new : VolumeState) (lnum used end : ℕ) (P : List ℕ → Type 0) (front bytes : List ℕ) → 0 < used → bytes ≡ front ++ gap_of (end - used) → IsChanged old new lnum bytes → WorksOn old new lnum P
     → length bytes ≡ end → end % new.min_io ≡ 0 → IsLebPut old new lnum front used end
-leb_put old new lnum used end P front gap bytes e done works long whole =
-    let behind = replicate (old.leb_size - length bytes) 255 in
+leb_put old new lnum used end P front bytes some e done works long whole =
+    let gap : List ℕ = gap_of (end - used) in
+    let behind : List ℕ = replicate (old.leb_size - length bytes) 255 in
     let here : new.holds lnum ≡ front ++ (gap ++ behind) = done.holds ∙ ap (λ x. x ++ behind) e ∙ append_assoc front gap behind in
     record {
       grown = λ k. elim (cases_Bool (k == lnum)) [
@@ -140,6 +148,8 @@ leb_put old new lnum used end P front gap bytes e done works long whole =
             let ne : k ≡ lnum → ⊥ = λ same. let itself : (k == lnum) ≡ true = grind (arith, nat_tests, same) in absurd cc in
             ([], rw t (works.others k ne ∙ sym (append-nil (old.holds k))))
       ];
+      whole = λ more. done.holds ∙ ap (filled old.leb_size) e;
+      same = λ none. absurd (omega (arith, some, none));
       settled = inr (λ c left. done.left c left ∙ sym done.holds);
       left = λ some c left. done.left c left ∙ sym done.holds;
       ended = λ some. (done.written ∙ long, whole);
@@ -171,7 +181,7 @@ given_behind : (xs ys : List ℕ) (k : ℕ) → IsGiven ys k → IsGiven (xs ++ 
 given_behind [] ys k h = h
 given_behind (x ∷ xs) ys k h = inr (given_behind xs ys k h)
 
-given_of : (xs ys : List ℕ) (k : ℕ) → IsGiven (xs ++ ys) k → IsGiven xs k ⊎ IsGiven ys k
+pub given_of : (xs ys : List ℕ) (k : ℕ) → IsGiven (xs ++ ys) k → IsGiven xs k ⊎ IsGiven ys k
 given_of [] ys k h = inr h
 given_of (x ∷ xs) ys k (inl e) = inl (inl e)
 given_of (x ∷ xs) ys k (inr h) = elim (given_of xs ys k h) [
@@ -273,20 +283,17 @@ none_written state lebs x i = record {
 }
 
 -- of one LEB alone
-pub one_written : (a b : VolumeState) (lnum : ℕ) (lebs all : List ℕ) (x y : PagedIndex) (i j : ℕ) → all ≡ lnum ∷ lebs → IsIndexTaken x y i j → (IsGiven lebs lnum → ⊥) → WorksInLebs a b (lnum ∷ [])
+pub one_written : (a b : VolumeState) (lnum : ℕ) (lebs all : List ℕ) (x y : PagedIndex) (i j : ℕ) → all ≡ lnum ∷ lebs → i ≤ j → (IsGiven lebs lnum → ⊥) → WorksInLebs a b (lnum ∷ [])
     → AreWritten a b (lnum ∷ []) x y i j → AreWritten a b all x y i j
-one_written a b lnum lebs all x y i j e taken apart works one =
+one_written a b lnum lebs all x y i j e later apart works one =
     let P : List ℕ → Type 0 = λ xs. AreWritten a b xs x y i j in
-    let number = taken.number in
-    subst P (sym e) (written_then a b b lnum lebs x y y i j j (omega (arith, number)) (omega arith) apart works (none_works b lebs) one (none_written b lebs y j))
+    subst P (sym e) (written_then a b b lnum lebs x y y i j j later (omega arith) apart works (none_works b lebs) one (none_written b lebs y j))
 
-pub both_written : (a b c : VolumeState) (lnum : ℕ) (lebs all : List ℕ) (x y z : PagedIndex) (i j k : ℕ) → all ≡ lnum ∷ lebs → IsIndexTaken x y i j → IsIndexTaken y z j k → (IsGiven lebs lnum → ⊥)
+pub both_written : (a b c : VolumeState) (lnum : ℕ) (lebs all : List ℕ) (x y z : PagedIndex) (i j k : ℕ) → all ≡ lnum ∷ lebs → i ≤ j → j ≤ k → (IsGiven lebs lnum → ⊥)
     → WorksInLebs a b (lnum ∷ []) → WorksInLebs b c lebs → AreWritten a b (lnum ∷ []) x y i j → AreWritten b c lebs y z j k → AreWritten a c all x z i k
-both_written a b c lnum lebs all x y z i j k e taken more apart ab bc one rest =
+both_written a b c lnum lebs all x y z i j k e sooner later apart ab bc one rest =
     let P : List ℕ → Type 0 = λ xs. AreWritten a c xs x z i k in
-    let number = taken.number in
-    let last = more.number in
-    subst P (sym e) (written_then a b c lnum lebs x y z i j k (omega (arith, number)) (omega (arith, last)) apart ab bc one rest)
+    subst P (sym e) (written_then a b c lnum lebs x y z i j k sooner later apart ab bc one rest)
 
 -- what stands then
 new_in : (old new : VolumeState) (lebs : List ℕ) (x y : PagedIndex) (i j : ℕ) (w : AreWritten old new lebs x y i j) (s : Stretch) (n g : ℕ)
@@ -365,27 +372,72 @@ pub leb_full : AreFewer → (lnum room size used i j : ℕ) (a b : PagedIndex) (
 leb_full fewer lnum room size used i j a b bytes some long laid (inl none) = inl none
 leb_full fewer lnum room size used i j a b bytes some long laid (inr full) =
     let whole = laid.long in
-    let most = full_leb size room laid.index.nodes some (omega (arith, whole, long, full)) in
-    let less = taken_fewer fewer laid.index.nodes (dirty_of a) (dirty_of b) laid.index.taken in
+    let most = full_leb size room (length laid.index.numbers) some (omega (arith, whole, long, full)) in
+    let less = taken_fewer fewer laid.index.numbers (dirty_of a) (dirty_of b) laid.index.taken in
     inr (omega (arith, most, less))
+
+-- no more nodes are laid than a LEB takes, and where it has no room for one they are as many
+pub laid_most : (lnum room size used i j : ℕ) (a b : PagedIndex) (bytes : List ℕ) → 0 < room → length bytes ≡ used → used ≤ size
+    → AreNodesLaid lnum room (record { index = a; sqnum = i; bytes = [] }) (record { index = b; sqnum = j; bytes = bytes }) → j ≤ i + size / room
+laid_most lnum room size used i j a b bytes some long fits laid =
+    let whole = laid.long in
+    let number = laid.index.number in
+    let nodes = length laid.index.numbers in
+    let most = (le-div_iff_mul-le {k = room} {x = nodes} {y = size} some).1 (omega (arith, whole, long, fits)) in
+    omega (arith, most, number)
+
+pub laid_all : (lnum room size used i j : ℕ) (a b : PagedIndex) (bytes : List ℕ) → 0 < room → length bytes ≡ used → used ≤ size
+    → (laid : AreNodesLaid lnum room (record { index = a; sqnum = i; bytes = [] }) (record { index = b; sqnum = j; bytes = bytes })) → (dirty_of b ≡ []) ⊎ (size < used + room)
+    → (dirty_of b ≡ []) ⊎ (j ≡ i + size / room)
+laid_all lnum room size used i j a b bytes some long fits laid (inl none) = inl none
+laid_all lnum room size used i j a b bytes some long fits laid (inr full) =
+    let whole = laid.long in
+    let number = laid.index.number in
+    let most = laid_most lnum room size used i j a b bytes some long fits laid in
+    let least = full_leb size room (length laid.index.numbers) some (omega (arith, whole, long, full)) in
+    inr (omega (arith, most, least, number))
 
 -- a node that is dirty is laid, or its LEB has no room for one
 pub leb_used : (lnum room size used i j : ℕ) (a b : PagedIndex) (bytes : List ℕ) → 0 < room → room ≤ size → length bytes ≡ used → 0 < length (dirty_of a)
     → (laid : AreNodesLaid lnum room (record { index = a; sqnum = i; bytes = [] }) (record { index = b; sqnum = j; bytes = bytes })) → (dirty_of b ≡ []) ⊎ (size < used + room) → 0 < used
 leb_used lnum room size used i j a b bytes some fits long dirty laid (inr full) = omega (arith, fits, full)
-leb_used lnum room size used i j a b bytes some fits long dirty laid (inl none) = elim (cases_Bool (laid.index.nodes == 0)) [
+leb_used lnum room size used i j a b bytes some fits long dirty laid (inl none) = elim (cases_Bool ((length laid.index.numbers) == 0)) [
   | inl e ↦
-      let zero : laid.index.nodes ≡ 0 = grind (arith, nat_tests, e) in
-      let P : ℕ → Type 0 = λ n. AreFirstsTaken n (dirty_of a) (dirty_of b) in
-      let same : dirty_of b ≡ dirty_of a = subst P zero laid.index.taken in
+      let zero : (length laid.index.numbers) ≡ 0 = grind (arith, nat_tests, e) in
+      let same = none_taken laid.index.numbers (dirty_of a) (dirty_of b) zero laid.index.taken in
       let empty = ap length (sym same ∙ none) in
       absurd (omega (arith, empty, dirty))
   | inr e ↦
-      let more : 1 ≤ laid.index.nodes = grind (arith, nat_tests, e) in
+      let more : 1 ≤ (length laid.index.numbers) = grind (arith, nat_tests, e) in
       let whole = laid.long in
-      let less = one_times laid.index.nodes room more in
+      let less = one_times (length laid.index.numbers) room more in
       omega (arith, whole, long, less, some)
 ]
+
+pub leb_more : (lnum room size used i j : ℕ) (a b : PagedIndex) (bytes : List ℕ) → 0 < room → room ≤ size → length bytes ≡ used → 0 < length (dirty_of a)
+    → (laid : AreNodesLaid lnum room (record { index = a; sqnum = i; bytes = [] }) (record { index = b; sqnum = j; bytes = bytes })) → (dirty_of b ≡ []) ⊎ (size < used + room) → i < j
+leb_more lnum room size used i j a b bytes some fits long dirty laid full = elim (cases_Bool (length laid.index.numbers == 0)) [
+  | inl e ↦
+      let none : length laid.index.numbers ≡ 0 = grind (arith, nat_tests, e) in
+      let whole = laid.long in
+      let zero = ap (λ (n : ℕ). n * room) none in
+      let busy = leb_used lnum room size used i j a b bytes some fits long dirty laid full in
+      absurd (omega (arith, whole, zero, busy, long))
+  | inr e ↦
+      let more : 1 ≤ length laid.index.numbers = grind (arith, nat_tests, e) in
+      let number = laid.index.number in
+      omega (arith, more, number)
+]
+
+-- the bytes that are laid are those of the rooms
+pub laid_bytes : (lnum room used i j : ℕ) (a b : PagedIndex) (bytes : List ℕ) → length bytes ≡ used
+    → AreNodesLaid lnum room (record { index = a; sqnum = i; bytes = [] }) (record { index = b; sqnum = j; bytes = bytes }) → used ≡ (j - i) * room
+laid_bytes lnum room used i j a b bytes long laid =
+    let whole = laid.long in
+    let number = laid.index.number in
+    let count : j - i ≡ length laid.index.numbers = omega (arith, number) in
+    let times = ap (λ (n : ℕ). n * room) count in
+    omega (arith, whole, times, long)
 
 -- ---- what stands elsewhere
 abbrev pub DependsOnItsLebs : Type 0

@@ -1,6 +1,14 @@
 pub mod Standing
+pub mod Rooms
+pub mod LebTexts
+pub mod LastTaken
 pub mod Laid
 pub mod Whole
 pub mod Lebs
+pub mod HeldLebs
+pub mod Rooming
 pub mod Committed
 pub mod Changes
+pub mod Ordered
+pub mod RowRooms
+pub mod Twice

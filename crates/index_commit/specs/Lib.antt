@@ -1,4 +1,7 @@
 pub mod Lebs
+pub mod Rooms
+pub mod LebTexts
 pub mod Standing
 pub mod Answers
 pub mod Written
+pub mod Ordered

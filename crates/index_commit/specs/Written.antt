@@ -1,5 +1,7 @@
 -- What a commit leaves of an index, in memory and on the volume.
-use Rattle.std.specs.Prelude.{◌≡◌, ◌⊎◌, ◌<◌, ◌≤◌, ◌+◌, ◌*◌, ◌%◌, ◌==◌, ℕ, zero, suc, if◌then◌else◌, List, [], ◌++◌, Option, None, Some, length, slice_get, All}
+use Rattle.std.specs.Prelude.{◌≡◌, ◌⊎◌, ◌<◌, ◌≤◌, ◌+◌, ◌-◌, ◌*◌, ◌%◌, ◌==◌, ℕ, if◌then◌else◌, List, [], ◌∷◌, ◌++◌, Option, None, Some, length, map, slice_get, All}
+use Rattle.ubifs_base.specs.Gap.{gap_of}
+use Rattle.ubifs_base.specs.declared.raw_geometry.RawGeometry.{RawGeometry}
 use Rattle.index_media.specs.KeyedRow.{KeyedRow, no_more, all_clean}
 use Rattle.index_media.specs.PlacedRow.{PlacedRow, Stretch, lebs_of}
 use Rattle.index_media.specs.Stored.{IsStoredIndex}
@@ -7,35 +9,51 @@ use Rattle.media_sys.specs.declared.branch.Branch.{Branch}
 use Rattle.node_table.specs.Clean.{placed_of}
 use Rattle.node_table.specs.NodeView.{tree_at}
 use Rattle.node_table.specs.Placing.{KeepsPlaces, without_number}
+use Rattle.node_table.specs.declared.link.Link.{Link}
 use Rattle.node_table.specs.declared.node.Root.{Root}
+use Rattle.node_table.specs.declared.node.TableNode.{TableNode}
 use Rattle.ubi_volume.specs.Frame.{Elsewhere, IsSameLeb, Works}
-use Rattle.ubi_volume.specs.Volume.{VolumeState, Leaves, Only}
+use Rattle.ubi_volume.specs.Volume.{VolumeState, Leaves, Only, filled}
+use Rattle.index_cache.specs.Commit.{said_of}
 use Rattle.index_cache.specs.Paged.{dirty_of, frozen_of, tree_of, KeepsRoots}
 use Rattle.index_cache.specs.declared.paged.PagedIndex.{PagedIndex}
 use Rattle.index_commit.specs.Lebs.{AreApart, IsGiven}
+use Rattle.index_commit.specs.LebTexts.{firsts, in_rooms, said_by}
+use Rattle.index_commit.specs.Rooms.{Room, room_in, place_by_number, AreDistinctNumbers, AreInRooms, IsNotAmong, whole_units}
 use Rattle.index_commit.specs.Standing.{AreOutside, AreStandingAs}
 use Rattle.index_commit.specs.declared.index_at.IndexAt.{IndexAt}
 use Rattle.index_commit.specs.declared.index_at.IndexHead.{IndexHead}
 
+-- the links of a node of the table
+abbrev pub node_links : TableNode → List Link
+node_links node = node.links.items
+
 -- The index in memory: below each root, the frozen one and the one that is seen included, stands what stood there, but that
--- nodes that were dirty may have places
+-- nodes that were dirty may have places. A node keeps its level and its links
 pub record IsIndexKept (old new : PagedIndex) : Type 0 where
+  pub levels : (number : ℕ) → (said_of new number).level ≡ (said_of old number).level
+  pub links : map node_links new.table.nodes.items ≡ map node_links old.table.nodes.items
   pub frozen : KeepsPlaces (frozen_of old) (frozen_of new)
   pub tree : KeepsPlaces (tree_of old) (tree_of new)
   pub trees : (root : Option Root) → KeepsPlaces (tree_at old.table.nodes.items root) (tree_at new.table.nodes.items root)
   pub roots : KeepsRoots old new
 
--- so many dirty nodes were written: each time the first one, by its number
-abbrev pub AreFirstsTaken : ℕ → List ℕ → List ℕ → Type 0
-AreFirstsTaken zero old new = new ≡ old
-AreFirstsTaken (suc n) old new = (number : ℕ) × (slice_get old 0 ≡ Some number) × AreFirstsTaken n (without_number number old) new
+-- these dirty nodes were written, in this order: each time the first one, by its number
+abbrev pub AreFirstsTaken : List ℕ → List ℕ → List ℕ → Type 0
+AreFirstsTaken [] old new = new ≡ old
+AreFirstsTaken (number ∷ numbers) old new = (slice_get old 0 ≡ Some number) × AreFirstsTaken numbers (without_number number old) new
 
--- the index is kept, and each node that was written took the next sequence number
-pub record IsIndexTaken (old new : PagedIndex) (before after : ℕ) : Type 0 where
+-- The index is kept. These nodes were written, none twice: each has its place in the next room, and took the next sequence number.
+-- All other nodes have the places that they had
+pub record IsIndexTaken (room : ℕ → Room) (old new : PagedIndex) (before after : ℕ) : Type 0 where
   pub kept : IsIndexKept old new
-  pub nodes : ℕ
-  pub taken : AreFirstsTaken nodes (dirty_of old) (dirty_of new)
-  pub number : after ≡ before + nodes
+  pub numbers : List ℕ
+  pub taken : AreFirstsTaken numbers (dirty_of old) (dirty_of new)
+  pub firsts : firsts (length numbers) (dirty_of old) ≡ numbers
+  pub distinct : AreDistinctNumbers numbers
+  pub rooms : AreInRooms room new numbers
+  pub others : (number : ℕ) → IsNotAmong numbers number → place_by_number new number ≡ place_by_number old number
+  pub number : after ≡ before + length numbers
   pub most : after + length (dirty_of new) ≤ before + length (dirty_of old)
 
 -- a LEB's bytes in the place of those that it holds
@@ -61,13 +79,14 @@ abbrev pub Meets : Demand → Stretch → ℕ → ℕ → Type 0
 Meets asked place number group =
     (IsGiven asked.outside place.lnum → ⊥) × (IsGiven asked.lebs place.lnum → (asked.first < number) × (number ≤ asked.last) × (group ≡ 0))
 
--- Nodes were laid for this LEB, each in so much room. With these bytes in it clean nodes stand, and meet what is asked,
+-- Nodes were laid for this LEB, each in so much room, behind the bytes that were there. With these bytes in it clean nodes stand, and meet what is asked,
 -- if those that stood before do, and each place in the LEB with one of the numbers given since, and in no group
 pub record AreNodesLaid (lnum room : ℕ) (old new : Laying) : Type 0 where
-  pub index : IsIndexTaken old.index new.index old.sqnum new.sqnum
+  pub index : IsIndexTaken (room_in lnum room (length old.bytes)) old.index new.index old.sqnum new.sqnum
   pub more : List ℕ
   pub bytes : new.bytes ≡ old.bytes ++ more
-  pub long : length new.bytes ≡ length old.bytes + index.nodes * room
+  pub long : length new.bytes ≡ length old.bytes + length index.numbers * room
+  pub text : more ≡ in_rooms room old.sqnum (said_by new.index index.numbers)
   pub stand : (contents : ℕ → List ℕ) (asked : Demand) (root : Option Root)
       → ((place : Stretch) (number : ℕ) → place.lnum ≡ lnum → old.sqnum < number → number ≤ new.sqnum → Meets asked place number 0)
       → AreStandingAs (with_leb_bytes lnum old.bytes contents) (Meets asked) (tree_at old.index.table.nodes.items root)
@@ -115,12 +134,20 @@ pub record AreWritten (old new : VolumeState) (lebs : List ℕ) (before after : 
       → AreStandingAs new.holds (Meets asked) (tree_at after.table.nodes.items root)
   pub settled : (k : ℕ) → IsGiven lebs k → (IsGiven idle k × IsSameLeb old new k) ⊎ Only (new.holds k) (new.left_now k)
 
--- These bytes were put into a LEB, if there are any: other LEBs hold what they held, and behind the bytes more may stand
+-- These bytes were put into a LEB, if there are any, and a gap to the end of the unit: other LEBs hold what they held
 pub record IsLebPut (old new : VolumeState) (lnum : ℕ) (bytes : List ℕ) (used end : ℕ) : Type 0 where
   pub grown : (k : ℕ) → (more : List ℕ) × (new.holds k ≡ with_leb_bytes lnum bytes old.holds k ++ more)
+  pub whole : 0 < used → new.holds lnum ≡ filled old.leb_size (bytes ++ gap_of (end - used))
+  pub same : used ≡ 0 → IsSameLeb old new lnum
   pub settled : IsSameLeb old new lnum ⊎ Only (new.holds lnum) (new.left_now lnum)
   pub left : 0 < used → Only (new.holds lnum) (new.left_now lnum)
   pub ended : 0 < used → (new.written lnum ≡ end) × (end % new.min_io ≡ 0)
+
+-- while these bytes were put into a LEB, a cut left what it might have left before, or the bytes, a gap to the end of the unit, and
+-- nothing behind; without bytes it left what it might have left before
+pub record IsPutLeft (geo : RawGeometry) (old new : VolumeState) (lnum : ℕ) (bytes : List ℕ) (used : ℕ) : Type 0 where
+  pub busy : 0 < used → Leaves old new (λ c. old.left_now lnum (c lnum) ⊎ (c lnum ≡ filled old.leb_size (bytes ++ gap_of (whole_units geo used - used))))
+  pub idle : used ≡ 0 → Leaves old new (λ c. old.left_now lnum (c lnum))
 
 -- other LEBs are as they were, and a cut at any moment leaves of them what it might have left before
 abbrev pub WorksInLebs : VolumeState → VolumeState → List ℕ → Type 0

@@ -16,3 +16,11 @@ pub struct IndexAt {
     pub root: Option<Branch>,
     pub head: Option<IndexHead>,
 }
+
+/// A LEB to which index nodes were written: the head behind them, and the bytes that they take, each rounded up to 8, as properties of
+/// LEBs and `index_size` of a master count them.
+#[derive(Clone, Copy, Debug, PartialEq, Eq)]
+pub struct WrittenLeb {
+    pub head: IndexHead,
+    pub used: u32,
+}

@@ -3,18 +3,21 @@
 ghost use Rattle.std.specs.Prelude.{◌≡◌, ◌⊎◌, ◌<◌, ◌≤◌, ◌+◌, ◌-◌, ◌*◌, ◌%◌, ◌^◌, ◌++◌, ◌∷◌, [], length, take, IfOk, OnOk};
 ghost use Rattle.std.specs.Int.{div_ceil};
 ghost use Rattle.ubifs_base.specs.Gap.{gap_of};
-ghost use Rattle.ubifs_base.specs.Geometry.{index_nodes_per_leb};
+ghost use Rattle.ubifs_base.specs.Geometry.{index_node_len, index_nodes_per_leb};
 ghost use Rattle.ubifs_base.specs.RawOf.{raw_of};
 ghost use Rattle.index_media.specs.KeyedRow.{all_clean};
 ghost use Rattle.node_table.specs.Clean.{placed_of};
 ghost use Rattle.ubi_volume.specs.Faults.{HasAnswer};
 ghost use Rattle.ubi_volume.specs.Geometry.{IsGeometryOf};
-ghost use Rattle.ubi_volume.specs.Volume.{Keeps};
+ghost use Rattle.ubi_volume.specs.Volume.{Keeps, Leaves};
 ghost use Rattle.index_cache.specs.Paged.{dirty_of, frozen_of, fanout_of};
 ghost use Rattle.index_commit.specs.Answers.{HasEqualKeys, IsIndexNotFailed, IsNotFull, IsFullOf, IsIndexAnswered};
+ghost use Rattle.index_commit.specs.LebTexts.{AreLebsLeft, AreLebsOf, IsLebLeft, IsLebOf, index_bytes, nodes_written};
 ghost use Rattle.index_commit.specs.Lebs.{AreGivable};
+ghost use Rattle.index_commit.specs.Ordered.{AreKeysInOrder, IsNotEqualKeys};
+ghost use Rattle.index_commit.specs.Rooms.{IsIndexLaidOut, head_after, room_in, taken_room, whole_units};
 ghost use Rattle.index_commit.specs.Standing.{AreOutside};
-ghost use Rattle.index_commit.specs.Written.{AreStanding, AreWritten, IsHeadAfter, IsIndexAt, IsIndexTaken, IsLebPut, KeepsOtherIndexes, WorksInLebs, with_leb_bytes};
+ghost use Rattle.index_commit.specs.Written.{AreStanding, AreWritten, IsHeadAfter, IsIndexAt, IsIndexTaken, IsLebPut, IsPutLeft, KeepsOtherIndexes, WorksInLebs, with_leb_bytes};
 
 use crate::index_at::{IndexAt, IndexHead};
 use crate::index_fault::IndexFault;
@@ -48,14 +51,16 @@ pub fn write_index<V: Volume>(
     requires lebs { AreGivable (V.state volume.old).leb_cnt lebs.now }
     requires outside { AreOutside (V.state volume.old).holds lebs.now (frozen_of index.old) }
     requires number { sqnum.old + length (dirty_of index.old) < 2 ^ 64 }
-    ensures written { IfOk result (λ at. IsIndexAt (V.state volume.new) geometry.now.fanout lebs.now index.old index.new at) }
-    ensures standing { IsIndexNotFailed result → AreStanding (V.state volume.old) (V.state volume.new) lebs.now index.old index.new sqnum.old sqnum.new }
-    ensures index { IsIndexTaken index.old index.new sqnum.old sqnum.new }
-    ensures works { WorksInLebs (V.state volume.old) (V.state volume.new) lebs.now }
+    ensures written { IfOk result (λ at. IsIndexAt (V.state volume.new) geometry.now.fanout lebs.now index.old index.new at × IsIndexLaidOut (raw_of geometry.now) lebs.now (sqnum.new - sqnum.old) index.old index.new at) }
+    ensures standing { IsIndexNotFailed result → AreStanding (V.state volume.old) (V.state volume.new) lebs.now index.old index.new sqnum.old sqnum.new
+        × AreLebsOf (raw_of geometry.now) lebs.now (V.state volume.old) (V.state volume.new) sqnum.old (nodes_written index.old index.new (sqnum.new - sqnum.old)) }
+    ensures index { IsIndexTaken (taken_room (raw_of geometry.now) lebs.now) index.old index.new sqnum.old sqnum.new }
+    ensures works { WorksInLebs (V.state volume.old) (V.state volume.new) lebs.now × Leaves (V.state volume.old) (V.state volume.new)
+        (AreLebsLeft (raw_of geometry.now) lebs.now (V.state volume.old) sqnum.old (nodes_written index.old index.new (sqnum.new - sqnum.old))) }
     ensures old_stays { KeepsOtherIndexes (V.state volume.old) (V.state volume.new) lebs.now }
     ensures answer { IsIndexAnswered (V.state volume.old) (V.state volume.new) result
         × IsFullOf (Keeps (V.state volume.old) (V.state volume.new) × (index.new ≡ index.old)) (div_ceil (length (dirty_of index.old)) (index_nodes_per_leb (raw_of geometry.now))) (length lebs.now) result
-        × HasEqualKeys index.new result }
+        × HasEqualKeys index.new result × (AreKeysInOrder (frozen_of index.old) → IsNotEqualKeys result) }
 {
     an_index_depends_on_its_lebs_alone();
     places_are_kept();
@@ -93,9 +98,12 @@ fn write_lebs<V: Volume>(
     ensures clean { OnOk result (frozen_of index.new ≡ all_clean (placed_of (frozen_of index.new))) }
     ensures none { OnOk result (dirty_of index.new ≡ []) }
     ensures head { IfOk result (λ found. IsHeadAfter (V.state volume.new) lebs.now (dirty_of index.old) head found) }
+    ensures end { IfOk result (λ found. found ≡ head_after (raw_of geometry.now) lebs.now head (sqnum.new - sqnum.old)) }
     ensures standing { IsIndexNotFailed result → AreWritten (V.state volume.old) (V.state volume.new) lebs.now index.old index.new sqnum.old sqnum.new }
-    ensures index { IsIndexTaken index.old index.new sqnum.old sqnum.new }
+    ensures text { IsIndexNotFailed result → AreLebsOf (raw_of geometry.now) lebs.now (V.state volume.old) (V.state volume.new) sqnum.old (nodes_written index.old index.new (sqnum.new - sqnum.old)) }
+    ensures index { IsIndexTaken (taken_room (raw_of geometry.now) lebs.now) index.old index.new sqnum.old sqnum.new }
     ensures works { WorksInLebs (V.state volume.old) (V.state volume.new) lebs.now }
+    ensures left { Leaves (V.state volume.old) (V.state volume.new) (AreLebsLeft (raw_of geometry.now) lebs.now (V.state volume.old) sqnum.old (nodes_written index.old index.new (sqnum.new - sqnum.old))) }
     ensures answer { IsIndexAnswered (V.state volume.old) (V.state volume.new) result }
     ensures fault { IsNotFull result }
     ensures equal { HasEqualKeys index.new result }
@@ -108,13 +116,14 @@ fn write_lebs<V: Volume>(
         return Ok(head);
     };
     let lnum = *lnum;
-    let offs = write_leb(alloc, volume, geometry, index, lnum, sqnum, leb)?;
+    let mut live = 0;
+    let offs = write_leb(alloc, volume, geometry, index, lnum, sqnum, leb, &mut live)?;
     let now = Some(IndexHead { lnum, offs });
     write_lebs(alloc, volume, geometry, index, rest, sqnum, leb, now)
 }
 
-// Writes as many dirty nodes to a LEB as it has room for, and answers where what is written there ends.
-fn write_leb<V: Volume>(
+// Writes as many dirty nodes to a LEB as it has room for, and answers where what is written there ends. It counts their bytes.
+pub(crate) fn write_leb<V: Volume>(
     alloc: Global,
     volume: &mut V,
     geometry: &Geometry,
@@ -122,6 +131,7 @@ fn write_leb<V: Volume>(
     lnum: u32,
     sqnum: &mut u64,
     leb: &mut [u8],
+    live: &mut u32,
 ) -> Result<u32, IndexFault>
     requires geometry { IsGeometryOf (raw_of geometry.now) (V.state volume.old) }
     requires fanout { fanout_of index.old ≡ geometry.now.fanout }
@@ -129,20 +139,28 @@ fn write_leb<V: Volume>(
     requires number { sqnum.old + length (dirty_of index.old) < 2 ^ 64 }
     requires whole { length leb.old ≡ geometry.now.leb_size }
     requires some { 0 < length (dirty_of index.old) }
+    requires none { live.old ≡ 0 }
     ensures all { OnOk result ((dirty_of index.new ≡ []) ⊎ (length (dirty_of index.new) + index_nodes_per_leb (raw_of geometry.now) ≤ length (dirty_of index.old))) }
+    ensures most { sqnum.new ≤ sqnum.old + index_nodes_per_leb (raw_of geometry.now) }
+    ensures full { OnOk result ((dirty_of index.new ≡ []) ⊎ (sqnum.new ≡ sqnum.old + index_nodes_per_leb (raw_of geometry.now))) }
+    ensures some { OnOk result (sqnum.old < sqnum.new) }
     ensures end { IfOk result (λ end. ((V.state volume.new).written lnum ≡ end) × (end % (V.state volume.new).min_io ≡ 0)) }
+    ensures units { IfOk result (λ end. end ≡ whole_units (raw_of geometry.now) ((sqnum.new - sqnum.old) * index_node_len (raw_of geometry.now))) }
     ensures standing { IsIndexNotFailed result → AreWritten (V.state volume.old) (V.state volume.new) (lnum ∷ []) index.old index.new sqnum.old sqnum.new }
-    ensures index { IsIndexTaken index.old index.new sqnum.old sqnum.new }
+    ensures text { IsIndexNotFailed result → IsLebOf (raw_of geometry.now) (V.state volume.old) (V.state volume.new) lnum sqnum.old (nodes_written index.old index.new (sqnum.new - sqnum.old)) }
+    ensures index { IsIndexTaken (room_in lnum (index_node_len (raw_of geometry.now)) 0) index.old index.new sqnum.old sqnum.new }
     ensures works { WorksInLebs (V.state volume.old) (V.state volume.new) (lnum ∷ []) }
+    ensures left { Leaves (V.state volume.old) (V.state volume.new) (λ c. IsLebLeft (raw_of geometry.now) (V.state volume.old) lnum sqnum.old (nodes_written index.old index.new (sqnum.new - sqnum.old)) (c lnum)) }
     ensures answer { IsIndexAnswered (V.state volume.old) (V.state volume.new) result }
     ensures fault { IsNotFull result }
     ensures equal { HasEqualKeys index.new result }
     ensures len { length leb.new ≡ length leb.old }
+    ensures live { live.new ≡ index_bytes (nodes_written index.old index.new (sqnum.new - sqnum.old)) }
 {
     places_are_kept();
     let room = geometry.index_node_len();
     let mut used = 0;
-    let laid = lay_nodes(alloc, lnum, room, index, sqnum, leb, &mut used);
+    let laid = lay_nodes(alloc, lnum, room, index, sqnum, leb, &mut used, live);
     let end = put_leb(volume, geometry, lnum, leb, used)?;
     laid?;
     Ok(end)
@@ -161,7 +179,9 @@ fn put_leb<V: Volume>(
     requires whole { length leb.old ≡ geometry.now.leb_size }
     requires used { used ≤ length leb.old }
     ensures put { IfOk result (λ end. IsLebPut (V.state volume.old) (V.state volume.new) lnum (take used leb.old) used end) }
+    ensures units { IfOk result (λ end. end ≡ whole_units (raw_of geometry.now) used) }
     ensures works { WorksInLebs (V.state volume.old) (V.state volume.new) (lnum ∷ []) }
+    ensures left { IsPutLeft (raw_of geometry.now) (V.state volume.old) (V.state volume.new) lnum (take used leb.old) used }
     ensures answer { HasAnswer (V.state volume.old) (V.state volume.new) result }
     ensures len { length leb.new ≡ length leb.old }
 {
@@ -180,6 +200,7 @@ fn in_units(geometry: &Geometry, len: u32) -> u32
     ensures more { len ≤ result }
     ensures fits { result ≤ geometry.now.leb_size }
     ensures whole { result % geometry.now.min_io ≡ 0 }
+    ensures units { result ≡ whole_units (raw_of geometry.now) len }
 {
     let unit = geometry.min_io;
     (len + (unit - 1)) / unit * unit

@@ -1,4 +1,4 @@
-use Rattle.std.proofs.Common.{◌≡◌, true, ℕ, [], ap, sym, ◌∙◌, subst, append-nil}
+use Rattle.std.proofs.Common.{◌≡◌, ◌-◌, true, ℕ, [], ap, sym, ◌∙◌, subst, append-nil}
 use Rattle.index_tree.specs.Order.{placed}
 use Rattle.index_tree.specs.Shape.{Shape, contents, fits}
 use Rattle.index_media.specs.KeyedRow.{KeyedRow, all_clean, bare}
@@ -6,6 +6,8 @@ use Rattle.index_media.specs.PlacedRow.{plain}
 use Rattle.node_table.specs.declared.change.Change.TheVariants.{Insert}
 use Rattle.node_table.specs.Clean.{placed_of}
 use Rattle.index_cache.specs.Paged.{fanout_of, frozen_of, tree_of}
+use Rattle.ubifs_base.specs.RawOf.{raw_of}
+use Rattle.index_commit.specs.Rooms.{IsIndexLaidOut}
 use Rattle.index_commit.specs.Standing.{AreOutside, IsOutside}
 use Rattle.index_commit.specs.Written.{AreLebsSettled, IsIndexAt, IsRootOf}
 use Rattle.index_commit.specs.declared.index_at.IndexAt.{IndexAt}
@@ -47,9 +49,9 @@ returns-clause-leaves g c = λ row on.
     let same : contents (bare (frozen_of final)) ≡ placed leaf (contents (plain row)) =
     ap contents shape ∙ ap (λ (r : KeyedRow). contents (bare r)) c.freeze.ensures.frozen ∙ c.in_ok-insert.ensures.leaves ∙ ap (λ (r : KeyedRow). placed leaf (contents (bare r))) loaded
     ∙ ap (λ (s : Shape). placed leaf (contents s)) (c.an_insertion_goes_by_the_keys_of_branches.ensures.clean row) in
-    if_ok (λ (at : IndexAt). IsIndexAt d f c.args.lebs.now begun final at)
+    if_ok (λ (at : IndexAt). IsIndexAt d f c.args.lebs.now begun final at × IsIndexLaidOut (raw_of c.args.geometry.now) c.args.lebs.now (c.write_index.new.sqnum - c.args.sqnum.now) begun final at)
     (λ (at : IndexAt). (now : KeyedRow) × (contents (bare now) ≡ placed leaf (contents (plain row))) × IsRootOf d.holds f now at.root × AreLebsSettled d c.args.lebs.now (placed_of now)) c.write_index.result
-    (λ at h. (frozen_of final, same, h.root, h.left))
+    (λ at h. (frozen_of final, same, h.0.root, h.0.left))
     c.write_index.ensures.written
 
 pub returns-clause-old_stays : goal.returns-clause-old_stays

@@ -20,4 +20,4 @@ returns-clause-outside g c =
     (λ done others two h.
     let A : KeyedRow → Type 0 = λ r. AreOutside a.holds (lebs ++ others) r in
     let B : Option Root → Type 0 = λ root. AreOutside b.holds others (tree_at final.table.nodes.items root) in
-    subst B (sym c.write_index.ensures.index.kept.roots.root) ((c.write_index.ensures.standing done).nodes others begun.root two (subst A (sym c.freeze.ensures.tree) h)))
+    subst B (sym c.write_index.ensures.index.kept.roots.root) ((c.write_index.ensures.standing done).0.nodes others begun.root two (subst A (sym c.freeze.ensures.tree) h)))

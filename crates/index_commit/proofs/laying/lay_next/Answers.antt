@@ -1,8 +1,10 @@
-use Rattle.std.proofs.Common.{◌≡◌, ◌+◌, ◌++◌, ℕ, true, length, take, refl, ap, sym, ◌∙◌, subst, arith}
+use Rattle.std.proofs.Common.{◌≡◌, ◌+◌, ◌*◌, ◌/◌, ◌++◌, ℕ, true, length, take, refl, ap, sym, ◌∙◌, subst, arith}
 use Rattle.index_tree.specs.Levels.{levelled}
 use Rattle.index_media.specs.KeyedRow.{bare}
 use Rattle.index_cache.specs.Commit.{below_node, node_length, said_of}
 use Rattle.index_cache.specs.Paged.{dirty_of}
+use Rattle.index_commit.specs.LebTexts.{in_room}
+use Rattle.index_commit.proofs.LebTexts.{no_bytes, one_bytes}
 use Rattle.index_commit.proofs.Laid.{IsPlaced, IsLaidBehind, front_kept, laid_one, laid_same, own_kept}
 use Rattle.index_commit.proofs.Lebs.{none_dirty}
 use Rattle.index_commit.proofs.laying.lay_next.Goals as goal
@@ -43,6 +45,7 @@ returns-clause-laid c =
       frozen = c.place.ensures.frozen;
       tree = c.place.ensures.tree;
       trees = c.place.ensures.trees;
+      nodes = c.place.ensures.nodes;
       dirty = c.place.ensures.dirty;
       roots = c.place.ensures.kept;
     } in
@@ -53,3 +56,22 @@ returns-clause-laid c =
       fits = omega (arith, most, fits);
     } in
     laid_one c.places_are_kept.ensures.given c.places_are_kept.ensures.fewer c.args.lnum c.args.room found.found.node used c.args.sqnum.now (c.args.sqnum.now + 1) old c.place.new.self front own bytes placed laid refl c.in_ok-lay_node.ensures.node
+    (c.in_ok-lay_node.ensures.bytes ∙ ap (λ (n : ℕ). in_room n (c.args.sqnum.now + 1) (said_of old found.found.node)) c.split_at_mut-own.ensures.front_len)
+
+pub returns-in_default-clause-live : goal.returns-in_default-clause-live
+returns-in_default-clause-live c =
+    let none = no_bytes c.args.index.now c.args.sqnum.now in
+    omega (arith, none)
+
+pub returns-in_err-lay_node-clause-live : goal.returns-in_err-lay_node-clause-live
+returns-in_err-lay_node-clause-live c =
+    let none = no_bytes c.args.index.now c.args.sqnum.now in
+    omega (arith, none)
+
+pub returns-clause-live : goal.returns-clause-live
+returns-clause-live c =
+    let found = c.in-Some in
+    let laid = returns-clause-laid c in
+    let bytes = one_bytes c.args.index.now c.place.new.self c.args.sqnum.now (c.args.sqnum.now + 1) found.found.node laid.index refl found.ensures.next in
+    let len = ap (λ (n : ℕ). (n + 7) / 8 * 8) found.ensures.len in
+    omega (arith, bytes, len)

@@ -1,20 +1,26 @@
-use Rattle.std.proofs.Common.{◌<◌, rules, refl, ap, ◌∙◌, arith, length}
-use Rattle.std.specs.Prelude.{Option, Some}
-use Rattle.ubifs_base.specs.Geometry.{index_nodes_per_leb}
+use Rattle.std.proofs.Common.{◌≡◌, ◌+◌, ◌-◌, ◌<◌, ℕ, List, [], rules, refl, ap, ◌∙◌, subst, arith, inl, inr, length}
+use Rattle.std.specs.Prelude.{◌⊎◌, Option, Some}
+use Rattle.ubifs_base.specs.Geometry.{index_node_len, index_nodes_per_leb}
 use Rattle.ubifs_base.specs.RawOf.{raw_of}
 use Rattle.index_cache.specs.Paged.{dirty_of}
+use Rattle.ubi_volume.specs.VolumeLaws.{Leaves-none}
 use Rattle.index_commit.specs.Answers.{IsIndexNotFailed}
-use Rattle.index_commit.specs.Written.{IsHeadAfter}
+use Rattle.index_commit.specs.Rooms.{head_after, room_in, taken_room}
+use Rattle.index_commit.specs.Written.{AreFirstsTaken, IsHeadAfter}
 use Rattle.index_commit.specs.declared.index_at.IndexHead.{IndexHead}
-use Rattle.index_commit.proofs.Laid.{index_none, index_then, taken_fewer}
+use Rattle.index_commit.proofs.Committed.{some_nodes}
+use Rattle.index_commit.proofs.Laid.{index_none, taken_fewer}
+use Rattle.index_commit.proofs.LastTaken.{none_from_none}
+use Rattle.index_commit.proofs.Rooming.{both_taken, first_taken, head_both}
 use Rattle.index_commit.proofs.Lebs.{both_worked, both_written, fits_then, geometry_then, givable_then, head_behind, if_ok, none_written, one_written, one_worked, some_dirty}
+use Rattle.index_commit.proofs.HeldLebs.{all_lebs, all_lefts, first_lefts, first_lebs, idle_lebs}
 use Rattle.index_commit.proofs.writing.+write_lebs.Goals as goal
 
 pub returns-then-is_none-clause-standing : goal.returns-then-is_none-clause-standing
 returns-then-is_none-clause-standing g t c = λ done. none_written (g.V.Volume.state c.args.volume.now) c.args.lebs.now c.args.index.now c.args.sqnum.now
 
 pub returns-then-is_none-clause-index : goal.returns-then-is_none-clause-index
-returns-then-is_none-clause-index g t c = index_none c.places_are_kept.ensures.none c.args.index.now c.args.sqnum.now
+returns-then-is_none-clause-index g t c = index_none c.places_are_kept.ensures.none (taken_room (raw_of c.args.geometry.now) c.args.lebs.now) c.args.index.now c.args.sqnum.now
 
 pub returns-in_err-offs-clause-standing : goal.returns-in_err-offs-clause-standing
 returns-in_err-offs-clause-standing g t c = λ failed.
@@ -25,7 +31,8 @@ returns-in_err-offs-clause-standing g t c = λ failed.
     let is = c.in-Some.ensures.cases.0 in
     let apart = (givable_then a.leb_cnt a.leb_cnt lnum rest c.args.lebs.now refl is c.requires.lebs).1 in
     let other : IsIndexNotFailed c.write_leb.result = search (rules, failed) in
-    one_written a b lnum rest c.args.lebs.now c.args.index.now c.write_leb.new.index c.args.sqnum.now c.write_leb.new.sqnum is c.write_leb.ensures.index apart c.write_leb.ensures.works (c.write_leb.ensures.standing other)
+    let number = c.write_leb.ensures.index.number in
+    one_written a b lnum rest c.args.lebs.now c.args.index.now c.write_leb.new.index c.args.sqnum.now c.write_leb.new.sqnum is (omega (arith, number)) apart c.write_leb.ensures.works (c.write_leb.ensures.standing other)
 
 pub returns-in_err-offs-clause-works : goal.returns-in_err-offs-clause-works
 returns-in_err-offs-clause-works g t c =
@@ -43,7 +50,7 @@ write_lebs-requires g t c κs within =
     let made = c.in_ok-offs.ensures in
     let old = dirty_of c.args.index.now in
     let new = dirty_of c.write_leb.new.index in
-    let fewer = taken_fewer c.places_are_kept.ensures.fewer made.index.nodes old new made.index.taken in
+    let fewer = taken_fewer c.places_are_kept.ensures.fewer made.index.numbers old new made.index.taken in
     let number = made.index.number in
     let most = c.requires.number in (
       omega (arith, long, c.decreases),
@@ -87,16 +94,105 @@ returns-clause-standing g t c = λ other.
     let rest = c.in-Some.rest.now in
     let is = c.in-Some.ensures.cases.0 in
     let apart = (givable_then a.leb_cnt a.leb_cnt lnum rest c.args.lebs.now refl is c.requires.lebs).1 in
-    both_written a b d lnum rest c.args.lebs.now c.args.index.now c.write_leb.new.index c.write_lebs.new.index c.args.sqnum.now c.write_leb.new.sqnum c.write_lebs.new.sqnum is c.in_ok-offs.ensures.index
-    c.write_lebs.ensures.index apart c.write_leb.ensures.works c.write_lebs.ensures.works (c.in_ok-offs.ensures.standing tt)
+    let number = c.in_ok-offs.ensures.index.number in
+    let last = c.write_lebs.ensures.index.number in
+    both_written a b d lnum rest c.args.lebs.now c.args.index.now c.write_leb.new.index c.write_lebs.new.index c.args.sqnum.now c.write_leb.new.sqnum c.write_lebs.new.sqnum is (omega (arith, number))
+    (omega (arith, last)) apart c.write_leb.ensures.works c.write_lebs.ensures.works (c.in_ok-offs.ensures.standing tt)
     (c.write_lebs.ensures.standing other)
+
+pub returns-in_err-offs-clause-index : goal.returns-in_err-offs-clause-index
+returns-in_err-offs-clause-index g t c =
+    first_taken (raw_of c.args.geometry.now) c.in-Some.lnum.now c.in-Some.rest.now c.args.lebs.now c.args.index.now c.write_leb.new.index c.args.sqnum.now c.write_leb.new.sqnum c.in-Some.ensures.cases.0
+    c.write_leb.ensures.most c.write_leb.ensures.index
+
+pub returns-clause-end : goal.returns-clause-end
+returns-clause-end g t c =
+    let geo = raw_of c.args.geometry.now in
+    let lnum = c.in-Some.lnum.now in
+    let rest = c.in-Some.rest.now in
+    let offs = c.in_ok-offs.offs in
+    let one = c.in_ok-offs.ensures in
+    let later = c.write_lebs.ensures.index in
+    let last = later.number in
+    let i = c.args.sqnum.now in
+    let j = c.write_leb.new.sqnum in
+    let k = c.write_lebs.new.sqnum in
+    let now : Option IndexHead = Some (record { lnum = lnum; offs = offs }) in
+    let full : (k ≡ j) ⊎ (j ≡ i + index_nodes_per_leb geo) = elim one.full [
+      | inl none ↦
+          let P : List ℕ → Type 0 = λ l. AreFirstsTaken later.numbers l (dirty_of c.write_lebs.new.index) in
+          let empty = ap length (none_from_none later.numbers (dirty_of c.write_lebs.new.index) (subst P none later.taken)) in
+          inl (omega (arith, empty, last))
+      | inr whole ↦ inr whole
+    ] in
+    if_ok (λ found. found ≡ head_after geo rest now (k - j)) (λ found. found ≡ head_after geo c.args.lebs.now c.args.head (k - i)) c.write_lebs.result
+    (λ found h. head_both geo lnum rest c.args.lebs.now [] offs i j k c.args.head now found c.in-Some.ensures.cases.0 (some_nodes c.args.geometry.now) one.some (omega (arith, last)) one.most full one.units refl h)
+    c.write_lebs.ensures.end
 
 pub returns-clause-index : goal.returns-clause-index
 returns-clause-index g t c =
-    index_then c.places_are_kept.ensures.both c.args.index.now c.write_leb.new.index c.write_lebs.new.index c.args.sqnum.now c.write_leb.new.sqnum c.write_lebs.new.sqnum c.in_ok-offs.ensures.index
-    c.write_lebs.ensures.index
+    both_taken c.places_are_kept.ensures.both (raw_of c.args.geometry.now) c.in-Some.lnum.now c.in-Some.rest.now c.args.lebs.now c.args.index.now c.write_leb.new.index c.write_lebs.new.index
+    c.args.sqnum.now c.write_leb.new.sqnum c.write_lebs.new.sqnum c.in-Some.ensures.cases.0 (some_nodes c.args.geometry.now) c.in_ok-offs.ensures.most c.in_ok-offs.ensures.full
+    c.in_ok-offs.ensures.index c.write_lebs.ensures.index
 
 pub returns-clause-works : goal.returns-clause-works
 returns-clause-works g t c =
     both_worked (g.V.Volume.state c.args.volume.now) (g.V.Volume.state c.write_leb.new.volume) (g.V.Volume.state c.write_lebs.new.volume) c.in-Some.lnum.now c.in-Some.rest.now c.args.lebs.now
     c.in-Some.ensures.cases.0 c.write_leb.ensures.works c.write_lebs.ensures.works
+
+pub returns-then-is_none-clause-text : goal.returns-then-is_none-clause-text
+returns-then-is_none-clause-text g t c = λ done. idle_lebs (raw_of c.args.geometry.now) (g.V.Volume.state c.args.volume.now) c.args.lebs.now c.args.index.now c.args.sqnum.now
+
+pub returns-in_err-offs-clause-text : goal.returns-in_err-offs-clause-text
+returns-in_err-offs-clause-text g t c = λ failed.
+    let a = g.V.Volume.state c.args.volume.now in
+    let lnum = c.in-Some.lnum.now in
+    let rest = c.in-Some.rest.now in
+    let is = c.in-Some.ensures.cases.0 in
+    let apart = (givable_then a.leb_cnt a.leb_cnt lnum rest c.args.lebs.now refl is c.requires.lebs).1 in
+    let other : IsIndexNotFailed c.write_leb.result = search (rules, failed) in
+    first_lebs {r = room_in lnum (index_node_len (raw_of c.args.geometry.now)) 0} (raw_of c.args.geometry.now) a (g.V.Volume.state c.write_leb.new.volume) lnum rest c.args.lebs.now c.args.index.now c.write_leb.new.index c.args.sqnum.now c.write_leb.new.sqnum is apart
+    c.write_leb.ensures.works c.write_leb.ensures.index c.write_leb.ensures.most (c.write_leb.ensures.text other)
+
+pub returns-clause-text : goal.returns-clause-text
+returns-clause-text g t c = λ other.
+    let a = g.V.Volume.state c.args.volume.now in
+    let lnum = c.in-Some.lnum.now in
+    let rest = c.in-Some.rest.now in
+    let is = c.in-Some.ensures.cases.0 in
+    let geo = raw_of c.args.geometry.now in
+    let apart = (givable_then a.leb_cnt a.leb_cnt lnum rest c.args.lebs.now refl is c.requires.lebs).1 in
+    let one = c.in_ok-offs.ensures in
+    let whole = both_taken c.places_are_kept.ensures.both geo lnum rest c.args.lebs.now c.args.index.now c.write_leb.new.index c.write_lebs.new.index c.args.sqnum.now c.write_leb.new.sqnum
+    c.write_lebs.new.sqnum is (some_nodes c.args.geometry.now) one.most one.full one.index c.write_lebs.ensures.index in
+    all_lebs {r1 = room_in lnum (index_node_len geo) 0} {r2 = taken_room geo rest} {r = taken_room geo c.args.lebs.now} geo a (g.V.Volume.state c.write_leb.new.volume) (g.V.Volume.state c.write_lebs.new.volume) lnum rest c.args.lebs.now c.args.index.now c.write_leb.new.index c.write_lebs.new.index
+    c.args.sqnum.now c.write_leb.new.sqnum c.write_lebs.new.sqnum is apart c.write_leb.ensures.works c.write_lebs.ensures.works one.index c.write_lebs.ensures.index whole one.most one.full
+    (one.text tt) (c.write_lebs.ensures.text other)
+
+pub returns-in_err-offs-clause-left : goal.returns-in_err-offs-clause-left
+returns-in_err-offs-clause-left g t c =
+    let a = g.V.Volume.state c.args.volume.now in
+    let lnum = c.in-Some.lnum.now in
+    let rest = c.in-Some.rest.now in
+    let is = c.in-Some.ensures.cases.0 in
+    let apart = (givable_then a.leb_cnt a.leb_cnt lnum rest c.args.lebs.now refl is c.requires.lebs).1 in
+    first_lefts {r = room_in lnum (index_node_len (raw_of c.args.geometry.now)) 0} (raw_of c.args.geometry.now) a (g.V.Volume.state c.write_leb.new.volume) lnum rest c.args.lebs.now c.args.index.now
+    c.write_leb.new.index c.args.sqnum.now c.write_leb.new.sqnum is apart c.write_leb.ensures.works c.write_leb.ensures.index c.write_leb.ensures.most c.write_leb.ensures.left
+
+pub returns-clause-left : goal.returns-clause-left
+returns-clause-left g t c =
+    let a = g.V.Volume.state c.args.volume.now in
+    let lnum = c.in-Some.lnum.now in
+    let rest = c.in-Some.rest.now in
+    let is = c.in-Some.ensures.cases.0 in
+    let geo = raw_of c.args.geometry.now in
+    let apart = (givable_then a.leb_cnt a.leb_cnt lnum rest c.args.lebs.now refl is c.requires.lebs).1 in
+    let one = c.in_ok-offs.ensures in
+    let whole = both_taken c.places_are_kept.ensures.both geo lnum rest c.args.lebs.now c.args.index.now c.write_leb.new.index c.write_lebs.new.index c.args.sqnum.now c.write_leb.new.sqnum
+    c.write_lebs.new.sqnum is (some_nodes c.args.geometry.now) one.most one.full one.index c.write_lebs.ensures.index in
+    all_lefts {r1 = room_in lnum (index_node_len geo) 0} {r2 = taken_room geo rest} {r = taken_room geo c.args.lebs.now} geo a (g.V.Volume.state c.write_leb.new.volume)
+    (g.V.Volume.state c.write_lebs.new.volume) lnum rest c.args.lebs.now c.args.index.now c.write_leb.new.index c.write_lebs.new.index c.args.sqnum.now c.write_leb.new.sqnum c.write_lebs.new.sqnum is apart
+    c.write_leb.ensures.works c.write_lebs.ensures.works one.index c.write_lebs.ensures.index whole one.most one.full (one.text tt) c.write_leb.ensures.left c.write_lebs.ensures.left
+
+pub returns-then-is_none-clause-left : goal.returns-then-is_none-clause-left
+returns-then-is_none-clause-left g t c = Leaves-none (g.V.Volume.state c.args.volume.now) _
