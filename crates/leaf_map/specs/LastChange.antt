@@ -8,8 +8,7 @@ use Rattle.fs_model.specs.declared.inode.Inode.{Inode}
 use Rattle.fs_model.specs.Change.{applied}
 use Rattle.fs_model.specs.Files.{Tree, inode_at, name_cmp}
 use Rattle.fs_model.specs.Path.{is_same_name}
-use Rattle.fs_model.specs.Proper.{ascends}
-use Rattle.fs_laws.specs.Forgotten.{IsInOrder}
+use Rattle.fs_model.specs.Proper.{ascends, IsInOrder}
 
 -- what a change makes of one place of a tree: it sets something there, takes away what is there, or doesn't touch it
 abbrev pub Made : Type 0 → Type 0
@@ -48,8 +47,3 @@ last_made makes tree (change ∷ changes) = later (last_made makes (applied tree
 abbrev pub there : {X : Type 0} → Made X → Option X → Option X
 there None before = before
 there (Some made) before = made
-
--- a tree whose maps are in order of their keys
-pub record IsSorted (tree : Tree) : Type 0 where
-  pub order : IsInOrder tree
-  pub entries : ascends name_cmp (keys_of tree.entries) ≡ true

@@ -164,7 +164,11 @@ impl Tree {
     pub(crate) fn show_order(&self)
         ensures { IsInOrder self.now }
     {
-        let _ = (self.cells.inodes.len(), self.cells.blocks.len(), self.cells.entries.len());
+        let _ = (
+            self.cells.inodes.len(),
+            self.cells.blocks.len(),
+            self.cells.entries.len(),
+        );
     }
 
     /// The highest inode number that was ever used.
