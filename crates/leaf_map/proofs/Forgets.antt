@@ -3,7 +3,7 @@ use Rattle.std.proofs.Common.{◌≡◌, ◌⊎◌, ℕ, Bool, true, false, cond
 use Rattle.std.specs.Prelude.{◌==◌, ◌||◌, filter, fold}
 use Rattle.std.specs.BTreeMap.{is_at}
 use Rattle.std.specs.List.{list_all, list_any}
-use Rattle.std.specs.Map.{lookup, keys_of}
+use Rattle.std.specs.Map.{lookup}
 use Rattle.std.specs.Option.{option_map_or}
 use Rattle.std.specs.Ordering.{nat_cmp}
 use Rattle.std.proofs.lemmas.Bool.{and_parts}
@@ -14,7 +14,7 @@ use Rattle.fs_model.specs.declared.inode.Inode.{Inode}
 use Rattle.fs_model.specs.Change.{without_blocks, without_inode}
 use Rattle.fs_model.specs.Files.{Inodes, Tree, inode_at, name_cmp, pair_cmp}
 use Rattle.fs_model.specs.Orphan.{is_nameless, nameless, without_nameless}
-use Rattle.fs_model.specs.Proper.{ascends, IsInOrder}
+use Rattle.fs_model.specs.Proper.{IsInOrder}
 use Rattle.fs_laws.specs.Forgotten.{dropped_in_order, forgotten_in_order, found_block, found_inode}
 use Rattle.fs_laws.specs.Maps.{apart, removed_here, removed_other}
 use Rattle.fs_laws.specs.Orders.{numbers}

@@ -2,7 +2,7 @@
 use Rattle.std.proofs.Common.{◌≡◌, ℕ, ◌*◌, Bool, true, false, cond, not, ◌&&◌, List, [], ◌∷◌, refl, sym, ap, subst, ◌∙◌, inl, inr, Option, Some, None}
 use Rattle.std.specs.Prelude.{◌==◌, nat_le, is_some, filter}
 use Rattle.std.specs.BTreeMap.{is_at, insert_entry}
-use Rattle.std.specs.Map.{lookup, remove_entry, keys_of}
+use Rattle.std.specs.Map.{lookup, remove_entry}
 use Rattle.std.specs.Ordering.{nat_cmp}
 use Rattle.std.specs.declared.cmp.Ordering.{Ordering}
 use Rattle.std.specs.declared.cmp.Ordering.TheVariants.{Less, Equal, Greater}
@@ -13,9 +13,9 @@ use Rattle.fs_model.specs.declared.change.Change.TheVariants.{SetInode, SetEntry
 use Rattle.fs_model.specs.Change.{applied, apply}
 use Rattle.fs_model.specs.Files.{Tree, Blocks, inode_at, name_cmp, pair_cmp, with_block}
 use Rattle.fs_model.specs.Path.{is_same_name}
-use Rattle.fs_model.specs.Proper.{ascends, IsInOrder}
+use Rattle.fs_model.specs.Proper.{IsInOrder}
 use Rattle.fs_laws.specs.Forgotten.{applied_in_order}
-use Rattle.fs_laws.specs.Maps.{insert_ascends, remove_ascends, removed_here, removed_other, set_here, set_other}
+use Rattle.fs_laws.specs.Maps.{removed_here, removed_other, set_here, set_other}
 use Rattle.fs_laws.specs.Orders.{named, numbers, pairs}
 use Rattle.leaf_map.specs.LastChange.{Made, last_made, later, makes_block, makes_entry, makes_inode, there}
 use Rattle.leaf_map.proofs.Names.{is_name}

@@ -1,5 +1,5 @@
 -- The committed leaves that recovery can't find, and which of them the journal hasn't replaced.
-use Rattle.std.specs.Prelude.{ℕ, ◌==◌, ◌&&◌, not, is_some, Bool, false, if◌then◌else◌, List, [], ◌∷◌, ◌++◌, filter, map, Option, Some, None}
+use Rattle.std.specs.Prelude.{◌==◌, ◌&&◌, not, is_some, Bool, false, if◌then◌else◌, List, [], ◌∷◌, ◌++◌, filter, map, Option, Some, None}
 use Rattle.std.specs.List.{find, list_any}
 use Rattle.std.specs.Option.{option_map_or}
 use Rattle.media_leaf.specs.LeafNode.{LeafNode, entry}
