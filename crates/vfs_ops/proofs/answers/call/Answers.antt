@@ -17,4 +17,4 @@ returns-in-None-clause-closed g c =
     not_closed (read_only_cause mode c.args.op.now) (ap (λ (m : Mode). read_only_cause m c.args.op.now) (sym c.mode.ensures) ∙ sym c.read_only_cause.ensures ∙ c.in-None.is)
 
 pub returns-in-Some-clause-cut : goal.returns-in-Some-clause-cut
-returns-in-Some-clause-cut g c = cut_none (g.B.Backing.state c.args.backing.now) c.args.kept.now _
+returns-in-Some-clause-cut g c = cut_none (g.B.Backing.state c.args.backing.now) c.args.kept.now _ _
