@@ -9,12 +9,12 @@ use Rattle.std.proofs.lemmas.Bool.{and_parts, and_from, leb-true, le-leb, lt-ltb
 use Rattle.std.proofs.lemmas.List.Folds.{list_all-append}
 use Rattle.std.proofs.lemmas.List.{take-append-le}
 use Rattle.fs_model.specs.declared.change.Change.{Change}
-use Rattle.fs_model.specs.Change.{apply, applied}
+use Rattle.fs_model.specs.Change.{apply}
 use Rattle.fs_model.specs.Files.{Tree}
 use Rattle.fs_model.specs.Journal.{Medium, AreNext, Puts, last_number, with_group_at}
 use Rattle.fs_model.specs.JournalLaws.{AreWithin, emptied, groups_of, replayed_named, recovered_replayed, is_emptied}
 use Rattle.fs_model.specs.Orphan.{nameless, without_nameless, all_revive_none}
-use Rattle.fs_model.specs.Proper.{ascends, IsInOrder}
+use Rattle.fs_model.specs.Proper.{ascends}
 use Rattle.fs_model.specs.Recovery.{Numbered, Head, IsRecovered, KeepsSynced, taken, placed, as_replayed, recovered}
 use Rattle.fs_model.specs.RecoveryLaws.{IsParted, joined, in_groups, in_heads, are_low, are_high, replayed, all_counts, counted, joined_with, high_with, long_with, recovered_again}
 use Rattle.fs_laws.specs.Forgotten.{apply_in_order, group_forgotten}
