@@ -1,6 +1,6 @@
 -- What a cut leaves after groups were put has at each place a value from before, or one that a group gives.
 use Rattle.std.proofs.Common.{◌≡◌, ℕ, zero, suc, ◌≤◌, ◌<◌, ◌⊎◌, inl, inr, Bool, true, false, cond, ◌&&◌, List, [], ◌∷◌, ◌++◌, length, take, map, refl, sym, ap, subst, ◌∙◌, arith, append_assoc, append-nil, length-append, take_all}
-use Rattle.std.specs.Prelude.{nat_lt, nat_le, is_some, fold, Option, Some, None}
+use Rattle.std.specs.Prelude.{nat_lt, nat_le, fold, Option, Some, None}
 use Rattle.std.specs.List.{list_all, AllByRecursion}
 use Rattle.std.specs.Ordering.{nat_cmp, is_lt}
 use Rattle.std.proofs.lemmas.Bool.{and_parts, and_from, ltb-true, le-ltb, leb-true, le-leb}
@@ -8,41 +8,17 @@ use Rattle.std.proofs.lemmas.Bool.Decides.{nat_tests}
 use Rattle.std.proofs.lemmas.Grind.{flat_map-append}
 use Rattle.std.proofs.lemmas.List.Folds.{list_all-append}
 use Rattle.fs_model.specs.declared.change.Change.{Change}
-use Rattle.fs_model.specs.declared.change.Change.TheVariants.{SetInode, SetEntry, DropEntry, SetBlock, CutBlocks, DropInode}
-use Rattle.fs_model.specs.Change.{apply, applied}
-use Rattle.fs_model.specs.Files.{Tree, inode_at, name_cmp, with_block}
-use Rattle.fs_model.specs.Journal.{Journal, Medium, IfTold, Puts, last_number, with_group_at, MightLeave, MayLeave}
+use Rattle.fs_model.specs.Change.{apply}
+use Rattle.fs_model.specs.Files.{Tree}
+use Rattle.fs_model.specs.Journal.{Journal, Medium, IfTold, Puts, last_number, with_group_at, IsJournalOf, MightLeave, MayLeave}
 use Rattle.fs_model.specs.JournalLaws.{Leaves-now, recovered_replayed, replayed_named}
 use Rattle.fs_model.specs.Orphan.{nameless}
-use Rattle.fs_model.specs.Proper.{ascends}
+use Rattle.fs_model.specs.Proper.{ascends, IsInOrder}
 use Rattle.fs_model.specs.Recovery.{Numbered, Head, IsRecovered, KeepsSynced, taken, placed, by_number, as_replayed, recovered}
 use Rattle.fs_model.specs.RecoveryLaws.{replayed, are_low, are_high, in_groups, recovered_again}
-use Rattle.fs_laws.specs.Forgotten.{applied_in_order}
-use Rattle.fs_laws.specs.Maps.{insert_ascends, remove_ascends}
+use Rattle.fs_laws.specs.Forgotten.{apply_in_order}
 use Rattle.fs_laws.specs.Orders.{named}
-use Rattle.std.specs.BTreeMap.{is_at}
-use Rattle.std.specs.Map.{keys_of}
-use Rattle.cached_files.specs.Cuts.{TreePlace, Values, value_at, HasValues, IsOrdered, IsOrderedJournal, replayed_on, GivesOnly, PutsOnly}
-
--- a change leaves a tree in order
-pub ordered_after : (tree : Tree) (change : Change) → IsOrdered tree → IsOrdered (applied tree change)
-ordered_after tree change h = record { in_order = applied_in_order tree change h.in_order; entries = by change }
-  where
-    under : (tree : Tree) (ino block : ℕ) (bytes : List ℕ) (b : Bool) → ascends name_cmp (keys_of tree.entries) ≡ true → ascends name_cmp (keys_of (cond b (record tree { blocks = with_block tree.blocks ino block bytes }) tree).entries) ≡ true
-    under tree ino block bytes true e = e
-    under tree ino block bytes false e = e
-
-    by : (change : Change) → ascends name_cmp (keys_of (applied tree change).entries) ≡ true
-    by (SetInode ino inode) = h.entries
-    by (SetEntry entry) = insert_ascends name_cmp named tree.entries (entry.dir, entry.name) entry h.entries
-    by (DropEntry dir name) = remove_ascends name_cmp named (is_at (name_cmp (dir, name))) tree.entries h.entries
-    by (SetBlock ino block bytes) = under tree ino block bytes (is_some (inode_at tree ino)) h.entries
-    by (CutBlocks ino old_size new_size) = h.entries
-    by (DropInode ino) = h.entries
-
-pub ordered_all : (changes : List Change) (tree : Tree) → IsOrdered tree → IsOrdered (apply tree changes)
-ordered_all [] tree h = h
-ordered_all (change ∷ changes) tree h = ordered_all changes (applied tree change) (ordered_after tree change h)
+use Rattle.cached_files.specs.Cuts.{TreePlace, Values, value_at, HasValues, replayed_on, GivesOnly, PutsOnly}
 
 -- no more is synced than there is
 abbrev AreWithin : List Head → Type 0
@@ -272,7 +248,7 @@ record CameOf (values : Values) (committed : Tree) (heads : List Head) (tree : T
   keeps : KeepsSynced heads counts
   of : (place : TreePlace) → (value_at tree place ≡ value_at (replayed committed (taken heads counts)) place) ⊎ values place (value_at tree place)
 
-came : (values : Values) (committed : Tree) (puts : List (ℕ × List Change)) (sqnum : ℕ) (heads after : List Head) (counts : List ℕ) → nameless committed ≡ [] → IsOrdered committed → AreWithin heads → AreLow sqnum heads
+came : (values : Values) (committed : Tree) (puts : List (ℕ × List Change)) (sqnum : ℕ) (heads after : List Head) (counts : List ℕ) → nameless committed ≡ [] → IsInOrder committed → AreWithin heads → AreLow sqnum heads
     → Puts sqnum heads puts after → KeepsSynced after counts → AllByRecursion (λ put. GivesOnly values put.1) puts → CameOf values committed heads (replayed committed (taken after counts))
 came values committed [] sqnum heads after counts none order w low e keeps gives = record {
   counts = counts;
@@ -294,7 +270,7 @@ came values committed (put ∷ puts) sqnum heads after counts none order w low (
       of = λ place. by (replayed committed (taken after counts)) base place (replayed committed (taken (with_group_at heads put.0 group) more.counts))
           (step (replayed committed (taken (with_group_at heads put.0 group) more.counts)) base
           (over (replayed committed (taken (with_group_at heads put.0 group) more.counts)) base (taken (with_group_at heads put.0 group) more.counts) it.first it.last group refl (ap (replayed committed) (sym it.took)) made it.all_are)
-          (ordered_all (map (λ c. as_replayed c.1) (by_number (taken heads it.counts))) committed order) place)
+          (apply_in_order (map (λ c. as_replayed c.1) (by_number (taken heads it.counts))) committed order) place)
           (more.of place);
     }
   where
@@ -303,7 +279,7 @@ came values committed (put ∷ puts) sqnum heads after counts none order w low (
     over tree base all first last group is plain made (inl e) = inl (is ∙ ap (replayed committed) e ∙ plain)
     over tree base all first last group is plain made (inr e) = inr (is ∙ ap (replayed committed) e ∙ made)
 
-    step : (tree base : Tree) → (tree ≡ base) ⊎ (tree ≡ replayed_on base put.1) → IsOrdered base → (place : TreePlace) → (value_at tree place ≡ value_at base place) ⊎ values place (value_at tree place)
+    step : (tree base : Tree) → (tree ≡ base) ⊎ (tree ≡ replayed_on base put.1) → IsInOrder base → (place : TreePlace) → (value_at tree place ≡ value_at base place) ⊎ values place (value_at tree place)
     step tree base (inl e) order place = inl (ap (λ t. value_at t place) e)
     step tree base (inr e) order place = one (gives.0 base place order)
       where
@@ -321,16 +297,15 @@ came values committed (put ∷ puts) sqnum heads after counts none order w low (
 abbrev with : Journal → Option Medium → Journal
 with journal medium = record journal { medium = medium }
 
-cut_by : (old : Journal) (medium : Option Medium) (tree : Tree) (values : Values) (puts : List (ℕ × List Change)) → IfTold (with old medium) (IsOrderedJournal tree) → AllByRecursion (λ put. GivesOnly values put.1) puts
+cut_by : (old : Journal) (medium : Option Medium) (tree : Tree) (values : Values) (puts : List (ℕ × List Change)) → IfTold (with old medium) (IsJournalOf tree) → AllByRecursion (λ put. GivesOnly values put.1) puts
     → (left : Tree) → MightLeave (with old medium) puts left → HasValues (with old medium) values left
 cut_by old None tree values puts told gives left may = absurd may
 cut_by old (Some medium) tree values puts told gives left (heads, put, is) =
-    let j = told.journal in
-    let it = came values medium.committed puts medium.sqnum medium.heads heads is.counts j.named told.committed j.synced j.given put is.synced gives in
-    let same : left ≡ replayed medium.committed (taken heads is.counts) = is.tree_is ∙ recovered_replayed medium.committed (taken heads is.counts) j.named in
+    let it = came values medium.committed puts medium.sqnum medium.heads heads is.counts told.named told.ordered told.synced told.given put is.synced gives in
+    let same : left ≡ replayed medium.committed (taken heads is.counts) = is.tree_is ∙ recovered_replayed medium.committed (taken heads is.counts) told.named in
     let base : Tree = replayed medium.committed (taken medium.heads it.counts) in
     let before : IsRecovered medium.committed medium.heads base =
-    record { counts = it.counts; synced = it.keeps; tree_is = sym (recovered_replayed medium.committed (taken medium.heads it.counts) j.named) } in
+    record { counts = it.counts; synced = it.keeps; tree_is = sym (recovered_replayed medium.committed (taken medium.heads it.counts) told.named) } in
     λ place. by (replayed medium.committed (taken heads is.counts)) base place same (medium.heads, refl, before) (it.of place)
   where
     by : (tree base : Tree) (place : TreePlace) → left ≡ tree → MayLeave (with old (Some medium)) base → (value_at tree place ≡ value_at base place) ⊎ values place (value_at tree place)
@@ -339,5 +314,5 @@ cut_by old (Some medium) tree values puts told gives left (heads, put, is) =
     by tree base place same may (inr given) = inr (subst (λ t. values place (value_at t place)) (sym same) given)
 
 -- What a cut leaves after calls has at each place a value of what it might have left before, or one of those that were put.
-pub cut_has_values : (old new : Journal) (tree : Tree) (values : Values) → IfTold old (IsOrderedJournal tree) → PutsOnly values old new → (left : Tree) → MayLeave new left → HasValues old values left
+pub cut_has_values : (old new : Journal) (tree : Tree) (values : Values) → IfTold old (IsJournalOf tree) → PutsOnly values old new → (left : Tree) → MayLeave new left → HasValues old values left
 cut_has_values old new tree values told puts left may = cut_by old old.medium tree values puts.puts told puts.gives left (Leaves-now old new puts.puts puts.cut left may)

@@ -7,7 +7,7 @@ use Rattle.fs_model.specs.Journal.{Leaves}
 use Rattle.cached_files.specs.declared.kept.Kept.{Kept}
 use Rattle.cached_files.specs.Alike.{IsAlike}
 use Rattle.cached_files.specs.CutLaws.{Puts-among, Puts-last, Puts-nothing, Puts-then}
-use Rattle.cached_files.specs.Cuts.{PutsSeen, PutsSeenWith, ValuesOf}
+use Rattle.cached_files.specs.Cuts.{GroupFate, PutsSeen, PutsSeenWith, ValuesOf}
 use Rattle.cached_files.specs.Follow.{AreOfNames}
 use Rattle.cached_files.specs.Present.{IsKept, present}
 use Rattle.cached_files.proofs.Applied.{group_alike}
@@ -31,15 +31,15 @@ pub seen_granted : (old now new : BackingState) (kept : Kept) (need : Need) → 
 seen_granted old now new kept need first same = subst (λ (s : BackingState). PutsSeen old s kept) (sym same) first
 
 -- or were given back
-pub with_given : (old now new : BackingState) (kept : Kept) (group : List Change) (credits : ℕ) → PutsSeenWith old now kept group → new ≡ given_back now credits → PutsSeenWith old new kept group
-with_given old now new kept group credits first same = subst (λ (s : BackingState). PutsSeenWith old s kept group) (sym same) first
+pub with_given : (old now new : BackingState) (kept : Kept) (group : List Change) (fate : GroupFate) (credits : ℕ) → PutsSeenWith old now kept group fate → new ≡ given_back now credits → PutsSeenWith old new kept group fate
+with_given old now new kept group fate credits first same = subst (λ (s : BackingState). PutsSeenWith old s kept group fate) (sym same) first
 
 -- a group was put after pages
-pub group_then : (old now new : BackingState) (kept still : Kept) (group : List Change) → IsKept old.tree kept → IsKept now.tree still → IsProper (present old.tree kept).tree → IsProper (present now.tree still).tree → AreOfNames (present old.tree kept).tree group
-    → IsAlike (present old.tree kept) (present now.tree still) → PutsSeen old now kept → PutsSeenWith now new still group → PutsSeenWith old new kept group
-group_then old now new kept still group is fits proper more names same first second =
+pub group_then : (old now new : BackingState) (kept still : Kept) (group : List Change) (fate : GroupFate) → IsKept old.tree kept → IsKept now.tree still → IsProper (present old.tree kept).tree → IsProper (present now.tree still).tree → AreOfNames (present old.tree kept).tree group
+    → IsAlike (present old.tree kept) (present now.tree still) → PutsSeen old now kept → PutsSeenWith now new still group fate → PutsSeenWith old new kept group fate
+group_then old now new kept still group fate is fits proper more names same first second =
     let files = present old.tree kept in
     let seen = present now.tree still in
     let order = present_ordered old.tree kept is in
     let later = present_ordered now.tree still fits in
-    Puts-last files.tree seen.tree group old.journal now.journal new.journal (alike_among files seen same order later) (alike_with files seen group same order later (group_alike group files seen proper more names same)) first second
+    Puts-last files.tree seen.tree group fate old.journal now.journal new.journal (alike_among files seen same order later) (alike_with files seen group same order later (group_alike group files seen proper more names same)) first second

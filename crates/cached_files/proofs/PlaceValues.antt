@@ -1,6 +1,7 @@
 -- Which values a page and a group of names give, on whichever tree they are replayed.
 use Rattle.std.proofs.Common.{◌≡◌, ℕ, ◌⊎◌, inl, inr, Bool, true, false, cond, not, List, [], ◌∷◌, Some, refl, sym, ap, subst, ◌∙◌}
 use Rattle.std.specs.Prelude.{◌==◌, Option, None, Result, Ok, Err, fold, is_some, unwrap_or, max}
+use Rattle.std.specs.List.{AllByRecursion}
 use Rattle.std.specs.Option.{option_map_or}
 use Rattle.std.specs.BTreeMap.{is_at, insert_entry}
 use Rattle.std.specs.Map.{lookup, keys_of, remove_entry}
@@ -18,21 +19,21 @@ use Rattle.fs_model.specs.Change.{apply, applied, without_inode, without_blocks}
 use Rattle.fs_model.specs.Files.{Tree, Files, Inodes, Blocks, inode_at, entry_at, block_at, name_cmp, pair_cmp, with_block}
 use Rattle.fs_model.specs.Journal.{Journal, Leaves, base_head}
 use Rattle.fs_model.specs.Orphan.{is_nameless, nameless, without_nameless, all_revive_none}
-use Rattle.fs_model.specs.Proper.{ascends}
+use Rattle.fs_model.specs.Proper.{ascends, IsInOrder}
 use Rattle.fs_model.specs.Recovery.{as_replayed}
 use Rattle.fs_model.specs.Same.{trimmed, trimmed_blocks}
-use Rattle.fs_laws.specs.Forgotten.{found_inode, found_block, forgotten_in_order, group_forgotten}
+use Rattle.fs_laws.specs.Forgotten.{applied_in_order, apply_in_order, found_inode, found_block, forgotten_in_order, group_forgotten}
 use Rattle.fs_laws.specs.Maps.{apart, set_here, set_other, removed_here, removed_other, insert_ascends, key_cases}
 use Rattle.fs_laws.specs.Orders.{numbers, pairs, named}
 use Rattle.cached_files.specs.declared.kept.Kept.{Kept}
 use Rattle.cached_files.specs.Alike.{IsAlike}
 use Rattle.cached_files.specs.CutLaws.{AreAmong, Puts-nothing}
-use Rattle.cached_files.specs.Cuts.{TreePlace, Value, value_at, ValuesOf, ValuesWith, IsOrdered, replayed_on, GivesOnly, PutsOnly, PutsWith}
+use Rattle.cached_files.specs.Cuts.{TreePlace, Value, value_at, ValuesOf, ValuesWith, replayed_on, GivesOnly, PutsOnly, PutsWith, put_fate}
 use Rattle.cached_files.specs.Cuts.TreePlace.{InodeAt, EntryAt, BlockAt}
+use Rattle.cached_files.specs.Cuts.GroupFate.{WasPut}
 use Rattle.cached_files.specs.Cuts.Value.{AnInode, AnEntry, ABlock}
 use Rattle.cached_files.specs.Follow.{IsOfNames, AreOfNames}
 use Rattle.cached_files.specs.Present.{DirtyPages, IsKept, present, with_page}
-use Rattle.cached_files.proofs.CutValues.{ordered_after, ordered_all}
 
 -- the key of an entry, and that of a block
 abbrev key : ℕ → List ℕ → ℕ × List ℕ
@@ -72,18 +73,15 @@ forgotten_entries : (gone : List ℕ) (tree : Tree) → (fold without_inode tree
 forgotten_entries [] tree = refl
 forgotten_entries (ino ∷ gone) tree = forgotten_entries gone (without_inode tree ino)
 
-forgotten_ordered : (tree : Tree) → IsOrdered tree → IsOrdered (without_nameless tree)
-forgotten_ordered tree h = record { in_order = forgotten_in_order tree h.in_order; entries = ap (λ es. ascends name_cmp (keys_of es)) (forgotten_entries (nameless tree) tree) ∙ h.entries }
-
 -- At a place two trees stay as they are, or get the same value.
 abbrev Steady : TreePlace → Tree → Tree → Tree → Tree → Type 0
 Steady place t after u later = ((value_at after place ≡ value_at t place) × (value_at later place ≡ value_at u place)) ⊎ (value_at after place ≡ value_at later place)
 
-steady_drop : (ino : ℕ) (t u : Tree) → IsOrdered t → IsOrdered u → (place : TreePlace) → Steady place t (applied t (DropInode ino)) u (applied u (DropInode ino))
+steady_drop : (ino : ℕ) (t u : Tree) → IsInOrder t → IsInOrder u → (place : TreePlace) → Steady place t (applied t (DropInode ino)) u (applied u (DropInode ino))
 steady_drop ino t u h i (InodeAt q) = by (key_cases nat_cmp numbers q ino)
   where
-    gone : (x : Tree) → IsOrdered x → q ≡ ino → inode_at (applied x (DropInode ino)) q ≡ None
-    gone x o same = subst (λ k. lookup (is_at (nat_cmp k)) (remove_entry (is_at (nat_cmp ino)) x.inodes) ≡ None) (sym same) (removed_here nat_cmp numbers x.inodes ino o.in_order.inodes)
+    gone : (x : Tree) → IsInOrder x → q ≡ ino → inode_at (applied x (DropInode ino)) q ≡ None
+    gone x o same = subst (λ k. lookup (is_at (nat_cmp k)) (remove_entry (is_at (nat_cmp ino)) x.inodes) ≡ None) (sym same) (removed_here nat_cmp numbers x.inodes ino o.inodes)
 
     by : (q ≡ ino) ⊎ (q ≡ ino → ⊥) → Steady (InodeAt q) t (applied t (DropInode ino)) u (applied u (DropInode ino))
     by (inl same) = inr (ap AnInode (gone t h same ∙ sym (gone u i same)))
@@ -122,11 +120,11 @@ steady_entry entry t u (EntryAt dir name) = by (key_cases name_cmp named (dir, n
     by (inr other) = inl (ap AnEntry (set_other name_cmp named t.entries (entry.dir, entry.name) entry (dir, name) other), ap AnEntry (set_other name_cmp named u.entries (entry.dir, entry.name) entry (dir, name) other))
 steady_entry entry t u (BlockAt q block) = inl (refl, refl)
 
-steady_name : (from : ℕ) (gone : List ℕ) (t u : Tree) → IsOrdered t → IsOrdered u → (place : TreePlace) → Steady place t (applied t (DropEntry from gone)) u (applied u (DropEntry from gone))
+steady_name : (from : ℕ) (gone : List ℕ) (t u : Tree) → IsInOrder t → IsInOrder u → (place : TreePlace) → Steady place t (applied t (DropEntry from gone)) u (applied u (DropEntry from gone))
 steady_name from gone t u h i (InodeAt q) = inl (refl, refl)
 steady_name from gone t u h i (EntryAt dir name) = by (key_cases name_cmp named (dir, name) (from, gone))
   where
-    none : (x : Tree) → IsOrdered x → key dir name ≡ key from gone → entry_at (applied x (DropEntry from gone)) dir name ≡ None
+    none : (x : Tree) → IsInOrder x → key dir name ≡ key from gone → entry_at (applied x (DropEntry from gone)) dir name ≡ None
     none x o same = subst (λ (k : ℕ × List ℕ). lookup (is_at (name_cmp k)) (remove_entry (is_at (name_cmp (from, gone))) x.entries) ≡ None) (sym same) (removed_here name_cmp named x.entries (from, gone) o.entries)
 
     by : (key dir name ≡ key from gone) ⊎ (key dir name ≡ key from gone → ⊥) → Steady (EntryAt dir name) t (applied t (DropEntry from gone)) u (applied u (DropEntry from gone))
@@ -134,7 +132,7 @@ steady_name from gone t u h i (EntryAt dir name) = by (key_cases name_cmp named 
     by (inr other) = inl (ap AnEntry (removed_other name_cmp named t.entries (from, gone) (dir, name) other), ap AnEntry (removed_other name_cmp named u.entries (from, gone) (dir, name) other))
 steady_name from gone t u h i (BlockAt q block) = inl (refl, refl)
 
-steady_one : (tree : Tree) (change : Change) → IsOfNames tree change → (t u : Tree) → IsOrdered t → IsOrdered u → (place : TreePlace) → Steady place t (applied t (as_replayed change)) u (applied u (as_replayed change))
+steady_one : (tree : Tree) (change : Change) → IsOfNames tree change → (t u : Tree) → IsInOrder t → IsInOrder u → (place : TreePlace) → Steady place t (applied t (as_replayed change)) u (applied u (as_replayed change))
 steady_one tree (SetInode ino inode) is t u h i place = by (inode.nlink == 0)
   where
     by : (b : Bool) → Steady place t (applied t (cond b (DropInode ino) (SetInode ino inode))) u (applied u (cond b (DropInode ino) (SetInode ino inode)))
@@ -147,11 +145,11 @@ steady_one tree (CutBlocks ino old_size new_size) is t u h i place = absurd is
 steady_one tree (DropInode ino) is t u h i place = steady_drop ino t u h i place
 
 -- A group of names leaves a place of every tree as it is, or gives every tree the same value there.
-steady_all : (tree : Tree) (group : List Change) → AreOfNames tree group → (t u : Tree) → IsOrdered t → IsOrdered u → (place : TreePlace) → Steady place t (replayed_on t group) u (replayed_on u group)
+steady_all : (tree : Tree) (group : List Change) → AreOfNames tree group → (t u : Tree) → IsInOrder t → IsInOrder u → (place : TreePlace) → Steady place t (replayed_on t group) u (replayed_on u group)
 steady_all tree [] names t u h i place = inl (refl, refl)
 steady_all tree (change ∷ group) names t u h i place =
     let c = as_replayed change in
-    by (applied t c) (applied u c) (steady_one tree change names.0 t u h i place) (steady_all tree group names.1 (applied t c) (applied u c) (ordered_after t c h) (ordered_after u c i) place)
+    by (applied t c) (applied u c) (steady_one tree change names.0 t u h i place) (steady_all tree group names.1 (applied t c) (applied u c) (applied_in_order t c h) (applied_in_order u c i) place)
   where
     by : (mid other : Tree) → Steady place t mid u other → Steady place mid (replayed_on mid group) other (replayed_on other group) → Steady place t (replayed_on mid group) u (replayed_on other group)
     by mid other (inl first) (inl more) = inl (more.0 ∙ first.0, more.1 ∙ first.1)
@@ -159,15 +157,15 @@ steady_all tree (change ∷ group) names t u h i place =
     by mid other first (inr same) = inr same
 
 -- a group of names that was reckoned on a tree gives no values but those of what it makes of that tree
-pub group_gives : (tree : Tree) (group : List Change) → IsOrdered tree → AreOfNames tree group → all_revive_none tree group ≡ true → GivesOnly (ValuesWith tree group) group
-group_gives tree group order names revives on place at = by (steady_all tree group names on (without_nameless tree) at (forgotten_ordered tree order) place)
+pub group_gives : (tree : Tree) (group : List Change) → IsInOrder tree → AreOfNames tree group → all_revive_none tree group ≡ true → GivesOnly (ValuesWith tree group) group
+group_gives tree group order names revives on place at = by (steady_all tree group names on (without_nameless tree) at (forgotten_in_order tree order) place)
   where
     by : Steady place on (replayed_on on group) (without_nameless tree) (replayed_on (without_nameless tree) group) → (value_at (replayed_on on group) place ≡ value_at on place) ⊎ ValuesWith tree group place (value_at (replayed_on on group) place)
     by (inl kept) = inl kept.0
-    by (inr same) = inr (inr (inr (same ∙ ap (λ t. value_at t place) (sym (group_forgotten group tree order.in_order revives)))))
+    by (inr same) = inr (inr (inr (same ∙ ap (λ t. value_at t place) (sym (group_forgotten group tree order revives)))))
 
 -- an inode that a tree has gives no values but those of the tree
-inode_gives : (tree : Tree) (ino : ℕ) (inode : Inode) → IsOrdered tree → inode_at tree ino ≡ Some inode → GivesOnly (ValuesOf tree) (SetInode ino inode ∷ [])
+inode_gives : (tree : Tree) (ino : ℕ) (inode : Inode) → IsInOrder tree → inode_at tree ino ≡ Some inode → GivesOnly (ValuesOf tree) (SetInode ino inode ∷ [])
 inode_gives tree ino inode order found on place at = by (inode.nlink == 0) refl place
   where
     named_at : (q : ℕ) → q ≡ ino → inode_at tree q ≡ Some inode
@@ -180,7 +178,7 @@ inode_gives tree ino inode order found on place at = by (inode.nlink == 0) refl 
     here q same = subst (λ k. lookup (is_at (nat_cmp k)) (insert_entry nat_cmp on.inodes ino inode) ≡ Some inode) (sym same) (set_here nat_cmp numbers on.inodes ino inode)
 
     gone : (q : ℕ) → q ≡ ino → inode_at (applied on (DropInode ino)) q ≡ None
-    gone q same = subst (λ k. lookup (is_at (nat_cmp k)) (remove_entry (is_at (nat_cmp ino)) on.inodes) ≡ None) (sym same) (removed_here nat_cmp numbers on.inodes ino at.in_order.inodes)
+    gone q same = subst (λ k. lookup (is_at (nat_cmp k)) (remove_entry (is_at (nat_cmp ino)) on.inodes) ≡ None) (sym same) (removed_here nat_cmp numbers on.inodes ino at.inodes)
 
     Goal : Tree → TreePlace → Type 0
     Goal made place = (value_at made place ≡ value_at on place) ⊎ ValuesOf tree place (value_at made place)
@@ -190,7 +188,7 @@ inode_gives tree ino inode order found on place at = by (inode.nlink == 0) refl 
     set q (inr other) = inl (ap AnInode (set_other nat_cmp numbers on.inodes ino inode q other))
 
     dropped : (q : ℕ) → (inode.nlink == 0) ≡ true → (q ≡ ino) ⊎ (q ≡ ino → ⊥) → Goal (applied on (DropInode ino)) (InodeAt q)
-    dropped q z (inl same) = inr (inr (ap AnInode (gone q same ∙ sym (found_inode tree q order.in_order ∙ rw (lost q same z) refl))))
+    dropped q z (inl same) = inr (inr (ap AnInode (gone q same ∙ sym (found_inode tree q order ∙ rw (lost q same z) refl))))
     dropped q z (inr other) = inl (ap AnInode (removed_other nat_cmp numbers on.inodes ino q other))
 
     block_of : Option (List ℕ) → Value
@@ -200,7 +198,7 @@ inode_gives tree ino inode order found on place at = by (inode.nlink == 0) refl 
     emptied q block true t z =
         let same : q ≡ ino = elim (eqb_tells q ino) [ inl is ↦ is.1 | inr other ↦ absurd cc ] in
         let none : found_in (without_blocks on.blocks ino) (q, block) ≡ None = cleared on.blocks ino (q, block) ∙ rw t refl in
-        let lacks : found_in (without_nameless tree).blocks (q, block) ≡ None = found_block tree (q, block) order.in_order ∙ rw (lost q same z) refl in
+        let lacks : found_in (without_nameless tree).blocks (q, block) ≡ None = found_block tree (q, block) order ∙ rw (lost q same z) refl in
         inr (inr (ap block_of none ∙ sym (ap block_of lacks)))
     emptied q block false t z =
         let kept : found_in (without_blocks on.blocks ino) (q, block) ≡ found_in on.blocks (q, block) = cleared on.blocks ino (q, block) ∙ rw t refl in
@@ -242,7 +240,7 @@ block_gives tree ino block bytes same on place at = by (is_some (inode_at on ino
     by false (BlockAt q number) = inl refl
 
 -- a page of these files puts none but their values
-pub page_cut : {T : Type 0} (tree : Tree) (page : PageNode) (a b : Journal) (result : Result T StoreFault) → IsOrdered tree → inode_at tree page.ino ≡ Some page.inode → trimmed page.bytes ≡ trimmed (block_at tree.blocks page.ino page.block)
+pub page_cut : {T : Type 0} (tree : Tree) (page : PageNode) (a b : Journal) (result : Result T StoreFault) → IsInOrder tree → inode_at tree page.ino ≡ Some page.inode → trimmed page.bytes ≡ trimmed (block_at tree.blocks page.ino page.block)
     → Leaves a b (put_by result (page_puts page)) → PutsOnly (ValuesOf tree) a b
 page_cut {T} tree page a b result order inode block = by result
   where
@@ -255,22 +253,28 @@ page_cut {T} tree page a b result order inode block = by result
     by (Err (Volume count)) cut = all cut
     by (Err (IsReadOnly cause)) cut = Puts-nothing (ValuesOf tree) a b cut
 
--- and a group of names that is put is whole
-pub group_cut : {T : Type 0} (tree : Tree) (group : List Change) (a b : Journal) (result : Result T StoreFault) → IsOrdered tree → AreOfNames tree group → all_revive_none tree group ≡ true
-    → Leaves a b (put_by result ((base_head, group) ∷ [])) → PutsWith tree group a b
+-- and a group of names is put as the answer tells
+pub group_cut : {T : Type 0} (tree : Tree) (group : List Change) (a b : Journal) (result : Result T StoreFault) → IsInOrder tree → AreOfNames tree group → all_revive_none tree group ≡ true
+    → Leaves a b (put_by result ((base_head, group) ∷ [])) → PutsWith tree group (put_fate result) a b
 group_cut {T} tree group a b result order names revives = by result
   where
-    all : Leaves a b ((base_head, group) ∷ []) → PutsWith tree group a b
-    all cut = record { pages = []; gives = tt; last = (base_head, group) ∷ []; whole = inr refl; makes = (group_gives tree group order names revives, tt); cut = cut }
+    makes : AllByRecursion (λ (put : ℕ × List Change). GivesOnly (ValuesWith tree group) put.1) ((base_head, group) ∷ [])
+    makes = (group_gives tree group order names revives, tt)
 
-    none : Leaves a b [] → PutsWith tree group a b
-    none cut = record { pages = []; gives = tt; last = []; whole = inl refl; makes = tt; cut = cut }
+    by : (result : Result T StoreFault) → Leaves a b (put_by result ((base_head, group) ∷ [])) → PutsWith tree group (put_fate result) a b
+    by (Ok x) cut = record { pages = []; gives = tt; last = (base_head, group) ∷ []; whole = inl refl; makes = makes; cut = cut }
+    by (Err Memory) cut = record { pages = []; gives = tt; last = []; whole = refl; makes = tt; cut = cut }
+    by (Err (Volume count)) cut = record { pages = []; gives = tt; last = (base_head, group) ∷ []; whole = inr refl; makes = makes; cut = cut }
+    by (Err (IsReadOnly cause)) cut = record { pages = []; gives = tt; last = []; whole = refl; makes = tt; cut = cut }
 
-    by : (result : Result T StoreFault) → Leaves a b (put_by result ((base_head, group) ∷ [])) → PutsWith tree group a b
-    by (Ok x) cut = all cut
-    by (Err Memory) cut = none cut
-    by (Err (Volume count)) cut = all cut
-    by (Err (IsReadOnly cause)) cut = none cut
+-- done, it was put
+pub group_done_cut : (T : Type 0) (tree : Tree) (group : List Change) (a b : Journal) → IsInOrder tree → AreOfNames tree group → all_revive_none tree group ≡ true → Leaves a b ((base_head, group) ∷ []) → PutsWith tree group WasPut a b
+group_done_cut T tree group a b order names revives cut = group_cut {T = Unit {0}} tree group a b (Ok tt) order names revives cut
+
+-- and with this fault it was or wasn't
+pub group_failed_cut : (T : Type 0) (tree : Tree) (group : List Change) (a b : Journal) (fault : StoreFault) → IsInOrder tree → AreOfNames tree group → all_revive_none tree group ≡ true
+    → Leaves a b (put_by {T = T} (Err fault) ((base_head, group) ∷ [])) → PutsWith tree group (put_fate {T = T} (Err fault)) a b
+group_failed_cut T tree group a b fault = group_cut {T = T} tree group a b (Err fault)
 
 inodes_ascend : (new es : Inodes) → ascends nat_cmp (keys_of es) ≡ true → ascends nat_cmp (keys_of (fold (λ (all : Inodes) (e : ℕ × Inode). insert_entry nat_cmp all e.0 e.1) es new)) ≡ true
 inodes_ascend [] es h = h
@@ -281,9 +285,10 @@ pages_ascend [] blocks h = h
 pages_ascend (e ∷ dirty) blocks h = pages_ascend dirty (with_page blocks e) (insert_ascends pair_cmp pairs blocks e.0 e.1.bytes h)
 
 -- the present tree is in order
-pub present_ordered : (tree : Tree) (kept : Kept) → IsKept tree kept → IsOrdered (present tree kept).tree
+pub present_ordered : (tree : Tree) (kept : Kept) → IsKept tree kept → IsInOrder (present tree kept).tree
 present_ordered tree kept is = record {
-  in_order = record { inodes = inodes_ascend kept.inodes tree.inodes is.proper.inodes_ascend; blocks = pages_ascend kept.pages.dirty tree.blocks is.proper.blocks_ascend };
+  inodes = inodes_ascend kept.inodes tree.inodes is.proper.inodes_ascend;
+  blocks = pages_ascend kept.pages.dirty tree.blocks is.proper.blocks_ascend;
   entries = is.proper.entries_ascend;
 }
 
@@ -304,9 +309,9 @@ alike_at a b h (InodeAt q) = ap (λ (es : Inodes). AnInode (lookup (is_at (nat_c
 alike_at a b h (EntryAt dir name) = ap (λ (es : List ((ℕ × List ℕ) × Entry)). AnEntry (lookup (is_at (name_cmp (dir, name))) es)) (sym h.entries)
 alike_at a b h (BlockAt q block) = ap ABlock (alike_block a b h (q, block))
 
-alike_named : (a b : Files) → IsAlike a b → IsOrdered a.tree → IsOrdered b.tree → (place : TreePlace) → value_at (without_nameless b.tree) place ≡ value_at (without_nameless a.tree) place
+alike_named : (a b : Files) → IsAlike a b → IsInOrder a.tree → IsInOrder b.tree → (place : TreePlace) → value_at (without_nameless b.tree) place ≡ value_at (without_nameless a.tree) place
 alike_named a b h o p (InodeAt q) =
-    ap AnInode (found_inode b.tree q p.in_order ∙ ap (λ (es : Inodes). named_in (lookup (is_at (nat_cmp q)) es)) (sym h.inodes) ∙ sym (found_inode a.tree q o.in_order))
+    ap AnInode (found_inode b.tree q p ∙ ap (λ (es : Inodes). named_in (lookup (is_at (nat_cmp q)) es)) (sym h.inodes) ∙ sym (found_inode a.tree q o))
   where
     named_in : Option Inode → Option Inode
     named_in found = cond (option_map_or (λ inode. inode.nlink == 0) found false) None found
@@ -314,8 +319,8 @@ alike_named a b h o p (EntryAt dir name) =
     ap (λ (es : List ((ℕ × List ℕ) × Entry)). AnEntry (lookup (is_at (name_cmp (dir, name))) es)) (forgotten_entries (nameless b.tree) b.tree ∙ sym h.entries ∙ sym (forgotten_entries (nameless a.tree) a.tree))
 alike_named a b h o p (BlockAt q block) =
     let lost : is_nameless b.tree q ≡ is_nameless a.tree q = ap (λ (es : Inodes). option_map_or (λ (inode : Inode). inode.nlink == 0) (lookup (is_at (nat_cmp q)) es) false) (sym h.inodes) in
-    ap block_of (found_block b.tree (q, block) p.in_order) ∙ ap (λ t. block_of (cond t None (lookup (is_at (pair_cmp (q, block))) b.tree.blocks))) lost
-    ∙ by (is_nameless a.tree q) ∙ sym (ap block_of (found_block a.tree (q, block) o.in_order))
+    ap block_of (found_block b.tree (q, block) p) ∙ ap (λ t. block_of (cond t None (lookup (is_at (pair_cmp (q, block))) b.tree.blocks))) lost
+    ∙ by (is_nameless a.tree q) ∙ sym (ap block_of (found_block a.tree (q, block) o))
   where
     block_of : Option (List ℕ) → Value
     block_of found = ABlock (trimmed (unwrap_or found []))
@@ -324,12 +329,12 @@ alike_named a b h o p (BlockAt q block) =
     by true = refl
     by false = ap ABlock (alike_block a b h (q, block))
 
-pub alike_among : (a b : Files) → IsAlike a b → IsOrdered a.tree → IsOrdered b.tree → AreAmong (ValuesOf b.tree) (ValuesOf a.tree)
+pub alike_among : (a b : Files) → IsAlike a b → IsInOrder a.tree → IsInOrder b.tree → AreAmong (ValuesOf b.tree) (ValuesOf a.tree)
 alike_among a b h o p place value (inl is) = inl (is ∙ alike_at a b h place)
 alike_among a b h o p place value (inr is) = inr (is ∙ alike_named a b h o p place)
 
 -- also with a group that leaves them alike
-pub alike_with : (a b : Files) (group : List Change) → IsAlike a b → IsOrdered a.tree → IsOrdered b.tree → IsAlike (record a { tree = apply a.tree group }) (record b { tree = apply b.tree group }) → AreAmong (ValuesWith b.tree group) (ValuesWith a.tree group)
+pub alike_with : (a b : Files) (group : List Change) → IsAlike a b → IsInOrder a.tree → IsInOrder b.tree → IsAlike (record a { tree = apply a.tree group }) (record b { tree = apply b.tree group }) → AreAmong (ValuesWith b.tree group) (ValuesWith a.tree group)
 alike_with a b group h o p more place value (inl is) = inl (alike_among a b h o p place value is)
 alike_with a b group h o p more place value (inr is) =
-    inr (alike_among (record a { tree = apply a.tree group }) (record b { tree = apply b.tree group }) more (ordered_all group a.tree o) (ordered_all group b.tree p) place value is)
+    inr (alike_among (record a { tree = apply a.tree group }) (record b { tree = apply b.tree group }) more (apply_in_order group a.tree o) (apply_in_order group b.tree p) place value is)

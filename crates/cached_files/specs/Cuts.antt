@@ -1,18 +1,20 @@
 -- What a cut may leave of calls, one place of the tree at a time: an inode, an entry or a block.
-use Rattle.std.specs.Prelude.{◌≡◌, ◌⊎◌, ℕ, true, Option, List, [], ◌∷◌, ◌++◌, map}
+use Rattle.std.specs.Prelude.{◌≡◌, ◌⊎◌, ℕ, Option, Result, Ok, Err, List, [], ◌∷◌, ◌++◌, map}
 use Rattle.std.specs.List.{AllByRecursion}
-use Rattle.std.specs.Map.{keys_of}
+use Rattle.fs_model.specs.declared.backing_answers.StoreFault.{StoreFault}
 use Rattle.fs_model.specs.declared.change.Change.{Change}
 use Rattle.fs_model.specs.declared.inode.Inode.{Inode}
 use Rattle.fs_model.specs.declared.inode.Entry.{Entry}
+use Rattle.fs_model.specs.declared.refusal.Refusal.{Refusal}
+use Rattle.fs_model.specs.declared.refusal.Refusal.TheVariants.{Eio}
+use Rattle.fs_model.specs.CallFaults.{refusal_of}
 use Rattle.fs_model.specs.Change.{apply}
-use Rattle.fs_model.specs.Files.{Tree, inode_at, entry_at, block_at, name_cmp}
-use Rattle.fs_model.specs.Journal.{Journal, Medium, Leaves, MayLeave, IsJournalOf, base_head}
+use Rattle.fs_model.specs.Files.{Tree, inode_at, entry_at, block_at}
+use Rattle.fs_model.specs.Journal.{Journal, Leaves, MayLeave, base_head}
 use Rattle.fs_model.specs.Orphan.{without_nameless}
-use Rattle.fs_model.specs.Proper.{ascends}
+use Rattle.fs_model.specs.Proper.{IsInOrder}
 use Rattle.fs_model.specs.Recovery.{as_replayed}
 use Rattle.fs_model.specs.Same.{trimmed}
-use Rattle.fs_laws.specs.Forgotten.{IsInOrder}
 use Rattle.fs_model.specs.Backing.{BackingState}
 use Rattle.cached_files.specs.declared.kept.Kept.{Kept}
 use Rattle.cached_files.specs.Present.{present}
@@ -50,18 +52,13 @@ ValuesWith tree group place value = ValuesOf tree place value ⊎ ValuesOf (appl
 abbrev pub HasValues : Journal → Values → Tree → Type 0
 HasValues journal values tree = (place : TreePlace) → ((before : Tree) × MayLeave journal before × (value_at tree place ≡ value_at before place)) ⊎ values place (value_at tree place)
 
--- inodes, blocks and entries in order of key
-pub record IsOrdered (tree : Tree) : Type 0 where
-  pub in_order : IsInOrder tree
-  pub entries : ascends name_cmp (keys_of tree.entries) ≡ true
-
 -- a tree with a group replayed on it
 abbrev pub replayed_on : Tree → List Change → Tree
 replayed_on tree group = apply tree (map as_replayed group)
 
 -- on whichever tree a group is replayed, each value that changes by it is one of these
 abbrev pub GivesOnly : Values → List Change → Type 0
-GivesOnly values group = (tree : Tree) (place : TreePlace) → IsOrdered tree → (value_at (replayed_on tree group) place ≡ value_at tree place) ⊎ values place (value_at (replayed_on tree group) place)
+GivesOnly values group = (tree : Tree) (place : TreePlace) → IsInOrder tree → (value_at (replayed_on tree group) place ≡ value_at tree place) ⊎ values place (value_at (replayed_on tree group) place)
 
 -- A cut leaves of calls groups that they put, and each value of these is one of those.
 pub record PutsOnly (values : Values) (old new : Journal) : Type 0 where
@@ -69,12 +66,39 @@ pub record PutsOnly (values : Values) (old new : Journal) : Type 0 where
   pub gives : AllByRecursion (λ put. GivesOnly values put.1) puts
   pub cut : Leaves old new puts
 
--- A cut leaves of calls first groups that they put of pages, each value of which is one of a tree, and then this group or none, whose values are those of the tree or of what the group makes of it.
-pub record PutsWith (tree : Tree) (group : List Change) (old new : Journal) : Type 0 where
+-- What became of a group: it was put, or it wasn't; or the volume failed, and a cut may leave it or not.
+pub data GroupFate : Type 0 where
+  WasPut : GroupFate
+  NotPut : GroupFate
+  MayBePut : GroupFate
+
+-- what a refusal tells of the group that was to be put
+abbrev pub refused_fate : Refusal → GroupFate
+refused_fate (Eio count) = MayBePut
+refused_fate refusal = NotPut
+
+-- what an answer tells of it
+abbrev pub group_fate : {T : Type 0} → Result T Refusal → GroupFate
+group_fate (Ok x) = WasPut
+group_fate (Err refusal) = refused_fate refusal
+
+-- the same of a backing's answer
+abbrev pub put_fate : {T : Type 0} → Result T StoreFault → GroupFate
+put_fate (Ok x) = WasPut
+put_fate (Err fault) = refused_fate (refusal_of fault)
+
+-- the last group that a call put, by what became of it; a group without changes needn't be put
+abbrev pub IsLastPut : GroupFate → List Change → List (ℕ × List Change) → Type 0
+IsLastPut WasPut group last = (last ≡ (base_head, group) ∷ []) ⊎ ((group ≡ []) × (last ≡ []))
+IsLastPut NotPut group last = last ≡ []
+IsLastPut MayBePut group last = (last ≡ []) ⊎ (last ≡ (base_head, group) ∷ [])
+
+-- A cut leaves of calls first groups that they put of pages, each value of which is one of a tree, and then this group where it was put, whose values are those of the tree or of what the group makes of it.
+pub record PutsWith (tree : Tree) (group : List Change) (fate : GroupFate) (old new : Journal) : Type 0 where
   pub pages : List (ℕ × List Change)
   pub gives : AllByRecursion (λ put. GivesOnly (ValuesOf tree) put.1) pages
   pub last : List (ℕ × List Change)
-  pub whole : (last ≡ []) ⊎ (last ≡ (base_head, group) ∷ [])
+  pub whole : IsLastPut fate group last
   pub makes : AllByRecursion (λ put. GivesOnly (ValuesWith tree group) put.1) last
   pub cut : Leaves old new (pages ++ last)
 
@@ -82,11 +106,6 @@ pub record PutsWith (tree : Tree) (group : List Change) (old new : Journal) : Ty
 abbrev pub PutsSeen : BackingState → BackingState → Kept → Type 0
 PutsSeen old new kept = PutsOnly (ValuesOf (present old.tree kept).tree) old.journal new.journal
 
--- and then of a group those of what it makes of them
-abbrev pub PutsSeenWith : BackingState → BackingState → Kept → List Change → Type 0
-PutsSeenWith old new kept group = PutsWith (present old.tree kept).tree group old.journal new.journal
-
--- a journal as it always is, whose committed tree is in order of key
-pub record IsOrderedJournal (tree : Tree) (medium : Medium) : Type 0 where
-  pub journal : IsJournalOf tree medium
-  pub committed : IsOrdered medium.committed
+-- and then of a group, where it was put, those of what it makes of them
+abbrev pub PutsSeenWith : BackingState → BackingState → Kept → List Change → GroupFate → Type 0
+PutsSeenWith old new kept group fate = PutsWith (present old.tree kept).tree group fate old.journal new.journal

@@ -7,7 +7,7 @@ ghost use Rattle.fs_model.specs.Change.{apply};
 ghost use Rattle.fs_model.specs.Cover.{needed, room_for};
 ghost use Rattle.cached_files.specs.Alike.{IsAlike};
 ghost use Rattle.cached_files.specs.Calls.{GrowsBy, IsNotEnospc, IsWithoutRoom, SureGoes, TellsMode, WasCovered, added_or_failed, added_or_refused};
-ghost use Rattle.cached_files.specs.Cuts.{PutsSeenWith};
+ghost use Rattle.cached_files.specs.Cuts.{PutsSeenWith, put_fate, group_fate};
 ghost use Rattle.cached_files.specs.Follow.{AreOfNames, follow, followed, is_of_inode};
 ghost use Rattle.cached_files.specs.Present.{IsKept, present};
 
@@ -39,7 +39,7 @@ pub fn put_group<B: Backing>(
     ensures issued { OnOk result ((B.state backing.new).space.credits + length kept.old.pages.dirty ≡ (B.state backing.old).space.credits + length kept.new.pages.dirty) }
     ensures same { OnErr result (kept.new ≡ kept.old) }
     ensures files { OnErr result (KeepsFiles (B.state backing.old) (B.state backing.new)) }
-    ensures cut { PutsSeenWith (B.state backing.old) (B.state backing.new) kept.old group.now }
+    ensures cut { PutsSeenWith (B.state backing.old) (B.state backing.new) kept.old group.now (put_fate result) }
     ensures goes { Goes (length group.now) (B.state backing.old) (B.state backing.new) }
     ensures grows { GrowsBy (added_or_failed (length group.now) (length group.now) result) (B.state backing.old) (B.state backing.new) kept.old kept.new }
     ensures closed { (B.state backing.new).closed ≤ (B.state backing.old).closed }
@@ -80,7 +80,7 @@ pub fn apply_group<B: Backing>(
     ensures admitted { OnOk result (WasCovered (B.state backing.old) (B.state backing.new) kept.old need.now need.now (length group.now)) }
     ensures at_once { needed (B.state backing.old).space need.now ≤ room_for (B.state backing.old).geometry (B.state backing.old).space need.now → IsNotEnospc result }
     ensures refused { IfErr result (IsWithoutRoom (B.state backing.old) (B.state backing.new) kept.new need.now) }
-    ensures cut { PutsSeenWith (B.state backing.old) (B.state backing.new) kept.old group.now }
+    ensures cut { PutsSeenWith (B.state backing.old) (B.state backing.new) kept.old group.now (group_fate result) }
     ensures goes { Goes (2 * length kept.old.pages.dirty + length group.now) (B.state backing.old) (B.state backing.new) }
     ensures grows { GrowsBy (added_or_refused (length group.now) (max 2 (length group.now)) result) (B.state backing.old) (B.state backing.new) kept.old kept.new }
     ensures closed { (B.state backing.new).closed ≤ (B.state backing.old).closed }

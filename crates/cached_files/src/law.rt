@@ -6,7 +6,7 @@ ghost use Rattle.fs_model.specs.declared.change.Change.{Change};
 ghost use Rattle.fs_model.specs.declared.inode.Inode.{Inode};
 ghost use Rattle.fs_model.specs.Change.{apply};
 ghost use Rattle.fs_model.specs.Files.{Files, Tree, inode_at};
-ghost use Rattle.fs_model.specs.Journal.{IfTold, Journal, MayLeave};
+ghost use Rattle.fs_model.specs.Journal.{IfTold, IsJournalOf, Journal, MayLeave};
 ghost use Rattle.fs_model.specs.Handles.{tree_written};
 ghost use Rattle.fs_model.specs.Orphan.{nameless};
 ghost use Rattle.fs_model.specs.Path.{is_dir};
@@ -14,7 +14,8 @@ ghost use Rattle.fs_model.specs.Proper.{IsProper};
 ghost use Rattle.fs_model.specs.Same.{IsSame};
 ghost use Rattle.cached_files.specs.declared.kept.Kept.{Kept as AnyKept};
 ghost use Rattle.cached_files.specs.Alike.{IsAlike};
-ghost use Rattle.cached_files.specs.Cuts.{HasValues, IsOrderedJournal, PutsWith, ValuesWith};
+ghost use Rattle.cached_files.specs.Cuts.{GroupFate, HasValues, PutsWith, ValuesOf, ValuesWith};
+ghost use Rattle.cached_files.specs.Cuts.GroupFate.{NotPut};
 ghost use Rattle.cached_files.specs.Follow.{AreOfNames};
 ghost use Rattle.cached_files.specs.Present.{IsKept, present};
 
@@ -52,7 +53,8 @@ pub fn clean_files_are_those_of_the_backing()
 {}
 
 /// What a cut leaves after calls has at each place a value of a tree that it might have left before them, or one that they
-/// put: a value of these files, or of what their group makes of them.
+/// put: a value of these files, or of what their group makes of them. Where the group wasn't put, it has none of the latter.
 pub fn a_cut_leaves_what_was_put()
-    ensures { (old new : Journal) (tree left files : Tree) (group : List Change) → IfTold old (IsOrderedJournal tree) → PutsWith files group old new → MayLeave new left → HasValues old (ValuesWith files group) left }
+    ensures all { (old new : Journal) (tree left files : Tree) (group : List Change) (fate : GroupFate) → IfTold old (IsJournalOf tree) → PutsWith files group fate old new → MayLeave new left → HasValues old (ValuesWith files group) left }
+    ensures not_put { (old new : Journal) (tree left files : Tree) (group : List Change) → IfTold old (IsJournalOf tree) → PutsWith files group NotPut old new → MayLeave new left → HasValues old (ValuesOf files) left }
 {}

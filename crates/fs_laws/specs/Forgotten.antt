@@ -16,15 +16,10 @@ use Rattle.fs_model.specs.declared.inode.Inode.{Inode}
 use Rattle.fs_model.specs.Change.{apply, applied, without_inode, without_blocks}
 use Rattle.fs_model.specs.Files.{Tree, Inodes, Blocks, inode_at, name_cmp, pair_cmp, with_block}
 use Rattle.fs_model.specs.Orphan.{is_nameless, nameless, without_nameless, revives_none, all_revive_none}
-use Rattle.fs_model.specs.Proper.{ascends}
+use Rattle.fs_model.specs.Proper.{ascends, IsInOrder}
 use Rattle.fs_model.specs.Recovery.{as_replayed}
 use Rattle.fs_laws.specs.Maps.{IsOrder, apart, missing_before, missing_first, tail_ascends, set_here, set_other, removed_here, removed_other, insert_ascends, remove_ascends, filter_ascends, key_cases}
-use Rattle.fs_laws.specs.Orders.{numbers, pairs}
-
--- inodes and blocks in order of key
-pub record IsInOrder (tree : Tree) : Type 0 where
-  pub inodes : ascends nat_cmp (keys_of tree.inodes) ≡ true
-  pub blocks : ascends pair_cmp (keys_of tree.blocks) ≡ true
+use Rattle.fs_laws.specs.Orders.{named, numbers, pairs}
 
 -- maps in order in which the same is found are one
 same_maps : {K X : Type 0} (cmp : K → K → Ordering) → IsOrder cmp → (a b : List (K × X)) → ascends cmp (keys_of a) ≡ true → ascends cmp (keys_of b) ≡ true → ((k : K) → lookup (is_at (cmp k)) a ≡ lookup (is_at (cmp k)) b) → a ≡ b
@@ -218,22 +213,27 @@ pub forgotten_in_order : (tree : Tree) → IsInOrder tree → IsInOrder (without
 forgotten_in_order tree h = record {
   inodes = rw (parts_inodes (nameless tree) tree) (without_ascends (nameless tree) tree.inodes h.inodes);
   blocks = rw (parts_blocks (nameless tree) tree) (clear_ascends (nameless tree) tree.blocks h.blocks);
+  entries = rw (parts_entries (nameless tree) tree) h.entries;
 }
 
 pub applied_in_order : (tree : Tree) (change : Change) → IsInOrder tree → IsInOrder (applied tree change)
-applied_in_order tree (SetInode ino inode) h = record { inodes = insert_ascends nat_cmp numbers tree.inodes ino inode h.inodes; blocks = h.blocks }
-applied_in_order tree (SetEntry entry) h = record { inodes = h.inodes; blocks = h.blocks }
-applied_in_order tree (DropEntry dir name) h = record { inodes = h.inodes; blocks = h.blocks }
+applied_in_order tree (SetInode ino inode) h = record { inodes = insert_ascends nat_cmp numbers tree.inodes ino inode h.inodes; blocks = h.blocks; entries = h.entries }
+applied_in_order tree (SetEntry entry) h = record { inodes = h.inodes; blocks = h.blocks; entries = insert_ascends name_cmp named tree.entries (entry.dir, entry.name) entry h.entries }
+applied_in_order tree (DropEntry dir name) h = record { inodes = h.inodes; blocks = h.blocks; entries = remove_ascends name_cmp named (is_at (name_cmp (dir, name))) tree.entries h.entries }
 applied_in_order tree (SetBlock ino block bytes) h = by (is_some (inode_at tree ino))
   where
     by : (b : Bool) → IsInOrder (record (cond b (record tree { blocks = with_block tree.blocks ino block bytes }) tree) { highest = max tree.highest ino })
-    by true = record { inodes = h.inodes; blocks = insert_ascends pair_cmp pairs tree.blocks (ino, block) bytes h.blocks }
-    by false = record { inodes = h.inodes; blocks = h.blocks }
-applied_in_order tree (CutBlocks ino old_size new_size) h = record { inodes = h.inodes; blocks = filter_ascends pair_cmp pairs (λ b. not ((b.0.0 == ino) && nat_le new_size (4096 * b.0.1))) tree.blocks h.blocks }
-applied_in_order tree (DropInode ino) h = record { inodes = remove_ascends nat_cmp numbers (is_at (nat_cmp ino)) tree.inodes h.inodes; blocks = filter_ascends pair_cmp pairs (λ b. not (b.0.0 == ino)) tree.blocks h.blocks }
+    by true = record { inodes = h.inodes; blocks = insert_ascends pair_cmp pairs tree.blocks (ino, block) bytes h.blocks; entries = h.entries }
+    by false = record { inodes = h.inodes; blocks = h.blocks; entries = h.entries }
+applied_in_order tree (CutBlocks ino old_size new_size) h = record { inodes = h.inodes; blocks = filter_ascends pair_cmp pairs (λ b. not ((b.0.0 == ino) && nat_le new_size (4096 * b.0.1))) tree.blocks h.blocks; entries = h.entries }
+applied_in_order tree (DropInode ino) h = record { inodes = remove_ascends nat_cmp numbers (is_at (nat_cmp ino)) tree.inodes h.inodes; blocks = filter_ascends pair_cmp pairs (λ b. not (b.0.0 == ino)) tree.blocks h.blocks; entries = h.entries }
+
+pub apply_in_order : (changes : List Change) (tree : Tree) → IsInOrder tree → IsInOrder (apply tree changes)
+apply_in_order [] tree h = h
+apply_in_order (change ∷ changes) tree h = apply_in_order changes (applied tree change) (applied_in_order tree change h)
 
 pub dropped_in_order : (tree : Tree) (ino : ℕ) → IsInOrder tree → IsInOrder (without_inode tree ino)
-dropped_in_order tree ino h = record { inodes = remove_ascends nat_cmp numbers (is_at (nat_cmp ino)) tree.inodes h.inodes; blocks = filter_ascends pair_cmp pairs (λ b. not (b.0.0 == ino)) tree.blocks h.blocks }
+dropped_in_order tree ino h = record { inodes = remove_ascends nat_cmp numbers (is_at (nat_cmp ino)) tree.inodes h.inodes; blocks = filter_ascends pair_cmp pairs (λ b. not (b.0.0 == ino)) tree.blocks h.blocks; entries = h.entries }
 
 -- trees in which the same is found
 record FindsSame (a b : Tree) : Type 0 where
@@ -478,7 +478,7 @@ block_forgotten tree ino block bytes h = by (inode_at tree ino) refl
     filled = record tree { blocks = with_block tree.blocks ino block bytes; highest = max tree.highest ino }
 
     filled_order : IsInOrder filled
-    filled_order = record { inodes = h.inodes; blocks = insert_ascends pair_cmp pairs tree.blocks (ino, block) bytes h.blocks }
+    filled_order = record { inodes = h.inodes; blocks = insert_ascends pair_cmp pairs tree.blocks (ino, block) bytes h.blocks; entries = h.entries }
 
     without_it : is_nameless tree ino ≡ true → (q : ℕ × ℕ) → cond (is_nameless tree q.0) None (lookup (is_at (pair_cmp q)) filled.blocks) ≡ cond (is_nameless tree q.0) None (lookup (is_at (pair_cmp q)) tree.blocks)
     without_it gone q = elim (key_cases pair_cmp pairs q (ino, block)) [
@@ -503,7 +503,7 @@ block_forgotten tree ino block bytes h = by (inode_at tree ino) refl
     by None e =
         let none : inode_at w ino ≡ None = found_inode tree ino h ∙ rw e refl in
         ends raised (record w { highest = max w.highest ino }) (unset tree e) (unset w none)
-        (names_forgotten tree raised (record w { highest = max w.highest ino }) ino h (record { inodes = h.inodes; blocks = h.blocks }) refl refl refl refl refl refl (sym (parts_entries (nameless tree) tree)))
+        (names_forgotten tree raised (record w { highest = max w.highest ino }) ino h (record { inodes = h.inodes; blocks = h.blocks; entries = h.entries }) refl refl refl refl refl refl (sym (parts_entries (nameless tree) tree)))
     by (Some i) e = named (i.nlink == 0) refl
       where
         named : (z : Bool) → (i.nlink == 0) ≡ z → FindsSame (without_nameless (applied tree (SetBlock ino block bytes))) (applied w (SetBlock ino block bytes))

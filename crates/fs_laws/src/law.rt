@@ -13,11 +13,10 @@ ghost use Rattle.fs_model.specs.Files.{Tree, Files, Handles};
 ghost use Rattle.fs_model.specs.Need.{need_of};
 ghost use Rattle.fs_model.specs.Orphan.{all_revive_none, is_nameless, nameless, without_nameless};
 ghost use Rattle.fs_model.specs.Operation.{group_of, outcome_of, files_in};
-ghost use Rattle.fs_model.specs.Proper.{IsProper, are_bytes};
+ghost use Rattle.fs_model.specs.Proper.{IsInOrder, IsProper, are_bytes};
 ghost use Rattle.fs_model.specs.Recovery.{as_replayed};
 ghost use Rattle.fs_model.specs.Worked.{fresh};
 ghost use Rattle.fs_laws.specs.Alike.{IsBuiltAlike, HasNodes, told_by};
-ghost use Rattle.fs_laws.specs.Forgotten.{IsInOrder};
 ghost use Rattle.fs_laws.specs.Sound.{AreFiles, IsSound, IsMoment, IsCall, IsFilePage, KeepsSound, LeavesSound, Pays};
 
 /// The files of a fresh volume are sound.

@@ -5,7 +5,7 @@ use Rattle.std.specs.Ordering.{nat_cmp}
 use Rattle.fs_model.specs.declared.change.Change.{Change}
 use Rattle.fs_model.specs.Files.{Tree}
 use Rattle.fs_model.specs.Orphan.{nameless, without_nameless}
-use Rattle.fs_model.specs.Proper.{ascends}
+use Rattle.fs_model.specs.Proper.{ascends, IsInOrder}
 use Rattle.fs_model.specs.Recovery.{Numbered, Head, IsRecovered}
 
 -- What a backing may tell of its journal.
@@ -96,10 +96,11 @@ Leaves old new puts = (more : List (ℕ × List Change)) (tree : Tree) → Might
 abbrev pub MayLeave : Journal → Tree → Type 0
 MayLeave journal tree = MightLeave journal [] tree
 
--- What is always so of a journal that is told, beside this tree. There are three heads, no more is synced than was put, and each number was given. What was committed has a name, and a cut now may leave the tree, without what has no name.
+-- What is always so of a journal that is told, beside this tree. There are three heads, no more is synced than was put, and each number was given. What was committed has a name and is in order of key, and a cut now may leave the tree, without what has no name.
 pub record IsJournalOf (tree : Tree) (medium : Medium) : Type 0 where
   pub three : length medium.heads ≡ 3
   pub synced : IsTrue (list_all (λ head. nat_le head.synced (length head.groups)) medium.heads)
   pub given : IsTrue (list_all (λ head. list_all (λ c. nat_le c.0 medium.sqnum) (flat_map (λ group. group) head.groups)) medium.heads)
   pub named : nameless medium.committed ≡ []
+  pub ordered : IsInOrder medium.committed
   pub left : IsRecovered medium.committed medium.heads (without_nameless tree)

@@ -101,6 +101,12 @@ are_numbered tree =
     && list_all (λ e. nat_le e.0.0 tree.highest) tree.blocks
     && list_all (λ e. nat_le e.0.0 tree.highest && nat_le e.1.ino tree.highest) tree.entries
 
+-- inodes, blocks and entries in order of key
+pub record IsInOrder (tree : Tree) : Type 0 where
+  pub inodes : IsTrue (ascends nat_cmp (keys_of tree.inodes))
+  pub blocks : IsTrue (ascends pair_cmp (keys_of tree.blocks))
+  pub entries : IsTrue (ascends name_cmp (keys_of tree.entries))
+
 pub record IsProper (tree : Tree) : Type 0 where
   pub inodes_ascend : IsTrue (ascends nat_cmp (keys_of tree.inodes))
   pub blocks_ascend : IsTrue (ascends pair_cmp (keys_of tree.blocks))

@@ -11,10 +11,12 @@ use Rattle.fs_model.specs.declared.change.Change.TheVariants.{SetInode, SetEntry
 use Rattle.fs_model.specs.declared.inode.Inode.{Inode}
 use Rattle.fs_model.specs.Change.{applied, apply, key_number}
 use Rattle.fs_model.specs.Files.{Tree, inode_at, name_cmp, pair_cmp}
+use Rattle.fs_model.specs.Proper.{IsInOrder}
+use Rattle.fs_laws.specs.Forgotten.{applied_in_order}
 use Rattle.leaf_map.specs.Allowed.{AgreeBut, AreForgotten, IsTouched, sets_inode}
-use Rattle.leaf_map.specs.LastChange.{IsSorted, Made, last_made, later, makes_block, makes_entry, makes_inode, there}
+use Rattle.leaf_map.specs.LastChange.{Made, last_made, later, makes_block, makes_entry, makes_inode, there}
 use Rattle.leaf_map.proofs.Forgets.{AreClose, IsGone, unlinked}
-use Rattle.leaf_map.proofs.Lasts.{applied_sorted, last_block, last_entry, last_inode, one_inode}
+use Rattle.leaf_map.proofs.Lasts.{last_block, last_entry, last_inode, one_inode}
 
 -- ---- what is made of an inode and of a name doesn't go by the tree
 one_inode_made : (q : ℕ) (a b : Tree) (change : Change) → makes_inode q a change ≡ makes_inode q b change
@@ -47,7 +49,7 @@ there_some : {X : Type 0} (made : Made X) (x y : Option X) → is_some x ≡ is_
 there_some None x y h = h
 there_some (Some made) x y h = refl
 
-have_applied : (change : Change) (a b : Tree) → IsSorted a → IsSorted b → HaveSame a b → HaveSame (applied a change) (applied b change)
+have_applied : (change : Change) (a b : Tree) → IsInOrder a → IsInOrder b → HaveSame a b → HaveSame (applied a change) (applied b change)
 have_applied change a b s t h q =
     ap is_some (one_inode q a change s)
     ∙ ap (λ m. is_some (there m (inode_at a q))) (one_inode_made q a b change)
@@ -60,10 +62,10 @@ one_block_made q a b (CutBlocks ino old_size new_size) h = refl
 one_block_made q a b (DropInode ino) h = refl
 one_block_made q a b change h = refl
 
-same_block_made : (q : ℕ × ℕ) (changes : List Change) (a b : Tree) → IsSorted a → IsSorted b → HaveSame a b → last_made (makes_block q) a changes ≡ last_made (makes_block q) b changes
+same_block_made : (q : ℕ × ℕ) (changes : List Change) (a b : Tree) → IsInOrder a → IsInOrder b → HaveSame a b → last_made (makes_block q) a changes ≡ last_made (makes_block q) b changes
 same_block_made q [] a b s t h = refl
 same_block_made q (change ∷ changes) a b s t h =
-    ap (λ m. later m (makes_block q a change)) (same_block_made q changes (applied a change) (applied b change) (applied_sorted a change s) (applied_sorted b change t) (have_applied change a b s t h))
+    ap (λ m. later m (makes_block q a change)) (same_block_made q changes (applied a change) (applied b change) (applied_in_order a change s) (applied_in_order b change t) (have_applied change a b s t h))
     ∙ ap (later (last_made (makes_block q) (applied b change) changes)) (one_block_made q a b change h)
 
 touched : {X : Type 0} (made : Made X) (x y : Option X) → IsTouched made → there made x ≡ there made y
@@ -140,7 +142,7 @@ drop_block q (change ∷ changes) tree h e =
       | inr f ↦ touched_later (last_made (makes_block q) (applied tree change) changes) (makes_block q tree change) (inl (drop_block q changes (applied tree change) p.1 f))
     ]
 
-pub agree_after : (listed : List ℕ) (changes : List Change) (a b : Tree) → IsSorted a → IsSorted b → AgreeBut listed changes a b → AreClose listed (apply a changes) (apply b changes)
+pub agree_after : (listed : List ℕ) (changes : List Change) (a b : Tree) → IsInOrder a → IsInOrder b → AgreeBut listed changes a b → AreClose listed (apply a changes) (apply b changes)
 agree_after listed changes a b s t h = record {
   inodes = λ q. inode q (h.inodes q);
   blocks = λ q. block q (h.blocks q);

@@ -3,7 +3,7 @@ use Rattle.std.proofs.Common.{◌≡◌, ◌⊎◌, ℕ, Bool, true, false, cond
 use Rattle.std.specs.Prelude.{◌==◌, ◌||◌, filter, fold}
 use Rattle.std.specs.BTreeMap.{is_at}
 use Rattle.std.specs.List.{list_all, list_any}
-use Rattle.std.specs.Map.{lookup, keys_of}
+use Rattle.std.specs.Map.{lookup}
 use Rattle.std.specs.Option.{option_map_or}
 use Rattle.std.specs.Ordering.{nat_cmp}
 use Rattle.std.proofs.lemmas.Bool.{and_parts}
@@ -14,13 +14,12 @@ use Rattle.fs_model.specs.declared.inode.Inode.{Inode}
 use Rattle.fs_model.specs.Change.{without_blocks, without_inode}
 use Rattle.fs_model.specs.Files.{Inodes, Tree, inode_at, name_cmp, pair_cmp}
 use Rattle.fs_model.specs.Orphan.{is_nameless, nameless, without_nameless}
-use Rattle.fs_model.specs.Proper.{ascends}
+use Rattle.fs_model.specs.Proper.{IsInOrder}
 use Rattle.fs_laws.specs.Forgotten.{dropped_in_order, forgotten_in_order, found_block, found_inode}
 use Rattle.fs_laws.specs.Maps.{apart, removed_here, removed_other}
 use Rattle.fs_laws.specs.Orders.{numbers}
 use Rattle.leaf_map.specs.After.{goes, is_gone}
 use Rattle.leaf_map.specs.Kept.{Kept, shown_by}
-use Rattle.leaf_map.specs.LastChange.{IsSorted}
 use Rattle.leaf_map.specs.LeafMap.{IsLeafMap, are_apart, shows_same}
 use Rattle.leaf_map.specs.Recovered.{is_unlinked, without_orphan}
 use Rattle.leaf_map.specs.Shown.{inodes_of, tree_of, with_inode}
@@ -39,14 +38,14 @@ forget tree ino = cond (is_nameless tree ino) (without_inode tree ino) tree
 abbrev nothing : Option Inode
 nothing = None
 
-forget_inode : (tree : Tree) (ino q : ℕ) → IsSorted tree → inode_at (forget tree ino) q ≡ cond (is_nameless tree q && (q == ino)) None (inode_at tree q)
+forget_inode : (tree : Tree) (ino q : ℕ) → IsInOrder tree → inode_at (forget tree ino) q ≡ cond (is_nameless tree q && (q == ino)) None (inode_at tree q)
 forget_inode tree ino q s = elim (eqb_tells q ino) [
   | inl same ↦ rw same.0 (subst (λ k. inode_at (cond (is_nameless tree k) (without_inode tree k) tree) q ≡ cond (is_nameless tree q && true) None (inode_at tree q)) same.1 (here (is_nameless tree q)))
   | inr other ↦ rw other.0 (elsewhere other.1 (is_nameless tree ino) (is_nameless tree q))
 ]
   where
     here : (b : Bool) → inode_at (cond b (without_inode tree q) tree) q ≡ cond (b && true) nothing (inode_at tree q)
-    here true = removed_here nat_cmp numbers tree.inodes q s.order.inodes
+    here true = removed_here nat_cmp numbers tree.inodes q s.inodes
     here false = refl
 
     elsewhere : (q ≡ ino → ⊥) → (b n : Bool) → inode_at (cond b (without_inode tree ino) tree) q ≡ cond (n && false) nothing (inode_at tree q)
@@ -91,14 +90,14 @@ unlinked_cond : (c : Bool) (x : Option Inode) → unlinked (cond c None x) ≡ c
 unlinked_cond true x = refl
 unlinked_cond false x = refl
 
-forget_nameless : (tree : Tree) (ino q : ℕ) → IsSorted tree → is_nameless (forget tree ino) q ≡ cond (is_nameless tree q && (q == ino)) false (is_nameless tree q)
+forget_nameless : (tree : Tree) (ino q : ℕ) → IsInOrder tree → is_nameless (forget tree ino) q ≡ cond (is_nameless tree q && (q == ino)) false (is_nameless tree q)
 forget_nameless tree ino q s = ap unlinked (forget_inode tree ino q s) ∙ unlinked_cond (is_nameless tree q && (q == ino)) (inode_at tree q)
 
-forget_sorted : (tree : Tree) (ino : ℕ) → IsSorted tree → IsSorted (forget tree ino)
+forget_sorted : (tree : Tree) (ino : ℕ) → IsInOrder tree → IsInOrder (forget tree ino)
 forget_sorted tree ino s = by (is_nameless tree ino)
   where
-    by : (b : Bool) → IsSorted (cond b (without_inode tree ino) tree)
-    by true = record { order = dropped_in_order tree ino s.order; entries = s.entries }
+    by : (b : Bool) → IsInOrder (cond b (without_inode tree ino) tree)
+    by true = dropped_in_order tree ino s
     by false = s
 
 -- one that goes and others that go
@@ -113,7 +112,7 @@ last : {X : Type 0} (n : Bool) (x : Option X) → x ≡ cond (n && false) None x
 last true x = refl
 last false x = refl
 
-forgets_inode : (inos : List ℕ) (tree : Tree) (q : ℕ) → IsSorted tree → inode_at (fold forget tree inos) q ≡ cond (is_nameless tree q && list_any (λ ino. q == ino) inos) None (inode_at tree q)
+forgets_inode : (inos : List ℕ) (tree : Tree) (q : ℕ) → IsInOrder tree → inode_at (fold forget tree inos) q ≡ cond (is_nameless tree q && list_any (λ ino. q == ino) inos) None (inode_at tree q)
 forgets_inode [] tree q s = last (is_nameless tree q) (inode_at tree q)
 forgets_inode (ino ∷ inos) tree q s =
     forgets_inode inos (forget tree ino) q (forget_sorted tree ino s)
@@ -121,7 +120,7 @@ forgets_inode (ino ∷ inos) tree q s =
     ∙ ap (λ (x : Option Inode). cond (cond (is_nameless tree q && (q == ino)) false (is_nameless tree q) && list_any (λ ino. q == ino) inos) None x) (forget_inode tree ino q s)
     ∙ both (is_nameless tree q) (q == ino) (list_any (λ ino. q == ino) inos) (inode_at tree q)
 
-forgets_block : (inos : List ℕ) (tree : Tree) (q : ℕ × ℕ) → IsSorted tree → lookup (is_at (pair_cmp q)) (fold forget tree inos).blocks ≡ cond (is_nameless tree q.0 && list_any (λ ino. q.0 == ino) inos) None (lookup (is_at (pair_cmp q)) tree.blocks)
+forgets_block : (inos : List ℕ) (tree : Tree) (q : ℕ × ℕ) → IsInOrder tree → lookup (is_at (pair_cmp q)) (fold forget tree inos).blocks ≡ cond (is_nameless tree q.0 && list_any (λ ino. q.0 == ino) inos) None (lookup (is_at (pair_cmp q)) tree.blocks)
 forgets_block [] tree q s = last (is_nameless tree q.0) (lookup (is_at (pair_cmp q)) tree.blocks)
 forgets_block (ino ∷ inos) tree q s =
     forgets_block inos (forget tree ino) q (forget_sorted tree ino s)
@@ -152,7 +151,7 @@ without_stays : (inos : List ℕ) (tree : Tree) → Stays (fold without_inode tr
 without_stays [] tree = record { entries = refl; highest = refl }
 without_stays (ino ∷ inos) tree = let more = without_stays inos (without_inode tree ino) in record { entries = more.entries; highest = more.highest }
 
-forgets_sorted : (inos : List ℕ) (tree : Tree) → IsSorted tree → IsSorted (fold forget tree inos)
+forgets_sorted : (inos : List ℕ) (tree : Tree) → IsInOrder tree → IsInOrder (fold forget tree inos)
 forgets_sorted [] tree s = s
 forgets_sorted (ino ∷ inos) tree s = forgets_sorted inos (forget tree ino) (forget_sorted tree ino s)
 
@@ -161,15 +160,15 @@ covered true a x h = rw (h refl) refl
 covered false a x h = refl
 
 -- where all that has no name is listed, just that goes
-pub forgets_all : (inos : List ℕ) (tree : Tree) → IsSorted tree → ((q : ℕ) → is_nameless tree q ≡ true → list_any (λ ino. q == ino) inos ≡ true) → fold forget tree inos ≡ without_nameless tree
+pub forgets_all : (inos : List ℕ) (tree : Tree) → IsInOrder tree → ((q : ℕ) → is_nameless tree q ≡ true → list_any (λ ino. q == ino) inos ≡ true) → fold forget tree inos ≡ without_nameless tree
 forgets_all inos tree s all =
     let stays = forgets_stays inos tree in
     let goes = without_stays (nameless tree) tree in
     same_trees (fold forget tree inos) (without_nameless tree) (forgets_sorted inos tree s)
-    (record { order = forgotten_in_order tree s.order; entries = subst (λ es. ascends name_cmp (keys_of es) ≡ true) (sym goes.entries) s.entries })
+    (forgotten_in_order tree s)
     (record {
-      inodes = λ q. forgets_inode inos tree q s ∙ covered (is_nameless tree q) (list_any (λ ino. q == ino) inos) (inode_at tree q) (all q) ∙ sym (found_inode tree q s.order);
-      blocks = λ q. forgets_block inos tree q s ∙ covered (is_nameless tree q.0) (list_any (λ ino. q.0 == ino) inos) (lookup (is_at (pair_cmp q)) tree.blocks) (all q.0) ∙ sym (found_block tree q s.order);
+      inodes = λ q. forgets_inode inos tree q s ∙ covered (is_nameless tree q) (list_any (λ ino. q == ino) inos) (inode_at tree q) (all q) ∙ sym (found_inode tree q s);
+      blocks = λ q. forgets_block inos tree q s ∙ covered (is_nameless tree q.0) (list_any (λ ino. q.0 == ino) inos) (lookup (is_at (pair_cmp q)) tree.blocks) (all q.0) ∙ sym (found_block tree q s);
       entries = λ q. ap (λ es. lookup (is_at (name_cmp q)) es) (stays.entries ∙ sym goes.entries);
       highest = stays.highest ∙ sym goes.highest;
     })
@@ -192,7 +191,7 @@ nameless_close inos a b q c = elim (c.inodes q) [
 ]
 
 -- come to the same once these go
-pub forgets_close : (inos : List ℕ) (a b : Tree) → IsSorted a → IsSorted b → AreClose inos a b → fold forget a inos ≡ fold forget b inos
+pub forgets_close : (inos : List ℕ) (a b : Tree) → IsInOrder a → IsInOrder b → AreClose inos a b → fold forget a inos ≡ fold forget b inos
 forgets_close inos a b s t c =
     let x = forgets_stays inos a in
     let y = forgets_stays inos b in

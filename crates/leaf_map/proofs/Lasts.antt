@@ -2,7 +2,7 @@
 use Rattle.std.proofs.Common.{◌≡◌, ℕ, ◌*◌, Bool, true, false, cond, not, ◌&&◌, List, [], ◌∷◌, refl, sym, ap, subst, ◌∙◌, inl, inr, Option, Some, None}
 use Rattle.std.specs.Prelude.{◌==◌, nat_le, is_some, filter}
 use Rattle.std.specs.BTreeMap.{is_at, insert_entry}
-use Rattle.std.specs.Map.{lookup, remove_entry, keys_of}
+use Rattle.std.specs.Map.{lookup, remove_entry}
 use Rattle.std.specs.Ordering.{nat_cmp}
 use Rattle.std.specs.declared.cmp.Ordering.{Ordering}
 use Rattle.std.specs.declared.cmp.Ordering.TheVariants.{Less, Equal, Greater}
@@ -13,36 +13,16 @@ use Rattle.fs_model.specs.declared.change.Change.TheVariants.{SetInode, SetEntry
 use Rattle.fs_model.specs.Change.{applied, apply}
 use Rattle.fs_model.specs.Files.{Tree, Blocks, inode_at, name_cmp, pair_cmp, with_block}
 use Rattle.fs_model.specs.Path.{is_same_name}
-use Rattle.fs_model.specs.Proper.{ascends}
+use Rattle.fs_model.specs.Proper.{IsInOrder}
 use Rattle.fs_laws.specs.Forgotten.{applied_in_order}
-use Rattle.fs_laws.specs.Maps.{insert_ascends, remove_ascends, removed_here, removed_other, set_here, set_other}
+use Rattle.fs_laws.specs.Maps.{removed_here, removed_other, set_here, set_other}
 use Rattle.fs_laws.specs.Orders.{named, numbers, pairs}
-use Rattle.leaf_map.specs.LastChange.{IsSorted, Made, last_made, later, makes_block, makes_entry, makes_inode, there}
+use Rattle.leaf_map.specs.LastChange.{Made, last_made, later, makes_block, makes_entry, makes_inode, there}
 use Rattle.leaf_map.proofs.Names.{is_name}
 use Rattle.leaf_map.proofs.Ranks.{name_is}
 
--- a change keeps the order
-sorted_entries : (tree : Tree) (change : Change) → ascends name_cmp (keys_of tree.entries) ≡ true → ascends name_cmp (keys_of (applied tree change).entries) ≡ true
-sorted_entries tree (SetInode ino inode) h = h
-sorted_entries tree (SetEntry e) h = insert_ascends name_cmp named tree.entries (e.dir, e.name) e h
-sorted_entries tree (DropEntry dir name) h = remove_ascends name_cmp named (is_at (name_cmp (dir, name))) tree.entries h
-sorted_entries tree (SetBlock ino number bytes) h = by (is_some (inode_at tree ino))
-  where
-    by : (b : Bool) → ascends name_cmp (keys_of (cond b (record tree { blocks = with_block tree.blocks ino number bytes }) tree).entries) ≡ true
-    by true = h
-    by false = h
-sorted_entries tree (CutBlocks ino old_size new_size) h = h
-sorted_entries tree (DropInode ino) h = h
-
-pub applied_sorted : (tree : Tree) (change : Change) → IsSorted tree → IsSorted (applied tree change)
-applied_sorted tree change s = record { order = applied_in_order tree change s.order; entries = sorted_entries tree change s.entries }
-
-pub apply_sorted : (changes : List Change) (tree : Tree) → IsSorted tree → IsSorted (apply tree changes)
-apply_sorted [] tree s = s
-apply_sorted (change ∷ changes) tree s = apply_sorted changes (applied tree change) (applied_sorted tree change s)
-
 -- ---- one change
-pub one_inode : (q : ℕ) (tree : Tree) (change : Change) → IsSorted tree → inode_at (applied tree change) q ≡ there (makes_inode q tree change) (inode_at tree q)
+pub one_inode : (q : ℕ) (tree : Tree) (change : Change) → IsInOrder tree → inode_at (applied tree change) q ≡ there (makes_inode q tree change) (inode_at tree q)
 one_inode q tree (SetInode ino inode) s = elim (eqb_tells ino q) [
   | inl same ↦ rw same.0 (subst (λ k. lookup (is_at (nat_cmp k)) (insert_entry nat_cmp tree.inodes ino inode) ≡ Some inode) same.1 (set_here nat_cmp numbers tree.inodes ino inode))
   | inr other ↦ rw other.0 (set_other nat_cmp numbers tree.inodes ino inode q (λ e. other.1 (sym e)))
@@ -56,7 +36,7 @@ one_inode q tree (SetBlock ino number bytes) s = by (is_some (inode_at tree ino)
     by false = refl
 one_inode q tree (CutBlocks ino old_size new_size) s = refl
 one_inode q tree (DropInode ino) s = elim (eqb_tells ino q) [
-  | inl same ↦ rw same.0 (subst (λ k. lookup (is_at (nat_cmp k)) (remove_entry (is_at (nat_cmp ino)) tree.inodes) ≡ None) same.1 (removed_here nat_cmp numbers tree.inodes ino s.order.inodes))
+  | inl same ↦ rw same.0 (subst (λ k. lookup (is_at (nat_cmp k)) (remove_entry (is_at (nat_cmp ino)) tree.inodes) ≡ None) same.1 (removed_here nat_cmp numbers tree.inodes ino s.inodes))
   | inr other ↦ rw other.0 (removed_other nat_cmp numbers tree.inodes ino q (λ e. other.1 (sym e)))
 ]
 
@@ -85,7 +65,7 @@ found_filter stay (e ∷ blocks) q = by (found_filter stay blocks q) (pair_cmp q
         let here : stay q ≡ false = ap stay (pairs.exact q e.0 x) ∙ t in
         more ∙ rw here refl
 
-pub one_block : (q : ℕ × ℕ) (tree : Tree) (change : Change) → IsSorted tree → lookup (is_at (pair_cmp q)) (applied tree change).blocks ≡ there (makes_block q tree change) (lookup (is_at (pair_cmp q)) tree.blocks)
+pub one_block : (q : ℕ × ℕ) (tree : Tree) (change : Change) → IsInOrder tree → lookup (is_at (pair_cmp q)) (applied tree change).blocks ≡ there (makes_block q tree change) (lookup (is_at (pair_cmp q)) tree.blocks)
 one_block q tree (SetInode ino inode) s = refl
 one_block q tree (SetEntry e) s = refl
 one_block q tree (DropEntry dir name) s = refl
@@ -141,7 +121,7 @@ two_keys dir name q t e =
     let b : q.1 ≡ name = ap (λ (k : ℕ × List ℕ). k.1) e in
     false≢true (sym t ∙ and_from (dir == q.0) (is_same_name name q.1) (eq-eqb dir q.0 (sym a)) (is_name name q.1 (sym b)))
 
-pub one_entry : (q : ℕ × List ℕ) (tree : Tree) (change : Change) → IsSorted tree → lookup (is_at (name_cmp q)) (applied tree change).entries ≡ there (makes_entry q tree change) (lookup (is_at (name_cmp q)) tree.entries)
+pub one_entry : (q : ℕ × List ℕ) (tree : Tree) (change : Change) → IsInOrder tree → lookup (is_at (name_cmp q)) (applied tree change).entries ≡ there (makes_entry q tree change) (lookup (is_at (name_cmp q)) tree.entries)
 one_entry q tree (SetInode ino inode) s = refl
 one_entry q tree (SetEntry e) s = by ((e.dir == q.0) && is_same_name e.name q.1) refl
   where
@@ -167,19 +147,19 @@ there_later None first before = refl
 there_later (Some made) first before = refl
 
 -- a place that one change makes so is made so by many
-pub many : {X : Type 0} (at : Tree → Option X) (makes : Tree → Change → Made X) → ((tree : Tree) (change : Change) → IsSorted tree → at (applied tree change) ≡ there (makes tree change) (at tree))
-    → (changes : List Change) (tree : Tree) → IsSorted tree → at (apply tree changes) ≡ there (last_made makes tree changes) (at tree)
+pub many : {X : Type 0} (at : Tree → Option X) (makes : Tree → Change → Made X) → ((tree : Tree) (change : Change) → IsInOrder tree → at (applied tree change) ≡ there (makes tree change) (at tree))
+    → (changes : List Change) (tree : Tree) → IsInOrder tree → at (apply tree changes) ≡ there (last_made makes tree changes) (at tree)
 many at makes one [] tree s = refl
 many at makes one (change ∷ changes) tree s =
-    many at makes one changes (applied tree change) (applied_sorted tree change s)
+    many at makes one changes (applied tree change) (applied_in_order tree change s)
     ∙ ap (there (last_made makes (applied tree change) changes)) (one tree change s)
     ∙ there_later (last_made makes (applied tree change) changes) (makes tree change) (at tree)
 
-pub last_inode : (q : ℕ) (changes : List Change) (tree : Tree) → IsSorted tree → inode_at (apply tree changes) q ≡ there (last_made (makes_inode q) tree changes) (inode_at tree q)
+pub last_inode : (q : ℕ) (changes : List Change) (tree : Tree) → IsInOrder tree → inode_at (apply tree changes) q ≡ there (last_made (makes_inode q) tree changes) (inode_at tree q)
 last_inode q = many (λ tree. inode_at tree q) (makes_inode q) (one_inode q)
 
-pub last_block : (q : ℕ × ℕ) (changes : List Change) (tree : Tree) → IsSorted tree → lookup (is_at (pair_cmp q)) (apply tree changes).blocks ≡ there (last_made (makes_block q) tree changes) (lookup (is_at (pair_cmp q)) tree.blocks)
+pub last_block : (q : ℕ × ℕ) (changes : List Change) (tree : Tree) → IsInOrder tree → lookup (is_at (pair_cmp q)) (apply tree changes).blocks ≡ there (last_made (makes_block q) tree changes) (lookup (is_at (pair_cmp q)) tree.blocks)
 last_block q = many (λ tree. lookup (is_at (pair_cmp q)) tree.blocks) (makes_block q) (one_block q)
 
-pub last_entry : (q : ℕ × List ℕ) (changes : List Change) (tree : Tree) → IsSorted tree → lookup (is_at (name_cmp q)) (apply tree changes).entries ≡ there (last_made (makes_entry q) tree changes) (lookup (is_at (name_cmp q)) tree.entries)
+pub last_entry : (q : ℕ × List ℕ) (changes : List Change) (tree : Tree) → IsInOrder tree → lookup (is_at (name_cmp q)) (apply tree changes).entries ≡ there (last_made (makes_entry q) tree changes) (lookup (is_at (name_cmp q)) tree.entries)
 last_entry q = many (λ tree. lookup (is_at (name_cmp q)) tree.entries) (makes_entry q) (one_entry q)

@@ -4,6 +4,7 @@ use Rattle.std.specs.Prelude.{fold}
 use Rattle.fs_model.specs.Change.{apply}
 use Rattle.fs_model.specs.Files.{Tree}
 use Rattle.fs_model.specs.Recovery.{Head, IsRecovered, KeepsSynced, Numbered, recovered, taken}
+use Rattle.fs_laws.specs.Forgotten.{apply_in_order}
 use Rattle.leaf_map.specs.Allowed.{FitsTree, in_turn}
 use Rattle.leaf_map.specs.Kept.{Kept}
 use Rattle.leaf_map.specs.Parts.{Parts}
@@ -12,7 +13,6 @@ use Rattle.leaf_map.specs.Shown.{tree_of}
 use Rattle.leaf_map.proofs.Agrees.{agree_after}
 use Rattle.leaf_map.proofs.Copies.{moved_node, same_tree}
 use Rattle.leaf_map.proofs.Forgets.{forget, forgets_all, forgets_close, orphans_tree}
-use Rattle.leaf_map.proofs.Lasts.{apply_sorted}
 use Rattle.leaf_map.proofs.Replays.{map_replayed, tree_replayed}
 use Rattle.leaf_map.proofs.Sorted.{leaves_sorted}
 
@@ -30,8 +30,8 @@ found_is parts committed changes fits =
     same_tree (moved parts (leaves_left parts)) (leaves_left parts) now (moved_node parts (leaves_left parts))
     ∙ orphans_tree (listed_left parts) after now is
     ∙ ap (λ t. fold forget t (listed_left parts)) all
-    ∙ forgets_close (listed_left parts) (apply (tree_of kept before) (in_turn changes)) (apply committed (in_turn changes)) (apply_sorted (in_turn changes) (tree_of kept before) start) (apply_sorted (in_turn changes) committed fits.sorted) close
-    ∙ forgets_all (listed_left parts) (apply committed (in_turn changes)) (apply_sorted (in_turn changes) committed fits.sorted) fits.listed
+    ∙ forgets_close (listed_left parts) (apply (tree_of kept before) (in_turn changes)) (apply committed (in_turn changes)) (apply_in_order (in_turn changes) (tree_of kept before) start) (apply_in_order (in_turn changes) committed fits.sorted) close
+    ∙ forgets_all (listed_left parts) (apply committed (in_turn changes)) (apply_in_order (in_turn changes) committed fits.sorted) fits.listed
 
 pub found_allowed : (parts : Parts) (committed : Tree) (heads : List Head) (counts : List ℕ) → KeepsSynced heads counts → FitsTree parts committed (taken heads counts) → IsRecovered committed heads (tree_found parts)
 found_allowed parts committed heads counts keeps fits = record { counts = counts; synced = keeps; tree_is = found_is parts committed (taken heads counts) fits }

@@ -6,10 +6,9 @@ use Rattle.std.specs.Ordering.{nat_cmp, ordering_reverse}
 use Rattle.std.specs.declared.cmp.Ordering.{Ordering}
 use Rattle.std.specs.declared.cmp.Ordering.TheVariants.{Less, Equal, Greater}
 use Rattle.fs_model.specs.Files.{Tree, inode_at, name_cmp, pair_cmp}
-use Rattle.fs_model.specs.Proper.{ascends}
+use Rattle.fs_model.specs.Proper.{ascends, IsInOrder}
 use Rattle.fs_laws.specs.Maps.{IsOrder, apart, key_cases, missing_before, missing_first, tail_ascends}
 use Rattle.fs_laws.specs.Orders.{named, numbers, pairs}
-use Rattle.leaf_map.specs.LastChange.{IsSorted}
 
 same_maps : {K X : Type 0} (cmp : K → K → Ordering) → IsOrder cmp → (a b : List (K × X)) → ascends cmp (keys_of a) ≡ true → ascends cmp (keys_of b) ≡ true → ((k : K) → lookup (is_at (cmp k)) a ≡ lookup (is_at (cmp k)) b) → a ≡ b
 same_maps cmp order [] [] h i each = refl
@@ -52,9 +51,9 @@ pub record FindsSame (a b : Tree) : Type 0 where
   pub entries : (q : ℕ × List ℕ) → lookup (is_at (name_cmp q)) a.entries ≡ lookup (is_at (name_cmp q)) b.entries
   pub highest : a.highest ≡ b.highest
 
-pub same_trees : (a b : Tree) → IsSorted a → IsSorted b → FindsSame a b → a ≡ b
+pub same_trees : (a b : Tree) → IsInOrder a → IsInOrder b → FindsSame a b → a ≡ b
 same_trees a b s t same =
-    ap (λ es. record a { inodes = es }) (same_maps nat_cmp numbers a.inodes b.inodes s.order.inodes t.order.inodes same.inodes)
-    ∙ ap (λ bs. record a { inodes = b.inodes; blocks = bs }) (same_maps pair_cmp pairs a.blocks b.blocks s.order.blocks t.order.blocks same.blocks)
+    ap (λ es. record a { inodes = es }) (same_maps nat_cmp numbers a.inodes b.inodes s.inodes t.inodes same.inodes)
+    ∙ ap (λ bs. record a { inodes = b.inodes; blocks = bs }) (same_maps pair_cmp pairs a.blocks b.blocks s.blocks t.blocks same.blocks)
     ∙ ap (λ es. record a { inodes = b.inodes; blocks = b.blocks; entries = es }) (same_maps name_cmp named a.entries b.entries s.entries t.entries same.entries)
     ∙ ap (λ (n : ℕ). record b { highest = n }) same.highest

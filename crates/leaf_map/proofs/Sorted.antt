@@ -10,11 +10,10 @@ use Rattle.fs_model.specs.declared.change.Change.{Change}
 use Rattle.fs_model.specs.declared.change.Change.TheVariants.{SetInode, SetBlock}
 use Rattle.fs_model.specs.declared.inode.Inode.{Inode}
 use Rattle.fs_model.specs.Files.{Inodes, pair_cmp}
-use Rattle.fs_model.specs.Proper.{ascends}
+use Rattle.fs_model.specs.Proper.{ascends, IsInOrder}
 use Rattle.fs_laws.specs.Maps.{ascends_from}
 use Rattle.leaf_map.specs.After.{goes}
 use Rattle.leaf_map.specs.Kept.{Kept, shown_by}
-use Rattle.leaf_map.specs.LastChange.{IsSorted}
 use Rattle.leaf_map.specs.LeafMap.{IsKeyed, IsLeafMap, are_apart, shows_same}
 use Rattle.leaf_map.specs.Shown.{blocks_of, inodes_of, tree_of, with_block, with_inode}
 use Rattle.leaf_map.proofs.Blocks.{HasNumber, block_above_step, has_number}
@@ -74,8 +73,9 @@ blocks_ascend low (x ∷ kept) k o n =
     let p = and_parts (list_all (λ y. not (shows_same (shown_by x) (shown_by y))) kept) (are_apart kept) n in
     blocks_step x (shown_by x) kept (has_number x (shown_by x) k.0) (rank_is x.leaf (shown_by x) k.0) k.1 (ordered_all (leaf_rank x.leaf) (leaf_rank x.leaf) kept (omega arith) q.1) p.0 (blocks_ascend (leaf_rank x.leaf) kept k.1 q.1 p.1)
 
-pub leaves_sorted : (kept : List Kept) (highest : ℕ) → IsLeafMap kept → IsSorted (tree_of kept highest)
+pub leaves_sorted : (kept : List Kept) (highest : ℕ) → IsLeafMap kept → IsInOrder (tree_of kept highest)
 leaves_sorted kept highest is = record {
-  order = record { inodes = inodes_ascend 0 kept is.keyed is.ordered is.apart; blocks = blocks_ascend 0 kept is.keyed is.ordered is.apart };
+  inodes = inodes_ascend 0 kept is.keyed is.ordered is.apart;
+  blocks = blocks_ascend 0 kept is.keyed is.ordered is.apart;
   entries = entries_ascend kept;
 }

@@ -11,12 +11,14 @@ use Rattle.fs_model.specs.declared.inode.Inode.{Inode}
 use Rattle.fs_model.specs.Change.{applied}
 use Rattle.fs_model.specs.Files.{Tree, inode_at}
 use Rattle.fs_model.specs.Path.{is_same_name}
+use Rattle.fs_model.specs.Proper.{IsInOrder}
+use Rattle.fs_laws.specs.Forgotten.{applied_in_order}
 use Rattle.leaf_map.specs.After.{goes}
 use Rattle.leaf_map.specs.Allowed.{HasInode, IsTouched, IsTouchedIn}
-use Rattle.leaf_map.specs.LastChange.{IsSorted, Made, last_made, makes_block, makes_entry, makes_inode, there}
+use Rattle.leaf_map.specs.LastChange.{Made, last_made, makes_block, makes_entry, makes_inode, there}
 use Rattle.leaf_map.specs.Parts.{is_shown}
 use Rattle.leaf_map.proofs.Agrees.{touched_later}
-use Rattle.leaf_map.proofs.Lasts.{applied_sorted, one_inode}
+use Rattle.leaf_map.proofs.Lasts.{one_inode}
 use Rattle.leaf_map.proofs.Names.{is_name}
 use Rattle.leaf_map.proofs.Ranks.{name_is}
 
@@ -70,7 +72,7 @@ one_block_touched ino number bytes (DropInode q) tree there h = rw h refl
 one_block_touched ino number bytes change tree there h = absurd (false≢true h)
 
 -- where a change takes the inode away it drops it with its blocks
-lost_block : (ino number : ℕ) (change : Change) (tree : Tree) → IsSorted tree → is_some (inode_at tree ino) ≡ true → is_some (inode_at (applied tree change) ino) ≡ false → IsTouched (makes_block (ino, number) tree change)
+lost_block : (ino number : ℕ) (change : Change) (tree : Tree) → IsInOrder tree → is_some (inode_at tree ino) ≡ true → is_some (inode_at (applied tree change) ino) ≡ false → IsTouched (makes_block (ino, number) tree change)
 lost_block ino number (DropInode q) tree s t f = elim (eqb_tells ino q) [
   | inl same ↦ rw same.0 refl
   | inr differ ↦
@@ -94,13 +96,13 @@ lost_block ino number (DropEntry dir name) tree s t f = absurd (false≢true (sy
 lost_block ino number (SetBlock q at x) tree s t f = absurd (false≢true (sym f ∙ ap is_some (one_inode ino tree (SetBlock q at x) s) ∙ t))
 lost_block ino number (CutBlocks q a b) tree s t f = absurd (false≢true (sym f ∙ ap is_some (one_inode ino tree (CutBlocks q a b) s) ∙ t))
 
-block_touched : (ino number : ℕ) (bytes : List ℕ) (changes : List Change) (tree : Tree) → IsSorted tree → is_some (inode_at tree ino) ≡ true → list_any (λ c. goes c (Some (SetBlock ino number bytes))) changes ≡ true
+block_touched : (ino number : ℕ) (bytes : List ℕ) (changes : List Change) (tree : Tree) → IsInOrder tree → is_some (inode_at tree ino) ≡ true → list_any (λ c. goes c (Some (SetBlock ino number bytes))) changes ≡ true
     → IsTouched (last_made (makes_block (ino, number)) tree changes)
 block_touched ino number bytes [] tree s t h = absurd (false≢true h)
 block_touched ino number bytes (change ∷ changes) tree s t h = touched_later (last_made (makes_block (ino, number)) (applied tree change) changes) (makes_block (ino, number) tree change)
     (elim (or_either (goes change (Some (SetBlock ino number bytes))) (list_any (λ c. goes c (Some (SetBlock ino number bytes))) changes) h) [
       | inl e ↦ inr (one_block_touched ino number bytes change tree t e)
-      | inr e ↦ by (λ still. block_touched ino number bytes changes (applied tree change) (applied_sorted tree change s) still e) (is_some (inode_at (applied tree change) ino)) refl
+      | inr e ↦ by (λ still. block_touched ino number bytes changes (applied tree change) (applied_in_order tree change s) still e) (is_some (inode_at (applied tree change) ino)) refl
     ])
   where
     Later : Type 0
@@ -111,7 +113,7 @@ block_touched ino number bytes (change ∷ changes) tree s t h = touched_later (
     by more false e = inr (lost_block ino number change tree s t e)
 
 -- the inode of a block is there
-pub goes_touched : (changes : List Change) (tree : Tree) (s : Option Change) → IsSorted tree → HasInode tree s → is_shown s ≡ true → list_any (λ c. goes c s) changes ≡ true → IsTouchedIn tree changes s
+pub goes_touched : (changes : List Change) (tree : Tree) (s : Option Change) → IsInOrder tree → HasInode tree s → is_shown s ≡ true → list_any (λ c. goes c s) changes ≡ true → IsTouchedIn tree changes s
 goes_touched changes tree (Some (SetInode ino inode)) sorted has shown h = inode_touched ino inode changes tree h
 goes_touched changes tree (Some (SetBlock ino number bytes)) sorted has shown h = block_touched ino number bytes changes tree sorted has h
 goes_touched changes tree (Some (SetEntry e)) sorted has shown h = entry_touched e changes tree h

@@ -10,10 +10,11 @@ use Rattle.fs_model.specs.declared.change.Change.TheVariants.{SetBlock, SetEntry
 use Rattle.fs_model.specs.Change.{apply}
 use Rattle.fs_model.specs.Files.{Tree, inode_at, name_cmp, pair_cmp}
 use Rattle.fs_model.specs.Orphan.{is_nameless}
+use Rattle.fs_model.specs.Proper.{IsInOrder}
 use Rattle.fs_model.specs.Recovery.{Numbered, as_replayed, by_number}
 use Rattle.change_nodes.specs.Nodes.{change_of}
 use Rattle.leaf_map.specs.Kept.{Kept, Placed, shown_by}
-use Rattle.leaf_map.specs.LastChange.{IsSorted, Made, last_made, makes_block, makes_entry, makes_inode}
+use Rattle.leaf_map.specs.LastChange.{Made, last_made, makes_block, makes_entry, makes_inode}
 use Rattle.leaf_map.specs.LeafMap.{IsLeafMap}
 use Rattle.leaf_map.specs.Parts.{Committed, Named, Parts, own_node, shows_nothing}
 use Rattle.leaf_map.specs.Recovered.{committed_highest, in_order, leaves_found, listed_left}
@@ -61,7 +62,7 @@ in_turn changes = map (λ c. as_replayed c.1) (by_number changes)
 pub record FitsTree (parts : Parts) (committed : Tree) (changes : Numbered) : Type 0 where
   pub nodes : AreRead (in_order parts.nodes) (by_number changes)
   pub leaves : IsLeafMap (leaves_found parts)
-  pub sorted : IsSorted committed
+  pub sorted : IsInOrder committed
   pub shows : AgreeBut (listed_left parts) (in_turn changes) (tree_of (leaves_found parts) (committed_highest parts)) committed
   pub listed : (q : ℕ) → is_nameless (apply committed (in_turn changes)) q ≡ true → list_any (λ ino. q == ino) (listed_left parts) ≡ true
 

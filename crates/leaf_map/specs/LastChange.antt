@@ -1,15 +1,12 @@
 -- What stands at an inode's number, a block or a name after changes: what the last of them that touches it made.
-use Rattle.std.specs.Prelude.{◌≡◌, ℕ, ◌*◌, ◌==◌, ◌&&◌, nat_le, is_some, true, if◌then◌else◌, List, [], ◌∷◌, Option, Some, None}
-use Rattle.std.specs.Map.{keys_of}
+use Rattle.std.specs.Prelude.{ℕ, ◌*◌, ◌==◌, ◌&&◌, nat_le, is_some, if◌then◌else◌, List, [], ◌∷◌, Option, Some, None}
 use Rattle.fs_model.specs.declared.change.Change.{Change}
 use Rattle.fs_model.specs.declared.change.Change.TheVariants.{SetInode, SetEntry, DropEntry, SetBlock, CutBlocks, DropInode}
 use Rattle.fs_model.specs.declared.inode.Entry.{Entry}
 use Rattle.fs_model.specs.declared.inode.Inode.{Inode}
 use Rattle.fs_model.specs.Change.{applied}
-use Rattle.fs_model.specs.Files.{Tree, inode_at, name_cmp}
+use Rattle.fs_model.specs.Files.{Tree, inode_at}
 use Rattle.fs_model.specs.Path.{is_same_name}
-use Rattle.fs_model.specs.Proper.{ascends}
-use Rattle.fs_laws.specs.Forgotten.{IsInOrder}
 
 -- what a change makes of one place of a tree: it sets something there, takes away what is there, or doesn't touch it
 abbrev pub Made : Type 0 → Type 0
@@ -48,8 +45,3 @@ last_made makes tree (change ∷ changes) = later (last_made makes (applied tree
 abbrev pub there : {X : Type 0} → Made X → Option X → Option X
 there None before = before
 there (Some made) before = made
-
--- a tree whose maps are in order of their keys
-pub record IsSorted (tree : Tree) : Type 0 where
-  pub order : IsInOrder tree
-  pub entries : ascends name_cmp (keys_of tree.entries) ≡ true

@@ -15,6 +15,7 @@ ghost use Rattle.fs_model.specs.declared.change.Change.TheVariants.{CutBlocks, D
 ghost use Rattle.fs_model.specs.Backing.{is_node};
 ghost use Rattle.fs_model.specs.Change.{applied, apply, key_number};
 ghost use Rattle.fs_model.specs.Files.{Tree, inode_at, name_cmp, pair_cmp};
+ghost use Rattle.fs_model.specs.Proper.{IsInOrder};
 ghost use Rattle.change_nodes.specs.Nodes.{change_of, node_of};
 ghost use Rattle.fs_model.specs.Recovery.{Head, IsRecovered, KeepsSynced, Numbered, recovered, taken};
 ghost use Rattle.leaf_map.specs.Allowed.{AreOriginals, FitsLeaves, FitsTree, HasInode, IsCopied, IsNodeOf, IsOwnNode, IsTouchedIn, LosesNothing};
@@ -22,7 +23,7 @@ ghost use Rattle.leaf_map.specs.After.{Carries, come_by, gone_by, is_gone, is_id
 ghost use Rattle.leaf_map.specs.Follows.{block_key_from, last_block_key, with_leaf, without_old};
 ghost use Rattle.leaf_map.specs.InOrder.{Ascends, are_beside, of_number};
 ghost use Rattle.leaf_map.specs.Kept.{Kept, Placed, kept_at, shown_by};
-ghost use Rattle.leaf_map.specs.LastChange.{IsSorted, last_made, makes_block, makes_entry, makes_inode, there};
+ghost use Rattle.leaf_map.specs.LastChange.{last_made, makes_block, makes_entry, makes_inode, there};
 ghost use Rattle.leaf_map.specs.LeafMap.{IsLeafMap};
 ghost use Rattle.leaf_map.specs.Parts.{Parts, is_shown};
 ghost use Rattle.leaf_map.specs.Recovered.{committed_highest, in_order, is_unlinked, leaves_found, moved, tree_found, without_orphan};
@@ -50,13 +51,13 @@ pub fn bytes_of_leaves_add_up()
 /// The last change wins: what stands at an inode's number, a block or a name after changes is what the last of them that
 /// touches it made, or what stood there before. The tree that leaves show is one of which this is so.
 pub fn the_last_change_wins()
-    ensures inode { (q : ℕ) (changes : List AnyChange) (tree : Tree) → IsSorted tree
+    ensures inode { (q : ℕ) (changes : List AnyChange) (tree : Tree) → IsInOrder tree
         → inode_at (apply tree changes) q ≡ there (last_made (makes_inode q) tree changes) (inode_at tree q) }
-    ensures block { (q : ℕ × ℕ) (changes : List AnyChange) (tree : Tree) → IsSorted tree
+    ensures block { (q : ℕ × ℕ) (changes : List AnyChange) (tree : Tree) → IsInOrder tree
         → lookup (is_at (pair_cmp q)) (apply tree changes).blocks ≡ there (last_made (makes_block q) tree changes) (lookup (is_at (pair_cmp q)) tree.blocks) }
-    ensures entry { (q : ℕ × List ℕ) (changes : List AnyChange) (tree : Tree) → IsSorted tree
+    ensures entry { (q : ℕ × List ℕ) (changes : List AnyChange) (tree : Tree) → IsInOrder tree
         → lookup (is_at (name_cmp q)) (apply tree changes).entries ≡ there (last_made (makes_entry q) tree changes) (lookup (is_at (name_cmp q)) tree.entries) }
-    ensures sorted { (kept : List Kept) (highest : ℕ) → IsLeafMap kept → IsSorted (tree_of kept highest) }
+    ensures sorted { (kept : List Kept) (highest : ℕ) → IsLeafMap kept → IsInOrder (tree_of kept highest) }
 {}
 
 /// Distinct leaves stay distinct where no leaf stands at the place of the node that is put.
@@ -132,7 +133,7 @@ pub fn what_loses_nothing_fits()
 
 /// A change that makes a leaf obsolete touches what the leaf shows: an inode, a name, or a block whose inode the tree has.
 pub fn what_makes_obsolete_touches()
-    ensures { (changes : List AnyChange) (tree : Tree) (x : Kept) → IsSorted tree → HasInode tree (shown_by x) → is_shown (shown_by x) ≡ true → list_any (λ change. is_gone change x) changes ≡ true
+    ensures { (changes : List AnyChange) (tree : Tree) (x : Kept) → IsInOrder tree → HasInode tree (shown_by x) → is_shown (shown_by x) ≡ true → list_any (λ change. is_gone change x) changes ≡ true
         → IsTouchedIn tree changes (shown_by x) }
 {}
 

@@ -11,8 +11,8 @@ use Rattle.std.proofs.lemmas.Bool.{and_from}
 use Rattle.fs_model.specs.declared.inode.Inode.{Inode}
 use Rattle.fs_model.specs.Files.{Tree, Inodes, inode_at}
 use Rattle.fs_model.specs.Orphan.{nameless, without_nameless}
-use Rattle.fs_model.specs.Proper.{ascends}
-use Rattle.fs_laws.specs.Forgotten.{IsInOrder, found_inode, forgotten_in_order, forgotten_twice}
+use Rattle.fs_model.specs.Proper.{ascends, IsInOrder}
+use Rattle.fs_laws.specs.Forgotten.{found_inode, forgotten_in_order, forgotten_twice}
 use Rattle.fs_laws.specs.Maps.{apart, missing_first, tail_ascends, key_cases}
 use Rattle.fs_laws.specs.Orders.{numbers}
 use Rattle.plain_backing.specs.Story.{IsStory, opened}
@@ -66,6 +66,7 @@ open_done tree h = record {
   given = refl;
   began = refl;
   named = forgotten_named tree h;
+  ordered = forgotten_in_order tree h;
   keeps = (omega arith, omega arith, (omega arith, omega arith, (omega arith, omega arith, tt)));
   left = sym (forgotten_twice tree h);
 }

@@ -9,7 +9,7 @@ use Rattle.std.proofs.lemmas.Bool.{and_parts, and_from, leb-true, le-leb, lt-ltb
 use Rattle.std.proofs.lemmas.List.Folds.{list_all-append}
 use Rattle.std.proofs.lemmas.List.{take-append-le}
 use Rattle.fs_model.specs.declared.change.Change.{Change}
-use Rattle.fs_model.specs.Change.{apply, applied}
+use Rattle.fs_model.specs.Change.{apply}
 use Rattle.fs_model.specs.Files.{Tree}
 use Rattle.fs_model.specs.Journal.{Medium, AreNext, Puts, last_number, with_group_at}
 use Rattle.fs_model.specs.JournalLaws.{AreWithin, emptied, groups_of, replayed_named, recovered_replayed, is_emptied}
@@ -17,7 +17,7 @@ use Rattle.fs_model.specs.Orphan.{nameless, without_nameless, all_revive_none}
 use Rattle.fs_model.specs.Proper.{ascends}
 use Rattle.fs_model.specs.Recovery.{Numbered, Head, IsRecovered, KeepsSynced, taken, placed, as_replayed, recovered}
 use Rattle.fs_model.specs.RecoveryLaws.{IsParted, joined, in_groups, in_heads, are_low, are_high, replayed, all_counts, counted, joined_with, high_with, long_with, recovered_again}
-use Rattle.fs_laws.specs.Forgotten.{IsInOrder, applied_in_order, group_forgotten}
+use Rattle.fs_laws.specs.Forgotten.{apply_in_order, group_forgotten}
 use Rattle.plain_backing.specs.Story.{Story, IsStory, IsWhole, AreGiven, medium_of, numbered, put_at, failed_puts, with_all}
 use Rattle.plain_backing.specs.StoryLaws.{within_of, lower, low_joined}
 
@@ -138,6 +138,7 @@ put_failed tree s at changes is =
       given = given_with s.sqnum (last_number s.sqnum group) s.since at group (last_higher s.sqnum changes) is.given (numbered_low s.sqnum changes);
       began = is.began;
       named = is.named;
+      ordered = is.ordered;
       keeps = keeps_with s.since at group s.counts is.keeps;
       left = is.left ∙ ap (recovered s.started) (sym (taken_with s.since at group s.counts is.keeps));
     }
@@ -238,21 +239,18 @@ with_one tree s at changes is whole l =
     counts_of [] = refl
     counts_of (head ∷ heads) = ap (λ n. suc n) (counts_of heads)
 
-group_in_order : (changes : List Change) (tree : Tree) → IsInOrder tree → IsInOrder (apply tree changes)
-group_in_order [] tree h = h
-group_in_order (change ∷ changes) tree h = group_in_order changes (applied tree change) (applied_in_order tree change h)
-
 pub put_done : (tree : Tree) (s : Story) (at : ℕ) (changes : List Change) → IsStory tree s → IsWhole s → at < 3 → all_revive_none tree changes ≡ true → IsStory (apply tree changes) (with_all (put_at s at changes))
 put_done tree s at changes is whole l none =
     let group : Numbered = numbered s.sqnum changes in
     let failed = put_failed tree s at changes is in
     record {
-      in_order = group_in_order changes tree is.in_order;
+      in_order = apply_in_order changes tree is.in_order;
       three = failed.three;
       parted = failed.parted;
       given = failed.given;
       began = is.began;
       named = is.named;
+      ordered = is.ordered;
       keeps = all_keep (with_group_at s.since at group) (within_of (with_group_at s.since at group) s.counts failed.keeps);
       left = group_forgotten changes tree is.in_order none ∙ sym (with_one tree s at changes is whole l);
     }

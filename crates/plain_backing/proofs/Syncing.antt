@@ -11,9 +11,10 @@ use Rattle.fs_model.specs.JournalLaws.{AreWithin, emptied, groups_of, is_emptied
 use Rattle.fs_model.specs.Orphan.{without_nameless, is_nameless}
 use Rattle.fs_model.specs.Path.{is_empty}
 use Rattle.fs_model.specs.Change.{without_inode}
-use Rattle.fs_model.specs.Recovery.{Numbered, Head, IsRecovered, KeepsSynced, taken, recovered}
+use Rattle.fs_model.specs.Proper.{IsInOrder}
+use Rattle.fs_model.specs.Recovery.{Numbered, Head, IsRecovered, KeepsSynced, taken, recovered, as_replayed, by_number}
 use Rattle.fs_model.specs.RecoveryLaws.{AreHigh, WouldLeave, joined, in_groups, in_heads, are_high, are_low, replayed, all_counts, left_of_all}
-use Rattle.fs_laws.specs.Forgotten.{forgotten_twice, dropped_forgotten, dropped_in_order}
+use Rattle.fs_laws.specs.Forgotten.{apply_in_order, forgotten_twice, dropped_forgotten, dropped_in_order}
 use Rattle.plain_backing.specs.Story.{Story, IsStory, IsWhole, AreGiven, medium_of, none_before, synced, begun, ended, is_idle}
 use Rattle.plain_backing.specs.StoryLaws.{within_of}
 use Rattle.plain_backing.proofs.Putting.{Left, named_started, whole_tree}
@@ -129,6 +130,7 @@ sync_done tree s is whole =
       given = synced_given s.sqnum s.since is.given;
       began = is.began;
       named = is.named;
+      ordered = is.ordered;
       keeps = subst P (sym whole) (synced_keeps s.since);
       left = is.left ∙ ap (recovered s.started) (sym (further_taken s.since (all_synced s.since) s.counts further));
     }
@@ -183,6 +185,7 @@ begin_done tree s is whole idle = record {
   given = begun_given s.sqnum s.since;
   began = whole_tree tree s is whole ∙ ap (λ t. replayed t (in_heads (groups_of s.since))) (idle_start tree s is idle);
   named = is.named;
+  ordered = is.ordered;
   keeps = begun_keeps s.since;
   left = sym (ap (recovered (without_nameless tree)) (begun_taken s.since) ∙ forgotten_twice tree is.in_order);
 }
@@ -229,6 +232,7 @@ end_done tree s is =
       given = is.given;
       began = refl;
       named = named_started tree s is;
+      ordered = subst IsInOrder (sym is.began) (apply_in_order (map (λ c. as_replayed c.1) (by_number (in_heads s.before))) s.committed is.ordered);
       keeps = is.keeps;
       left = is.left;
     }
@@ -269,6 +273,7 @@ drop_done tree s ino is gone = record {
   given = is.given;
   began = is.began;
   named = is.named;
+  ordered = is.ordered;
   keeps = is.keeps;
   left = dropped_forgotten tree ino is.in_order gone ∙ is.left;
 }

@@ -9,9 +9,9 @@ use Rattle.fs_model.specs.Journal.{Medium, last_number, with_group_at}
 use Rattle.fs_model.specs.JournalLaws.{emptied, groups_of, no_groups}
 use Rattle.fs_model.specs.Orphan.{nameless, without_nameless}
 use Rattle.fs_model.specs.Path.{is_empty}
+use Rattle.fs_model.specs.Proper.{IsInOrder}
 use Rattle.fs_model.specs.Recovery.{Numbered, Head, KeepsSynced, taken, recovered}
 use Rattle.fs_model.specs.RecoveryLaws.{IsParted, joined, in_groups, in_heads, are_low, replayed, all_counts}
-use Rattle.fs_laws.specs.Forgotten.{IsInOrder}
 
 -- What a plain backing tells of its journal.
 pub record Story : Type 0 where
@@ -85,7 +85,7 @@ is_idle s = list_all is_empty s.before
 abbrev pub AreGiven : ℕ → List Head → Type 0
 AreGiven sqnum heads = list_all (λ (head : Head). are_low sqnum (in_groups head.groups)) heads ≡ true
 
--- What is always so of a story, beside this tree. What was committed and the groups before lead to the tree that the commit began on; that one and the groups since, as many as are counted, lead to the tree, without what has no name.
+-- What is always so of a story, beside this tree. What was committed is in order of key, and it and the groups before lead to the tree that the commit began on; that tree and the groups since, as many as are counted, lead to the tree, without what has no name.
 pub record IsStory (tree : Tree) (s : Story) : Type 0 where
   pub in_order : IsInOrder tree
   pub three : length s.since ≡ 3
@@ -93,6 +93,7 @@ pub record IsStory (tree : Tree) (s : Story) : Type 0 where
   pub given : AreGiven s.sqnum s.since
   pub began : s.started ≡ replayed s.committed (in_heads s.before)
   pub named : nameless s.committed ≡ []
+  pub ordered : IsInOrder s.committed
   pub keeps : KeepsSynced s.since s.counts
   pub left : without_nameless tree ≡ recovered s.started (taken s.since s.counts)
 

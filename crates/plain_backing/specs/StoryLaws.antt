@@ -84,5 +84,6 @@ story_journal tree s is =
       synced = joined_within s.before s.since (within_of s.since s.counts is.keeps);
       given = joined_given s.mark s.sqnum s.before s.since parted.above parted.low is.given;
       named = is.named;
+      ordered = is.ordered;
       left = recovered_of_all s.committed s.mark s.before s.since (without_nameless tree) parted.long parted.low parted.high (subst (λ t. IsRecovered t s.since (without_nameless tree)) is.began since);
     }

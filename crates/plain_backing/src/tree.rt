@@ -10,7 +10,7 @@ ghost use Rattle.fs_model.specs.Files.{inode_at, entry_at, block_at};
 ghost use Rattle.plain_backing.specs.TreeCells.{entry_of};
 ghost use Rattle.plain_backing.specs.TreeReads.{has_block};
 ghost use Rattle.fs_model.specs.Files.{last_block_of};
-ghost use Rattle.fs_laws.specs.Forgotten.{IsInOrder};
+ghost use Rattle.fs_model.specs.Proper.{IsInOrder};
 
 use crate::cell::held;
 use crate::rounds::{make_all, prepare, sweep_all};
@@ -160,11 +160,15 @@ impl Tree {
         self.cells.orphans
     }
 
-    /// Does nothing. Contracts see that its inodes and blocks are in order of key.
+    /// Does nothing. Contracts see that its inodes, blocks and entries are in order of key.
     pub(crate) fn show_order(&self)
         ensures { IsInOrder self.now }
     {
-        let _ = (self.cells.inodes.len(), self.cells.blocks.len());
+        let _ = (
+            self.cells.inodes.len(),
+            self.cells.blocks.len(),
+            self.cells.entries.len(),
+        );
     }
 
     /// The highest inode number that was ever used.

@@ -24,11 +24,10 @@ use Rattle.fs_model.specs.declared.inode.Inode.{Inode}
 use Rattle.fs_model.specs.declared.inode.Kind.{Kind}
 use Rattle.fs_model.specs.declared.inode.Kind.TheVariants.{Dir}
 use Rattle.fs_model.specs.Files.{Tree}
-use Rattle.fs_model.specs.Proper.{IsProper}
+use Rattle.fs_model.specs.Proper.{IsProper, IsInOrder}
 use Rattle.change_nodes.specs.Nodes.{bits_of, change_of, inode_of, kind_of_bits, kind_of_type}
 use Rattle.leaf_map.specs.After.{is_gone, is_idle, is_set, kept_after, kept_by, put_leaf, read}
 use Rattle.leaf_map.specs.Kept.{Kept, Placed, kept_at, node_key, shown, shown_by}
-use Rattle.leaf_map.specs.LastChange.{IsSorted}
 use Rattle.leaf_map.specs.LeafMap.{HasKeyOf, IsKeyed, IsLeafMap}
 use Rattle.leaf_map.specs.Parts.{Committed, Parts}
 use Rattle.leaf_map.specs.Recovered.{committed_highest, highest_key, in_order, is_unlinked, leaves_after, leaves_found, leaves_left, listed_left, moved, placed_node, recovered_of, tree_found, without_orphan}
@@ -63,7 +62,7 @@ ordered_all P (x ∷ nodes) xs a n = ordered_all P nodes (placed_node xs x) (pla
 pub record LeafLaws : Type 0 where
   pub after : (new : Placed) (kept : List Kept) → IsLeaf new.node → IsLeafMap kept → IsLeafMap (kept_after kept new)
   pub without : (ino : ℕ) (kept : List Kept) → IsLeafMap kept → IsLeafMap (without_orphan kept ino)
-  pub sorted : (kept : List Kept) (highest : ℕ) → IsLeafMap kept → IsSorted (tree_of kept highest)
+  pub sorted : (kept : List Kept) (highest : ℕ) → IsLeafMap kept → IsInOrder (tree_of kept highest)
   pub elsewhere : (parts : Parts) (kept : List Kept) (highest : ℕ) → tree_of (map (moved parts kept) kept) highest ≡ tree_of kept highest
 
 map_after : LeafLaws → (nodes : List Placed) (kept : List Kept) → AllByRecursion (λ x. IsLeaf x.node) nodes → IsLeafMap kept → IsLeafMap (fold kept_after kept nodes)
@@ -229,15 +228,15 @@ proper_tree places stored laws contents image fits h =
     let most = (recovered_of parts).highest in
     let left = left_of image in
     let same : tree_of left most ≡ tree = sym (laws.elsewhere parts left most) in
-    let sorted = subst IsSorted same (laws.sorted left most (left_of_index places stored laws contents image h)) in
+    let sorted = subst IsInOrder same (laws.sorted left most (left_of_index places stored laws contents image h)) in
     let well = kept_well contents kept fits (recursion_from_All (ShowsItsNode contents) kept h.tree.shown) in
     let have = left_have stored contents image h in
     let entries = sound_entries tree kept h.tree.entries in
     let N : Tree → Type 0 = λ t. (AllInodes most t) × (AllBlocks most t) × AllNames most t in
     let numbers = subst N same (inode_numbers most left have, block_numbers most left have, entry_numbers most left have) in
     record {
-      inodes_ascend = keys_stay tree.inodes sorted.order.inodes;
-      blocks_ascend = sorted.order.blocks;
+      inodes_ascend = keys_stay tree.inodes sorted.inodes;
+      blocks_ascend = sorted.blocks;
       entries_ascend = sorted.entries;
       inode_nodes = shown_inodes kept well;
       block_nodes = shown_blocks kept well;

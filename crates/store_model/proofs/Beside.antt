@@ -15,8 +15,9 @@ use Rattle.fs_model.specs.declared.inode.Inode.{Inode}
 use Rattle.fs_model.specs.Change.{applied, apply, key_number, without_inode}
 use Rattle.fs_model.specs.Files.{Inodes, Tree, inode_at, with_block}
 use Rattle.fs_model.specs.Orphan.{all_revive_none, nameless, revives_none, without_nameless}
+use Rattle.fs_model.specs.Proper.{IsInOrder}
 use Rattle.fs_model.specs.Recovery.{as_replayed}
-use Rattle.fs_laws.specs.Forgotten.{applied_in_order, change_forgotten, found_inode, IsInOrder}
+use Rattle.fs_laws.specs.Forgotten.{applied_in_order, change_forgotten, found_inode}
 use Rattle.fs_laws.specs.Maps.{all_at, all_insert, all_remove, all_weaken}
 use Rattle.fs_laws.specs.Orders.{numbers}
 use Rattle.leaf_map.specs.Kept.{Kept, shown_by}
@@ -171,10 +172,6 @@ group_beside (change ∷ group) files other b h =
     group_beside group (applied files change) (applied other (as_replayed change)) (change_beside files other change b p.0) p.1
 
 -- ---- trees after many changes
-pub all_in_order : (changes : List Change) (tree : Tree) → IsInOrder tree → IsInOrder (apply tree changes)
-all_in_order [] tree o = o
-all_in_order (change ∷ changes) tree o = all_in_order changes (applied tree change) (applied_in_order tree change o)
-
 pub all_low : (changes : List Change) (tree : Tree) → has_low_inodes tree.highest tree.inodes ≡ true → has_low_inodes (apply tree changes).highest (apply tree changes).inodes ≡ true
 all_low [] tree low = low
 all_low (change ∷ changes) tree low = all_low changes (applied tree change) (change_low tree change low)

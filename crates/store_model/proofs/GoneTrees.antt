@@ -13,8 +13,9 @@ use Rattle.fs_model.specs.declared.inode.Inode.{Inode}
 use Rattle.fs_model.specs.Change.{applied, apply}
 use Rattle.fs_model.specs.Files.{inode_at, Tree, with_block}
 use Rattle.fs_model.specs.Orphan.{all_revive_none, is_nameless, revives_none}
+use Rattle.fs_model.specs.Proper.{IsInOrder}
 use Rattle.fs_model.specs.Recovery.{as_replayed}
-use Rattle.fs_laws.specs.Forgotten.{applied_in_order, IsInOrder}
+use Rattle.fs_laws.specs.Forgotten.{applied_in_order}
 use Rattle.fs_laws.specs.Maps.{key_cases, removed_here, set_here, set_other}
 use Rattle.fs_laws.specs.Orders.{numbers}
 use Rattle.leaf_map.specs.Allowed.{sets_inode}

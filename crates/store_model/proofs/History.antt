@@ -7,12 +7,11 @@ use Rattle.fs_model.specs.declared.change.Change.{Change}
 use Rattle.fs_model.specs.Change.{apply}
 use Rattle.fs_model.specs.Files.{Inodes, Tree}
 use Rattle.fs_model.specs.Orphan.{without_nameless}
-use Rattle.fs_model.specs.Proper.{IsProper}
+use Rattle.fs_model.specs.Proper.{IsProper, IsInOrder}
 use Rattle.fs_model.specs.Recovery.{as_replayed, by_number, Numbered, recovered, taken}
 use Rattle.fs_model.specs.RecoveryLaws.{all_counts, AreHigh, AreLow, counted, in_groups, in_heads, recovered_again, replayed}
-use Rattle.fs_laws.specs.Forgotten.{dropped_forgotten, forgotten_twice, IsInOrder}
+use Rattle.fs_laws.specs.Forgotten.{apply_in_order, dropped_forgotten, forgotten_twice}
 use Rattle.leaf_map.specs.Kept.{Kept}
-use Rattle.leaf_map.specs.LastChange.{IsSorted}
 use Rattle.leaf_map.specs.LeafMap.{IsLeafMap}
 use Rattle.leaf_map.specs.Recovered.{highest_key}
 use Rattle.leaf_map.specs.Shown.{tree_of}
@@ -25,7 +24,7 @@ use Rattle.store_model.specs.Store.{At, Bud, Index, Moving, Next, Store, View}
 use Rattle.store_model.proofs.BackingPuts.{groups_added, has_last}
 use Rattle.store_model.proofs.BackingStarts.{no_groups}
 use Rattle.store_model.proofs.BegunCommits.{low_head}
-use Rattle.store_model.proofs.Beside.{all_in_order, all_low, forgotten_high, group_beside, has_low_inodes, IsBeside, leaves_low}
+use Rattle.store_model.proofs.Beside.{all_low, forgotten_high, group_beside, has_low_inodes, IsBeside, leaves_low}
 use Rattle.store_model.proofs.EventNumbers.{groups_copied}
 use Rattle.store_model.proofs.JournalEvents.{both, full_joined, full_length, fulls, in_order, in_turn, lists_of, numbered_replayed, orphan_nameless, put_last}
 use Rattle.store_model.proofs.LebPuts.{end_bud, part_apart}
@@ -52,7 +51,7 @@ record IsPlain (tree : Tree) : Type 0 where
   low : has_low_inodes tree.highest tree.inodes ≡ true
 
 led_order : (view : View) → IsPlain view.tree → IsInOrder (led view)
-led_order view p = all_in_order (map (λ c. as_replayed c.1) (by_number (in_heads (lists_of view.buds)))) view.tree p.order
+led_order view p = apply_in_order (map (λ c. as_replayed c.1) (by_number (in_heads (lists_of view.buds)))) view.tree p.order
 
 to_led : (tree : Tree) (f : Faced) → IsPlain f.view.tree → LeadsTo tree f → without_nameless (led f.view) ≡ without_nameless tree
 to_led tree f p h = sym (forgotten_twice (led f.view) (led_order f.view p)) ∙ ap (λ (c : Numbered). without_nameless (recovered f.view.tree c)) (sym (all_is f)) ∙ h
@@ -70,11 +69,11 @@ same_history tree f g same lists h =
 
 -- ---- a view's tree is plain
 abbrev pub SortedLaw : Type 0
-SortedLaw = (kept : List Kept) (highest : ℕ) → IsLeafMap kept → IsSorted (tree_of kept highest)
+SortedLaw = (kept : List Kept) (highest : ℕ) → IsLeafMap kept → IsInOrder (tree_of kept highest)
 
 view_plain : SortedLaw → (view : View) → HasCommitted view → IsPlain view.tree
 view_plain sorted view has = record {
-  order = subst IsInOrder has.tree (sorted view.kept view.tree.highest has.leaves).order;
+  order = subst IsInOrder has.tree (sorted view.kept view.tree.highest has.leaves);
   low = subst (λ (n : ℕ). has_low_inodes n view.tree.inodes ≡ true) has.highest
       (subst (λ (inodes : Inodes). has_low_inodes (highest_key view.highest (map (λ x. x.leaf.key) view.kept)) inodes ≡ true) (ap (λ (t : Tree). t.inodes) has.tree) (leaves_low view.highest view.kept has.leaves.keyed));
 }

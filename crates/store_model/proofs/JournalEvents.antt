@@ -15,10 +15,10 @@ use Rattle.fs_model.specs.declared.inode.Inode.{Inode}
 use Rattle.fs_model.specs.Files.{Inodes, Tree}
 use Rattle.fs_model.specs.JournalLaws.{groups_of as head_groups, left_of_synced, replayed_named}
 use Rattle.fs_model.specs.Orphan.{is_nameless, nameless, without_nameless}
-use Rattle.fs_model.specs.Proper.{ascends, IsProper}
+use Rattle.fs_model.specs.Proper.{ascends, IsProper, IsInOrder}
 use Rattle.fs_model.specs.Recovery.{as_replayed, by_number, Head, IsRecovered, KeepsSynced, Numbered, placed, recovered, taken}
 use Rattle.fs_model.specs.RecoveryLaws.{all_counts, are_high, AreHigh, AreLow, in_groups, in_heads, joined, recovered_of_later, replayed}
-use Rattle.fs_laws.specs.Forgotten.{dropped_forgotten, group_forgotten, IsInOrder}
+use Rattle.fs_laws.specs.Forgotten.{dropped_forgotten, group_forgotten}
 use Rattle.fs_laws.specs.Maps.{apart, key_cases, missing_first, tail_ascends}
 use Rattle.fs_laws.specs.Orders.{numbers}
 use Rattle.store_model.specs.Begun.{HasBegun, IsBegun, JournalLeads}
@@ -187,7 +187,7 @@ group_replayed m part is n named added =
     ∙ ap (λ (z : Numbered). apply (replayed committed (in_heads before)) (map (λ c. as_replayed c.1) z)) (in_turn m.sqnum group is.numbers) ∙ ap (apply (replayed committed (in_heads before))) (numbered_replayed part.group)
 
 pub in_order : (tree : Tree) → IsProper tree → IsInOrder tree
-in_order tree p = record { inodes = p.inodes_ascend; blocks = p.blocks_ascend }
+in_order tree p = record { inodes = p.inodes_ascend; blocks = p.blocks_ascend; entries = p.entries_ascend }
 
 part_leads : (m : Store) (part : Part) → IsPart m part → IsProper m.tree → AreApart m → AreNumbered m (faced_now m) → JournalLeads m → JournalLeads (after_part m part)
 part_leads m part is proper a n j = by (end_at m.ends part.head) refl is.fits

@@ -16,10 +16,11 @@ use Rattle.fs_model.specs.declared.inode.Inode.{Inode}
 use Rattle.fs_model.specs.Change.{applied, apply}
 use Rattle.fs_model.specs.Files.{Inodes, Tree, inode_at}
 use Rattle.fs_model.specs.Orphan.{is_nameless}
+use Rattle.fs_model.specs.Proper.{IsInOrder}
 use Rattle.fs_model.specs.Recovery.{Numbered, as_replayed}
 use Rattle.leaf_map.specs.Allowed.{in_turn}
 use Rattle.leaf_map.specs.Kept.{Kept, shown_by}
-use Rattle.leaf_map.specs.LastChange.{IsSorted, Made, last_made, later, makes_inode, there}
+use Rattle.leaf_map.specs.LastChange.{Made, last_made, later, makes_inode, there}
 use Rattle.leaf_map.specs.Parts.{Parts}
 use Rattle.leaf_map.specs.Recovered.{committed_highest}
 use Rattle.leaf_map.specs.Shown.{inodes_of, tree_of, with_inode}
@@ -123,7 +124,7 @@ has_orphans f (first ∷ lists) list h (inl same) = subst (λ (l : List ℕ). li
 has_orphans f (first ∷ lists) list h (inr one) = has_orphans f lists list h.1 one
 
 abbrev pub InodeLaw : Type 0
-InodeLaw = (q : ℕ) (changes : List Change) (tree : Tree) → IsSorted tree → inode_at (apply tree changes) q ≡ there (last_made (makes_inode q) tree changes) (inode_at tree q)
+InodeLaw = (q : ℕ) (changes : List Change) (tree : Tree) → IsInOrder tree → inode_at (apply tree changes) q ≡ there (last_made (makes_inode q) tree changes) (inode_at tree q)
 
 pub all_listed : SortedLaw → InodeLaw → (f : Faced) (parts : Parts) → HasCommitted f.view → HaveOrphans f f.lists → (fits : FitsFaced f parts) → (q : ℕ)
     → is_nameless (apply (tree_of f.view.kept (committed_highest parts)) (in_turn (read_changes f parts fits))) q ≡ true → list_any (λ ino. q == ino) parts.listed ≡ true

@@ -10,11 +10,11 @@ use Rattle.fs_model.specs.declared.change.Change.{Change}
 use Rattle.fs_model.specs.declared.change.Change.TheVariants.{SetInode, SetBlock}
 use Rattle.fs_model.specs.Files.{Tree, inode_at}
 use Rattle.fs_model.specs.Orphan.{is_nameless}
+use Rattle.fs_model.specs.Proper.{IsInOrder}
 use Rattle.fs_model.specs.Recovery.{KeepsSynced, taken}
 use Rattle.leaf_map.specs.After.{is_gone}
 use Rattle.leaf_map.specs.Allowed.{AreReadLeaves, FitsLeaves, HasInode, IsCopied, IsNodeOf, IsOfForgotten, IsOwnNode, IsSafe, IsTouchedIn, in_turn, sets_inode}
 use Rattle.leaf_map.specs.Kept.{Kept, Placed, kept_at, shown, shown_by}
-use Rattle.leaf_map.specs.LastChange.{IsSorted}
 use Rattle.leaf_map.specs.LeafMap.{IsKeyed, IsLeafMap}
 use Rattle.leaf_map.specs.Parts.{Committed, Named, Parts, in_bud, is_shown, own_node, shows_nothing}
 use Rattle.leaf_map.specs.Recovered.{committed_highest}
@@ -114,10 +114,10 @@ has_inode kept tree h s e is = tt
 
 -- ---- each leaf
 abbrev pub SortedLaw : Type 0
-SortedLaw = (kept : List Kept) (highest : ℕ) → IsLeafMap kept → IsSorted (tree_of kept highest)
+SortedLaw = (kept : List Kept) (highest : ℕ) → IsLeafMap kept → IsInOrder (tree_of kept highest)
 
 abbrev pub TouchesLaw : Type 0
-TouchesLaw = (changes : List Change) (tree : Tree) (x : Kept) → IsSorted tree → HasInode tree (shown_by x) → is_shown (shown_by x) ≡ true → list_any (λ change. is_gone change x) changes ≡ true
+TouchesLaw = (changes : List Change) (tree : Tree) (x : Kept) → IsInOrder tree → HasInode tree (shown_by x) → is_shown (shown_by x) ≡ true → list_any (λ change. is_gone change x) changes ≡ true
     → IsTouchedIn tree changes (shown_by x)
 
 -- the tree that the leaves show

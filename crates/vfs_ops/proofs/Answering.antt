@@ -101,7 +101,7 @@ bytes_same a b same ino [] = refl
 bytes_same a b same ino (place ∷ places) = ap (λ byte. byte ∷ map (byte_at a ino) places) (byte_same a b same ino place) ∙ ap (λ bytes. byte_at b ino place ∷ bytes) (bytes_same a b same ino places)
 
 -- the same files over other blocks
-abbrev with_blocks : Files → Blocks → Files
+abbrev pub with_blocks : Files → Blocks → Files
 with_blocks a blocks = record a { tree = record a.tree { blocks = blocks } }
 
 reached_same : (a : Files) (blocks : Blocks) (at : Result Entry Refusal) (names : List (List ℕ)) → reached a.tree at names ≡ reached (with_blocks a blocks).tree at names
@@ -166,7 +166,7 @@ mode_set_same a blocks now path mode =
     let next : Entry → Plan = λ at. with_some (inode_at a.tree at.ino) Enoent (λ inode. Ok (Done, SetInode at.ino (touched now (record inode { mode = mode })) ∷ [])) in
     ap (λ w. refuse (is_bad_mode mode) Einval (with_found w next)) (found_alike a blocks path)
 
-plan_same : (a : Files) (blocks : Blocks) (caller now : ℕ) (op : Op) → is_of_names op ≡ true → plan_of a caller now op ≡ plan_of (with_blocks a blocks) caller now op
+pub plan_same : (a : Files) (blocks : Blocks) (caller now : ℕ) (op : Op) → is_of_names op ≡ true → plan_of a caller now op ≡ plan_of (with_blocks a blocks) caller now op
 plan_same a blocks caller now (Create path mode) is = ap (λ x. refuse (is_bad_mode mode || not (is_name_path path)) Einval x) (made_same a blocks now path (new_file mode now))
 plan_same a blocks caller now (Mkdir path mode) is = ap (λ x. refuse (is_bad_mode mode || not (is_name_path path)) Einval x) (made_same a blocks now path (new_dir mode now))
 plan_same a blocks caller now (Symlink path target) is = ap (λ x. refuse (is_bad_target target || not (is_name_path path)) Einval x) (made_same a blocks now path (new_symlink target now))
@@ -324,13 +324,17 @@ all_alike a blocks caller now (Readlink path) plain t = link_alike a blocks path
 all_alike a blocks caller now op plain t = names_alike a blocks caller now op refl t
 
 -- files that are alike differ in blocks alone
-pub alike_outcomes : (a b : Files) (caller now : ℕ) (op : Op) → Laws → IsSound a → IsProper b.tree → is_truncate op ≡ false → IsAlike a b → IsAlikeOutcome (outcome_of a caller now op) (outcome_of b caller now op)
-alike_outcomes a b caller now op laws sound proper plain h =
-    let same : with_blocks a b.tree.blocks ≡ b =
+-- files that are alike differ in blocks alone
+pub with_same : (a b : Files) → IsAlike a b → with_blocks a b.tree.blocks ≡ b
+with_same a b h =
     ap (λ inodes. record { tree = record { inodes = inodes; blocks = b.tree.blocks; entries = a.tree.entries; highest = a.tree.highest }; handles = a.handles }) h.inodes
     ∙ ap (λ entries. record { tree = record b.tree { entries = entries; highest = a.tree.highest }; handles = a.handles }) h.entries
     ∙ ap (λ highest. record { tree = record b.tree { highest = highest }; handles = a.handles }) h.highest
-    ∙ ap (λ handles. record { tree = b.tree; handles = handles }) h.handles in
+    ∙ ap (λ handles. record { tree = b.tree; handles = handles }) h.handles
+
+pub alike_outcomes : (a b : Files) (caller now : ℕ) (op : Op) → Laws → IsSound a → IsProper b.tree → is_truncate op ≡ false → IsAlike a b → IsAlikeOutcome (outcome_of a caller now op) (outcome_of b caller now op)
+alike_outcomes a b caller now op laws sound proper plain h =
+    let same = with_same a b h in
     let two : Two a b.tree.blocks = record {
       sound = sound;
       proper = subst (λ (f : Files). IsProper f.tree) (sym same) proper;

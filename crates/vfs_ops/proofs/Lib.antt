@@ -1,9 +1,11 @@
 pub mod Admitted
 pub mod Answering
+pub mod Asking
 pub mod Buffering
 pub mod Chores
 pub mod Closing
 pub mod Cutting
+pub mod Fewer
 pub mod Flushing
 pub mod Gone
 pub mod Groups

@@ -75,12 +75,12 @@ names_keep (Ok reply) old new before seen caller now op sound names was is close
     keeps_one old new before seen was is closed (omega (arith, one, count))
 names_keep (Err refusal) old new before seen caller now op sound names was is closed done same = keeps_few old new before seen (keeps_alike old new before seen was is closed same)
 
-abbrev Keeps : Files → Outcome → Type 0
+abbrev pub Keeps : Files → Outcome → Type 0
 Keeps files (Ok done) = length (nameless done.1.tree) ≤ length (nameless files.tree)
 Keeps files (Err refusal) = Unit {0}
 
 -- a write leaves all names
-write_keeps : (files : Files) (caller now slot offs len byte : ℕ) → IsSound files → Keeps files (bytes_written files caller now slot offs len byte)
+pub write_keeps : (files : Files) (caller now slot offs len byte : ℕ) → IsSound files → Keeps files (bytes_written files caller now slot offs len byte)
 write_keeps files caller now slot offs len byte sound =
     let P : Outcome → Type 0 = λ o. Keeps files o in
     let last : ℕ → Inode → Outcome = λ ino inode. Ok (Count len, if len == 0 then files else record files { tree = tree_written files.tree ino inode now offs len byte }) in

@@ -190,7 +190,7 @@ IsBrief (Ok found) = is_brief found.0 ≡ true
 IsBrief (Err refusal) = Unit {0}
 
 -- a plan whose group tells so, and is short
-record Told (files : Files) (plan : Plan) : Type 0 where
+pub record Told (files : Files) (plan : Plan) : Type 0 where
   pub tells : Tells files.tree.inodes (group_in plan)
   pub short : length (group_in plan) ≤ 5
   pub brief : IsBrief plan
@@ -392,7 +392,7 @@ group_told files caller now (Chmod path mode) sound is = mode_set_told files now
 group_told files caller now (Truncate slot size) sound is = absurd cc
 group_told files caller now op sound is = absurd (false≢true is)
 
-told_of : (files : Files) (caller now : ℕ) (op : Op) (reply : Reply) (group : List Change) → IsSound files → is_of_names op ≡ true → plan_of files caller now op ≡ Ok (reply, group) → Told files (Ok (reply, group))
+pub told_of : (files : Files) (caller now : ℕ) (op : Op) (reply : Reply) (group : List Change) → IsSound files → is_of_names op ≡ true → plan_of files caller now op ≡ Ok (reply, group) → Told files (Ok (reply, group))
 told_of files caller now op reply group sound is found = subst (λ (plan : Plan). Told files plan) found (group_told files caller now op sound is)
 
 -- an operation on names puts five nodes at most
@@ -430,7 +430,7 @@ pub names_answer : (files : Files) (caller now : ℕ) (op : Op) (reply : Reply) 
 names_answer files caller now op reply after sound is done = (on_names 1 0 files caller now op reply after sound is (ap (λ (o : Outcome). within_orphans 1 0 files o) done)).brief
 
 -- an operation on names leaves an orphan where its group does
-orphans_told : (files : Files) (caller now : ℕ) (op : Op) (reply : Reply) (group : List Change) → IsSound files → is_of_names op ≡ true → plan_of files caller now op ≡ Ok (reply, group) → leaves_orphan files (record files { tree = apply files.tree group }) ≡ orphans group
+pub orphans_told : (files : Files) (caller now : ℕ) (op : Op) (reply : Reply) (group : List Change) → IsSound files → is_of_names op ≡ true → plan_of files caller now op ≡ Ok (reply, group) → leaves_orphan files (record files { tree = apply files.tree group }) ≡ orphans group
 orphans_told files caller now op reply group sound is found = orphan_told files group sound.proper (told_of files caller now op reply group sound is found).tells
 
 -- what such an operation comes to where so many more orphans can be told of

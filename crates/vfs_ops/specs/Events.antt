@@ -17,13 +17,15 @@ use Rattle.fs_model.specs.Operation.{group_of}
 use Rattle.fs_laws.specs.Sound.{IsCall}
 use Rattle.cached_files.specs.declared.kept.Kept.{Kept}
 use Rattle.cached_files.specs.Calls.{GrowsBy}
+use Rattle.cached_files.specs.Cuts.{GroupFate}
+use Rattle.cached_files.specs.Cuts.GroupFate.{NotPut}
 use Rattle.cached_files.specs.Present.{has_dirty, present}
 use Rattle.vfs_plans.specs.Operations.{is_truncate}
 use Rattle.vfs_ops.specs.declared.event.Event.{Event}
 use Rattle.vfs_ops.specs.declared.event.Event.TheVariants.{Call, Drain, Refill}
 use Rattle.vfs_ops.specs.declared.event.Outcome.{Outcome}
 use Rattle.vfs_ops.specs.declared.event.Outcome.TheVariants.{Replied}
-use Rattle.vfs_ops.specs.Kinds.{KeepsOthers, added_by}
+use Rattle.vfs_ops.specs.Kinds.{KeepsOthers, added_by, reply_fate}
 use Rattle.vfs_ops.specs.Steps.{IsAdmittedReply, IsAnswered, IsAtOnceReply, IsExact, Passage}
 use Rattle.vfs_ops.specs.Writing.{BuffersReply}
 
@@ -70,6 +72,11 @@ IsWeighedCall p event outcome = ⊥
 abbrev pub IsReply : Outcome → Type 0
 IsReply (Replied reply left) = Unit {0}
 IsReply outcome = ⊥
+
+-- what it tells of the group that was to be put; the background puts none
+abbrev pub outcome_fate : Outcome → GroupFate
+outcome_fate (Replied reply left) = reply_fate reply
+outcome_fate outcome = NotPut
 
 -- what is left of the grant
 abbrev pub left_of : Outcome → ℕ

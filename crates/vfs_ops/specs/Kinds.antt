@@ -13,6 +13,8 @@ use Rattle.fs_model.specs.declared.reply.Reply.TheVariants.{Refused}
 use Rattle.fs_model.specs.Files.{Files, pair_cmp}
 use Rattle.fs_model.specs.Orphan.{leaves_orphan}
 use Rattle.cached_files.specs.declared.kept.Kept.{Kept}
+use Rattle.cached_files.specs.Cuts.{GroupFate, refused_fate}
+use Rattle.cached_files.specs.Cuts.GroupFate.{WasPut}
 use Rattle.cached_files.specs.Present.{dirty_of_others}
 
 -- whether it only looks at the files
@@ -67,6 +69,11 @@ abbrev pub added_by : ℕ → ℕ → Reply → ℕ
 added_by done failed (Refused (Eio count)) = failed
 added_by done failed (Refused refusal) = 0
 added_by done failed reply = done
+
+-- what a reply tells of the group that was to be put
+abbrev pub reply_fate : Reply → GroupFate
+reply_fate (Refused refusal) = refused_fate refusal
+reply_fate reply = WasPut
 
 -- the next list of orphans gets longer by one at most, and only where an open inode lost its last name
 abbrev pub KeepsOrphans : BackingState → BackingState → Files → Files → Type 0

@@ -12,13 +12,13 @@ use Rattle.fs_model.specs.Files.{Files}
 use Rattle.fs_laws.specs.Sound.{IsSound}
 use Rattle.cached_files.specs.Alike.{IsAlike}
 use Rattle.cached_files.specs.Calls.{GrowsBy, IsWithoutRoom, WasCovered, added_or_refused}
-use Rattle.cached_files.specs.Cuts.{PutsSeenWith}
+use Rattle.cached_files.specs.Cuts.{PutsSeenWith, group_fate}
 use Rattle.cached_files.specs.Follow.{AreOfNames}
 use Rattle.vfs_ops.specs.declared.event.Event.{Event}
 use Rattle.vfs_ops.specs.declared.event.Event.TheVariants.{Call}
 use Rattle.vfs_ops.specs.declared.event.Outcome.{Outcome}
 use Rattle.vfs_ops.specs.Background.{IsBackgroundStep}
-use Rattle.vfs_ops.specs.Events.{IsAdmittedCall, IsAnswer, IsAtOnceCall, IsBufferedCall, IsExactCall, IsWeighedCall, IsWrittenBack, KeepsOthersCall, grant_of, group_in, left_of}
+use Rattle.vfs_ops.specs.Events.{IsAdmittedCall, IsAnswer, IsAtOnceCall, IsBufferedCall, IsExactCall, IsWeighedCall, IsWrittenBack, KeepsOthersCall, outcome_fate, grant_of, group_in, left_of}
 use Rattle.vfs_ops.specs.FilesState.{FilesState, present_in}
 use Rattle.vfs_ops.specs.Kinds.{FitsNextOrphans, KeepsOrphans}
 use Rattle.vfs_ops.specs.Steps.{no_space_from}
@@ -45,8 +45,8 @@ pub record IsCallStep (old new : FilesState) (event : Event) (outcome : Outcome)
   pub weighed : IsWeighedCall (record { old = old.backing; new = new.backing; before = old.kept; after = new.kept }) event outcome
   -- The next list of orphans gets longer by one at most, where an open inode lost its last name.
   pub orphans : KeepsOrphans old.backing new.backing (present_in old) (present_in new)
-  -- A cut leaves of it pages with the values of the files before, and its group as a whole.
-  pub cut : PutsSeenWith old.backing new.backing old.kept (group_in (present_in old) event)
+  -- A cut leaves of it pages with the values of the files before, and then its group as a whole: it was put where the call is done, and it wasn't where it is refused, unless the volume failed.
+  pub cut : PutsSeenWith old.backing new.backing old.kept (group_in (present_in old) event) (outcome_fate outcome)
   -- What the backing may have done meanwhile: at most two nodes for each dirty page, and the group.
   pub goes : Goes (2 * length old.kept.pages.dirty + length (group_in (present_in old) event)) old.backing new.backing
 
@@ -93,7 +93,7 @@ pub record IsApplied {T : Type 0} (old new : FilesState) (group : List Change) (
   pub weighed : GrowsBy (added_or_refused (length group) (max 2 (length group)) result) old.backing new.backing old.kept new.kept
   -- The next list of orphans gets no longer, or it has room.
   pub orphans : FitsNextOrphans old.backing new.backing
-  -- A cut leaves of it pages with the values of the files before, and the group as a whole.
-  pub cut : PutsSeenWith old.backing new.backing old.kept group
+  -- A cut leaves of it pages with the values of the files before, and then the group as a whole: done, it was put; refused, it wasn't, unless the volume failed.
+  pub cut : PutsSeenWith old.backing new.backing old.kept group (group_fate result)
   -- What the backing may have done meanwhile: at most two nodes for each dirty page, and the group.
   pub goes : Goes (2 * length old.kept.pages.dirty + length group) old.backing new.backing

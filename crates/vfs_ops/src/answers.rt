@@ -9,7 +9,7 @@ ghost use Rattle.fs_model.specs.Operation.{group_of, outcome_of};
 ghost use Rattle.fs_laws.specs.Sound.{IsCall};
 ghost use Rattle.cached_files.specs.Alike.{IsAlike};
 ghost use Rattle.cached_files.specs.Calls.{GrowsBy, SureGoes, added_or_refused};
-ghost use Rattle.cached_files.specs.Cuts.{PutsSeen, PutsSeenWith};
+ghost use Rattle.cached_files.specs.Cuts.{PutsSeen, PutsSeenWith, group_fate};
 ghost use Rattle.cached_files.specs.Present.{present};
 ghost use Rattle.vfs_plans.specs.Operations.{is_truncate};
 ghost use Rattle.vfs_ops.specs.Events.{HasSynced};
@@ -89,7 +89,7 @@ pub(crate) fn call<B: Backing>(
     ensures buffered { Buffers (B.state backing.old) (B.state backing.new) kept.old kept.new caller grant op.now result }
     ensures grows { GrowsBy (added_or_refused (2 * pages_in op.now + length (group_of (present (B.state backing.old).tree kept.old) caller now op.now)) (max 2 (length (group_of (present (B.state backing.old).tree kept.old) caller now op.now))) result) (B.state backing.old) (B.state backing.new) kept.old kept.new }
     ensures orphans { KeepsOrphans (B.state backing.old) (B.state backing.new) (present (B.state backing.old).tree kept.old) (present (B.state backing.new).tree kept.new) }
-    ensures cut { PutsSeenWith (B.state backing.old) (B.state backing.new) kept.old (group_of (present (B.state backing.old).tree kept.old) caller now op.now) }
+    ensures cut { PutsSeenWith (B.state backing.old) (B.state backing.new) kept.old (group_of (present (B.state backing.old).tree kept.old) caller now op.now) (group_fate result) }
     ensures goes { Goes (2 * length kept.old.pages.dirty + length (group_of (present (B.state backing.old).tree kept.old) caller now op.now)) (B.state backing.old) (B.state backing.new) }
     ensures sure { SureGoes (B.outlook backing.old) (B.outlook backing.new) (B.state backing.old) (B.state backing.new) }
 {
@@ -131,7 +131,7 @@ pub(crate) fn serve<B: Backing>(
     ensures buffered { Buffers (B.state backing.old) (B.state backing.new) kept.old kept.new caller grant op.now result }
     ensures grows { GrowsBy (added_or_refused (2 * pages_in op.now + length (group_of (present (B.state backing.old).tree kept.old) caller now op.now)) (max 2 (length (group_of (present (B.state backing.old).tree kept.old) caller now op.now))) result) (B.state backing.old) (B.state backing.new) kept.old kept.new }
     ensures orphans { KeepsOrphans (B.state backing.old) (B.state backing.new) (present (B.state backing.old).tree kept.old) (present (B.state backing.new).tree kept.new) }
-    ensures cut { PutsSeenWith (B.state backing.old) (B.state backing.new) kept.old (group_of (present (B.state backing.old).tree kept.old) caller now op.now) }
+    ensures cut { PutsSeenWith (B.state backing.old) (B.state backing.new) kept.old (group_of (present (B.state backing.old).tree kept.old) caller now op.now) (group_fate result) }
     ensures goes { Goes (2 * length kept.old.pages.dirty + length (group_of (present (B.state backing.old).tree kept.old) caller now op.now)) (B.state backing.old) (B.state backing.new) }
     ensures sure { SureGoes (B.outlook backing.old) (B.outlook backing.new) (B.state backing.old) (B.state backing.new) }
 {
@@ -182,7 +182,7 @@ fn serve_without<B: Backing>(
     ensures at_once { IsAtOnce (B.state backing.old) kept.old caller now op.now result }
     ensures grows { GrowsBy (added_or_refused (length (group_of (present (B.state backing.old).tree kept.old) caller now op.now)) (max 2 (length (group_of (present (B.state backing.old).tree kept.old) caller now op.now))) result) (B.state backing.old) (B.state backing.new) kept.old kept.new }
     ensures orphans { KeepsOrphans (B.state backing.old) (B.state backing.new) (present (B.state backing.old).tree kept.old) (present (B.state backing.new).tree kept.new) }
-    ensures cut { PutsSeenWith (B.state backing.old) (B.state backing.new) kept.old (group_of (present (B.state backing.old).tree kept.old) caller now op.now) }
+    ensures cut { PutsSeenWith (B.state backing.old) (B.state backing.new) kept.old (group_of (present (B.state backing.old).tree kept.old) caller now op.now) (group_fate result) }
     ensures goes { Goes (2 * length kept.old.pages.dirty + length (group_of (present (B.state backing.old).tree kept.old) caller now op.now)) (B.state backing.old) (B.state backing.new) }
     ensures sure { SureGoes (B.outlook backing.old) (B.outlook backing.new) (B.state backing.old) (B.state backing.new) }
 {

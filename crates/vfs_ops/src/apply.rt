@@ -6,7 +6,7 @@ ghost use Rattle.fs_model.specs.Change.{apply};
 ghost use Rattle.fs_laws.specs.Sound.{IsSound};
 ghost use Rattle.cached_files.specs.Alike.{IsAlike};
 ghost use Rattle.cached_files.specs.Calls.{GrowsBy, IsWithoutRoom, SureGoes, WasCovered, added_or_refused};
-ghost use Rattle.cached_files.specs.Cuts.{PutsSeenWith};
+ghost use Rattle.cached_files.specs.Cuts.{PutsSeenWith, group_fate};
 ghost use Rattle.cached_files.specs.Follow.{AreOfNames};
 ghost use Rattle.cached_files.specs.Present.{present};
 ghost use Rattle.vfs_ops.specs.Kinds.{FitsNextOrphans};
@@ -40,7 +40,7 @@ pub(crate) fn apply_over<B: Backing>(
     ensures issued { (B.state backing.new).space.credits + length kept.old.pages.dirty ≡ (B.state backing.old).space.credits + length kept.new.pages.dirty }
     ensures grows { GrowsBy (added_or_refused (length group.now) (max 2 (length group.now)) result) (B.state backing.old) (B.state backing.new) kept.old kept.new }
     ensures list { FitsNextOrphans (B.state backing.old) (B.state backing.new) }
-    ensures cut { PutsSeenWith (B.state backing.old) (B.state backing.new) kept.old group.now }
+    ensures cut { PutsSeenWith (B.state backing.old) (B.state backing.new) kept.old group.now (group_fate result) }
     ensures goes { Goes (2 * length kept.old.pages.dirty + length group.now) (B.state backing.old) (B.state backing.new) }
     ensures sure { SureGoes (B.outlook backing.old) (B.outlook backing.new) (B.state backing.old) (B.state backing.new) }
 {

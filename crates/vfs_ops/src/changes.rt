@@ -11,7 +11,7 @@ ghost use Rattle.fs_model.specs.Path.{is_dir};
 ghost use Rattle.fs_laws.specs.Sound.{IsCall, IsSound};
 ghost use Rattle.cached_files.specs.Alike.{IsAlike};
 ghost use Rattle.cached_files.specs.Calls.{GrowsBy, IsNotEnospc, IsWithoutRoom, SureGoes, added_or_refused};
-ghost use Rattle.cached_files.specs.Cuts.{PutsSeenWith};
+ghost use Rattle.cached_files.specs.Cuts.{PutsSeenWith, group_fate};
 ghost use Rattle.cached_files.specs.Present.{present, IsKept};
 ghost use Rattle.vfs_plans.specs.Answers.{IsRefused};
 ghost use Rattle.vfs_ops.specs.Kinds.{IsEarly, OnlyLooks};
@@ -60,7 +60,7 @@ pub fn change<B: Backing>(
     ensures issued { (B.state backing.new).space.credits + length kept.old.pages.dirty ≡ (B.state backing.old).space.credits + length kept.new.pages.dirty }
     ensures grows { GrowsBy (added_or_refused (length (group_of (present (B.state backing.old).tree kept.old) caller now op.now)) (max 2 (length (group_of (present (B.state backing.old).tree kept.old) caller now op.now))) result) (B.state backing.old) (B.state backing.new) kept.old kept.new }
     ensures closed { (B.state backing.new).closed ≤ (B.state backing.old).closed }
-    ensures cut { PutsSeenWith (B.state backing.old) (B.state backing.new) kept.old (group_of (present (B.state backing.old).tree kept.old) caller now op.now) }
+    ensures cut { PutsSeenWith (B.state backing.old) (B.state backing.new) kept.old (group_of (present (B.state backing.old).tree kept.old) caller now op.now) (group_fate result) }
     ensures goes { Goes (2 * length kept.old.pages.dirty + length (group_of (present (B.state backing.old).tree kept.old) caller now op.now)) (B.state backing.old) (B.state backing.new) }
     ensures sure { SureGoes (B.outlook backing.old) (B.outlook backing.new) (B.state backing.old) (B.state backing.new) }
 {

@@ -49,7 +49,7 @@ impl<B: Backing> Fs<B> {
     ghost use Rattle.vfs_ops.specs.Events.{HasSynced, IsCalled, grant_of};
     ghost use Rattle.vfs_ops.specs.FilesState.{IsOpened, LeavesKept, present_in};
     ghost use Rattle.vfs_ops.specs.Fs.{files_state};
-    ghost use Rattle.vfs_ops.specs.Kinds.{KeepsOrphans, KeepsOthers, added_by};
+    ghost use Rattle.vfs_ops.specs.Kinds.{KeepsOrphans, KeepsOthers, added_by, reply_fate};
     ghost use Rattle.vfs_ops.specs.Passing.{IsApplied, IsStep, MayApply};
     ghost use Rattle.vfs_ops.specs.Steps.{IsAdmittedReply, IsAnswered, IsAtOnceReply, IsExact};
     ghost use Rattle.vfs_ops.specs.Writing.{BuffersReply};
@@ -149,7 +149,7 @@ impl<B: Backing> Fs<B> {
         ensures buffered { BuffersReply (B.state self.old.backing) (B.state self.new.backing) self.old.kept self.new.kept self.old.refused.items self.new.refused.items caller grant op.now result.0 }
         ensures weighed { GrowsBy (added_by (2 * pages_in op.now + length (group_of (present (B.state self.old.backing).tree self.old.kept) caller now op.now)) (max 2 (length (group_of (present (B.state self.old.backing).tree self.old.kept) caller now op.now))) result.0) (B.state self.old.backing) (B.state self.new.backing) self.old.kept self.new.kept }
         ensures orphans { KeepsOrphans (B.state self.old.backing) (B.state self.new.backing) (present (B.state self.old.backing).tree self.old.kept) (present (B.state self.new.backing).tree self.new.kept) }
-        ensures cut { PutsSeenWith (B.state self.old.backing) (B.state self.new.backing) self.old.kept (group_of (present (B.state self.old.backing).tree self.old.kept) caller now op.now) }
+        ensures cut { PutsSeenWith (B.state self.old.backing) (B.state self.new.backing) self.old.kept (group_of (present (B.state self.old.backing).tree self.old.kept) caller now op.now) (reply_fate result.0) }
         ensures goes { Goes (2 * length self.old.kept.pages.dirty + length (group_of (present (B.state self.old.backing).tree self.old.kept) caller now op.now)) (B.state self.old.backing) (B.state self.new.backing) }
         ensures sure { SureGoes (B.outlook self.old.backing) (B.outlook self.new.backing) (B.state self.old.backing) (B.state self.new.backing) }
     {

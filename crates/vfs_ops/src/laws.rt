@@ -1,6 +1,6 @@
 // Laws of steps, for whoever has many of them behind one another.
 
-ghost use Rattle.std.specs.Prelude.{◌≡◌, ℕ, ◌+◌, ◌*◌, true, false, Ok, List, Result};
+ghost use Rattle.std.specs.Prelude.{◌≡◌, ℕ, ◌+◌, ◌*◌, ◌≤◌, true, false, Ok, List, Result, length};
 ghost use Rattle.fs_model.specs.declared.backing_answers.Mode.TheVariants.{ReadWrite};
 ghost use Rattle.fs_model.specs.declared.change.Change.{Change};
 ghost use Rattle.fs_model.specs.declared.op.Op.{Op};
@@ -12,20 +12,23 @@ ghost use Rattle.fs_model.specs.declared.space.Need.{Need};
 ghost use Rattle.fs_model.specs.Files.{Files, Tree};
 ghost use Rattle.fs_model.specs.Journal.{IfTold, IsJournalOf, MayLeave};
 ghost use Rattle.fs_model.specs.Legal.{pages_in};
-ghost use Rattle.fs_model.specs.Operation.{outcome_of};
-ghost use Rattle.fs_model.specs.Orphan.{without_nameless};
+ghost use Rattle.fs_model.specs.Need.{need_of};
+ghost use Rattle.fs_model.specs.Operation.{group_of, outcome_of};
+ghost use Rattle.fs_model.specs.Orphan.{leaves_orphan, nameless, without_nameless};
 ghost use Rattle.fs_model.specs.Proper.{IsProper};
 ghost use Rattle.fs_laws.specs.Sound.{IsSound};
 ghost use Rattle.cached_files.specs.Alike.{IsAlike};
 ghost use Rattle.cached_files.specs.Calls.{GrowsBy};
-ghost use Rattle.cached_files.specs.Cuts.{HasValues, IsOrderedJournal, ValuesWith};
+ghost use Rattle.cached_files.specs.Cuts.{HasValues, ValuesOf, ValuesWith, group_fate};
+ghost use Rattle.cached_files.specs.Cuts.GroupFate.{NotPut};
 ghost use Rattle.cached_files.specs.Present.{IsKept};
 ghost use Rattle.vfs_ops.specs.declared.event.Event.{Event};
 ghost use Rattle.vfs_ops.specs.declared.event.Event.TheVariants.{Call};
 ghost use Rattle.vfs_ops.specs.declared.event.Outcome.{Outcome};
 ghost use Rattle.vfs_ops.specs.declared.event.Outcome.TheVariants.{Replied};
-ghost use Rattle.vfs_ops.specs.Events.{group_in};
+ghost use Rattle.vfs_ops.specs.Events.{outcome_fate, group_in};
 ghost use Rattle.vfs_ops.specs.FilesState.{FilesState, present_in};
+ghost use Rattle.vfs_ops.specs.Operations.{orphans};
 ghost use Rattle.vfs_ops.specs.Passing.{IsApplied, IsStep};
 ghost use Rattle.vfs_ops.specs.Replies.{IsAlikeOutcome, holds_bytes, is_refusal};
 ghost use Rattle.vfs_plans.specs.Operations.{is_truncate};
@@ -55,20 +58,38 @@ pub fn alike_files_answer_alike()
     written_files_stay_alike();
 }
 
+/// Files that are alike ask the same of a store for an operation: the same group, and the same room.
+pub fn alike_files_ask_alike()
+    ensures group { (a b : Files) (caller now : ℕ) (op : Op) → is_truncate op ≡ false → IsAlike a b → group_of a caller now op ≡ group_of b caller now op }
+    ensures need { (a b : Files) (caller now : ℕ) (op : Op) → is_truncate op ≡ false → IsAlike a b → need_of a caller now op ≡ need_of b caller now op }
+{}
+
 /// A caller's step adds five nodes at most, and two for each page that its words touch: the index gets no heavier, dirty pages
 /// included.
 pub fn a_call_adds_few_nodes()
     ensures { (old new : FilesState) (caller now grant : ℕ) (op : Op) (outcome : Outcome) → IsSound (present_in old) → is_truncate op ≡ false → IsStep old new (Call caller now grant op) outcome → GrowsBy (5 + 2 * pages_in op) old.backing new.backing old.kept new.kept }
 {}
 
+/// An operation that is done leaves one inode without a name more at most, and that exactly where its group sets one: a file
+/// that is open has then lost its last name.
+pub fn an_operation_leaves_one_orphan_at_most()
+    ensures one { (files after : Files) (caller now : ℕ) (op : Op) (reply : Reply) → IsSound files → is_truncate op ≡ false → outcome_of files caller now op ≡ Ok (reply, after) → length (nameless after.tree) ≤ length (nameless files.tree) + 1 }
+    ensures exact { (files after : Files) (caller now : ℕ) (op : Op) (reply : Reply) → IsSound files → is_truncate op ≡ false → outcome_of files caller now op ≡ Ok (reply, after) → leaves_orphan files after ≡ orphans (group_of files caller now op) }
+{}
+
 /// What a cut leaves after an event, or after a group, has for each inode, entry and block a value of a tree that it might have
 /// left before, or of the files that callers saw before, or of these with the group of the call; nothing is a value too. An
-/// inode without a name may be gone with its blocks.
+/// inode without a name may be gone with its blocks. After a refusal that isn't a fault of the volume, nothing is left of
+/// the group.
 pub fn a_cut_leaves_old_values_or_new_ones()
-    ensures event { (old new : FilesState) (event : Event) (outcome : Outcome) (left : Tree) → IfTold old.backing.journal (IsOrderedJournal old.backing.tree) → IsStep old new event outcome → MayLeave new.backing.journal left
+    ensures event { (old new : FilesState) (event : Event) (outcome : Outcome) (left : Tree) → IfTold old.backing.journal (IsJournalOf old.backing.tree) → IsStep old new event outcome → MayLeave new.backing.journal left
         → HasValues old.backing.journal (ValuesWith (present_in old).tree (group_in (present_in old) event)) left }
-    ensures group { (old new : FilesState) (group : List Change) (need : Need) (result : Result (Unit {0}) Refusal) (left : Tree) → IfTold old.backing.journal (IsOrderedJournal old.backing.tree) → IsApplied old new group need result → MayLeave new.backing.journal left
+    ensures group { (old new : FilesState) (group : List Change) (need : Need) (result : Result (Unit {0}) Refusal) (left : Tree) → IfTold old.backing.journal (IsJournalOf old.backing.tree) → IsApplied old new group need result → MayLeave new.backing.journal left
         → HasValues old.backing.journal (ValuesWith (present_in old).tree group) left }
+    ensures refused { (old new : FilesState) (event : Event) (outcome : Outcome) (left : Tree) → IfTold old.backing.journal (IsJournalOf old.backing.tree) → IsStep old new event outcome → outcome_fate outcome ≡ NotPut → MayLeave new.backing.journal left
+        → HasValues old.backing.journal (ValuesOf (present_in old).tree) left }
+    ensures not_applied { (old new : FilesState) (group : List Change) (need : Need) (result : Result (Unit {0}) Refusal) (left : Tree) → IfTold old.backing.journal (IsJournalOf old.backing.tree) → IsApplied old new group need result → group_fate result ≡ NotPut → MayLeave new.backing.journal left
+        → HasValues old.backing.journal (ValuesOf (present_in old).tree) left }
 {
     a_cut_leaves_what_was_put();
 }

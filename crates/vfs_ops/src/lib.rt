@@ -27,6 +27,7 @@ pub use crate::fs::Fs;
 pub use crate::laws::{
     a_call_adds_few_nodes, a_cut_after_a_flush_leaves_the_files,
     a_cut_leaves_old_values_or_new_ones, a_plain_answer_is_no_refusal,
-    a_reply_with_bytes_leaves_the_files, alike_files_answer_alike,
+    a_reply_with_bytes_leaves_the_files, alike_files_answer_alike, alike_files_ask_alike,
+    an_operation_leaves_one_orphan_at_most,
 };
 pub use crate::replies::copied_reply;

@@ -2,7 +2,10 @@ use Rattle.std.proofs.Common.{rules, arith, ◌+◌, sym, ◌*◌, length}
 use Rattle.fs_model.specs.declared.space.Grant.{Grant}
 use Rattle.cached_files.specs.Present.{present}
 use Rattle.cached_files.proofs.Applied.{built_alike, bytes_alike, names_alike, alike_put}
-use Rattle.cached_files.specs.CutLaws.{Puts-with}
+use Rattle.cached_files.specs.Calls.{refusal_of}
+use Rattle.cached_files.specs.CutLaws.{Puts-with, Refused-none}
+use Rattle.cached_files.specs.Cuts.{refused_fate}
+use Rattle.cached_files.specs.Cuts.GroupFate.{WasPut}
 use Rattle.cached_files.proofs.Cutting.{group_then}
 use Rattle.cached_files.proofs.Growing.{admitted_failed, grows_on, not_admitted}
 use Rattle.cached_files.proofs.MakingRoom.{put_refused}
@@ -87,7 +90,9 @@ returns-in-Err-clause-closed g c = let first = c.admit.ensures.closed in let sec
 pub returns-in_err-admit-clause-cut : goal.returns-in_err-admit-clause-cut
 returns-in_err-admit-clause-cut g c =
     let old = g.B.Backing.state c.args.backing.now in
-    Puts-with (present old.tree c.args.kept.now).tree c.args.group.now old.journal (g.B.Backing.state c.admit.new.backing).journal c.admit.ensures.cut
+    let refusal = c.in_err-admit.field-0.0 in
+    let f = Puts-with (present old.tree c.args.kept.now).tree c.args.group.now (refused_fate refusal) old.journal (g.B.Backing.state c.admit.new.backing).journal (Refused-none refusal c.args.group.now) c.admit.ensures.cut in
+    search (rules, f)
 
 pub returns-in-Ok-clause-cut : goal.returns-in-Ok-clause-cut
 returns-in-Ok-clause-cut g c =
@@ -95,12 +100,14 @@ returns-in-Ok-clause-cut g c =
     let now = g.B.Backing.state c.admit.new.backing in
     let proper = c.present_files_are_sound.ensures.proper old.tree c.args.kept.now c.requires.kept in
     let later = c.present_files_are_sound.ensures.proper now.tree c.admit.new.kept c.admit.ensures.kept in
-    group_then old now (g.B.Backing.state c.put_group.new.backing) c.args.kept.now c.admit.new.kept c.args.group.now c.requires.kept c.admit.ensures.kept proper later c.requires.names c.admit.ensures.same c.admit.ensures.cut c.put_group.ensures.cut
+    group_then old now (g.B.Backing.state c.put_group.new.backing) c.args.kept.now c.admit.new.kept c.args.group.now WasPut c.requires.kept c.admit.ensures.kept proper later c.requires.names c.admit.ensures.same c.admit.ensures.cut c.in-Ok.ensures.cut
 
 pub returns-in-Err-clause-cut : goal.returns-in-Err-clause-cut
 returns-in-Err-clause-cut g c =
     let old = g.B.Backing.state c.args.backing.now in
     let now = g.B.Backing.state c.admit.new.backing in
+    let new = g.B.Backing.state c.put_group.new.backing in
     let proper = c.present_files_are_sound.ensures.proper old.tree c.args.kept.now c.requires.kept in
     let later = c.present_files_are_sound.ensures.proper now.tree c.admit.new.kept c.admit.ensures.kept in
-    group_then old now (g.B.Backing.state c.put_group.new.backing) c.args.kept.now c.admit.new.kept c.args.group.now c.requires.kept c.admit.ensures.kept proper later c.requires.names c.admit.ensures.same c.admit.ensures.cut c.put_group.ensures.cut
+    let f = group_then old now new c.args.kept.now c.admit.new.kept c.args.group.now (refused_fate (refusal_of c.in-Err.fault)) c.requires.kept c.admit.ensures.kept proper later c.requires.names c.admit.ensures.same c.admit.ensures.cut c.in-Err.ensures.cut in
+    search (rules, f)

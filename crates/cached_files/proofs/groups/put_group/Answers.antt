@@ -1,14 +1,15 @@
-use Rattle.std.proofs.Common.{◌≤◌, length, ap, arith, rules, subst, sym, ◌∙◌}
+use Rattle.std.proofs.Common.{◌≤◌, length, ap, arith, refl, rules, subst, sym, ◌∙◌}
 use Rattle.std.specs.Prelude.{filter}
 use Rattle.fs_model.specs.Backing.{BackingState, FitsGroup}
 use Rattle.cached_files.specs.CallLaws.{Goes-put}
 use Rattle.cached_files.specs.CutLaws.{Puts-none, Puts-with}
 use Rattle.cached_files.specs.Cuts.{ValuesOf}
+use Rattle.cached_files.specs.Cuts.GroupFate.{NotPut, WasPut}
 use Rattle.cached_files.specs.Follow.{is_of_inode}
 use Rattle.cached_files.specs.Present.{present}
 use Rattle.cached_files.proofs.Alike.{present_alike, present_bytes}
 use Rattle.cached_files.proofs.Cutting.{with_given}
-use Rattle.cached_files.proofs.PlaceValues.{group_cut, present_ordered}
+use Rattle.cached_files.proofs.PlaceValues.{group_done_cut, group_failed_cut, present_ordered}
 use Rattle.cached_files.proofs.Growing.{group_failed, no_more}
 use Rattle.cached_files.proofs.GroupPut.{GroupPut, group_put, goes_given}
 use Rattle.cached_files.proofs.groups.put_group.Given.{Over}
@@ -69,16 +70,19 @@ pub returns-in_err-changes-clause-cut : goal.returns-in_err-changes-clause-cut
 returns-in_err-changes-clause-cut g c =
     let old = g.B.Backing.state c.args.backing.now in
     let tree = (present old.tree c.args.kept.now).tree in
-    Puts-with tree c.args.group.now old.journal old.journal (Puts-none (ValuesOf tree) old.journal)
+    let f = Puts-with tree c.args.group.now NotPut old.journal old.journal refl (Puts-none (ValuesOf tree) old.journal) in
+    search (rules, f)
 
 pub returns-in_err-put_group-clause-cut : goal.returns-in_err-put_group-clause-cut
 returns-in_err-put_group-clause-cut g c =
     let old = g.B.Backing.state c.args.backing.now in
-    group_cut (present old.tree c.args.kept.now).tree c.args.group.now old.journal (g.B.Backing.state c.put_group.new.self).journal c.put_group.result (present_ordered old.tree c.args.kept.now c.requires.kept) c.requires.names c.requires.granted.2.revives_none c.put_group.ensures.cut
+    let f = group_failed_cut (Unit {0}) (present old.tree c.args.kept.now).tree c.args.group.now old.journal (g.B.Backing.state c.put_group.new.self).journal c.in_err-put_group.field-0.0
+    (present_ordered old.tree c.args.kept.now c.requires.kept) c.requires.names c.requires.granted.2.revives_none c.in_err-put_group.ensures.cut in
+    search (rules, f)
 
 pub returns-clause-cut : goal.returns-clause-cut
 returns-clause-cut g c =
     let old = g.B.Backing.state c.args.backing.now in
     let put = g.B.Backing.state c.put_group.new.self in
-    let one = group_cut (present old.tree c.args.kept.now).tree c.args.group.now old.journal put.journal c.put_group.result (present_ordered old.tree c.args.kept.now c.requires.kept) c.requires.names c.requires.granted.2.revives_none c.put_group.ensures.cut in
-    with_given old put (g.B.Backing.state c.give_back.new.self) c.args.kept.now c.args.group.now c.follow_all-gone.result one c.give_back.ensures.given
+    let one = group_done_cut (Unit {0}) (present old.tree c.args.kept.now).tree c.args.group.now old.journal put.journal (present_ordered old.tree c.args.kept.now c.requires.kept) c.requires.names c.requires.granted.2.revives_none c.in_ok-put_group.ensures.cut in
+    with_given old put (g.B.Backing.state c.give_back.new.self) c.args.kept.now c.args.group.now WasPut c.follow_all-gone.result one c.give_back.ensures.given

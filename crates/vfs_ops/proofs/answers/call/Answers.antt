@@ -1,7 +1,8 @@
 use Rattle.std.proofs.Common.{ap, refl, sym, ◌∙◌}
 use Rattle.fs_model.specs.declared.backing_answers.Mode.{Mode}
 use Rattle.vfs_ops.specs.Steps.{read_only_cause}
-use Rattle.vfs_ops.proofs.Cutting.{cut_none}
+use Rattle.cached_files.specs.Cuts.GroupFate.{NotPut}
+use Rattle.vfs_ops.proofs.Cutting.{cut_same, cut_with}
 use Rattle.vfs_ops.proofs.Others.{not_closed, same_leave}
 use Rattle.vfs_ops.proofs.answers.call.Goals as goal
 
@@ -17,4 +18,4 @@ returns-in-None-clause-closed g c =
     not_closed (read_only_cause mode c.args.op.now) (ap (λ (m : Mode). read_only_cause m c.args.op.now) (sym c.mode.ensures) ∙ sym c.read_only_cause.ensures ∙ c.in-None.is)
 
 pub returns-in-Some-clause-cut : goal.returns-in-Some-clause-cut
-returns-in-Some-clause-cut g c = cut_none (g.B.Backing.state c.args.backing.now) c.args.kept.now _
+returns-in-Some-clause-cut g c = cut_with (g.B.Backing.state c.args.backing.now) (g.B.Backing.state c.args.backing.now) c.args.kept.now _ NotPut refl (cut_same (g.B.Backing.state c.args.backing.now) (g.B.Backing.state c.args.backing.now) c.args.kept.now refl)

@@ -4,7 +4,7 @@ use Rattle.fs_model.specs.declared.op.Op.{Op}
 use Rattle.vfs_ops.specs.Operations.{is_of_names}
 use Rattle.vfs_ops.specs.Steps.{WasAdmitted}
 use Rattle.vfs_ops.specs.Writing.{newly_by}
-use Rattle.vfs_ops.proofs.Cutting.{cut_with}
+use Rattle.vfs_ops.proofs.Cutting.{cut_answered}
 use Rattle.vfs_ops.proofs.Admitted.{on_ok, other_at_once, retyped}
 use Rattle.vfs_ops.proofs.Looking.{only_early, whole_left}
 use Rattle.vfs_ops.proofs.Others.{others_on}
@@ -81,4 +81,5 @@ returns-in-Write-clause-orphans g c =
     (c.present_files_are_sound.ensures.nameless (g.B.Backing.state c.args.backing.now).tree c.args.kept.now c.requires.ready.kept_fits) (c.present_files_are_sound.ensures.nameless (g.B.Backing.state c.write.new.backing).tree c.write.new.kept c.write.ensures.kept) c.write.ensures.closed c.write.ensures.done c.write.ensures.same
 
 pub returns-in-Write-clause-cut : goal.returns-in-Write-clause-cut
-returns-in-Write-clause-cut g c = cut_with (g.B.Backing.state c.args.backing.now) (g.B.Backing.state c.write.new.backing) c.args.kept.now _ c.write.ensures.cut
+returns-in-Write-clause-cut g c =
+    cut_answered (g.B.Backing.state c.args.backing.now) (g.B.Backing.state c.write.new.backing) c.args.kept.now c.args.caller c.args.now c.args.op.now c.write.result (ap (λ (o : Op). is_of_names o) c.in-Write.is) c.requires.op c.write.ensures.cut

@@ -1,12 +1,13 @@
 use Rattle.std.proofs.Common.{◌≡◌, ap, arith, inr, length, max, refl, sym, ◌∙◌}
 use Rattle.cached_files.specs.Present.{present}
-use Rattle.vfs_ops.proofs.Cutting.{cut_looked, cut_same, cut_with}
+use Rattle.vfs_ops.proofs.Cutting.{cut_answered, cut_looked, cut_same}
 use Rattle.vfs_ops.proofs.Admitted.{after_ok, names_admitted, none_admitted, on_ok, other_at_once}
 use Rattle.vfs_ops.proofs.Looking.{names_early, only_early, opened_looks, unsynced_early}
 use Rattle.vfs_ops.proofs.Others.{names_leave, others_on}
 use Rattle.vfs_ops.proofs.Serving.{alike_self, done_on, refused_on, ok_map, err_map, at_now, names_synced, or_fault_last, or_unsynced_last, synced_on, unsynced_last}
 use Rattle.fs_model.specs.Operation.{group_of}
 use Rattle.page_cache.specs.Pages.{Pages}
+use Rattle.vfs_ops.specs.Operations.{is_of_names}
 use Rattle.vfs_ops.proofs.Orphaning.{keeps_alike, keeps_few, looked_orphans, names_keep}
 use Rattle.vfs_ops.proofs.Weighing.{no_heavier, wider}
 use Rattle.vfs_ops.proofs.answers.serve_without.Goals as goal
@@ -166,16 +167,21 @@ returns-in-Flush-clause-orphans g c =
     (c.present_files_are_sound.ensures.nameless (g.B.Backing.state c.args.backing.now).tree c.args.kept.now c.requires.ready.kept_fits) (c.present_files_are_sound.ensures.nameless (g.B.Backing.state c.flushed.new.backing).tree c.flushed.new.kept c.flushed.ensures.ready.kept_fits) c.flushed.ensures.closed c.flushed.ensures.same)
 
 pub returns-in-OpenFile-clause-cut : goal.returns-in-OpenFile-clause-cut
-returns-in-OpenFile-clause-cut g c = cut_with (g.B.Backing.state c.args.backing.now) (g.B.Backing.state c.open.new.backing) c.args.kept.now _ (cut_looked c.open.ensures.looks c.args.kept.now)
+returns-in-OpenFile-clause-cut g c =
+    cut_answered (g.B.Backing.state c.args.backing.now) (g.B.Backing.state c.open.new.backing) c.args.kept.now c.args.caller c.args.now c.args.op.now c.open.result (ap is_of_names c.in-OpenFile.is) c.requires.op (cut_looked c.open.ensures.looks c.args.kept.now)
 
 pub returns-in-Close-clause-cut : goal.returns-in-Close-clause-cut
-returns-in-Close-clause-cut g c = cut_with (g.B.Backing.state c.args.backing.now) (g.B.Backing.state c.close.new.backing) c.args.kept.now _ (cut_same (g.B.Backing.state c.args.backing.now) (g.B.Backing.state c.close.new.backing) c.args.kept.now c.close.ensures.journal)
+returns-in-Close-clause-cut g c =
+    cut_answered (g.B.Backing.state c.args.backing.now) (g.B.Backing.state c.close.new.backing) c.args.kept.now c.args.caller c.args.now c.args.op.now c.close.result (ap is_of_names c.in-Close.is) c.requires.op (cut_same (g.B.Backing.state c.args.backing.now) (g.B.Backing.state c.close.new.backing) c.args.kept.now c.close.ensures.journal)
 
 pub returns-in-Fsync-clause-cut : goal.returns-in-Fsync-clause-cut
-returns-in-Fsync-clause-cut g c = cut_with (g.B.Backing.state c.args.backing.now) (g.B.Backing.state c.synced.new.backing) c.args.kept.now _ c.synced.ensures.cut
+returns-in-Fsync-clause-cut g c =
+    cut_answered (g.B.Backing.state c.args.backing.now) (g.B.Backing.state c.synced.new.backing) c.args.kept.now c.args.caller c.args.now c.args.op.now c.synced.result (ap is_of_names c.in-Fsync.is) c.requires.op c.synced.ensures.cut
 
 pub returns-in-Flush-clause-cut : goal.returns-in-Flush-clause-cut
-returns-in-Flush-clause-cut g c = cut_with (g.B.Backing.state c.args.backing.now) (g.B.Backing.state c.flushed.new.backing) c.args.kept.now _ c.flushed.ensures.cut
+returns-in-Flush-clause-cut g c =
+    cut_answered (g.B.Backing.state c.args.backing.now) (g.B.Backing.state c.flushed.new.backing) c.args.kept.now c.args.caller c.args.now c.args.op.now c.flushed.result (ap is_of_names c.in-Flush.is) c.requires.op c.flushed.ensures.cut
 
 pub returns-in-Read-clause-cut : goal.returns-in-Read-clause-cut
-returns-in-Read-clause-cut g c = cut_with (g.B.Backing.state c.args.backing.now) (g.B.Backing.state c.look.new.backing) c.args.kept.now _ (cut_looked c.look.ensures.looks c.args.kept.now)
+returns-in-Read-clause-cut g c =
+    cut_answered (g.B.Backing.state c.args.backing.now) (g.B.Backing.state c.look.new.backing) c.args.kept.now c.args.caller c.args.now c.args.op.now c.look.result (sym c.is_of_names.ensures ∙ c.if-is_of_names.false) c.requires.op (cut_looked c.look.ensures.looks c.args.kept.now)

@@ -1,4 +1,4 @@
-use Rattle.std.proofs.Common.{◌≡◌, ◌+◌, ◌∙◌, arith, max, rules, refl, true, false, ◌&&◌, inl, Err, length, sym, ap, subst, List}
+use Rattle.std.proofs.Common.{◌≡◌, ◌+◌, ◌∙◌, arith, max, rules, refl, true, false, ◌&&◌, inl, inr, Err, length, sym, ap, subst, List}
 use Rattle.std.specs.Prelude.{◌==◌, ◌-◌}
 use Rattle.fs_model.specs.Orphan.{nameless}
 use Rattle.fs_model.specs.declared.change.Change.{Change}
@@ -10,8 +10,9 @@ use Rattle.fs_model.specs.Operation.{group_of, outcome_of}
 use Rattle.cached_files.specs.Follow.{AreOfNames}
 use Rattle.cached_files.specs.Present.{present}
 use Rattle.fs_model.specs.Orphan.{within_orphans}
-use Rattle.cached_files.specs.Cuts.{PutsSeenWith}
-use Rattle.vfs_ops.proofs.Cutting.{cut_looked, cut_with, looked_cut}
+use Rattle.cached_files.specs.Cuts.{refused_fate}
+use Rattle.cached_files.specs.Cuts.GroupFate.{NotPut, WasPut}
+use Rattle.vfs_ops.proofs.Cutting.{cut_looked, cut_refused, cut_with, looked_put, no_changes}
 use Rattle.vfs_ops.proofs.Admitted.{group_admitted, plan_refused, room_looked}
 use Rattle.vfs_ops.proofs.Groups.{AreFitting, group_fits, leaves, names_of}
 use Rattle.vfs_ops.proofs.Looking.{looked, room_late}
@@ -293,27 +294,38 @@ pub returns-clause-closed : goal.returns-clause-closed
 returns-clause-closed g c = let same = closed_on (both c.plan.ensures.looks c.need_of.ensures.looks) in let few = c.apply_group.ensures.closed in omega (arith, same, few)
 
 pub returns-in_err-reply-clause-cut : goal.returns-in_err-reply-clause-cut
-returns-in_err-reply-clause-cut g c = cut_with (g.B.Backing.state c.args.backing.now) (g.B.Backing.state c.plan.new.backing) c.args.kept.now _ (cut_looked c.plan.ensures.looks c.args.kept.now)
+returns-in_err-reply-clause-cut g c =
+    let f = cut_refused (g.B.Backing.state c.args.backing.now) (g.B.Backing.state c.plan.new.backing) c.args.kept.now (group_of (present (g.B.Backing.state c.args.backing.now).tree c.args.kept.now) c.args.caller c.args.now c.args.op.now) c.in_err-reply.field-0.0 (cut_looked c.plan.ensures.looks c.args.kept.now) in
+    search (rules, f)
 
 pub returns-then-is_empty-clause-cut : goal.returns-then-is_empty-clause-cut
-returns-then-is_empty-clause-cut g c = cut_with (g.B.Backing.state c.args.backing.now) (g.B.Backing.state c.plan.new.backing) c.args.kept.now _ (cut_looked c.plan.ensures.looks c.args.kept.now)
+returns-then-is_empty-clause-cut g c =
+    let old = g.B.Backing.state c.args.backing.now in
+    let made = group_is (present old.tree c.args.kept.now) c.args.caller c.args.now c.args.op.now c.in_ok-reply.reply c.in_ok-reply.group c.in_ok-reply.ensures.found in
+    let none : (length c.in_ok-reply.group == 0) ≡ true = ap (λ (group : List Change). length group == 0) (sym c.as_slice.ensures) ∙ sym c.is_empty.ensures ∙ c.if-is_empty.true in
+    cut_with old (g.B.Backing.state c.plan.new.backing) c.args.kept.now _ WasPut (inr (made ∙ no_changes c.in_ok-reply.group none, refl)) (cut_looked c.plan.ensures.looks c.args.kept.now)
 
 pub returns-then-lacks_orphan_room-clause-cut : goal.returns-then-lacks_orphan_room-clause-cut
-returns-then-lacks_orphan_room-clause-cut g c = cut_with (g.B.Backing.state c.args.backing.now) (g.B.Backing.state c.plan.new.backing) c.args.kept.now _ (cut_looked c.plan.ensures.looks c.args.kept.now)
+returns-then-lacks_orphan_room-clause-cut g c = cut_with (g.B.Backing.state c.args.backing.now) (g.B.Backing.state c.plan.new.backing) c.args.kept.now _ NotPut refl (cut_looked c.plan.ensures.looks c.args.kept.now)
 
 pub returns-in_err-need-clause-cut : goal.returns-in_err-need-clause-cut
-returns-in_err-need-clause-cut g c = cut_with (g.B.Backing.state c.args.backing.now) (g.B.Backing.state c.need_of.new.backing) c.args.kept.now _ (cut_looked (both c.plan.ensures.looks c.need_of.ensures.looks) c.args.kept.now)
+returns-in_err-need-clause-cut g c =
+    let f = cut_refused (g.B.Backing.state c.args.backing.now) (g.B.Backing.state c.need_of.new.backing) c.args.kept.now (group_of (present (g.B.Backing.state c.args.backing.now).tree c.args.kept.now) c.args.caller c.args.now c.args.op.now) c.in_err-need.field-0.0 (cut_looked (both c.plan.ensures.looks c.need_of.ensures.looks) c.args.kept.now) in
+    search (rules, f)
 
 pub returns-in_err-apply_group-clause-cut : goal.returns-in_err-apply_group-clause-cut
 returns-in_err-apply_group-clause-cut g c =
     let old = g.B.Backing.state c.args.backing.now in
     let new = g.B.Backing.state c.apply_group.new.backing in
-    let made = group_is (present old.tree c.args.kept.now) c.args.caller c.args.now c.args.op.now c.in_ok-reply.reply c.in_ok-reply.group c.in_ok-reply.ensures.found in
-    subst (λ (group : List Change). PutsSeenWith old new c.args.kept.now group) (sym made) (looked_cut (both c.plan.ensures.looks c.need_of.ensures.looks) new c.args.kept.now c.in_ok-reply.group c.apply_group.ensures.cut)
+    let files = present old.tree c.args.kept.now in
+    let made = group_is files c.args.caller c.args.now c.args.op.now c.in_ok-reply.reply c.in_ok-reply.group c.in_ok-reply.ensures.found in
+    let f = looked_put (both c.plan.ensures.looks c.need_of.ensures.looks) new c.args.kept.now (group_of files c.args.caller c.args.now c.args.op.now) c.in_ok-reply.group (refused_fate c.in_err-apply_group.field-0.0) made c.in_err-apply_group.ensures.cut in
+    search (rules, f)
 
 pub returns-clause-cut : goal.returns-clause-cut
 returns-clause-cut g c =
     let old = g.B.Backing.state c.args.backing.now in
     let new = g.B.Backing.state c.apply_group.new.backing in
-    let made = group_is (present old.tree c.args.kept.now) c.args.caller c.args.now c.args.op.now c.in_ok-reply.reply c.in_ok-reply.group c.in_ok-reply.ensures.found in
-    subst (λ (group : List Change). PutsSeenWith old new c.args.kept.now group) (sym made) (looked_cut (both c.plan.ensures.looks c.need_of.ensures.looks) new c.args.kept.now c.in_ok-reply.group c.apply_group.ensures.cut)
+    let files = present old.tree c.args.kept.now in
+    let made = group_is files c.args.caller c.args.now c.args.op.now c.in_ok-reply.reply c.in_ok-reply.group c.in_ok-reply.ensures.found in
+    looked_put (both c.plan.ensures.looks c.need_of.ensures.looks) new c.args.kept.now (group_of files c.args.caller c.args.now c.args.op.now) c.in_ok-reply.group WasPut made c.in_ok-apply_group.ensures.cut

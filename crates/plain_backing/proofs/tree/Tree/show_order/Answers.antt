@@ -1,9 +1,10 @@
-use Rattle.std.proofs.Common.{subst}
+use Rattle.std.proofs.Common.{ap, subst, ◌∙◌}
 use Rattle.std.specs.Map.{keys_of}
 use Rattle.std.specs.Ordering.{nat_cmp}
-use Rattle.fs_model.specs.Files.{Tree, pair_cmp}
-use Rattle.fs_laws.specs.Forgotten.{IsInOrder}
+use Rattle.fs_model.specs.Files.{Tree, name_cmp, pair_cmp}
+use Rattle.fs_model.specs.Proper.{ascends, IsInOrder}
 use Rattle.plain_backing.specs.Cells.{seen}
+use Rattle.plain_backing.proofs.Counted.{keys-entries_of}
 use Rattle.plain_backing.proofs.Opening.{sorted_ascends}
 use Rattle.plain_backing.proofs.Seen.{sorted-seen}
 use Rattle.plain_backing.proofs.tree.Tree.show_order.Goals as goal
@@ -15,4 +16,5 @@ returns c =
     subst P c.self.view_is (record {
       inodes = sorted_ascends nat_cmp (keys_of (seen cells.inodes.entries)) (sorted-seen nat_cmp cells.inodes.entries c.len.ensures.ordered);
       blocks = sorted_ascends pair_cmp (keys_of (seen cells.blocks.entries)) (sorted-seen pair_cmp cells.blocks.entries c.len-2.ensures.ordered);
+      entries = ap (ascends name_cmp) (keys-entries_of (seen cells.entries.entries)) ∙ sorted_ascends name_cmp (keys_of (seen cells.entries.entries)) (sorted-seen name_cmp cells.entries.entries c.len-3.ensures.ordered);
     })

@@ -3,6 +3,7 @@ use Rattle.fs_model.specs.declared.reply.Reply.{Reply}
 use Rattle.cached_files.specs.Present.{present}
 use Rattle.vfs_ops.specs.Steps.{read_only_cause}
 use Rattle.vfs_ops.proofs.Admitted.{told_at_once}
+use Rattle.vfs_ops.proofs.Cutting.{cut_noted, cut_replied}
 use Rattle.vfs_ops.proofs.Looking.{noted_looks}
 use Rattle.vfs_ops.proofs.Serving.{done_buffered, noted_for, refused_buffered, refused_synced}
 use Rattle.fs_model.specs.Legal.{pages_in}
@@ -75,3 +76,12 @@ returns-in-Err-clause-weighed g c =
 pub returns-in-Ok-clause-weighed : goal.returns-in-Ok-clause-weighed
 returns-in-Ok-clause-weighed g c =
     reply_told (2 * pages_in c.args.op.now + length (group_of (present (g.B.Backing.state c.args.self.now.backing).tree c.args.self.now.kept) c.args.caller c.args.now c.args.op.now)) (max 2 (length (group_of (present (g.B.Backing.state c.args.self.now.backing).tree c.args.self.now.kept) c.args.caller c.args.now c.args.op.now))) _ (g.B.Backing.state c.args.self.now.backing) (g.B.Backing.state c.call.new.backing) c.args.self.now.kept c.call.new.kept (done_plain (g.B.Backing.state c.args.self.now.backing) (present (g.B.Backing.state c.args.self.now.backing).tree c.args.self.now.kept) c.args.caller c.args.now c.args.op.now _ c.in-Ok.ensures.done.0 c.args.self.now.ready.sound c.in-Ok.ensures.done.1) c.in-Ok.ensures.grows
+
+pub returns-in-Err-clause-cut : goal.returns-in-Err-clause-cut
+returns-in-Err-clause-cut g c =
+    cut_noted (g.B.Backing.state c.args.self.now.backing) (g.B.Backing.state c.call.new.backing) c.args.self.now.kept (group_of (present (g.B.Backing.state c.args.self.now.backing).tree c.args.self.now.kept) c.args.caller c.args.now c.args.op.now) c.in-Err.refusal c.noted-refusal.result c.noted-refusal.ensures.refusal c.in-Err.ensures.cut
+
+pub returns-in-Ok-clause-cut : goal.returns-in-Ok-clause-cut
+returns-in-Ok-clause-cut g c =
+    cut_replied (g.B.Backing.state c.args.self.now.backing) (g.B.Backing.state c.call.new.backing) c.args.self.now.kept (group_of (present (g.B.Backing.state c.args.self.now.backing).tree c.args.self.now.kept) c.args.caller c.args.now c.args.op.now) _
+    (done_plain (g.B.Backing.state c.args.self.now.backing) (present (g.B.Backing.state c.args.self.now.backing).tree c.args.self.now.kept) c.args.caller c.args.now c.args.op.now _ c.in-Ok.ensures.done.0 c.args.self.now.ready.sound c.in-Ok.ensures.done.1) c.in-Ok.ensures.cut

@@ -25,6 +25,6 @@ returns-in-ReadOnly-clause-applied g c =
       issued = refl;
       weighed = omega arith;
       orphans = inl (omega arith);
-      cut = cut_none old.backing old.kept c.args.group.now;
+      cut = cut_none old.backing old.kept c.args.group.now (Erofs cause);
       goes = Goes-within 0 (2 * length old.kept.pages.dirty + length c.args.group.now) old.backing old.backing (omega arith) (Goes-none old.backing);
     }
