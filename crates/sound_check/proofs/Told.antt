@@ -18,9 +18,11 @@ use Rattle.leaf_recovery.specs.declared.recovered_leaf.RecoveredLeaf.{RecoveredL
 use Rattle.sound_image.specs.Image.{Image, parts_of}
 use Rattle.sound_image.specs.Index.{root_branch}
 use Rattle.sound_image.specs.Sound.{SoundImage}
+use Rattle.sound_image.specs.Summary.{is_clean, space_of_image}
 use Rattle.image_space.specs.Told.{IsToldOf}
-use Rattle.sound_check.specs.Reads.{IsReadImage}
+use Rattle.sound_check.specs.Reads.{IsReadImage, told_of}
 use Rattle.sound_check.specs.declared.image_read.ImageRead.{ImageRead}
+use Rattle.sound_check.specs.declared.sound.Sound.{Sound}
 
 -- ---- the count of nodes that were applied
 placed_length : (nodes : List Placed) (new : Placed) → length (placed_node nodes new) ≡ length nodes + 1
@@ -70,3 +72,7 @@ told_space contents read image sound h nodes references leaves applied of_nodes 
       leaves_are = of_leaves ∙ places_same (parts_of image) (recovered_of (parts_of image)).kept read.tree.recovered.kept.items h.tree.recovered.kept;
       applied_is = of_applied ∙ subst Q h.said.buds (nodes_counted (nodes_in h.said.read.reads) read.buds.read.nodes.items h.said.read.nodes);
     }
+
+-- what is told, part by part
+pub told_whole : (sound : Sound) (image : Image) → sound.clean ≡ is_clean image → sound.space ≡ space_of_image image → sound ≡ told_of image
+told_whole sound image clean space = λ i. record { clean = clean i; space = space i }

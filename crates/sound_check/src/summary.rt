@@ -41,6 +41,7 @@ pub fn check<V: Volume>(alloc: Global, volume: &mut V) -> Result<Sound, CheckFau
 fn told(alloc: Global, read: &ImageRead) -> Result<Sound, Memory>
     ensures { (contents : ℕ → List ℕ) (image : Image) → SoundImage contents image → IsReadImage contents read.now image → IfOk result (λ sound. sound ≡ told_of image) }
 {
+    let nodes = read.buds.read.nodes.as_slice();
     let leaves = places_of(alloc, read.tree.recovered.kept.as_slice())?;
     let space = space_of(
         alloc,
@@ -48,7 +49,7 @@ fn told(alloc: Global, read: &ImageRead) -> Result<Sound, Memory>
         read.index.nodes.as_slice(),
         read.log.references.as_slice(),
         leaves.as_slice(),
-        read.buds.read.nodes.len() as u64,
+        nodes.len() as u64,
     )?;
     Ok(Sound {
         clean: read.buds.clean,
