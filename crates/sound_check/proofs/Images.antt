@@ -1,10 +1,8 @@
 -- One image more by each stage.
 use Rattle.std.proofs.Common.{◌≡◌, ◌∙◌, ◌<◌, ℕ, List, [], refl, sym, subst, arith}
 use Rattle.ubifs_base.specs.RawOf.{raw_of}
-use Rattle.ubifs_base.specs.declared.raw_geometry.RawGeometry.{RawGeometry}
 use Rattle.media_lpt.specs.declared.lprop.Lprop.{Lprop}
 use Rattle.media_sys.specs.declared.ref_node.RefNode.{RefNode}
-use Rattle.small_areas.specs.declared.placed_master.PlacedMaster.{PlacedMaster}
 use Rattle.index_tree.specs.declared.leaf.Leaf.{Leaf}
 use Rattle.index_media.specs.PlacedRow.{PlacedRow, ended}
 use Rattle.bud_log.specs.Buds.{buds_of}

@@ -1,7 +1,7 @@
 -- The rules on space, on the orphan area, on the tree and on links.
-use Rattle.std.proofs.Common.{◌≡◌, ◌∙◌, ℕ, suc, List, length, refl, sym, subst, arith}
+use Rattle.std.proofs.Common.{◌≡◌, ◌∙◌, ℕ, suc, List, Result, Ok, refl, sym, subst, arith}
 use Rattle.std.proofs.lemmas.List.Sorted.{IsPermutation-refl}
-use Rattle.std.specs.Prelude.{IsPermutation}
+use Rattle.std.specs.Prelude.{IfOk, IsPermutation}
 use Rattle.ubifs_base.specs.RawOf.{raw_of}
 use Rattle.ubifs_base.specs.declared.raw_geometry.RawGeometry.{RawGeometry}
 use Rattle.media_lpt.specs.declared.lprop.Lprop.{Lprop}
@@ -30,8 +30,9 @@ use Rattle.image_tree.specs.Reads.{IsJournalOf}
 use Rattle.space_check.specs.Sums.{ListsIndex}
 use Rattle.sound_check.specs.Stages.{IsReadUpTo}
 use Rattle.sound_check.specs.declared.journal.Journal.{Journal}
-use Rattle.sound_check.proofs.Firsts.{FirstLaw, first_told}
+use Rattle.sound_check.proofs.Firsts.{FirstLaw, first_told, ok_told}
 use Rattle.sound_check.proofs.Order.{meets_next}
+use Rattle.sound_check.proofs.Stages.{up_to_same}
 
 -- one rule more
 pub advance : (contents : ℕ → List ℕ) (journal : Journal) (image : Image) (rule next : Rule) → rule_number next ≡ suc (rule_number rule) → IsReadUpTo rule contents journal image → Meets contents image rule → IsReadUpTo next contents journal image
@@ -83,6 +84,19 @@ module _ (contents : ℕ → List ℕ) (journal : Journal) (image : Image) (prop
 
   pub ends_met : IsReadUpTo rules.Ends contents journal image → HasErasedEnds contents geo master props image.log → IsReadUpTo rules.Orphans contents journal image
   ends_met h met = advance contents journal image rules.Ends rules.Orphans refl h (of_image contents journal image props same h (λ g latest ps. HasErasedEnds contents g latest.master ps image.log) met)
+
+-- what was tested, of contents that are the same
+pub sums_here : (old now : ℕ → List ℕ) (journal : Journal) (image : Image) (r : Result (Unit {0}) CheckFault) (x : Unit {0}) → r ≡ Ok x → IfOk r (λ y. HasSums (raw_of journal.areas.begun.geometry) journal.areas.props.items image.placed) → now ≡ old
+    → IsReadUpTo rules.Sums old journal image → IsReadUpTo rules.Ends now journal image
+sums_here old now journal image r x e met same h =
+    up_to_same rules.Ends old now journal image (sym same)
+    (sums_met old journal image journal.areas.props.items refl h (ok_told (λ y. HasSums (raw_of journal.areas.begun.geometry) journal.areas.props.items image.placed) r x e met))
+
+pub ends_here : (old now : ℕ → List ℕ) (journal : Journal) (image : Image) (props : List Lprop) (same : props ≡ journal.areas.props.items) (r : Result (Unit {0}) CheckFault) (x : Unit {0}) → r ≡ Ok x
+    → IfOk r (λ y. HasErasedEnds old (raw_of journal.areas.begun.geometry) journal.areas.begun.latest.master props image.log) → now ≡ old → IsReadUpTo rules.Ends old journal image → IsReadUpTo rules.Orphans now journal image
+ends_here old now journal image props same r x e met kept h =
+    up_to_same rules.Orphans old now journal image (sym kept)
+    (ends_met old journal image props same h (ok_told (λ y. HasErasedEnds old (raw_of journal.areas.begun.geometry) journal.areas.begun.latest.master props image.log) r x e met))
 
 module _ (contents : ℕ → List ℕ) (journal : Journal) (image : Image) where
   -- ---- the orphan area
