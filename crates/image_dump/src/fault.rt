@@ -6,8 +6,8 @@ use media_sys::{Feature, SuperField};
 use thiserror::Error;
 use ubifs_base::Memory;
 
-/// Why an image isn't listed: the first of these that applies, in the order in which the image is read. Places are a LEB
-/// and an offset in bytes.
+/// Why an image isn't that of a volume: the first of these that applies, in the order in which it is read. Places are a LEB and an
+/// offset in bytes.
 #[derive(Clone, Copy, Debug, PartialEq, Eq, Error)]
 pub enum ImageFault {
     #[error("out of memory")]
@@ -34,17 +34,6 @@ pub enum ImageFault {
     Long {
         len: u64,
         most: u64,
-    },
-    #[error("no master")]
-    NoMaster,
-    /// An address of the latest master lies outside its area; the master stands at the place.
-    #[error("address {found} where {wanted} is the limit, at {lnum}, {offs}")]
-    Damaged {
-        rule: u8,
-        lnum: u32,
-        offs: u32,
-        wanted: u64,
-        found: u64,
     },
 }
 
