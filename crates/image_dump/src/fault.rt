@@ -6,46 +6,24 @@ use media_sys::{Feature, SuperField};
 use thiserror::Error;
 use ubifs_base::Memory;
 
-/// Why an image isn't listed: the first of these that applies, in the order in which the image is read. Places are a LEB
-/// and an offset in bytes.
+/// Why an image isn't that of a volume: the first of these that applies, in the order in which it is read. Places are a LEB and an
+/// offset in bytes.
 #[derive(Clone, Copy, Debug, PartialEq, Eq, Error)]
 pub enum ImageFault {
     #[error("out of memory")]
     Memory,
     /// Fewer than 4,096 bytes, or no whole LEBs.
     #[error("only {len} bytes")]
-    Short {
-        len: u64,
-    },
+    Short { len: u64 },
     /// LEB 0 doesn't begin with a superblock node, or a field of its geometry is out of its range.
     #[error("a bad superblock")]
-    Super {
-        field: SuperField,
-    },
+    Super { field: SuperField },
     /// The superblock needs a feature that isn't known here.
     #[error("an unknown feature at {lnum}, {offs}")]
-    Feature {
-        what: Feature,
-        lnum: u32,
-        offs: u32,
-    },
+    Feature { what: Feature, lnum: u32, offs: u32 },
     /// A byte behind the volume's `most` bytes isn't 0xFF.
     #[error("{len} bytes where the volume has {most}")]
-    Long {
-        len: u64,
-        most: u64,
-    },
-    #[error("no master")]
-    NoMaster,
-    /// An address of the latest master lies outside its area; the master stands at the place.
-    #[error("address {found} where {wanted} is the limit, at {lnum}, {offs}")]
-    Damaged {
-        rule: u8,
-        lnum: u32,
-        offs: u32,
-        wanted: u64,
-        found: u64,
-    },
+    Long { len: u64, most: u64 },
 }
 
 impl From<Memory> for ImageFault {

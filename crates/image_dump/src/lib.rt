@@ -1,10 +1,10 @@
-//! Are these bytes an image that can be listed, and what stands in each LEB of it?
+//! Are these bytes an image of a volume, and what stands in each LEB of it?
 //!
-//! An image's superblock tells the shape of its volume; `specs/Sound.antt` says what is wrong with bytes that have no
-//! such superblock, no whole LEBs, or no master whose addresses lie in their areas, and in which order. `specs/
-//! Listing.antt` says what is listed of a LEB: a word where it has properties or where nothing is written in it, and else
-//! its nodes, in the order in which they stand, and how its text ends. A dump reads one LEB after another into one
-//! buffer, goes over its text once, and appends a line for each node.
+//! An image's superblock tells the shape of its volume; `specs/Opening.antt` says what is wrong with bytes that have no
+//! such superblock, no whole LEBs, or more bytes than the volume, and in which order. `specs/Listing.antt` says what is
+//! listed of a LEB: a word where it has properties or where nothing is written in it, and else its nodes, in the order in
+//! which they stand, and how its text ends. A dump reads one LEB after another into one buffer, goes over its text once,
+//! and appends a line for each node.
 #![tactic(auto)]
 
 mod fault;

@@ -6,11 +6,11 @@ ghost use Rattle.ubi_volume.specs.Loading.{IsLoaded};
 ghost use Rattle.ubi_volume.specs.MemVolume.{state_of};
 ghost use Rattle.media_sys.specs.SystemNode.{IsSuper};
 ghost use Rattle.media_sys.specs.declared.super_node.Super.{Super as ASuper};
-ghost use Rattle.image_dump.specs.Sound.{IsOpened, IsFaulty, HasGeometry, HasVolume, shape_of, field_of, fault_of};
+ghost use Rattle.sound_image.specs.Breaches.{super_field_of};
+ghost use Rattle.image_dump.specs.Opening.{IsOpened, IsFaulty, HasGeometry, HasVolume, shape_of, fault_of};
 
 use crate::fault::ImageFault;
 use media_sys::{Super, SuperField};
-use small_areas::{latest, misplaced_address};
 use std::alloc::Global;
 use ubi_volume::{LoadFault, MemVolume, VolShape, load_image};
 use ubifs_base::{GeomField, Geometry};
@@ -22,14 +22,15 @@ pub struct Opened {
     pub geometry: Geometry,
 }
 
-/// The volume of an image, whose shape its superblock tells. Errors are those of `ImageFault`, the first that applies.
+/// The volume of an image, whose shape its superblock tells. What else stands in it isn't looked at. Errors are those of
+/// `ImageFault`, the first that applies.
 pub fn open_image(alloc: Global, image: &[u8]) -> Result<Opened, ImageFault>
     ensures opened { IfOk result (IsOpened image.now) }
     ensures fault { IfErr result (IsFaulty image.now) }
 {
     let geometry = geometry_in(alloc, image)?;
     let volume = load(alloc, image, &geometry)?;
-    test_master(alloc, image, volume, geometry)
+    Ok(Opened { volume, geometry })
 }
 
 // The geometry that the superblock tells.
@@ -75,7 +76,7 @@ fn superblock_of(alloc: Global, bytes: &[u8]) -> Option<Super>
 
 // The field of a superblock that is a field of its geometry.
 fn field_named(field: GeomField) -> SuperField
-    ensures { result ≡ field_of field }
+    ensures { result ≡ super_field_of field }
 {
     match field {
         GeomField::LebSize => SuperField::LebSize,
@@ -117,35 +118,4 @@ fn fault_told(fault: LoadFault) -> ImageFault
         LoadFault::Short { len } => ImageFault::Short { len },
         LoadFault::Long { len, most } => ImageFault::Long { len, most },
     }
-}
-
-// The volume and its geometry, where it has a master whose addresses lie in their areas.
-fn test_master(
-    alloc: Global,
-    image: &[u8],
-    volume: MemVolume,
-    geometry: Geometry,
-) -> Result<Opened, ImageFault>
-    requires fits { HasVolume image.now (raw_of geometry) }
-    requires loaded { IsLoaded (shape_of (raw_of geometry)) image.now (state_of volume) }
-    ensures opened { IfOk result (IsOpened image.now) }
-    ensures fault { IfErr result (IsFaulty image.now) }
-{
-    let mut volume = volume;
-    let Ok(master) = latest(alloc, &mut volume) else {
-        return Err(ImageFault::Memory);
-    };
-    let Some(master) = master else {
-        return Err(ImageFault::NoMaster);
-    };
-    if let Some(misplaced) = misplaced_address(&master.master, &geometry) {
-        return Err(ImageFault::Damaged {
-            rule: 2,
-            lnum: master.lnum,
-            offs: master.offs,
-            wanted: misplaced.wanted as u64,
-            found: misplaced.found as u64,
-        });
-    }
-    Ok(Opened { volume, geometry })
 }

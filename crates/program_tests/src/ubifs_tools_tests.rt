@@ -66,6 +66,10 @@ const ROWS: &[Row] = &[
     (&["dump", "a"], 1, 0, 4, b"file a\n"),
     (&["dump", "a"], 0, 0, 3, b"image short 26\n"),
     (&["dump", "a"], 0, 1, 3, b""),
+    (&["check", "a", "b"], 0, 0, 1, b"usage\n"),
+    (&["check", "-a"], 0, 0, 1, b"usage\n"),
+    (&["check", "d"], 0, 0, 4, b"file d\n"),
+    (&["check", "a"], 0, 0, 3, b"image short 26\n"),
 ];
 
 // Whether an image is left where the status says so: 74 LEBs, of which the first main LEB is the first that is written.

@@ -1,6 +1,6 @@
 pub mod Command
-pub mod Dump
-pub mod Dumped
+pub mod ImageCommand
+pub mod Reported
 pub mod Ended
 pub mod Performed
 pub mod Replies

@@ -2,13 +2,14 @@
 #![tactic(auto)]
 
 mod command;
-mod dump;
 mod fresh;
 mod image;
+mod image_command;
 mod perform;
 mod run;
 mod session;
 mod top;
 mod words;
 
+pub use crate::image_command::ImageCommand;
 pub use crate::top::ubifs;

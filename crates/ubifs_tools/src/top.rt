@@ -6,38 +6,39 @@ ghost use Rattle.ubifs_base.specs.Faults.{Rose};
 ghost use Rattle.text_lines.specs.Lines.{line_of};
 ghost use Rattle.io_edges.specs.Keeper.{SameFiles};
 ghost use Rattle.ubifs_tools.specs.Command.{IsRun, OnRun, IsPrinted, IsTold, IsUnread, IsBadText, IsBadGeometry};
-ghost use Rattle.ubifs_tools.specs.Dump.{IsDump, OnDump, IsBadImage, IsListed, IsNoImage};
+ghost use Rattle.ubifs_tools.specs.ImageCommand.{IsBadImage, IsNoImage, IsOfImage, IsTextOf, OnImage};
 ghost use Rattle.ubifs_tools.specs.Ended.{IsFinished, IsTurnedDown};
+ghost use Rattle.ubifs_tools.specs.declared.image_command.ImageCommand.{ImageCommand as Command};
 
 use crate::command::{Ended, run};
-use crate::dump::{Dumped, dump_file};
-use crate::words::{dump_words, run_words};
+use crate::image_command::{ImageCommand, Reported, report};
+use crate::words::{image_words, run_words};
 use io_edges::{Keeper, Sink, SinkFault};
 use std::alloc::Global;
 use ubifs_base::Memory;
 
 /// Runs the command that the words say, over the keeper's files, and prints to the sink. The answer is the status: 0 the
-/// work was done, 1 the words aren't a command, 2 a text isn't in its grammar, 3 an image is faulty, 4 a file wasn't read
+/// work was done, 1 the words aren't a command, 2 a text isn't in its grammar, 3 an image isn't sound, 4 a file wasn't read
 /// or written, 5 the output failed, 6 there was no memory, 7 the manifest's geometry is out of range.
 pub fn ubifs<K: Keeper, O: Sink>(alloc: Global, words: &[String], keeper: &mut K, out: &mut O) -> u8
     ensures known { result ≤ 7 }
 
-    // The words are neither a run of three files nor a dump of one.
+    // The words are neither a run of three files nor a check or a dump of one.
     ensures words { (result ≡ 1) ↔ (((manifest script image : List ℕ) → IsRun (map string_bytes words.now) manifest script image → ⊥)
-        × ((image : List ℕ) → IsDump (map string_bytes words.now) image → ⊥)) }
+        × ((command : Command) (image : List ℕ) → IsOfImage (map string_bytes words.now) command image → ⊥)) }
     ensures usage { result ≡ 1 → IsPrinted (O.state out.old) (O.state out.new) (line_of (codes "usage" ∷ [])) }
 
     // The work was done, and all of its text was printed.
     ensures done { result ≡ 0 → OnRun (map string_bytes words.now) (λ manifest script image. (text : List ℕ)
         × IsFinished (K.state keeper.old) (K.state keeper.new) manifest script image text × IsTold (O.state out.old) (O.state out.new) text)
-        ⊎ OnDump (map string_bytes words.now) (λ image. (text : List ℕ)
-        × IsListed (K.state keeper.old) (K.state keeper.new) image text × IsTold (O.state out.old) (O.state out.new) text) }
+        ⊎ OnImage (map string_bytes words.now) (λ command image. (text : List ℕ)
+        × IsTextOf command (K.state keeper.old) (K.state keeper.new) image text × IsTold (O.state out.old) (O.state out.new) text) }
 
     // Nothing was done, and the line says why.
     ensures text { result ≡ 2 → OnRun (map string_bytes words.now) (λ manifest script image. (line : List ℕ)
         × IsTurnedDown (K.state keeper.old) (K.state keeper.new) manifest script (λ texts. IsBadText texts line)
         × IsPrinted (O.state out.old) (O.state out.new) line) }
-    ensures image { result ≡ 3 → OnDump (map string_bytes words.now) (λ image. (line : List ℕ)
+    ensures image { result ≡ 3 → OnImage (map string_bytes words.now) (λ command image. (line : List ℕ)
         × IsBadImage (K.state keeper.old) (K.state keeper.new) image line × IsPrinted (O.state out.old) (O.state out.new) line) }
     ensures geometry { result ≡ 7 → OnRun (map string_bytes words.now) (λ manifest script image. (line : List ℕ)
         × IsTurnedDown (K.state keeper.old) (K.state keeper.new) manifest script (λ texts. IsBadGeometry texts line)
@@ -45,7 +46,7 @@ pub fn ubifs<K: Keeper, O: Sink>(alloc: Global, words: &[String], keeper: &mut K
     ensures files { result ≡ 4 → OnRun (map string_bytes words.now) (λ manifest script image. (line : List ℕ)
         × IsUnread (K.state keeper.old) (K.state keeper.new) manifest script image line
         × SameFiles (K.state keeper.old) (K.state keeper.new) × IsPrinted (O.state out.old) (O.state out.new) line)
-        ⊎ OnDump (map string_bytes words.now) (λ image. (line : List ℕ)
+        ⊎ OnImage (map string_bytes words.now) (λ command image. (line : List ℕ)
         × IsNoImage (K.state keeper.old) (K.state keeper.new) image line
         × SameFiles (K.state keeper.old) (K.state keeper.new) × IsPrinted (O.state out.old) (O.state out.new) line) }
 
@@ -53,8 +54,8 @@ pub fn ubifs<K: Keeper, O: Sink>(alloc: Global, words: &[String], keeper: &mut K
     ensures failed { result ≡ 5 → Rose (O.state out.old).faults (O.state out.new).faults }
     ensures output { result ≡ 5 → OnRun (map string_bytes words.now) (λ manifest script image. (text : List ℕ)
         × IsFinished (K.state keeper.old) (K.state keeper.new) manifest script image text × IsPrinted (O.state out.old) (O.state out.new) text)
-        ⊎ OnDump (map string_bytes words.now) (λ image. (text : List ℕ)
-        × IsListed (K.state keeper.old) (K.state keeper.new) image text × IsPrinted (O.state out.old) (O.state out.new) text) }
+        ⊎ OnImage (map string_bytes words.now) (λ command image. (text : List ℕ)
+        × IsTextOf command (K.state keeper.old) (K.state keeper.new) image text × IsPrinted (O.state out.old) (O.state out.new) text) }
 
     // There was no memory.
     ensures memory { result ≡ 6 → IsPrinted (O.state out.old) (O.state out.new) (line_of (codes "memory" ∷ [])) }
@@ -67,8 +68,8 @@ pub fn ubifs<K: Keeper, O: Sink>(alloc: Global, words: &[String], keeper: &mut K
     if let Some((manifest, script, image)) = run_words(words) {
         return run_told(alloc, manifest, script, image, keeper, out);
     }
-    if let Some(image) = dump_words(words) {
-        return dump_told(alloc, image, keeper, out);
+    if let Some((command, image)) = image_words(words) {
+        return image_told(alloc, command, image, keeper, out);
     }
     told(out, b"usage\n".as_slice(), 1)
 }
@@ -110,11 +111,17 @@ fn run_told<K: Keeper, O: Sink>(
     }
 }
 
-// Lists an image, and prints the listing or what is wrong with it.
-fn dump_told<K: Keeper, O: Sink>(alloc: Global, image: &str, keeper: &mut K, out: &mut O) -> u8
+// Looks at an image, and prints what was asked for or what is wrong with it.
+fn image_told<K: Keeper, O: Sink>(
+    alloc: Global,
+    command: ImageCommand,
+    image: &str,
+    keeper: &mut K,
+    out: &mut O,
+) -> u8
     ensures known { (result ≤ 6) × (result ≢ 1) × (result ≢ 2) }
     ensures done { result ≡ 0 → (text : List ℕ)
-        × IsListed (K.state keeper.old) (K.state keeper.new) image.now text × IsTold (O.state out.old) (O.state out.new) text }
+        × IsTextOf command (K.state keeper.old) (K.state keeper.new) image.now text × IsTold (O.state out.old) (O.state out.new) text }
     ensures image { result ≡ 3 → (line : List ℕ)
         × IsBadImage (K.state keeper.old) (K.state keeper.new) image.now line × IsPrinted (O.state out.old) (O.state out.new) line }
     ensures files { result ≡ 4 → (line : List ℕ)
@@ -122,14 +129,14 @@ fn dump_told<K: Keeper, O: Sink>(alloc: Global, image: &str, keeper: &mut K, out
         × SameFiles (K.state keeper.old) (K.state keeper.new) × IsPrinted (O.state out.old) (O.state out.new) line }
     ensures failed { result ≡ 5 → Rose (O.state out.old).faults (O.state out.new).faults }
     ensures output { result ≡ 5 → (text : List ℕ)
-        × IsListed (K.state keeper.old) (K.state keeper.new) image.now text × IsPrinted (O.state out.old) (O.state out.new) text }
+        × IsTextOf command (K.state keeper.old) (K.state keeper.new) image.now text × IsPrinted (O.state out.old) (O.state out.new) text }
     ensures memory { result ≡ 6 → IsPrinted (O.state out.old) (O.state out.new) (line_of (codes "memory" ∷ [])) }
     ensures kept { SameFiles (K.state keeper.old) (K.state keeper.new) }
 {
-    match dump_file(alloc, image, keeper) {
-        Ok(Dumped::Unread { line }) => told(out, &line, 4),
-        Ok(Dumped::BadImage { line }) => told(out, &line, 3),
-        Ok(Dumped::Listed { text }) => printed(out, &text),
+    match report(alloc, command, image, keeper) {
+        Ok(Reported::Unread { line }) => told(out, &line, 4),
+        Ok(Reported::BadImage { line }) => told(out, &line, 3),
+        Ok(Reported::Done { text }) => printed(out, &text),
         Err(Memory) => told(out, b"memory\n".as_slice(), 6),
     }
 }

@@ -3,7 +3,10 @@
 ghost use Rattle.std.specs.Prelude.{◌≡◌, ◌↔◌, ℕ, List, IsTrue, IfSome, IfNone, map, codes};
 ghost use Rattle.std.specs.String.{string_bytes};
 ghost use Rattle.ubifs_tools.specs.Command.{IsRun, IsFileName};
-ghost use Rattle.ubifs_tools.specs.Dump.{IsDump};
+ghost use Rattle.ubifs_tools.specs.ImageCommand.{IsOfImage, command_word};
+ghost use Rattle.ubifs_tools.specs.declared.image_command.ImageCommand.{ImageCommand as Command};
+
+use crate::image_command::ImageCommand;
 
 // The files that the words `run MANIFEST SCRIPT IMAGE` name.
 pub(crate) fn run_words(words: &[String]) -> Option<(&str, &str, &str)>
@@ -28,21 +31,41 @@ pub(crate) fn run_words(words: &[String]) -> Option<(&str, &str, &str)>
     Some((manifest.as_str(), script.as_str(), image.as_str()))
 }
 
-// The image that the words `dump IMAGE` name.
-pub(crate) fn dump_words(words: &[String]) -> Option<&str>
-    ensures some { IfSome result (λ name. IsDump (map string_bytes words.now) name.now) }
-    ensures none { IfNone result ((image : List ℕ) → IsDump (map string_bytes words.now) image → ⊥) }
+// The command on an image that the words `check IMAGE` or `dump IMAGE` say, and the image.
+pub(crate) fn image_words(words: &[String]) -> Option<(ImageCommand, &str)>
+    ensures some { IfSome result (λ named. IsOfImage (map string_bytes words.now) named.0 named.1.now) }
+    ensures none { IfNone result ((command : Command) (image : List ℕ) → IsOfImage (map string_bytes words.now) command image → ⊥) }
 {
     let [command, image] = words else {
         return None;
     };
-    if !is_dump(command.as_bytes()) {
+    let Some(command) = command_of(command.as_bytes()) else {
         return None;
-    }
+    };
     if !is_file_name(image.as_bytes()) {
         return None;
     }
-    Some(image.as_str())
+    Some((command, image.as_str()))
+}
+
+// The command on an image that a word says.
+fn command_of(word: &[u8]) -> Option<ImageCommand>
+    ensures some { IfSome result (λ command. word.now ≡ command_word command) }
+    ensures none { IfNone result ((command : Command) → word.now ≡ command_word command → ⊥) }
+{
+    if is_check(word) {
+        return Some(ImageCommand::Check);
+    }
+    if is_dump(word) {
+        return Some(ImageCommand::Dump);
+    }
+    None
+}
+
+fn is_check(word: &[u8]) -> bool
+    ensures { IsTrue result ↔ (word.now ≡ codes "check") }
+{
+    word == b"check".as_slice()
 }
 
 fn is_dump(word: &[u8]) -> bool

@@ -1,7 +1,7 @@
 use Rattle.std.proofs.Common.{subst, sym}
 use Rattle.ubifs_base.specs.RawOf.{raw_of}
 use Rattle.image_dump.specs.declared.fault.ImageFault.{ImageFault}
-use Rattle.image_dump.specs.Sound.{IsFaulty}
+use Rattle.image_dump.specs.Opening.{IsFaulty}
 use Rattle.image_dump.proofs.Faulty.{unloaded}
 use Rattle.image_dump.proofs.opening.load.Goals as goal
 

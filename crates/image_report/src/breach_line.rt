@@ -1,73 +1,28 @@
-// The command `dump`.
+// The lines of what is wrong with an image.
 
-ghost use Rattle.std.specs.Prelude.{◌≡◌, ◌++◌, IfOk, OnErr, OnOk};
+ghost use Rattle.std.specs.Prelude.{◌≡◌, ◌++◌, IfOk, OnOk};
 ghost use Rattle.text_lines.specs.Lines.{spaced};
-ghost use Rattle.io_edges.specs.Keeper.{SameFiles};
-ghost use Rattle.ubifs_tools.specs.Command.{file_line};
-ghost use Rattle.ubifs_tools.specs.Dump.{fault_line as line_of_fault, fault_words, super_word, feature_word};
-ghost use Rattle.ubifs_tools.specs.Dumped.{IsDumped, IsNamed, IsLookedAt};
+ghost use Rattle.sound_image.specs.Rules.{rule_number};
+ghost use Rattle.image_report.specs.Lines.{breach_line as line_of_breach, breach_words, fault_line as line_of_fault, fault_words, feature_word, super_word};
 
-use image_dump::{ImageFault, dump, open_image};
-use io_edges::{KeepFault, Keeper};
+use image_dump::ImageFault;
 use media_sys::{Feature, SuperField};
+use sound_image::{Breach, Rule};
 use std::alloc::{AllocError, Global};
-use text_lines::{line_of_two, push_number_word, push_word};
-use ubifs_base::Memory;
+use text_lines::{push_number_word, push_word};
 
-/// How a dump ended: a line that says why nothing was listed, or the listing.
-#[derive(Drop)]
-pub(crate) enum Dumped {
-    Unread { line: Vec<u8> },
-    BadImage { line: Vec<u8> },
-    Listed { text: Vec<u8> },
-}
-
-/// Reads the image and lists it.
-pub(crate) fn dump_file<K: Keeper>(
-    alloc: Global,
-    image: &str,
-    keeper: &mut K,
-) -> Result<Dumped, Memory>
-    ensures ended { IfOk result (IsDumped (K.state keeper.old) (K.state keeper.new) image.now) }
-    ensures err { OnErr result (SameFiles (K.state keeper.old) (K.state keeper.new)) }
+// The line of what is wrong with contents.
+pub(crate) fn breach_line(alloc: Global, breach: Breach) -> Result<Vec<u8>, AllocError>
+    ensures { IfOk result (λ line. line.items ≡ line_of_breach breach) }
 {
-    let bytes = match keeper.read(image) {
-        Ok(bytes) => bytes,
-        Err(KeepFault::Memory) => return Err(Memory),
-        Err(_) => return unread(alloc, image),
-    };
-    list(alloc, &bytes)
+    let mut line = Vec::from_slice(alloc, b"image".as_slice())?;
+    push_breach(&mut line, breach)?;
+    line.push(b'\n')?;
+    Ok(line)
 }
 
-// The line for an image that wasn't read.
-fn unread(alloc: Global, name: &str) -> Result<Dumped, Memory>
-    ensures { IfOk result (IsNamed name.now) }
-{
-    let line = line_of_two(alloc, b"file".as_slice(), name.as_bytes())?;
-    Ok(Dumped::Unread { line })
-}
-
-// What the bytes of an image are listed as.
-fn list(alloc: Global, bytes: &[u8]) -> Result<Dumped, Memory>
-    ensures { IfOk result (IsLookedAt bytes.now) }
-{
-    let mut opened = match open_image(alloc, bytes) {
-        Ok(opened) => opened,
-        Err(ImageFault::Memory) => return Err(Memory),
-        Err(fault) => {
-            let line = line_for(alloc, fault)?;
-            return Ok(Dumped::BadImage { line });
-        }
-    };
-    let mut text = Vec::new(alloc);
-    match dump(alloc, &mut opened.volume, &opened.geometry, &mut text) {
-        Ok(()) => Ok(Dumped::Listed { text }),
-        Err(_) => Err(Memory),
-    }
-}
-
-// The line that tells what is wrong with an image.
-fn line_for(alloc: Global, fault: ImageFault) -> Result<Vec<u8>, AllocError>
+// The line of what is wrong with the bytes of an image.
+pub(crate) fn fault_line(alloc: Global, fault: ImageFault) -> Result<Vec<u8>, AllocError>
     ensures { IfOk result (λ line. line.items ≡ line_of_fault fault) }
 {
     let mut line = Vec::from_slice(alloc, b"image".as_slice())?;
@@ -76,7 +31,7 @@ fn line_for(alloc: Global, fault: ImageFault) -> Result<Vec<u8>, AllocError>
     Ok(line)
 }
 
-// Appends the words of what is wrong with an image.
+// Appends the words of what is wrong with the bytes of an image.
 fn push_fault(line: &mut Vec<u8>, fault: ImageFault) -> Result<(), AllocError>
     ensures { OnOk result (line.new.items ≡ line.old.items ++ spaced (fault_words fault)) }
 {
@@ -86,25 +41,37 @@ fn push_fault(line: &mut Vec<u8>, fault: ImageFault) -> Result<(), AllocError>
             push_word(line, b"short".as_slice())?;
             push_number_word(line, len)
         }
-        ImageFault::Super { field } => {
-            push_word(line, b"super".as_slice())?;
-            push_word(line, word_of_field(field))
-        }
+        ImageFault::Super { field } => push_breach(line, Breach::Super { field }),
         ImageFault::Feature { what, lnum, offs } => {
-            push_word(line, b"feature".as_slice())?;
-            push_word(line, word_of_feature(what))?;
-            push_number_word(line, lnum as u64)?;
-            push_number_word(line, offs as u64)
+            push_breach(line, Breach::Feature { what, lnum, offs })
         }
         ImageFault::Long { len, .. } => {
             push_word(line, b"long".as_slice())?;
             push_number_word(line, len)
         }
-        ImageFault::NoMaster => {
+    }
+}
+
+// Appends the words of what is wrong with contents.
+fn push_breach(line: &mut Vec<u8>, breach: Breach) -> Result<(), AllocError>
+    ensures { OnOk result (line.new.items ≡ line.old.items ++ spaced (breach_words breach)) }
+{
+    match breach {
+        Breach::Super { field } => {
+            push_word(line, b"super".as_slice())?;
+            push_word(line, word_of_field(field))
+        }
+        Breach::Feature { what, lnum, offs } => {
+            push_word(line, b"feature".as_slice())?;
+            push_word(line, word_of_feature(what))?;
+            push_number_word(line, lnum as u64)?;
+            push_number_word(line, offs as u64)
+        }
+        Breach::NoMaster => {
             push_word(line, b"no".as_slice())?;
             push_word(line, b"master".as_slice())
         }
-        ImageFault::Damaged {
+        Breach::Damaged {
             rule,
             lnum,
             offs,
@@ -112,12 +79,32 @@ fn push_fault(line: &mut Vec<u8>, fault: ImageFault) -> Result<(), AllocError>
             found,
         } => {
             push_word(line, b"damaged".as_slice())?;
-            push_number_word(line, rule as u64)?;
+            push_number_word(line, number_of_rule(rule))?;
             push_number_word(line, lnum as u64)?;
             push_number_word(line, offs as u64)?;
             push_number_word(line, wanted)?;
             push_number_word(line, found)
         }
+    }
+}
+
+// The number of a rule.
+fn number_of_rule(rule: Rule) -> u64
+    ensures { result ≡ rule_number rule }
+{
+    match rule {
+        Rule::Superblock => 1,
+        Rule::Masters => 2,
+        Rule::Properties => 3,
+        Rule::Index => 4,
+        Rule::Log => 5,
+        Rule::Buds => 6,
+        Rule::Leaves => 7,
+        Rule::Sums => 8,
+        Rule::Ends => 9,
+        Rule::Orphans => 10,
+        Rule::Tree => 11,
+        Rule::Links => 12,
     }
 }
 

@@ -1,0 +1,39 @@
+-- What is told of the bytes of an image.
+use Rattle.std.specs.Prelude.{◌≡◌, ◌⊎◌, ℕ, List}
+use Rattle.ubifs_base.specs.declared.raw_geometry.RawGeometry.{RawGeometry}
+use Rattle.sound_image.specs.Breaches.{IsFirstBreach}
+use Rattle.sound_image.specs.Image.{Image}
+use Rattle.sound_image.specs.Sound.{SoundImage}
+use Rattle.sound_image.specs.Summary.{is_clean, space_of_image}
+use Rattle.sound_image.specs.declared.breach.Breach.{Breach}
+use Rattle.image_dump.specs.Listing.{IsListing}
+use Rattle.image_dump.specs.Opening.{HasVolume, IsFaulty, contents_of}
+use Rattle.image_dump.specs.declared.fault.ImageFault.{ImageFault}
+use Rattle.image_dump.specs.declared.fault.ImageFault.TheVariants as fault
+use Rattle.image_report.specs.Lines.{breach_line, fault_line, sound_line}
+use Rattle.image_report.specs.declared.texts.ImageText.{ImageText}
+use Rattle.image_report.specs.declared.texts.ImageText.TheVariants.{Unsound, Sound}
+
+-- The bytes are those of a volume, whose contents are a sound image that says this.
+pub record HoldsSoundImage (bytes : List ℕ) (image : Image) : Type 0 where
+  pub volume : HasVolume bytes image.geo
+  pub sound : SoundImage (contents_of image.geo bytes) image
+
+-- The bytes are those of no volume, or the contents of their volume aren't sound; the line tells what is wrong first.
+abbrev pub IsUnsound : List ℕ → List ℕ → Type 0
+IsUnsound bytes line =
+    ((why : ImageFault) × IsFaulty bytes why × (why ≡ fault.Memory → ⊥) × (line ≡ fault_line why))
+    ⊎ ((geo : RawGeometry) × (breach : Breach) × HasVolume bytes geo × IsFirstBreach (contents_of geo bytes) breach × (line ≡ breach_line breach))
+
+-- a sound image, and the line that tells whether it is clean, and its space once it is recovered and before any commit
+abbrev pub TellsSound : List ℕ → List ℕ → Type 0
+TellsSound bytes text = (image : Image) × HoldsSoundImage bytes image × (text ≡ sound_line (is_clean image) (space_of_image image))
+
+-- a sound image, and the listing of its LEBs
+abbrev pub ListsSound : List ℕ → List ℕ → Type 0
+ListsSound bytes text = (image : Image) × HoldsSoundImage bytes image × IsListing image.geo (contents_of image.geo bytes) image.geo.leb_cnt text
+
+-- what is wrong with bytes, or a text of which this holds
+abbrev pub IsText : (List ℕ → Type 0) → List ℕ → ImageText → Type 0
+IsText Is bytes (Unsound line) = IsUnsound bytes line.items
+IsText Is bytes (Sound text) = Is text.items

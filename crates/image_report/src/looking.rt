@@ -1,0 +1,52 @@
+// An image is opened and checked.
+
+ghost use Rattle.std.specs.Prelude.{IfOk};
+ghost use Rattle.image_dump.specs.Opening.{IsOpened};
+ghost use Rattle.image_report.specs.Looked.{IsLooked};
+
+use crate::breach_line::{breach_line, fault_line};
+use image_check::CheckFault;
+use image_dump::{ImageFault, Opened, open_image};
+use sound_check::{Sound, check};
+use sound_image::contents_say_one_thing;
+use std::alloc::Global;
+use ubifs_base::Memory;
+
+// A line that says what is wrong with an image, or its volume with what is told of it.
+#[derive(Drop)]
+pub(crate) enum Looked {
+    Unsound { line: Vec<u8> },
+    Sound { opened: Opened, sound: Sound },
+}
+
+// Opens an image and checks it.
+pub(crate) fn look(alloc: Global, bytes: &[u8]) -> Result<Looked, Memory>
+    ensures { IfOk result (IsLooked bytes.now) }
+{
+    match open_image(alloc, bytes) {
+        Ok(opened) => check_opened(alloc, bytes, opened),
+        Err(ImageFault::Memory) => Err(Memory),
+        Err(fault) => {
+            let line = fault_line(alloc, fault)?;
+            Ok(Looked::Unsound { line })
+        }
+    }
+}
+
+// Checks the volume of an image.
+fn check_opened(alloc: Global, bytes: &[u8], opened: Opened) -> Result<Looked, Memory>
+    requires { IsOpened bytes.now opened }
+    ensures { IfOk result (IsLooked bytes.now) }
+{
+    contents_say_one_thing();
+    let mut opened = opened;
+    match check(alloc, &mut opened.volume) {
+        Ok(sound) => Ok(Looked::Sound { opened, sound }),
+        Err(CheckFault::Unsound { breach }) => {
+            let line = breach_line(alloc, breach)?;
+            Ok(Looked::Unsound { line })
+        }
+        Err(CheckFault::Memory) => Err(Memory),
+        Err(CheckFault::Volume { .. }) => unreachable!(),
+    }
+}
