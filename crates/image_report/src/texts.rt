@@ -24,7 +24,8 @@ pub enum ImageText {
 pub fn check_text(alloc: Global, bytes: &[u8]) -> Result<ImageText, Memory>
     ensures { IfOk result (IsText (TellsSound bytes.now) bytes.now) }
 {
-    match look(alloc, bytes)? {
+    let looked = look(alloc, bytes)?;
+    match looked {
         Looked::Unsound { line } => Ok(ImageText::Unsound { line }),
         Looked::Sound { sound, .. } => {
             let text = sound_line(alloc, sound.clean, &sound.space)?;

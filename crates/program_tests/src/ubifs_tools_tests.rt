@@ -89,6 +89,10 @@ fn each_status_has_its_line(rt: HostRuntime) -> Result<(), Fail> {
         (&["dump", "a"], 1, 0, 4, b"file a\n"),
         (&["dump", "a"], 0, 0, 3, b"image short 26\n"),
         (&["dump", "a"], 0, 1, 3, b""),
+        (&["check", "a", "b"], 0, 0, 1, b"usage\n"),
+        (&["check", "-a"], 0, 0, 1, b"usage\n"),
+        (&["check", "d"], 0, 0, 4, b"file d\n"),
+        (&["check", "a"], 0, 0, 3, b"image short 26\n"),
     ];
     for (names, keeper_fails, sink_fails, status, text) in rows {
         let mut keeper = keeper(rt.alloc(), keeper_fails)?;

@@ -1,0 +1,29 @@
+use Rattle.std.proofs.Common.{◌≡◌, inl, inr, subst}
+use Rattle.ubifs_base.specs.RawOf.{raw_of}
+use Rattle.ubi_volume.specs.MemVolume.{state_of}
+use Rattle.image_check.specs.Told.{IsNoVolumeFault, TellsBreach}
+use Rattle.image_check.specs.declared.fault.CheckFault.{CheckFault}
+use Rattle.sound_image.specs.Breaches.{IsFirstBreach}
+use Rattle.image_report.proofs.Contents.{broken, held, shape_at, still_opened}
+use Rattle.image_report.proofs.looking.check_opened.Goals as goal
+
+pub check-requires : goal.check-requires
+check-requires c = record { shape = shape_at c.contents_say_one_thing.ensures.geometry c.args.bytes.now (raw_of c.args.opened.geometry) c.args.opened.volume c.requires.volume c.requires.loaded }
+
+pub returns-in-Ok : goal.returns-in-Ok
+returns-in-Ok c =
+    let old = state_of c.args.opened.volume in
+    let new = state_of c.check.new.volume in
+    let fine : new.sure × ((new.faults ≡ old.faults) × IsNoVolumeFault c.check.result) = elim (c.check.ensures.sure c.requires.loaded.found.sure) [ inl gone ↦ absurd gone | inr is ↦ is ] in
+    let sound = c.in-Ok.ensures.sound in
+    let told = held c.contents_say_one_thing.ensures.geometry c.args.bytes.now (raw_of c.args.opened.geometry) c.args.opened.volume sound.0 c.requires.volume c.requires.loaded sound.1 in
+    (
+      still_opened c.args.bytes.now c.args.opened c.check.new.volume c.requires c.check.ensures.keeps.0 c.check.ensures.keeps.1 fine.0 fine.1.0,
+      (sound.0, told.0, told.1, sound.2),
+    )
+
+pub returns-in-Err-Unsound : goal.returns-in-Err-Unsound
+returns-in-Err-Unsound c =
+    let P : CheckFault → Type 0 = λ fault. TellsBreach (IsFirstBreach (state_of c.args.opened.volume).holds) fault in
+    broken c.args.bytes.now (raw_of c.args.opened.geometry) c.args.opened.volume c.in-Err-Unsound.breach c.requires.volume c.requires.loaded
+    (subst P c.in-Err-Unsound.field-0-is c.in-Err-Unsound.ensures.broken) c.in_ok-line-in-Err-Unsound.line.items c.in_ok-line-in-Err-Unsound.ensures
