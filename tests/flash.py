@@ -204,8 +204,10 @@ class Description:
             self.changes.append(words)
         elif words[0] in ("ino", "dent", "data", "trun", "pad", "copy"):
             self.content.buds[-1].nodes.append(Node(words).stand)
-        else:
+        elif hasattr(self, f"read_{words[0]}"):
             getattr(self, f"read_{words[0]}")(*words[1:])
+        else:
+            sys.exit(f"{words[0]}: no such line")
 
     def read_volume(self, main, *sizes):
         self.content.shape = volume.Shape(int(main), **fields_in(sizes))
