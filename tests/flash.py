@@ -249,11 +249,15 @@ class Description:
     def read_bud(self, lnum, head, offs="0"):
         self.content.buds.append(volume.Bud(int(lnum), int(head), int(offs)))
 
+    def lay(self):
+        """Returns the volume as it is before it is changed, and the values of its master."""
+        self.content.leaves = self.tree.leaves()
+        return volume.lay(self.content)
+
     def image(self):
         if self.content.shape is None:
             return Changes(bytearray(), LEB_SIZE, EXAMPLES).make(self.changes)
-        self.content.leaves = self.tree.leaves()
-        medium, master = volume.lay(self.content)
+        medium, master = self.lay()
         examples = {**EXAMPLES, "sb": self.content.shape.super_values(), "mst": master}
         return Changes(medium.image, self.content.shape.leb_size, examples).make(self.changes)
 
@@ -331,4 +335,5 @@ def main():
     sys.stdout.buffer.write(description.image())
 
 
-main()
+if __name__ == "__main__":
+    main()
