@@ -110,6 +110,8 @@ class Medium:
 
     def put(self, lnum, offs, piece):
         start = lnum * self.shape.leb_size + offs
+        if piece and start + len(piece) > len(self.image):
+            raise SystemExit("the volume has no room for this")
         self.image[start : start + len(piece)] = piece
 
     def read(self, lnum, offs, length):
@@ -248,6 +250,8 @@ def lay_log(medium, content):
     for piece in pieces:
         if end + REF_SIZE > content.shape.leb_size:
             lnum, end = lnum + 1, 0
+        if lnum == content.shape.lpt_first:
+            raise SystemExit("the log has no room for this")
         medium.put(lnum, end, piece)
         end = medium.fill(lnum, end + len(piece))
 
