@@ -14,27 +14,16 @@ pub enum ImageFault {
     Memory,
     /// Fewer than 4,096 bytes, or no whole LEBs.
     #[error("only {len} bytes")]
-    Short {
-        len: u64,
-    },
+    Short { len: u64 },
     /// LEB 0 doesn't begin with a superblock node, or a field of its geometry is out of its range.
     #[error("a bad superblock")]
-    Super {
-        field: SuperField,
-    },
+    Super { field: SuperField },
     /// The superblock needs a feature that isn't known here.
     #[error("an unknown feature at {lnum}, {offs}")]
-    Feature {
-        what: Feature,
-        lnum: u32,
-        offs: u32,
-    },
+    Feature { what: Feature, lnum: u32, offs: u32 },
     /// A byte behind the volume's `most` bytes isn't 0xFF.
     #[error("{len} bytes where the volume has {most}")]
-    Long {
-        len: u64,
-        most: u64,
-    },
+    Long { len: u64, most: u64 },
 }
 
 impl From<Memory> for ImageFault {

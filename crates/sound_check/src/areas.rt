@@ -3,10 +3,10 @@
 ghost use Rattle.std.specs.Prelude.{IfErr, IfOk};
 ghost use Rattle.ubifs_base.specs.RawOf.{raw_of};
 ghost use Rattle.ubi_volume.specs.Geometry.{IsGeometryOf};
-ghost use Rattle.ubi_volume.specs.Volume.{Keeps, SameShape};
 ghost use Rattle.sound_image.specs.Breaches.{IsFirstBreach};
-ghost use Rattle.image_check.specs.Told.{HasCheckCause, StaysSureCheck, TellsBreach};
+ghost use Rattle.image_check.specs.Told.{TellsBreach};
 ghost use Rattle.index_media.specs.PlacedRow.{PlacedRow};
+ghost use Rattle.sound_check.specs.Calls.{ReadsOnly};
 ghost use Rattle.sound_check.specs.Shape.{HasShapeOfImage};
 ghost use Rattle.sound_check.specs.Stages.{HasAreas};
 
@@ -30,9 +30,7 @@ pub(crate) fn read_areas<V: Volume>(alloc: Global, volume: &mut V) -> Result<Are
     ensures met { IfOk result (λ areas. (placed : PlacedRow) × HasAreas (V.state volume.old).holds areas placed) }
     ensures geometry { IfOk result (λ areas. IsGeometryOf (raw_of areas.begun.geometry) (V.state volume.new)) }
     ensures broken { IfErr result (TellsBreach (IsFirstBreach (V.state volume.old).holds)) }
-    ensures keeps { Keeps (V.state volume.old) (V.state volume.new) × SameShape (V.state volume.old) (V.state volume.new) }
-    ensures cause { HasCheckCause (V.state volume.old).faults (V.state volume.new).faults result }
-    ensures sure { StaysSureCheck (V.state volume.old) (V.state volume.new) result }
+    ensures reads { ReadsOnly (V.state volume.old) (V.state volume.new) result }
 {
     a_breach_is_first();
     let begun = begin(alloc, volume)?;

@@ -3,9 +3,9 @@
 ghost use Rattle.std.specs.Prelude.{IfErr, IfOk};
 ghost use Rattle.ubifs_base.specs.RawOf.{raw_of};
 ghost use Rattle.ubi_volume.specs.Geometry.{IsGeometryOf};
-ghost use Rattle.ubi_volume.specs.Volume.{Keeps, SameShape};
 ghost use Rattle.sound_image.specs.Breaches.{IsFirstBreach};
-ghost use Rattle.image_check.specs.Told.{HasCheckCause, StaysSureCheck, TellsBreach};
+ghost use Rattle.image_check.specs.Told.{TellsBreach};
+ghost use Rattle.sound_check.specs.Calls.{ReadsOnly};
 ghost use Rattle.sound_check.specs.Shape.{HasShapeOfImage};
 ghost use Rattle.sound_check.specs.Stages.{HasBegun};
 
@@ -27,9 +27,7 @@ pub(crate) fn begin<V: Volume>(alloc: Global, volume: &mut V) -> Result<Begun, C
     ensures met { IfOk result (HasBegun (V.state volume.old).holds) }
     ensures geometry { IfOk result (λ begun. IsGeometryOf (raw_of begun.geometry) (V.state volume.new)) }
     ensures broken { IfErr result (TellsBreach (IsFirstBreach (V.state volume.old).holds)) }
-    ensures keeps { Keeps (V.state volume.old) (V.state volume.new) × SameShape (V.state volume.old) (V.state volume.new) }
-    ensures cause { HasCheckCause (V.state volume.old).faults (V.state volume.new).faults result }
-    ensures sure { StaysSureCheck (V.state volume.old) (V.state volume.new) result }
+    ensures reads { ReadsOnly (V.state volume.old) (V.state volume.new) result }
 {
     let geometry = check_superblock(alloc, volume)?;
     let latest = check_masters(alloc, volume, &geometry)?;

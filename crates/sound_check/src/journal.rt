@@ -3,11 +3,11 @@
 ghost use Rattle.std.specs.Prelude.{IfErr, IfOk};
 ghost use Rattle.ubifs_base.specs.RawOf.{raw_of};
 ghost use Rattle.ubi_volume.specs.Geometry.{IsGeometryOf};
-ghost use Rattle.ubi_volume.specs.Volume.{Keeps, SameShape};
 ghost use Rattle.sound_image.specs.Breaches.{IsFirstBreach};
 ghost use Rattle.sound_image.specs.Image.{Image};
 ghost use Rattle.sound_image.specs.declared.rule.Rule.TheVariants as rules;
-ghost use Rattle.image_check.specs.Told.{HasCheckCause, StaysSureCheck, TellsBreach};
+ghost use Rattle.image_check.specs.Told.{TellsBreach};
+ghost use Rattle.sound_check.specs.Calls.{ReadsOnly};
 ghost use Rattle.sound_check.specs.Shape.{HasShapeOfImage};
 ghost use Rattle.sound_check.specs.Stages.{IsReadUpTo};
 
@@ -31,9 +31,7 @@ pub(crate) fn read_journal<V: Volume>(alloc: Global, volume: &mut V) -> Result<J
     ensures met { IfOk result (λ journal. (image : Image) × IsReadUpTo rules.Leaves (V.state volume.old).holds journal image) }
     ensures geometry { IfOk result (λ journal. IsGeometryOf (raw_of journal.areas.begun.geometry) (V.state volume.new)) }
     ensures broken { IfErr result (TellsBreach (IsFirstBreach (V.state volume.old).holds)) }
-    ensures keeps { Keeps (V.state volume.old) (V.state volume.new) × SameShape (V.state volume.old) (V.state volume.new) }
-    ensures cause { HasCheckCause (V.state volume.old).faults (V.state volume.new).faults result }
-    ensures sure { StaysSureCheck (V.state volume.old) (V.state volume.new) result }
+    ensures reads { ReadsOnly (V.state volume.old) (V.state volume.new) result }
 {
     a_breach_is_first();
     let areas = read_areas(alloc, volume)?;

@@ -3,12 +3,12 @@
 ghost use Rattle.std.specs.Prelude.{IfErr, IfOk};
 ghost use Rattle.ubifs_base.specs.RawOf.{raw_of};
 ghost use Rattle.ubi_volume.specs.Geometry.{IsGeometryOf};
-ghost use Rattle.ubi_volume.specs.Volume.{Keeps, SameShape};
 ghost use Rattle.sound_image.specs.Breaches.{IsFirstBreach};
 ghost use Rattle.sound_image.specs.Image.{Image};
 ghost use Rattle.sound_image.specs.declared.rule.Rule.TheVariants as rules;
-ghost use Rattle.image_check.specs.Told.{HasCheckCause, StaysSureCheck, TellsBreach};
+ghost use Rattle.image_check.specs.Told.{TellsBreach};
 ghost use Rattle.image_tree.specs.Reads.{IsReadOf};
+ghost use Rattle.sound_check.specs.Calls.{ReadsOnly};
 ghost use Rattle.sound_check.specs.Shape.{HasShapeOfImage};
 ghost use Rattle.sound_check.specs.Stages.{HasRecovered, IsReadUpTo};
 
@@ -30,9 +30,7 @@ pub(crate) fn read_leaves<V: Volume>(alloc: Global, volume: &mut V) -> Result<Re
     ensures met { IfOk result (λ recovered. (image : Image) × HasRecovered rules.Sums (V.state volume.old).holds recovered image) }
     ensures geometry { IfOk result (λ recovered. IsGeometryOf (raw_of recovered.journal.areas.begun.geometry) (V.state volume.new)) }
     ensures broken { IfErr result (TellsBreach (IsFirstBreach (V.state volume.old).holds)) }
-    ensures keeps { Keeps (V.state volume.old) (V.state volume.new) × SameShape (V.state volume.old) (V.state volume.new) }
-    ensures cause { HasCheckCause (V.state volume.old).faults (V.state volume.new).faults result }
-    ensures sure { StaysSureCheck (V.state volume.old) (V.state volume.new) result }
+    ensures reads { ReadsOnly (V.state volume.old) (V.state volume.new) result }
 {
     a_breach_is_first();
     let journal = read_journal(alloc, volume)?;

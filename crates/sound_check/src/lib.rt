@@ -8,15 +8,15 @@
 
 mod areas;
 mod begun;
-mod check;
 mod image_read;
 mod journal;
 mod leaves;
 mod reading;
 mod sound;
 mod space;
+mod summary;
 
-pub use crate::check::check;
 pub use crate::image_read::ImageRead;
 pub use crate::reading::read_image;
 pub use crate::sound::Sound;
+pub use crate::summary::check;

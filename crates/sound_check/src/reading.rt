@@ -10,12 +10,10 @@ ghost use Rattle.sound_check.specs.Reads.{IsReadImage};
 ghost use Rattle.sound_check.specs.Shape.{HasShapeOfImage};
 
 use crate::image_read::ImageRead;
-use crate::leaves::Recovered;
 use crate::space::read_space;
 use image_check::{CheckFault, a_breach_is_first};
 use image_tree::{check_links, check_tree};
 use std::alloc::Global;
-use tree_check::ShownLeaf;
 use ubi_volume::Volume;
 
 /// Whether the volume holds a sound image (`SoundImage` of crate sound_image), and all that was read of it. The twelve rules are tested in
@@ -42,13 +40,9 @@ pub fn read_image<V: Volume>(alloc: Global, volume: &mut V) -> Result<ImageRead,
         &found.tree,
     )?;
     check_links(alloc, shown.as_slice())?;
-    Ok(all_read(found, shown))
-}
-
-fn all_read(found: Recovered, shown: Vec<ShownLeaf>) -> ImageRead {
     let journal = found.journal;
     let areas = journal.areas;
-    ImageRead {
+    Ok(ImageRead {
         geometry: areas.begun.geometry,
         latest: areas.begun.latest,
         props: areas.props,
@@ -57,5 +51,5 @@ fn all_read(found: Recovered, shown: Vec<ShownLeaf>) -> ImageRead {
         buds: journal.buds,
         tree: found.tree,
         shown,
-    }
+    })
 }

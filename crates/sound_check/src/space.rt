@@ -1,14 +1,21 @@
 // The rules on sums, on erased ends and on the orphan area.
 
-ghost use Rattle.std.specs.Prelude.{IfErr, IfOk};
-ghost use Rattle.ubi_volume.specs.Volume.{Keeps, SameShape};
-ghost use Rattle.sound_image.specs.Breaches.{IsFirstBreach};
+ghost use Rattle.std.specs.Prelude.{◌≡◌, IfErr, IfOk, length};
+ghost use Rattle.ubifs_base.specs.Areas.{main_lebs};
+ghost use Rattle.ubifs_base.specs.RawOf.{raw_of};
+ghost use Rattle.index_media.specs.PlacedRow.{PlacedRow};
+ghost use Rattle.sound_image.specs.Breaches.{IsFirstBreach, IsWrongSum};
 ghost use Rattle.sound_image.specs.Image.{Image};
+ghost use Rattle.sound_image.specs.Space.{HasSums};
+ghost use Rattle.sound_image.specs.Wrong.{IsFirstWrong};
 ghost use Rattle.sound_image.specs.declared.rule.Rule.TheVariants as rules;
-ghost use Rattle.image_check.specs.Told.{HasCheckCause, StaysSureCheck, TellsBreach};
+ghost use Rattle.image_check.specs.Told.{IsBreachOf, IsNoVolumeFault, TellsBreach};
+ghost use Rattle.index_check.specs.FoundIndex.{IsFoundIndex};
+ghost use Rattle.sound_check.specs.Calls.{ReadsOnly, unread_of};
 ghost use Rattle.sound_check.specs.Shape.{HasShapeOfImage};
 ghost use Rattle.sound_check.specs.Stages.{HasRecovered};
 
+use crate::areas::Areas;
 use crate::leaves::{Recovered, read_leaves};
 use image_check::{CheckFault, a_breach_is_first, check_orphans};
 use space_check::{check_ends, check_sums};
@@ -19,29 +26,48 @@ pub(crate) fn read_space<V: Volume>(alloc: Global, volume: &mut V) -> Result<Rec
     requires shape { HasShapeOfImage (V.state volume.old) }
     ensures met { IfOk result (λ recovered. (image : Image) × HasRecovered rules.Tree (V.state volume.old).holds recovered image) }
     ensures broken { IfErr result (TellsBreach (IsFirstBreach (V.state volume.old).holds)) }
-    ensures keeps { Keeps (V.state volume.old) (V.state volume.new) × SameShape (V.state volume.old) (V.state volume.new) }
-    ensures cause { HasCheckCause (V.state volume.old).faults (V.state volume.new).faults result }
-    ensures sure { StaysSureCheck (V.state volume.old) (V.state volume.new) result }
+    ensures reads { ReadsOnly (V.state volume.old) (V.state volume.new) result }
 {
     a_breach_is_first();
     let found = read_leaves(alloc, volume)?;
-    let areas = &found.journal.areas;
-    let geometry = areas.begun.geometry;
-    check_sums(
-        alloc,
-        &geometry,
-        areas.props.as_slice(),
-        areas.index.leaves.as_slice(),
-        areas.index.nodes.as_slice(),
-    )?;
+    let geometry = found.journal.areas.begun.geometry;
+    add_up(alloc, &found.journal.areas)?;
     check_ends(
         alloc,
         volume,
         &geometry,
-        &areas.begun.latest.master,
-        areas.props.as_slice(),
+        &found.journal.areas.begun.latest.master,
+        found.journal.areas.props.as_slice(),
         found.journal.log.references.as_slice(),
     )?;
     check_orphans(alloc, volume, &geometry)?;
     Ok(found)
+}
+
+// The rule on sums. No volume is read.
+fn add_up(alloc: Global, areas: &Areas) -> Result<(), CheckFault>
+    requires { length areas.now.props.items ≡ main_lebs (raw_of areas.now.begun.geometry) }
+    ensures met { (placed : PlacedRow) → IsFoundIndex placed areas.now.index → IfOk result (λ _. HasSums (raw_of areas.now.begun.geometry) areas.now.props.items placed) }
+    ensures broken { (placed : PlacedRow) → IsFoundIndex placed areas.now.index → IfErr result (TellsBreach (IsBreachOf rules.Sums (IsFirstWrong (IsWrongSum (raw_of areas.now.begun.geometry) areas.now.props.items placed)))) }
+    ensures no_volume { IsNoVolumeFault result }
+{
+    unread(check_sums(
+        alloc,
+        &areas.begun.geometry,
+        areas.props.as_slice(),
+        areas.index.leaves.as_slice(),
+        areas.index.nodes.as_slice(),
+    ))
+}
+
+// What a call answers that reads no volume.
+fn unread(answer: Result<(), CheckFault>) -> Result<(), CheckFault>
+    ensures { result ≡ unread_of answer }
+{
+    match answer {
+        Ok(()) => Ok(()),
+        Err(CheckFault::Unsound { breach }) => Err(CheckFault::Unsound { breach }),
+        Err(CheckFault::Memory) => Err(CheckFault::Memory),
+        Err(CheckFault::Volume { .. }) => Err(CheckFault::Memory),
+    }
 }

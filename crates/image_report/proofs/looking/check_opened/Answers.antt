@@ -16,8 +16,7 @@ returns-in-Ok c =
     let new = state_of c.check.new.volume in
     let fine : new.sure × ((new.faults ≡ old.faults) × IsNoVolumeFault c.check.result) = elim (c.check.ensures.sure c.requires.loaded.found.sure) [ inl gone ↦ absurd gone | inr is ↦ is ] in
     let sound = c.in-Ok.ensures.sound in
-    let told = held c.contents_say_one_thing.ensures.geometry c.args.bytes.now (raw_of c.args.opened.geometry) c.args.opened.volume sound.0 c.requires.volume c.requires.loaded sound.1 in
-    (
+    let told = held c.contents_say_one_thing.ensures.geometry c.args.bytes.now (raw_of c.args.opened.geometry) c.args.opened.volume sound.0 c.requires.volume c.requires.loaded sound.1 in (
       still_opened c.args.bytes.now c.args.opened c.check.new.volume c.requires c.check.ensures.keeps.0 c.check.ensures.keeps.1 fine.0 fine.1.0,
       (sound.0, told.0, told.1, sound.2),
     )

@@ -1,6 +1,6 @@
 // What is told of a sound image.
 
-ghost use Rattle.std.specs.Prelude.{◌≡◌, IfErr, IfOk, map};
+ghost use Rattle.std.specs.Prelude.{◌≡◌, ℕ, List, IfErr, IfOk, map};
 ghost use Rattle.ubi_volume.specs.Volume.{Keeps, SameShape};
 ghost use Rattle.sound_image.specs.Breaches.{IsFirstBreach};
 ghost use Rattle.sound_image.specs.Image.{Image};
@@ -37,7 +37,11 @@ pub fn check<V: Volume>(alloc: Global, volume: &mut V) -> Result<Sound, CheckFau
     }
 }
 
-fn told(alloc: Global, read: &ImageRead) -> Result<Sound, Memory> {
+// What is told of an image that was read so.
+fn told(alloc: Global, read: &ImageRead) -> Result<Sound, Memory>
+    ensures { (contents : ℕ → List ℕ) (image : Image) → SoundImage contents image → IsReadImage contents read.now image → IfOk result (λ sound. sound ≡ told_of image) }
+{
+    let nodes = read.buds.read.nodes.as_slice();
     let leaves = places_of(alloc, read.tree.recovered.kept.as_slice())?;
     let space = space_of(
         alloc,
@@ -45,7 +49,7 @@ fn told(alloc: Global, read: &ImageRead) -> Result<Sound, Memory> {
         read.index.nodes.as_slice(),
         read.log.references.as_slice(),
         leaves.as_slice(),
-        read.buds.read.nodes.len() as u64,
+        nodes.len() as u64,
     )?;
     Ok(Sound {
         clean: read.buds.clean,
@@ -53,6 +57,7 @@ fn told(alloc: Global, read: &ImageRead) -> Result<Sound, Memory> {
     })
 }
 
+// The places of leaves.
 fn places_of(alloc: Global, kept: &[RecoveredLeaf]) -> Result<Vec<Leaf>, Memory>
     ensures { IfOk result (λ places. places.items ≡ map (λ x. x.leaf) kept.now) }
 {
