@@ -1,0 +1,52 @@
+// The first master of a new file system.
+
+ghost use Rattle.std.specs.Prelude.{◌≡◌, ◌≤◌};
+ghost use Rattle.ubifs_base.specs.Areas.{main_lebs};
+ghost use Rattle.ubifs_base.specs.RawOf.{raw_of};
+ghost use Rattle.volume_format.specs.Format.{new_master};
+
+use crate::laying::in_units;
+use lpt_area::LptAt;
+use media_sys::Master;
+use ubifs_base::Geometry;
+
+// The master over the tree of properties that was written there. Its flag says that there are no orphans.
+pub(crate) fn first_master(geometry: &Geometry, at: &LptAt) -> Master
+    requires three { 3 ≤ main_lebs (raw_of geometry.now) }
+    ensures { result ≡ new_master (raw_of geometry.now) at.now }
+{
+    let main = geometry.main_first();
+    let root = in_units(geometry, 160);
+    let index = in_units(geometry, 48);
+    Master {
+        highest_inum: 64,
+        cmt_no: 0,
+        flags: 2,
+        log_lnum: 3,
+        root_lnum: main + 1,
+        root_offs: 0,
+        root_len: 48,
+        gc_lnum: main + 2,
+        ihead_lnum: main + 1,
+        ihead_offs: index,
+        index_size: 48,
+        total_free: geometry.main_lebs() as u64 * geometry.leb_size as u64
+            - (root as u64 + index as u64),
+        total_dirty: (root as u64 - 160) + (index as u64 - 48),
+        total_used: 160,
+        total_dead: 0,
+        total_dark: 0,
+        lpt_lnum: at.lnum,
+        lpt_offs: at.offs,
+        nhead_lnum: at.nhead_lnum,
+        nhead_offs: at.nhead_offs,
+        ltab_lnum: at.ltab_lnum,
+        ltab_offs: at.ltab_offs,
+        lsave_lnum: 0,
+        lsave_offs: 0,
+        lscan_lnum: at.lnum,
+        empty_lebs: geometry.main_lebs() - 2,
+        idx_lebs: 1,
+        leb_cnt: geometry.leb_cnt,
+    }
+}
