@@ -1,5 +1,5 @@
 -- What breaks a rule breaks the first, if the rules before it are met.
-use Rattle.std.proofs.Common.{◌≡◌, ℕ, List, [], Result, Ok, Err, refl, subst}
+use Rattle.std.proofs.Common.{◌≡◌, ℕ, List, Result, Ok, Err, subst}
 use Rattle.std.specs.Prelude.{IfErr, IfOk}
 use Rattle.sound_image.specs.Breaches.{IsBroken, IsFirstBreach}
 use Rattle.sound_image.specs.Image.{Image}

@@ -1,10 +1,8 @@
 -- One image more by each stage.
 use Rattle.std.proofs.Common.{◌≡◌, ◌∙◌, ◌<◌, ℕ, List, [], refl, sym, subst, arith}
 use Rattle.ubifs_base.specs.RawOf.{raw_of}
-use Rattle.ubifs_base.specs.declared.raw_geometry.RawGeometry.{RawGeometry}
 use Rattle.media_lpt.specs.declared.lprop.Lprop.{Lprop}
 use Rattle.media_sys.specs.declared.ref_node.RefNode.{RefNode}
-use Rattle.small_areas.specs.declared.placed_master.PlacedMaster.{PlacedMaster}
 use Rattle.index_tree.specs.declared.leaf.Leaf.{Leaf}
 use Rattle.index_media.specs.PlacedRow.{PlacedRow, ended}
 use Rattle.bud_log.specs.Buds.{buds_of}
@@ -31,10 +29,10 @@ use Rattle.bud_check.specs.declared.buds_found.BudsFound.{BudsFound}
 use Rattle.journal_check.specs.declared.log_found.LogFound.{LogFound}
 use Rattle.image_tree.specs.Reads.{IsJournalOf, IsReadOfSome, IsReadSoFar, ReadBefore, with_leaves}
 use Rattle.image_tree.specs.declared.tree_read.TreeRead.{TreeRead}
-use Rattle.sound_check.specs.Stages.{HasAreas, HasBegun, IsReadUpTo, HasRecovered}
+use Rattle.sound_check.specs.Stages.{HasAreas, HasBeginning, IsImageUpTo, HasRecovered}
 use Rattle.sound_check.specs.declared.areas.Areas.{Areas}
 use Rattle.sound_check.specs.declared.begun.Begun.{Begun}
-use Rattle.sound_check.specs.declared.journal.Journal.{Journal}
+use Rattle.sound_check.specs.declared.journal.FoundJournal.{FoundJournal}
 use Rattle.sound_check.proofs.Firsts.{FirstLaw, first_told}
 use Rattle.sound_check.proofs.Order.{meets_next, meets_start}
 
@@ -51,7 +49,7 @@ image_of begun props placed log buds = record {
   listed = [];
 }
 
-module _ (contents : ℕ → List ℕ) (begun : Begun) (h : HasBegun contents begun) where
+module _ (contents : ℕ → List ℕ) (begun : Begun) (h : HasBeginning contents begun) where
   begun_meets : (props : List Lprop) (placed : PlacedRow) (log : List LogText) (buds : List BudRead) → MeetsBefore contents (image_of begun props placed log buds) rules.Properties
   begun_meets props placed log buds =
       let image = image_of begun props placed log buds in
@@ -92,7 +90,7 @@ module _ (contents : ℕ → List ℕ) (areas : Areas) (placed : PlacedRow) (h :
   -- the image of which all was read but leaves
   pub journal_read : (log_found : LogFound) (buds : BudsFound) (log : List LogText) → HasLog contents (raw_of areas.begun.geometry) areas.begun.latest.master log → log_found.references.items ≡ references_of log
       → (found : AreFoundBuds contents (buds_of log_found.references.items) buds)
-      → IsReadUpTo rules.Leaves contents (record { areas = areas; log = log_found; buds = buds }) (image_of areas.begun areas.props.items placed log found.journal.reads)
+      → IsImageUpTo rules.Leaves contents (record { areas = areas; log = log_found; buds = buds }) (image_of areas.begun areas.props.items placed log found.journal.reads)
   journal_read log_found buds log is same found =
       let reads = found.journal.reads in
       let image = image_of areas.begun areas.props.items placed log reads in
@@ -119,7 +117,7 @@ keep_leaves contents image committed listed before rules.Log less = before rules
 keep_leaves contents image committed listed before rules.Buds less = before rules.Buds less
 keep_leaves contents image committed listed before other less = absurd (omega (arith, less))
 
-module _ (contents : ℕ → List ℕ) (journal : Journal) (image : Image) (h : IsReadUpTo rules.Leaves contents journal image) where
+module _ (contents : ℕ → List ℕ) (journal : FoundJournal) (image : Image) (h : IsImageUpTo rules.Leaves contents journal image) where
   -- what the check of leaves asks
   pub so_far : (props : List Lprop) (leaves : List Leaf) (references : List RefNode) → props ≡ journal.areas.props.items → leaves ≡ journal.areas.index.leaves.items → references ≡ journal.log.references.items
       → IsReadSoFar contents (record { geo = raw_of journal.areas.begun.geometry; props = props; leaves = leaves; references = references; journal = journal.buds.read }) image

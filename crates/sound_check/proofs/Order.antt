@@ -1,5 +1,5 @@
 -- The order of the rules.
-use Rattle.std.proofs.Common.{◌≡◌, ◌<◌, ◌≤◌, ℕ, suc, List, inl, inr, refl, subst, arith}
+use Rattle.std.proofs.Common.{◌≡◌, ◌≤◌, ℕ, suc, List, inl, inr, refl, subst, arith}
 use Rattle.std.proofs.lemmas.Bool.{cases_lt}
 use Rattle.sound_image.specs.Image.{Image}
 use Rattle.sound_image.specs.Rules.{Meets, MeetsBefore, rule_number}

@@ -1,24 +1,27 @@
 -- What is told of an image that was read.
-use Rattle.std.proofs.Common.{◌≡◌, ◌∙◌, ◌+◌, ℕ, Bool, true, false, cond, List, [], ◌∷◌, ◌++◌, length, map, refl, sym, ap, subst, arith}
+use Rattle.std.proofs.Common.{◌≡◌, ◌∙◌, ◌+◌, ℕ, Bool, true, false, cond, List, [], ◌∷◌, length, map, refl, ap, subst, arith}
 use Rattle.std.specs.Prelude.{fold, nat_lt}
 use Rattle.ubifs_base.specs.RawOf.{raw_of}
 use Rattle.ubifs_base.specs.declared.raw_geometry.RawGeometry.{RawGeometry}
 use Rattle.media_sys.specs.declared.branch.Branch.{Branch}
 use Rattle.media_sys.specs.declared.ref_node.RefNode.{RefNode}
+use Rattle.small_areas.specs.declared.placed_master.PlacedMaster.{PlacedMaster}
+use Rattle.bud_log.specs.Log.{references_of}
 use Rattle.index_tree.specs.declared.leaf.Leaf.{Leaf}
 use Rattle.index_media.specs.Stored.{IsStoredIndex}
 use Rattle.journal_scan.specs.Content.{told}
-use Rattle.journal_scan.specs.Journal.{BudRead, nodes_in}
+use Rattle.journal_scan.specs.Journal.{BudRead, copies_in, nodes_in}
 use Rattle.journal_scan.specs.declared.journal_node.JournalNode.{JournalNode}
 use Rattle.leaf_map.specs.Kept.{Kept, Placed}
 use Rattle.leaf_map.specs.Parts.{Parts}
 use Rattle.leaf_map.specs.Recovered.{in_order, placed_node, recovered_of}
+use Rattle.leaf_map.specs.SpaceFound.{space_found}
 use Rattle.leaf_recovery.specs.Told.{AreToldOf}
 use Rattle.leaf_recovery.specs.declared.recovered_leaf.RecoveredLeaf.{RecoveredLeaf}
-use Rattle.sound_image.specs.Image.{Image, parts_of}
+use Rattle.sound_image.specs.Image.{Image, named_by, parts_of}
 use Rattle.sound_image.specs.Index.{root_branch}
 use Rattle.sound_image.specs.Sound.{SoundImage}
-use Rattle.sound_image.specs.Summary.{is_clean, space_of_image}
+use Rattle.sound_image.specs.Summary.{is_clean, main_area_of, space_of_image}
 use Rattle.image_space.specs.Told.{IsToldOf}
 use Rattle.sound_check.specs.Reads.{IsReadImage, told_of}
 use Rattle.sound_check.specs.declared.image_read.ImageRead.{ImageRead}
@@ -76,3 +79,17 @@ told_space contents read image sound h nodes references leaves applied of_nodes 
 -- what is told, part by part
 pub told_whole : (sound : Sound) (image : Image) → sound.clean ≡ is_clean image → sound.space ≡ space_of_image image → sound ≡ told_of image
 told_whole sound image clean space = λ i. record { clean = clean i; space = space i }
+
+-- the same is told of an image whose latest master stands elsewhere
+same_parts : (image : Image) (latest : PlacedMaster) → latest.master ≡ image.latest.master → parts_of (record image { latest = latest }) ≡ parts_of image
+same_parts image latest e = λ i. record {
+  highest = (e i).highest_inum;
+  committed = image.committed;
+  named = map named_by (references_of image.log);
+  nodes = nodes_in image.buds;
+  copies = copies_in image.buds;
+  listed = image.listed;
+}
+
+pub told_elsewhere : (image : Image) (latest : PlacedMaster) → latest.master ≡ image.latest.master → told_of (record image { latest = latest }) ≡ told_of image
+told_elsewhere image latest e = λ i. record { clean = is_clean image; space = space_found (main_area_of image) (same_parts image latest e i) }

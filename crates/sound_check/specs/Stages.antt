@@ -15,24 +15,24 @@ use Rattle.index_check.specs.FoundIndex.{IsFoundIndex}
 use Rattle.image_tree.specs.Reads.{IsJournalOf, IsReadOf}
 use Rattle.sound_check.specs.declared.areas.Areas.{Areas}
 use Rattle.sound_check.specs.declared.begun.Begun.{Begun}
-use Rattle.sound_check.specs.declared.journal.Journal.{Journal}
-use Rattle.sound_check.specs.declared.leaves.Recovered.{Recovered}
+use Rattle.sound_check.specs.declared.journal.FoundJournal.{FoundJournal}
+use Rattle.sound_check.specs.declared.leaves.FoundLeaves.{FoundLeaves}
 
 -- the contents meet the rules on the superblock and on masters, and say this geometry and this master
-pub record HasBegun (contents : ℕ → List ℕ) (begun : Begun) : Type 0 where
+pub record HasBeginning (contents : ℕ → List ℕ) (begun : Begun) : Type 0 where
   pub superblock : HasSuperblock contents (raw_of begun.geometry)
   pub masters : HasMasters contents (raw_of begun.geometry) begun.latest
 
 -- and the rules on properties, of all main LEBs, and on the index, of which this was found
 pub record HasAreas (contents : ℕ → List ℕ) (areas : Areas) (placed : PlacedRow) : Type 0 where
-  pub begun : HasBegun contents areas.begun
+  pub begun : HasBeginning contents areas.begun
   pub properties : HasProperties contents (raw_of areas.begun.geometry) areas.begun.latest.master areas.props.items
   pub count : length areas.props.items ≡ main_lebs (raw_of areas.begun.geometry)
   pub index : HasIndex contents (raw_of areas.begun.geometry) areas.begun.latest.master areas.props.items placed
   pub found : IsFoundIndex placed areas.index
 
 -- An image meets all rules before this one, and its geometry, its master, its properties, its index and its journal were read so.
-pub record IsReadUpTo (rule : Rule) (contents : ℕ → List ℕ) (journal : Journal) (image : Image) : Type 0 where
+pub record IsImageUpTo (rule : Rule) (contents : ℕ → List ℕ) (journal : FoundJournal) (image : Image) : Type 0 where
   pub rules : MeetsBefore contents image rule
   pub geo : image.geo ≡ raw_of journal.areas.begun.geometry
   pub latest : image.latest ≡ journal.areas.begun.latest
@@ -43,6 +43,6 @@ pub record IsReadUpTo (rule : Rule) (contents : ℕ → List ℕ) (journal : Jou
   pub clean : journal.buds.clean ≡ is_clean image
 
 -- and this was recovered of it
-pub record HasRecovered (rule : Rule) (contents : ℕ → List ℕ) (recovered : Recovered) (image : Image) : Type 0 where
-  pub before : IsReadUpTo rule contents recovered.journal image
+pub record HasRecovered (rule : Rule) (contents : ℕ → List ℕ) (recovered : FoundLeaves) (image : Image) : Type 0 where
+  pub before : IsImageUpTo rule contents recovered.journal image
   pub tree : IsReadOf contents image recovered.tree

@@ -10,9 +10,9 @@ ghost use Rattle.image_check.specs.Told.{TellsBreach};
 ghost use Rattle.image_tree.specs.Reads.{IsReadOf};
 ghost use Rattle.sound_check.specs.Calls.{ReadsOnly};
 ghost use Rattle.sound_check.specs.Shape.{HasShapeOfImage};
-ghost use Rattle.sound_check.specs.Stages.{HasRecovered, IsReadUpTo};
+ghost use Rattle.sound_check.specs.Stages.{HasRecovered, IsImageUpTo};
 
-use crate::journal::{Journal, read_journal};
+use crate::journal::{FoundJournal, read_journal};
 use image_check::{CheckFault, a_breach_is_first};
 use image_tree::{TreeRead, check_recovered};
 use std::alloc::Global;
@@ -20,12 +20,15 @@ use ubi_volume::Volume;
 
 // What is recovered.
 #[derive(Drop)]
-pub(crate) struct Recovered {
-    pub(crate) journal: Journal,
+pub(crate) struct FoundLeaves {
+    pub(crate) journal: FoundJournal,
     pub(crate) tree: TreeRead,
 }
 
-pub(crate) fn read_leaves<V: Volume>(alloc: Global, volume: &mut V) -> Result<Recovered, CheckFault>
+pub(crate) fn read_leaves<V: Volume>(
+    alloc: Global,
+    volume: &mut V,
+) -> Result<FoundLeaves, CheckFault>
     requires shape { HasShapeOfImage (V.state volume.old) }
     ensures met { IfOk result (λ recovered. (image : Image) × HasRecovered rules.Sums (V.state volume.old).holds recovered image) }
     ensures geometry { IfOk result (λ recovered. IsGeometryOf (raw_of recovered.journal.areas.begun.geometry) (V.state volume.new)) }
@@ -43,5 +46,5 @@ pub(crate) fn read_leaves<V: Volume>(alloc: Global, volume: &mut V) -> Result<Re
         journal.log.references.as_slice(),
         &journal.buds.read,
     )?;
-    Ok(Recovered { journal, tree })
+    Ok(FoundLeaves { journal, tree })
 }

@@ -10,6 +10,7 @@ mod areas;
 mod begun;
 mod image_read;
 mod journal;
+mod laws;
 mod leaves;
 mod reading;
 mod sound;
@@ -17,6 +18,7 @@ mod space;
 mod summary;
 
 pub use crate::image_read::ImageRead;
+pub use crate::laws::one_thing_is_told;
 pub use crate::reading::read_image;
 pub use crate::sound::Sound;
 pub use crate::summary::check;

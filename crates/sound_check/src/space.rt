@@ -16,13 +16,16 @@ ghost use Rattle.sound_check.specs.Shape.{HasShapeOfImage};
 ghost use Rattle.sound_check.specs.Stages.{HasRecovered};
 
 use crate::areas::Areas;
-use crate::leaves::{Recovered, read_leaves};
+use crate::leaves::{FoundLeaves, read_leaves};
 use image_check::{CheckFault, a_breach_is_first, check_orphans};
 use space_check::{check_ends, check_sums};
 use std::alloc::Global;
 use ubi_volume::Volume;
 
-pub(crate) fn read_space<V: Volume>(alloc: Global, volume: &mut V) -> Result<Recovered, CheckFault>
+pub(crate) fn read_space<V: Volume>(
+    alloc: Global,
+    volume: &mut V,
+) -> Result<FoundLeaves, CheckFault>
     requires shape { HasShapeOfImage (V.state volume.old) }
     ensures met { IfOk result (λ recovered. (image : Image) × HasRecovered rules.Tree (V.state volume.old).holds recovered image) }
     ensures broken { IfErr result (TellsBreach (IsFirstBreach (V.state volume.old).holds)) }

@@ -1,7 +1,6 @@
-use Rattle.std.proofs.Common.{◌∙◌, ℕ, List, Ok, refl, sym, subst}
+use Rattle.std.proofs.Common.{◌∙◌, ℕ, List, subst}
 use Rattle.ubifs_base.specs.RawOf.{raw_of}
 use Rattle.media_lpt.specs.declared.lprop.Lprop.{Lprop}
-use Rattle.index_media.specs.PlacedRow.{PlacedRow}
 use Rattle.sound_image.specs.Breaches.{IsFirstBreach}
 use Rattle.sound_image.specs.Index.{HasIndex}
 use Rattle.sound_image.specs.IndexBreaches.{IsWrongIndex}
@@ -10,7 +9,6 @@ use Rattle.sound_image.specs.PropertyBreaches.{IsWrongProperty}
 use Rattle.sound_image.specs.Wrong.{IsFirstWrong}
 use Rattle.sound_image.specs.declared.rule.Rule.TheVariants as rules
 use Rattle.image_check.specs.Told.{IsBreachOf, TellsBreach}
-use Rattle.index_check.specs.FoundIndex.{IsFoundIndex}
 use Rattle.sound_check.proofs.Images.{first_of_index, first_of_properties}
 use Rattle.sound_check.proofs.Kept.{exit_broken, exit_reads, failed_stage, failed_then, kept_one, kept_stage, kept_then, reads_ok, same_holds}
 use Rattle.sound_check.proofs.Shapes.{geometry_kept}

@@ -1,4 +1,4 @@
-use Rattle.std.proofs.Common.{◌∙◌, ℕ, List, Ok, sym, subst}
+use Rattle.std.proofs.Common.{ℕ, List, sym, subst}
 use Rattle.ubifs_base.specs.RawOf.{raw_of}
 use Rattle.sound_image.specs.Breaches.{IsFirstBreach}
 use Rattle.sound_image.specs.Masters.{HasMasters}

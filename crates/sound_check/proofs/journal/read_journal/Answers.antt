@@ -1,9 +1,8 @@
-use Rattle.std.proofs.Common.{◌∙◌, ℕ, List, Ok, refl, sym, subst, arith}
+use Rattle.std.proofs.Common.{◌∙◌, ℕ, List, sym, subst, arith}
 use Rattle.std.specs.List.{AllByRecursion}
 use Rattle.ubifs_base.specs.RawOf.{raw_of}
 use Rattle.media_sys.specs.declared.ref_node.RefNode.{RefNode}
 use Rattle.bud_log.specs.Buds.{buds_of}
-use Rattle.bud_log.specs.LogText.{LogText}
 use Rattle.sound_image.specs.Breaches.{IsFirstBreach, IsWrongInBuds}
 use Rattle.sound_image.specs.Log.{HasLog, NamesMain}
 use Rattle.sound_image.specs.LogBreaches.{IsBrokenLog}

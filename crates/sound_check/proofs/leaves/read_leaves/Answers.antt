@@ -1,10 +1,8 @@
-use Rattle.std.proofs.Common.{◌∙◌, ℕ, List, Ok, refl, sym, subst}
+use Rattle.std.proofs.Common.{sym}
 use Rattle.ubifs_base.specs.RawOf.{raw_of}
 use Rattle.sound_image.specs.Breaches.{IsFirstBreach}
-use Rattle.sound_image.specs.Image.{Image}
 use Rattle.sound_image.specs.declared.rule.Rule.TheVariants as rules
 use Rattle.image_tree.specs.Reads.{ReadBefore}
-use Rattle.sound_check.specs.Stages.{IsReadUpTo}
 use Rattle.image_check.specs.Told.{TellsBreach}
 use Rattle.sound_check.proofs.Firsts.{first_same}
 use Rattle.sound_check.proofs.Images.{first_of_leaves, leaves_read, so_far}

@@ -1,12 +1,11 @@
-use Rattle.std.proofs.Common.{◌≡◌, ◌∙◌, ℕ, List, Ok, refl, sym, subst}
+use Rattle.std.proofs.Common.{ℕ, List, sym, subst}
 use Rattle.leaf_map.specs.Recovered.{recovered_of}
 use Rattle.sound_image.specs.Breaches.{IsFirstBreach}
-use Rattle.sound_image.specs.Image.{Image, parts_of}
+use Rattle.sound_image.specs.Image.{parts_of}
 use Rattle.sound_image.specs.Tree.{HasTree}
 use Rattle.sound_image.specs.declared.rule.Rule.TheVariants as rules
 use Rattle.image_check.specs.Told.{TellsBreach}
 use Rattle.tree_check.specs.Told.{AreShownBy}
-use Rattle.tree_check.specs.declared.shown_leaf.ShownLeaf.{ShownLeaf}
 use Rattle.sound_check.proofs.Firsts.{first_same}
 use Rattle.sound_check.proofs.Kept.{exit_broken, exit_reads, failed_stage, failed_then, kept_one, kept_stage, kept_then, reads_err, reads_ok, same_holds}
 use Rattle.sound_check.proofs.Spaces.{first_of_links, first_of_tree, journal_of, sound_of}

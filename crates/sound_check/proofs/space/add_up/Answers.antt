@@ -1,4 +1,4 @@
-use Rattle.std.proofs.Common.{◌≡◌, ◌∙◌, List, Result, length, ap, sym, subst}
+use Rattle.std.proofs.Common.{◌∙◌, List, Result, length, ap, sym, subst}
 use Rattle.std.specs.Prelude.{IfErr, IfOk}
 use Rattle.ubifs_base.specs.RawOf.{raw_of}
 use Rattle.media_lpt.specs.declared.lprop.Lprop.{Lprop}

@@ -1,13 +1,13 @@
-use Rattle.std.proofs.Common.{◌≡◌, ◌∙◌, ℕ, List, Ok, length, ap, refl, sym, subst}
+use Rattle.std.proofs.Common.{◌∙◌, length, ap, refl, sym}
 use Rattle.ubifs_base.specs.RawOf.{raw_of}
-use Rattle.sound_image.specs.Breaches.{IsFirstBreach}
+use Rattle.sound_image.specs.Breaches.{IsFirstBreach, IsWrittenEnd, IsWrongSum}
+use Rattle.sound_image.specs.Wrong.{IsFirstWrong}
 use Rattle.sound_image.specs.declared.rule.Rule.TheVariants as rules
-use Rattle.image_check.specs.Told.{TellsBreach}
-use Rattle.image_tree.specs.Reads.{IsReadOf}
-use Rattle.sound_check.proofs.Firsts.{err_told, first_same, ok_told}
+use Rattle.image_check.specs.Told.{IsBreachOf, TellsBreach}
+use Rattle.sound_check.proofs.Firsts.{err_told, first_same}
 use Rattle.sound_check.proofs.Kept.{exit_broken, exit_reads, failed_stage, failed_then, kept_one, kept_stage, kept_then, reads_err, reads_ok, same_holds}
 use Rattle.sound_check.proofs.Shapes.{geometry_kept}
-use Rattle.sound_check.proofs.Spaces.{ends_met, first_of_ends, first_of_orphans, first_of_sums, orphans_met, sums_met}
+use Rattle.sound_check.proofs.Spaces.{ends_here, first_of_ends, first_of_orphans, first_of_sums, orphans_met, sums_here}
 use Rattle.sound_check.proofs.Stages.{up_to_same}
 use Rattle.sound_check.proofs.space.read_space.Goals as goal
 
@@ -24,7 +24,7 @@ returns-in_err-add_up-clause-broken g c =
     let found = c.in_ok-found.found in
     let image = c.in_ok-found.ensures.met.0 in
     let fault = c.in_err-add_up.field-0.0 in
-    let told = err_told _ c.add_up.result fault c.in_err-add_up.was (c.add_up.ensures.broken image.placed c.in_ok-found.ensures.met.1.before.index) in
+    let told = err_told (TellsBreach (IsBreachOf rules.Sums (IsFirstWrong (IsWrongSum (raw_of found.journal.areas.begun.geometry) found.journal.areas.props.items image.placed)))) c.add_up.result fault c.in_err-add_up.was (c.add_up.ensures.broken image.placed c.in_ok-found.ensures.met.1.before.index) in
     exit_broken (TellsBreach (IsFirstBreach old.holds)) fault c.from_residual-in_err-add_up.result c.from_residual-in_err-add_up.ensures.1
     (first_of_sums old.holds found.journal image found.journal.areas.props.items refl c.a_breach_is_first.ensures c.in_ok-found.ensures.met.1.before fault told)
 
@@ -50,9 +50,8 @@ returns-in_err-check_ends-clause-broken g c =
     let before = c.in_ok-found.ensures.met.1.before in
     let fault = c.in_err-check_ends.field-0.0 in
     let same = same_holds old one c.in_ok-found.ensures.reads.keeps in
-    let sums = ok_told _ c.add_up.result _ c.in_ok-add_up.was (c.add_up.ensures.met image.placed before.index) in
-    let here = up_to_same rules.Ends old.holds one.holds found.journal image (sym same) (sums_met old.holds found.journal image found.journal.areas.props.items refl before sums) in
-    let told = err_told _ c.check_ends.result fault c.in_err-check_ends.was (c.check_ends.ensures.broken image.log (sym before.said.references_are ∙ sym c.as_slice-2.ensures.value)) in
+    let here = sums_here old.holds one.holds found.journal image c.add_up.result _ c.in_ok-add_up.was (c.add_up.ensures.met image.placed before.index) same before in
+    let told = err_told (TellsBreach (IsBreachOf rules.Ends (IsFirstWrong (IsWrittenEnd one.holds (raw_of found.journal.areas.begun.geometry) found.journal.areas.begun.latest.master c.as_slice.result.now image.log)))) c.check_ends.result fault c.in_err-check_ends.was (c.check_ends.ensures.broken image.log (sym before.said.references_are ∙ sym c.as_slice-2.ensures.value)) in
     exit_broken (TellsBreach (IsFirstBreach old.holds)) fault c.from_residual-in_err-check_ends.result c.from_residual-in_err-check_ends.ensures.1
     (first_same old.holds one.holds same fault (first_of_ends one.holds found.journal image c.as_slice.result.now c.as_slice.ensures.value c.a_breach_is_first.ensures here fault told))
 
@@ -79,10 +78,9 @@ returns-in_err-check_orphans-clause-broken g c =
     let fault = c.in_err-check_orphans.field-0.0 in
     let same = same_holds old one c.in_ok-found.ensures.reads.keeps in
     let next = same_holds one two c.in_ok-check_ends.ensures.keeps.0 in
-    let sums = ok_told _ c.add_up.result _ c.in_ok-add_up.was (c.add_up.ensures.met image.placed before.index) in
-    let here = up_to_same rules.Ends old.holds one.holds found.journal image (sym same) (sums_met old.holds found.journal image found.journal.areas.props.items refl before sums) in
-    let ends = ok_told _ c.check_ends.result _ c.in_ok-check_ends.was (c.check_ends.ensures.met image.log (sym before.said.references_are ∙ sym c.as_slice-2.ensures.value)) in
-    let there = up_to_same rules.Orphans one.holds two.holds found.journal image (sym next) (ends_met one.holds found.journal image c.as_slice.result.now c.as_slice.ensures.value here ends) in
+    let here = sums_here old.holds one.holds found.journal image c.add_up.result _ c.in_ok-add_up.was (c.add_up.ensures.met image.placed before.index) same before in
+    let ends = c.check_ends.ensures.met image.log (sym before.said.references_are ∙ sym c.as_slice-2.ensures.value) in
+    let there = ends_here one.holds two.holds found.journal image c.as_slice.result.now c.as_slice.ensures.value c.check_ends.result _ c.in_ok-check_ends.was ends next here in
     exit_broken (TellsBreach (IsFirstBreach old.holds)) fault c.from_residual-in_err-check_orphans.result c.from_residual-in_err-check_orphans.ensures.1
     (first_same old.holds two.holds (next ∙ same) fault (first_of_orphans two.holds found.journal image c.a_breach_is_first.ensures there fault c.in_err-check_orphans.ensures.broken))
 
@@ -107,10 +105,9 @@ returns-clause-met g c =
     let before = c.in_ok-found.ensures.met.1.before in
     let same = same_holds old one c.in_ok-found.ensures.reads.keeps in
     let next = same_holds one two c.in_ok-check_ends.ensures.keeps.0 in
-    let sums = ok_told _ c.add_up.result _ c.in_ok-add_up.was (c.add_up.ensures.met image.placed before.index) in
-    let here = up_to_same rules.Ends old.holds one.holds found.journal image (sym same) (sums_met old.holds found.journal image found.journal.areas.props.items refl before sums) in
-    let ends = ok_told _ c.check_ends.result _ c.in_ok-check_ends.was (c.check_ends.ensures.met image.log (sym before.said.references_are ∙ sym c.as_slice-2.ensures.value)) in
-    let there = up_to_same rules.Orphans one.holds two.holds found.journal image (sym next) (ends_met one.holds found.journal image c.as_slice.result.now c.as_slice.ensures.value here ends) in
+    let here = sums_here old.holds one.holds found.journal image c.add_up.result _ c.in_ok-add_up.was (c.add_up.ensures.met image.placed before.index) same before in
+    let ends = c.check_ends.ensures.met image.log (sym before.said.references_are ∙ sym c.as_slice-2.ensures.value) in
+    let there = ends_here one.holds two.holds found.journal image c.as_slice.result.now c.as_slice.ensures.value c.check_ends.result _ c.in_ok-check_ends.was ends next here in
     let all = up_to_same rules.Tree two.holds old.holds found.journal image (next ∙ same) (orphans_met two.holds found.journal image there c.in_ok-check_orphans.ensures.met) in
     (image, record { before = all; tree = c.in_ok-found.ensures.met.1.tree })
 

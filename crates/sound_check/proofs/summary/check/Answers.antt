@@ -1,7 +1,4 @@
-use Rattle.std.proofs.Common.{◌≡◌, ◌∙◌, ℕ, List, Ok, refl, sym, subst}
-use Rattle.image_check.specs.Told.{TellsBreach}
-use Rattle.sound_check.specs.Calls.{ReadsOnly}
-use Rattle.sound_check.proofs.Kept.{exit_reads, failed_first, kept_one, reads_ok}
+use Rattle.sound_check.proofs.Kept.{exit_reads, failed_first}
 use Rattle.sound_check.proofs.summary.check.Goals as goal
 
 pub returns-in_err-read-clause-cause : goal.returns-in_err-read-clause-cause

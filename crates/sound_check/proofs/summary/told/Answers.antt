@@ -1,8 +1,7 @@
-use Rattle.std.proofs.Common.{◌≡◌, ◌∙◌, List, length, map, refl, sym, ap, subst}
+use Rattle.std.proofs.Common.{◌≡◌, ◌∙◌, List, length, map, ap}
 use Rattle.std.proofs.lemmas.Result.{IfOk-at_ok}
 use Rattle.fs_model.specs.declared.space.Space.{Space}
 use Rattle.leaf_recovery.specs.declared.recovered_leaf.RecoveredLeaf.{RecoveredLeaf}
-use Rattle.sound_image.specs.Image.{Image}
 use Rattle.sound_image.specs.Summary.{space_of_image}
 use Rattle.sound_check.proofs.Told.{told_space, told_whole}
 use Rattle.sound_check.proofs.summary.told.Goals as goal
