@@ -1,5 +1,5 @@
 -- What a cut may leave of the parts of a step.
-use Rattle.std.proofs.Common.{◌≡◌, ℕ, ◌⊎◌, List, [], ◌∷◌, Result, Ok, Err, ap, arith, false, inl, inr, length, refl, sym, subst, true, ◌∙◌}
+use Rattle.std.proofs.Common.{◌≡◌, ℕ, ◌⊎◌, List, [], ◌∷◌, Result, ap, arith, false, inl, inr, length, refl, sym, subst, true}
 use Rattle.std.specs.Prelude.{◌==◌}
 use Rattle.std.proofs.lemmas.Bool.{eqb-true, false≢true}
 use Rattle.fs_model.specs.declared.change.Change.{Change}
