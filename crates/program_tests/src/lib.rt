@@ -13,3 +13,5 @@ mod io_edges_tests;
 mod script_text_tests;
 #[cfg(test)]
 mod ubifs_tools_tests;
+#[cfg(test)]
+mod volume_format_tests;
