@@ -16,7 +16,7 @@ use Rattle.leaf_map.specs.Kept.{Kept, Placed}
 use Rattle.leaf_map.specs.Parts.{Parts}
 use Rattle.leaf_map.specs.Recovered.{in_order, placed_node, recovered_of}
 use Rattle.leaf_map.specs.SpaceFound.{space_found}
-use Rattle.leaf_recovery.specs.Told.{AreToldOf}
+use Rattle.leaf_recovery.specs.Told.{AreLeavesTold}
 use Rattle.leaf_recovery.specs.declared.recovered_leaf.RecoveredLeaf.{RecoveredLeaf}
 use Rattle.sound_image.specs.Image.{Image, named_by, parts_of}
 use Rattle.sound_image.specs.Index.{root_branch}
@@ -52,7 +52,7 @@ nodes_counted nodes applied e =
     omega (arith, a, b, d)
 
 -- ---- the recovered leaves
-places_same : (parts : Parts) (kept : List Kept) (rs : List RecoveredLeaf) → AreToldOf parts kept rs → map (λ x. x.leaf) rs ≡ map (λ x. x.leaf) kept
+places_same : (parts : Parts) (kept : List Kept) (rs : List RecoveredLeaf) → AreLeavesTold parts kept rs → map (λ x. x.leaf) rs ≡ map (λ x. x.leaf) kept
 places_same parts [] [] h = refl
 places_same parts [] (r ∷ rs) h = absurd h
 places_same parts (x ∷ kept) [] h = absurd h
