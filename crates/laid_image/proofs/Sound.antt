@@ -1,18 +1,14 @@
 -- Laid images are sound.
-use Rattle.std.proofs.Common.{◌≡◌, ℕ, zero, suc, ◌+◌, ◌<◌, ◌≤◌, true, List, [], ◌∷◌, Some, refl, ap, sym, ◌∙◌, subst, append-nil, arith}
+use Rattle.std.proofs.Common.{◌≡◌, ℕ, ◌<◌, ◌≤◌, true, List, [], ◌∷◌, Some, refl, ap, sym, ◌∙◌, subst, append-nil}
 use Rattle.std.specs.Prelude.{◌++◌, ◌^◌, All, IsSome, length, map}
 use Rattle.std.specs.List.{AllByRecursion, list_all}
 use Rattle.std.proofs.lemmas.List.Elements.{All-nil, All-cons}
-use Rattle.ubifs_base.specs.Areas.{orph_first}
 use Rattle.ubifs_base.specs.NodeLaws.{IsBytes}
 use Rattle.ubifs_base.specs.declared.raw_geometry.RawGeometry.{RawGeometry}
 use Rattle.media_lpt.specs.declared.lprop.Lprop.{Lprop}
 use Rattle.media_sys.specs.declared.master.Master.{Master}
 use Rattle.media_sys.specs.declared.ref_node.RefNode.{RefNode}
-use Rattle.small_areas.specs.Orphans.{AreOrphans}
 use Rattle.small_areas.specs.declared.placed_master.PlacedMaster.{PlacedMaster}
-use Rattle.leb_scan.specs.Text.{is_blank}
-use Rattle.leb_scan.specs.declared.tail.Tail.TheVariants.{Clean}
 use Rattle.index_tree.specs.Distinct.{AreDistinct}
 use Rattle.index_tree.specs.declared.leaf.Leaf.{Leaf}
 use Rattle.index_media.specs.PlacedRow.{PlacedRow, are_disjoint, branch_to}
@@ -37,7 +33,6 @@ use Rattle.sound_image.specs.Image.{named_by, parts_of}
 use Rattle.sound_image.specs.Laid.{IsFreshLog, IsPlainLeaf}
 use Rattle.sound_image.specs.Leaves.{AreCommitted, HasLeaves, IsPlacedIn, IsSoundLeaf, leaves_recovered}
 use Rattle.sound_image.specs.Log.{HasLog}
-use Rattle.sound_image.specs.OrphanLists.{HasOrphanNodes}
 use Rattle.sound_image.specs.Sound.{SoundImage}
 use Rattle.sound_image.specs.Tree.{HasLinks, HasTree, IsCopy, ShowsItsNode, is_in_place, is_named_well}
 use Rattle.laid_image.specs.Laid.{IsLaidImage, IsLaidNode, laid_image, leaf_of, tree_of_nodes}
@@ -96,17 +91,6 @@ module _ (known : PlainKnown) (contents : ℕ → List ℕ) (bytes : (lnum : ℕ
         h.0.unmarked,
       ) (sound_leaves nodes h.1)
 
--- ---- blank orphan areas
-none_listed : (contents : ℕ → List ℕ) (first n : ℕ) → ((lnum : ℕ) → first ≤ lnum → lnum < first + n → is_blank (contents lnum) ≡ true) → AreOrphans contents first n []
-none_listed contents first zero h = refl
-none_listed contents first (suc n) h = (
-  [],
-  [],
-  none_listed contents first n (λ lnum low high. h lnum low (omega (arith, high))),
-  record { items = []; end = 0; tail = Clean; is_text = record { stand = refl; ends = h (first + n) (omega arith) (omega arith) }; listed = refl },
-  refl,
-)
-
 -- ---- the image
 -- the parts of an image whose log names no bud
 pub plain_parts : (geo : RawGeometry) (latest : PlacedMaster) (props : List Lprop) (placed : PlacedRow) (log : List LogText) (nodes : List Placed) → references_of log ≡ []
@@ -160,7 +144,7 @@ module _ (originals : Originals) (contents : ℕ → List ℕ) (geo : RawGeometr
     dirs = let P : Tree → Type 0 = λ tree. list_all (is_in_place tree) tree.inodes ≡ true in subst P (sym tree_is) h.tree.dirs;
   }
 
-  module _ (known : PlainKnown) (fresh : FreshLogs) (blank : (leb : List ℕ) → is_blank leb ≡ true → HasOrphanNodes leb) where
+  module _ (known : PlainKnown) (fresh : FreshLogs) where
     has_leaves : (log : List LogText) → parts_of (laid_image geo latest props placed log nodes) ≡ parts → HasLeaves contents (laid_image geo latest props placed log nodes)
     has_leaves log same =
         let P : Parts → Type 0 = λ parts. All (IsSoundLeaf contents geo props) (leaves_recovered parts) in
@@ -168,7 +152,7 @@ module _ (originals : Originals) (contents : ℕ → List ℕ) (geo : RawGeometr
         let A : List Leaf → Type 0 = λ leaves. AreCommitted contents leaves (map read nodes) in
         record {
           committed = subst A (sym h.leaves) (committed_stand contents geo props nodes h.stand);
-          listed = none_listed contents (orph_first geo) geo.orph_lebs h.orphans;
+          listed = h.listed;
           sound = subst P (sym same) (subst (λ leaves. All (IsSoundLeaf contents geo props) leaves) (sym leaves_are) (sound_leaves known contents h.bytes geo props nodes h.stand));
           replaced = ap missing_leaves same ∙ none_missing latest.master.highest_inum nodes shows;
           apart = subst D (sym same) (let E : List Leaf → Type 0 = λ leaves. are_disjoint (map branch_to leaves) ≡ true in subst E (sym leaves_are) h.disjoint);
@@ -193,7 +177,7 @@ module _ (originals : Originals) (contents : ℕ → List ℕ) (geo : RawGeometr
                 leaves = has_leaves texts same;
                 sums = h.sums;
                 ends = λ no_bud. h.ends;
-                orphans = λ lnum low high. blank (contents lnum) (h.orphans lnum low high);
+                orphans = h.orphans;
                 tree = subst (HasTree contents) (sym same) has_tree;
                 links = let P : Tree → Type 0 = λ tree. HasLinks tree in subst P (sym (ap tree_found same ∙ tree_is)) h.tree.links;
               },

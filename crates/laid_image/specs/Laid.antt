@@ -1,11 +1,12 @@
 -- Images that were laid without a journal: each leaf at a node of its own, a log that holds the start of a commit alone, no orphans.
-use Rattle.std.specs.Prelude.{◌≡◌, ◌≢◌, ℕ, ◌-◌, ◌<◌, ◌≤◌, ◌^◌, IsTrue, List, [], Some, drop, map}
+use Rattle.std.specs.Prelude.{◌≡◌, ◌≢◌, ℕ, ◌-◌, ◌<◌, ◌^◌, IsTrue, List, [], Some, drop, map}
 use Rattle.std.specs.List.{AllByRecursion, list_all}
-use Rattle.ubifs_base.specs.Areas.{main_first, orph_first}
+use Rattle.ubifs_base.specs.Areas.{orph_first}
 use Rattle.ubifs_base.specs.NodeLaws.{IsBytes}
 use Rattle.ubifs_base.specs.declared.raw_geometry.RawGeometry.{RawGeometry}
 use Rattle.media_lpt.specs.declared.lprop.Lprop.{Lprop}
 use Rattle.media_sys.specs.declared.master.Master.{Master}
+use Rattle.small_areas.specs.Orphans.{AreOrphans}
 use Rattle.small_areas.specs.declared.placed_master.PlacedMaster.{PlacedMaster}
 use Rattle.leb_scan.specs.Text.{is_blank}
 use Rattle.index_tree.specs.Distinct.{AreDistinct}
@@ -26,6 +27,7 @@ use Rattle.sound_image.specs.Index.{HasIndex}
 use Rattle.sound_image.specs.Laid.{IsFreshLog, IsPlainLeaf}
 use Rattle.sound_image.specs.Leaves.{IsPlacedIn}
 use Rattle.sound_image.specs.Masters.{HasMasters}
+use Rattle.sound_image.specs.OrphanLists.{HasOrphanLists}
 use Rattle.sound_image.specs.Properties.{HasProperties, is_unmarked, prop_of}
 use Rattle.sound_image.specs.Space.{HasSums}
 use Rattle.sound_image.specs.Superblock.{HasSuperblock}
@@ -63,7 +65,7 @@ AreEndsBlank contents geo master props =
     → IsTrue (is_blank (drop (geo.leb_size - prop.free) (contents lnum)))
 
 -- the contents are those of a volume in which a superblock, masters, properties, an index and these leaf nodes were laid, and whose log holds the start of the
--- master's commit alone
+-- master's commit alone; in the orphan area no number stands
 pub record IsLaidImage (contents : ℕ → List ℕ) (geo : RawGeometry) (latest : PlacedMaster) (props : List Lprop) (placed : PlacedRow) (nodes : List Placed) : Type 0 where
   pub bytes : (lnum : ℕ) → IsBytes (contents lnum)
   pub superblock : HasSuperblock contents geo
@@ -80,7 +82,8 @@ pub record IsLaidImage (contents : ℕ → List ℕ) (geo : RawGeometry) (latest
   pub stand : AllByRecursion (IsLaidNode contents geo props) nodes
   pub sums : HasSums geo props placed
   pub ends : AreEndsBlank contents geo latest.master props
-  pub orphans : (lnum : ℕ) → orph_first geo ≤ lnum → lnum < main_first geo → IsTrue (is_blank (contents lnum))
+  pub orphans : HasOrphanLists contents geo
+  pub listed : AreOrphans contents (orph_first geo) geo.orph_lebs []
   pub tree : ShowTree (map kept_at nodes) (tree_of_nodes latest.master nodes)
 
 -- what such an image says, where the text of its log is this

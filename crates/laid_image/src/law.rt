@@ -37,5 +37,4 @@ pub fn a_laid_image_is_sound()
     originals_are_found();
     a_fresh_log_meets_the_rule();
     plain_nodes_need_no_feature();
-    what_is_written_meets_the_rules();
 }

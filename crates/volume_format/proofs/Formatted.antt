@@ -20,6 +20,7 @@ use Rattle.media_sys.specs.declared.super_node.Super.{Super}
 use Rattle.small_areas.specs.Copies.{IsMasterLeb}
 use Rattle.small_areas.specs.Masters.{IsLatest}
 use Rattle.sound_image.specs.Laid.{BeginsAlone}
+use Rattle.sound_image.specs.OrphanLists.{HasOrphanNodes}
 use Rattle.sound_image.specs.Superblock.{BeginsWithSuper}
 use Rattle.volume_format.specs.Alone.{HoldsAlone}
 use Rattle.volume_format.specs.Format.{AreAreasLaid, IsMainLaid, IsNew, IsUnwritten, new_props, new_super, root_index, root_node}
@@ -36,7 +37,7 @@ no_master lnum low (inr two) = omega (arith, low, two)
 
 module _ (geo : RawGeometry) (g : IsGeometry geo) (small : geo.big ≡ false) (three : 3 ≤ main_lebs geo) (now : ℕ) (uuid : List ℕ) (at : LptAt)
     (s0 s1 s2 s3 : VolumeState) (leb_cnt : geo.leb_cnt ≤ s0.leb_cnt) (unwritten : IsUnwritten s0) (main : IsMainLaid geo now s0 s1 at) (areas : AreAreasLaid geo s1 s2 at)
-    {P : List ℕ → Type 0} (works : WorksOn s2 s3 0 P) (bytes : (lnum : ℕ) → IsBytes (s3.holds lnum)) (meets : PropertiesMet) (laid : Laid) where
+    {P : List ℕ → Type 0} (works : WorksOn s2 s3 0 P) (bytes : (lnum : ℕ) → IsBytes (s3.holds lnum)) (meets : PropertiesMet) (none_written : (leb : List ℕ) → is_blank leb ≡ true → HasOrphanNodes leb) (laid : Laid) where
   -- what was laid first stands at the end
   stays : (lnum : ℕ) → 3 < lnum → IsSameLeb s1 s3 lnum
   stays lnum low = IsSameLeb-then s1 s2 s3 lnum (areas.others lnum (λ e. omega (arith, low, e)) (no_master lnum (omega (arith, low)))) (IsSameLeb-works s2 s3 0 lnum P (λ e. omega (arith, low, e)) works)
@@ -49,6 +50,14 @@ module _ (geo : RawGeometry) (g : IsGeometry geo) (small : geo.big ≡ false) (t
       let same = main.others lnum (λ e. omega (arith, e, high)) (λ e. omega (arith, e, high)) (λ e. other (e ∙ first_lpt geo)) in
       let B : List ℕ → Type 0 = λ leb. is_blank leb ≡ true in
       let is : s3.holds lnum ≡ filled s0.leb_size [] = (stays lnum low).holds ∙ same.holds ∙ unwritten.blank lnum (omega (arith, high, three, leb_cnt)) in
+      subst B (sym is) (blank_replicate (s0.leb_size - 0))
+
+  empty_there : (lnum : ℕ) → main_first geo + 2 ≤ lnum → lnum < geo.leb_cnt → is_blank (s3.holds lnum) ≡ true
+  empty_there lnum low high =
+      let logs = g.log_lebs.0 in
+      let same = main.others lnum (λ e. omega (arith, e, low)) (λ e. omega (arith, e, low)) (λ e. let is = e ∙ first_lpt geo in omega (arith, is, low)) in
+      let B : List ℕ → Type 0 = λ leb. is_blank leb ≡ true in
+      let is : s3.holds lnum ≡ filled s0.leb_size [] = (stays lnum (omega (arith, low, logs))).holds ∙ same.holds ∙ unwritten.blank lnum (omega (arith, high, leb_cnt)) in
       subst B (sym is) (blank_replicate (s0.leb_size - 0))
 
   log_first : 3 < lpt_first geo
@@ -77,7 +86,7 @@ module _ (geo : RawGeometry) (g : IsGeometry geo) (small : geo.big ≡ false) (t
       root.begins (subst B (root.units ∙ ap (λ (n : ℕ). in_units geo.min_io n) main.root_units.long) root.behind) main.root_is main.root_units.long
       index.begins main.index_is main.index_units.long
       main.root_units.fits main.index_units.fits main.root_units.more main.index_units.more
-      blank meets laid
+      blank empty_there none_written meets laid
 
 -- a call behind another stays sure
 pub sure_then : {X Y : Type 0} (a b c : VolumeState) → (a.sure → b.spent ⊎ (b.sure × ((b.faults ≡ a.faults) × X))) → (b.spent → c.spent) → (b.sure → c.spent ⊎ (c.sure × ((c.faults ≡ b.faults) × Y)))

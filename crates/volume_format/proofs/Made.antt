@@ -6,7 +6,7 @@ use Rattle.std.proofs.Math.Nat.{le_refl}
 use Rattle.std.proofs.lemmas.Bool.{eq-eqb, leb-true, ltb-false, ltb-true, le-leb, le-ltb, ne_eqb}
 use Rattle.std.proofs.lemmas.List.{take_at}
 use Rattle.std.proofs.lemmas.List.Elements.{All-nil, All-cons}
-use Rattle.ubifs_base.specs.Areas.{lpt_first, main_first, main_lebs}
+use Rattle.ubifs_base.specs.Areas.{lpt_first, main_first, main_lebs, orph_first}
 use Rattle.ubifs_base.specs.Gap.{gap_of}
 use Rattle.ubifs_base.specs.Geometry.{IsGeometry}
 use Rattle.ubifs_base.specs.NodeLaws.{IsBytes}
@@ -23,6 +23,9 @@ use Rattle.index_media.specs.PlacedRow.{PlacedRow, branch_to, ended, leaf_at, no
 use Rattle.index_media.specs.Stored.{AreStored, IsIndexNodeAt}
 use Rattle.leb_scan.specs.Text.{is_blank}
 use Rattle.small_areas.specs.Masters.{IsLatest}
+use Rattle.small_areas.specs.Orphans.{AreOrphans}
+use Rattle.sound_image.specs.OrphanLists.{HasOrphanNodes}
+use Rattle.leb_scan.specs.declared.tail.Tail.TheVariants.{Clean}
 use Rattle.small_areas.specs.declared.placed_master.PlacedMaster.{PlacedMaster}
 use Rattle.lpt_area.specs.Written.{IsTreeLeb, in_units}
 use Rattle.lpt_area.specs.declared.lpt_at.LptAt.{LptAt}
@@ -140,6 +143,17 @@ module _ (geo : RawGeometry) (g : IsGeometry geo) (three : 3 ≤ main_lebs geo) 
   taken_by_none : (lnum : ℕ) → main_first geo + 2 ≤ lnum → committed_bytes (new_placed_index geo) lnum ≡ 0
   taken_by_none lnum low = rw (ne_eqb (main_first geo + 1) lnum (λ e. omega (arith, e, low)), ne_eqb (main_first geo) lnum (λ e. omega (arith, e, low))) refl
 
+-- ---- blank orphan areas
+none_listed : (contents : ℕ → List ℕ) (first n : ℕ) → ((lnum : ℕ) → first ≤ lnum → lnum < first + n → is_blank (contents lnum) ≡ true) → AreOrphans contents first n []
+none_listed contents first zero h = refl
+none_listed contents first (suc n) h = (
+  [],
+  [],
+  none_listed contents first n (λ lnum low high. h lnum low (omega (arith, high))),
+  record { items = []; end = 0; tail = Clean; is_text = record { stand = refl; ends = h (first + n) (omega arith) (omega arith) }; listed = refl },
+  refl,
+)
+
 -- ---- all together
 -- a tree where each directory has a link, as a mount reads it
 abbrev mounted : Tree → Tree
@@ -173,6 +187,8 @@ module _ (geo : RawGeometry) (g : IsGeometry geo) (small : geo.big ≡ false) (t
     (units_root : in_units geo.min_io 160 ≤ geo.leb_size) (units_index : in_units geo.min_io 48 ≤ geo.leb_size)
     (more_root : 160 ≤ in_units geo.min_io 160) (more_index : 48 ≤ in_units geo.min_io 48)
     (blank : (lnum : ℕ) → 3 < lnum → lnum < main_first geo → lnum ≢ lpt_first geo → is_blank (c lnum) ≡ true)
+    (empty_there : (lnum : ℕ) → main_first geo + 2 ≤ lnum → lnum < geo.leb_cnt → is_blank (c lnum) ≡ true)
+    (none_written : (leb : List ℕ) → is_blank leb ≡ true → HasOrphanNodes leb)
     (meets : PropertiesMet) where
   -- the tree of properties lies in its area
   in_area : IsInArea geo at
@@ -292,7 +308,8 @@ module _ (geo : RawGeometry) (g : IsGeometry geo) (small : geo.big ≡ false) (t
         stand = (record { stands = stands; unmarked = unmarked; plain = (refl, refl); shows = refl }, tt);
         sums = has_sums;
         ends = subst E (sym is_new) ends_blank;
-        orphans = λ lnum low high. blank lnum (omega (arith, low)) high (λ e. omega (arith, e, low, lpt));
+        orphans = λ lnum low high. none_written (c lnum) (blank lnum (omega (arith, low)) high (λ e. omega (arith, e, low, lpt)));
+        listed = none_listed c (orph_first geo) geo.orph_lebs (λ lnum low high. blank lnum (omega (arith, low)) high (λ e. omega (arith, e, low, lpt)));
         tree = subst T (sym is_new) shows_tree;
       }
     where
@@ -316,5 +333,9 @@ module _ (geo : RawGeometry) (g : IsGeometry geo) (small : geo.big ≡ false) (t
               sound = sound;
               geometry = refl;
               clean = refl;
+              at = at;
+              master = is_new;
+              props = refl;
+              empty = empty_there;
               tree = ap mounted (laid.tree geo latest (new_props geo) (new_placed_index geo) log (root_placed geo now ∷ []) c none is_laid ∙ same_tree);
             }

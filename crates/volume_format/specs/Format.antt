@@ -1,5 +1,5 @@
 -- A new file system: which nodes are laid into a blank volume, and where.
-use Rattle.std.specs.Prelude.{◌≡◌, ◌≢◌, ℕ, ◌+◌, ◌-◌, ◌*◌, ◌<◌, IsTrue, Bool, true, false, List, [], ◌∷◌, replicate}
+use Rattle.std.specs.Prelude.{◌≡◌, ◌≢◌, ℕ, ◌+◌, ◌-◌, ◌*◌, ◌<◌, ◌≤◌, IsTrue, Bool, true, false, List, [], ◌∷◌, replicate}
 use Rattle.ubifs_base.specs.Areas.{main_first, main_lebs}
 use Rattle.ubifs_base.specs.declared.key.Key.TheVariants.{Ino}
 use Rattle.ubifs_base.specs.declared.raw_geometry.RawGeometry.{RawGeometry}
@@ -13,6 +13,7 @@ use Rattle.media_sys.specs.SystemNode.{IsSystemNode, commit_start, index as inde
 use Rattle.media_sys.specs.declared.branch.Branch.{Branch}
 use Rattle.media_sys.specs.declared.master.Master.{Master}
 use Rattle.media_sys.specs.declared.super_node.Super.{Super}
+use Rattle.leb_scan.specs.Text.{is_blank}
 use Rattle.index_tree.specs.declared.leaf.Leaf.{Leaf}
 use Rattle.lpt_area.specs.Written.{IsWritten, in_units, next_lpt}
 use Rattle.lpt_area.specs.declared.lpt_at.LptAt.{LptAt}
@@ -93,7 +94,7 @@ new_master geo at = record {
   total_dirty = (in_units geo.min_io 160 - 160) + (in_units geo.min_io 48 - 48);
   total_used = 160;
   total_dead = 0;
-  total_dark = 0;
+  total_dark = (main_lebs geo - 1) * in_units geo.min_io 4256;
   lpt_lnum = at.lnum;
   lpt_offs = at.offs;
   nhead_lnum = at.nhead_lnum;
@@ -102,7 +103,7 @@ new_master geo at = record {
   ltab_offs = at.ltab_offs;
   lsave_lnum = 0;
   lsave_offs = 0;
-  lscan_lnum = at.lnum;
+  lscan_lnum = main_first geo;
   empty_lebs = main_lebs geo - 2;
   idx_lebs = 1;
   leb_cnt = geo.leb_cnt;
@@ -143,8 +144,8 @@ root_inode now = record { kind = Dir; mode = 0o755; nlink = 2; size = 160; uid =
 abbrev pub new_tree : ℕ → Tree
 new_tree now = record { inodes = (1, root_inode now) ∷ []; blocks = []; entries = []; highest = 64 }
 
--- The contents are a sound image of a new file system of this geometry, made at this time, whose superblock has this identifier. No bud of it holds
--- a node.
+-- The contents are a sound image of a new file system of this geometry, made at this time, whose superblock has this identifier. Its latest master is the first
+-- one, over some tree of properties; all main LEBs but two are empty, and nothing is written in them. No bud holds a node.
 pub record IsNew (contents : ℕ → List ℕ) (geo : RawGeometry) (uuid : List ℕ) (now : ℕ) : Type 0 where
   pub superblock : BeginsWithSuper (contents 0) (new_super geo uuid)
   pub image : Image
@@ -152,6 +153,10 @@ pub record IsNew (contents : ℕ → List ℕ) (geo : RawGeometry) (uuid : List 
   pub geometry : image.geo ≡ geo
   pub clean : IsTrue (is_clean image)
   pub tree : tree_of_image image ≡ new_tree now
+  pub at : LptAt
+  pub master : image.latest.master ≡ new_master geo at
+  pub props : image.props ≡ new_props geo
+  pub empty : (lnum : ℕ) → main_first geo + 2 ≤ lnum → lnum < geo.leb_cnt → IsTrue (is_blank (contents lnum))
 
 -- The root directory's inode stands alone in the first main LEB, its index in the second, and a tree of the properties in the properties area. All
 -- else is as it was.

@@ -5,7 +5,7 @@ use Rattle.laid_image.proofs.law.a_laid_image_is_sound.Goals as goal
 
 pub returns-clause-sound : goal.returns-clause-sound
 returns-clause-sound c contents geo latest props placed nodes h =
-    laid_is_sound c.originals_are_found.ensures contents geo latest props placed nodes h c.plain_nodes_need_no_feature.ensures.plain c.a_fresh_log_meets_the_rule.ensures c.what_is_written_meets_the_rules.ensures.none
+    laid_is_sound c.originals_are_found.ensures contents geo latest props placed nodes h c.plain_nodes_need_no_feature.ensures.plain c.a_fresh_log_meets_the_rule.ensures
 
 pub returns-clause-leaves : goal.returns-clause-leaves
 returns-clause-leaves c geo latest props placed log nodes contents none h =

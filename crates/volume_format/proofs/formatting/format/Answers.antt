@@ -25,7 +25,7 @@ returns-clause-made g c =
     formatted geo c.args.geometry.now.in_range c.requires.small c.requires.three c.args.now c.args.uuid.now c.in_ok-at.at s0 s1 s2 s3 c.requires.geometry.leb_cnt c.requires.unwritten
     c.in_ok-at.ensures.laid c.in_ok-lay_areas.ensures.laid c.write_superblock.ensures.works
     (all_bytes s3.holds s3.leb_cnt (g.met.V.Volume.leb_bytes c.write_superblock.new.volume) (g.met.V.Volume.none c.write_superblock.new.volume))
-    c.what_is_written_meets_the_rules.ensures.properties (record { sound = c.a_laid_image_is_sound.ensures.sound; tree = c.a_laid_image_is_sound.ensures.tree })
+    c.what_is_written_meets_the_rules.ensures.properties c.what_is_written_meets_the_rules.ensures.none (record { sound = c.a_laid_image_is_sound.ensures.sound; tree = c.a_laid_image_is_sound.ensures.tree })
     (written 6 0 (superblock c.new_superblock-node.result)) c.new_superblock-node.result c.write_superblock.result c.new_superblock-node.ensures c.write_superblock.ensures.done
 
 pub returns-clause-cause : goal.returns-clause-cause
