@@ -297,7 +297,7 @@ def lay(content):
     master = {
         **sums_of(content, props), "highest_inum": max([64] + [leaf.key[0] for leaf in content.leaves]), "cmt_no": content.cmt_no,
         "flags": 0 if content.orphans else 2, "log_lnum": 3, "root_lnum": root[0], "root_offs": root[1], "root_len": root[2],
-        "gc_lnum": first_empty(content, props), "ihead_lnum": last, "ihead_offs": head, "lscan_lnum": shape.lpt_first,
+        "gc_lnum": first_empty(content, props), "ihead_lnum": last, "ihead_offs": head, "lscan_lnum": shape.main_first,
     }
     for lnum, values in content.changed_props:
         vars(props[lnum - shape.main_first]).update(values)
