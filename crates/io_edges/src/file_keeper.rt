@@ -2,15 +2,12 @@
 
 use crate::{KeepFault, Keeper};
 use std::alloc::{AllocError, Global};
-use std::fs;
-use std::io::Read;
+use std::fs::{self, OpenFile};
+use std::io::{self, ErrorKind, Read};
 use std::rt::Files;
 
-// The most pieces in which a file is read.
-const TURNS: u64 = 1 << 40;
-
 /// Files of the host, by path. A file that is missing counts as a fault, since the keeper tells nothing of its files,
-/// and so does one that isn't read to its end in 2^40 pieces.
+/// and so does one that isn't read to its end in 2^64 pieces.
 #[derive(Drop)]
 pub struct FileKeeper<R> {
     alloc: Global,
@@ -36,23 +33,22 @@ impl From<AllocError> for ReadFault {
     }
 }
 
-// Reads a whole file.
-fn read_file<R: Files>(alloc: Global, host: &R, name: &str) -> Result<Vec<u8>, ReadFault> {
-    let Ok(mut file) = fs::open(host, name) else {
-        return Err(ReadFault::Host);
-    };
-    let mut bytes = Vec::new(alloc);
-    let mut piece = [0u8; 4096];
-    for _ in 0..TURNS {
-        let Ok(count) = file.read(&mut piece) else {
-            return Err(ReadFault::Host);
-        };
-        if count == 0 {
-            return Ok(bytes);
+impl From<io::Error> for ReadFault {
+    fn from(error: io::Error) -> ReadFault {
+        match error.kind() {
+            ErrorKind::OutOfMemory => ReadFault::Memory,
+            _ => ReadFault::Host,
         }
-        bytes.extend_from_slice(&piece[..count])?;
     }
-    Err(ReadFault::Host)
+}
+
+// Reads a whole file, into room for as many bytes as the host says that it has, and for one more, so that its end is met there.
+fn read_file<R: Files>(alloc: Global, host: &R, name: &str) -> Result<Vec<u8>, ReadFault> {
+    let mut file = fs::open(host, name)?;
+    let len = file.metadata()?.len() as usize;
+    let mut bytes = Vec::with_capacity(alloc, len.saturating_add(1))?;
+    file.read_to_end(&mut bytes)?;
+    Ok(bytes)
 }
 
 impl<R> FileKeeper<R> {
