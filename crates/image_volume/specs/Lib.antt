@@ -1,0 +1,5 @@
+pub mod Written
+pub mod WrittenLaws
+pub mod ImageVolume
+pub mod Reading
+pub mod ImageVolumeLaws
