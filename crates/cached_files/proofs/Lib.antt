@@ -24,5 +24,6 @@ pub mod Putting
 pub mod Reading
 pub mod Throughs
 pub mod TicketCut
+pub mod WholePage
 pub mod Written
 pub mod WrittenAlike

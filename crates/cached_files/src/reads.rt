@@ -89,7 +89,7 @@ fn blocks_end<B: Backing>(backing: &mut B, ino: u32) -> Result<u64, StoreFault>
 }
 
 /// Reads a block of a file into 4,096 bytes, with zeros past its end, and answers how many bytes it has: none where there
-/// is no such block.
+/// is no such block. The backing is asked only for a page that isn't kept.
 pub(crate) fn read_page<B: Backing>(
     backing: &mut B,
     kept: &Kept,
@@ -115,9 +115,9 @@ pub(crate) fn read_page<B: Backing>(
         return Ok(0);
     }
     let block = block as u32;
-    match kept.pages.dirty_page(ino, block) {
-        Some(dirty) => {
-            let bytes = dirty.bytes.as_slice();
+    match kept.pages.peek(ino, block) {
+        Some(page) => {
+            let bytes = page.as_slice();
             fill_with(out, bytes);
             Ok(bytes.len() as u32)
         }

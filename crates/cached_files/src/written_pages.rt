@@ -50,7 +50,7 @@ fn add_page(pages: &mut Vec<(u32, Bytes)>, page: u32, bytes: Bytes) -> Result<()
     Ok(())
 }
 
-// One page of them.
+// One page of them. One that is written whole isn't read.
 fn written_page<B: Backing>(
     alloc: Global,
     backing: &mut B,
@@ -75,6 +75,10 @@ fn written_page<B: Backing>(
     let start = BLOCK_SIZE * page as u64;
     let from = offs.saturating_sub(start) as usize;
     let to = (offs + n as u64 - start).min(BLOCK_SIZE) as usize;
+    if to - from == 4096 {
+        let whole = overlay(alloc, &[], from, to, byte)?;
+        return Ok(Bytes::from_vec(whole));
+    }
     let mut old = [0; 4096];
     let stored = read_page(backing, kept, ino, page as u64, &mut old)?;
     let bytes = overlay(alloc, &old[..stored as usize], from, to, byte)?;

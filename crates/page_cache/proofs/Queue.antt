@@ -1,5 +1,5 @@
 -- What holds of pages and places holds after each change of them.
-use Rattle.std.proofs.Common.{◌≡◌, ℕ, ◌+◌, ◌<◌, ◌≤◌, ◌||◌, Bool, true, false, cond, not, List, [], ◌∷◌, ◌++◌, filter, length, take, drop, map, is_some, IsSome, IfSome, Option, Some, None, refl, sym, ap, subst, ◌∙◌, arith, append-nil, length-append}
+use Rattle.std.proofs.Common.{◌≡◌, ℕ, ◌+◌, ◌*◌, ◌<◌, ◌≤◌, ◌||◌, Bool, true, false, cond, not, List, [], ◌∷◌, ◌++◌, filter, length, take, drop, map, is_some, IsSome, IfSome, Option, Some, None, refl, sym, ap, subst, ◌∙◌, arith, append-nil, length-append}
 use Rattle.std.specs.List.{AllByRecursion, IsDistinct, list_any}
 use Rattle.std.specs.Map.{keys_of, lookup, remove_entry, set_value}
 use Rattle.std.specs.Option.{option_map, option_map_or}
@@ -15,12 +15,12 @@ use Rattle.indexmap.specs.Layout.{hash_map}
 use Rattle.page_cache.specs.declared.dirty_page.DirtyPage.{DirtyPage}
 use Rattle.page_cache.specs.declared.place.Place.{Place}
 use Rattle.page_cache.specs.declared.place.Placed.{Placed}
-use Rattle.page_cache.specs.Queue.{page_placed, pages_by_place, ArePlacesBelow, IsChangedAt, IsQueue}
+use Rattle.page_cache.specs.Queue.{page_placed, pages_by_place, ArePlacesBelow, IsChangedAt, IsOrdered, IsQueue}
 use Rattle.page_cache.specs.PageLaws.{is_page_same}
 use Rattle.page_cache.specs.Pages.{is_page, is_cut, cut_list, cut_count}
 use Rattle.page_cache.proofs.Lists.{last_found, set_absent}
 use Rattle.page_cache.proofs.Names.{is_page_laws, is_page_test}
-use Rattle.page_cache.proofs.Order.{ByName, order_without, order_set, order_added, order_trimmed, order_last, order_cut, left_place}
+use Rattle.page_cache.proofs.Order.{ByName, order_without, order_set, order_added, order_trimmed, order_swept, order_last, order_cut, left_place}
 
 abbrev page_in : Placed → DirtyPage
 page_in placed = placed.page
@@ -66,11 +66,6 @@ below_front : (next : ℕ) (places more : List Place) → ArePlacesBelow next (p
 below_front next [] more all = tt
 below_front next (x ∷ xs) more all = (all.0, below_front next xs more all.1)
 
--- without all places that were left
-pub below_swept : (pages : ByName) (old trimmed swept : List Place) → swept ≡ filter (λ p. is_some (page_placed pages p)) trimmed → ((next : ℕ) → ArePlacesBelow next old → ArePlacesBelow next trimmed)
-    → (next : ℕ) → ArePlacesBelow next old → ArePlacesBelow next swept
-below_swept pages old trimmed swept is below next all = subst (ArePlacesBelow next) (sym is) (below_filtered next (λ p. is_some (page_placed pages p)) trimmed (below next all))
-
 -- what a look-up finds behind a list where it finds nothing
 found_pushed : {V : Type 0} (q name : ℕ × ℕ) (es : List ((ℕ × ℕ) × V)) (v : V) → lookup (is_page name) es ≡ None → lookup (is_page q) (es ++ (name, v) ∷ []) ≡ cond (is_page name q) (Some v) (lookup (is_page q) es)
 found_pushed {V} q name es v none = (elim (is_page name q) as (λ b. is_page name q ≡ b → lookup (is_page q) (es ++ (name, v) ∷ []) ≡ cond b (Some v) (lookup (is_page q) es)) [
@@ -108,7 +103,7 @@ cut_counted {V} (e ∷ es) ino from = by (is_cut ino from e.0) (cut_counted es i
     by false rest = omega (arith, rest)
 
 -- as many pages stand in the order as there are
-pub as_many : (pages : ByName) (places : List Place) (next : ℕ) → IsQueue pages places next → IsDistinct is_page (keys_of pages) → length pages ≡ length (pages_by_place pages places)
+pub as_many : (pages : ByName) (places : List Place) (next : ℕ) → IsOrdered pages places next → IsDistinct is_page (keys_of pages) → length pages ≡ length (pages_by_place pages places)
 as_many pages places next queue unique =
     let left : HashMap (ℕ × ℕ) DirtyPage (Unit {0}) = hash_map (map (λ (e : (ℕ × ℕ) × Placed). (e.0, e.1.page)) pages) tt 0 in
     let right : HashMap (ℕ × ℕ) DirtyPage (Unit {0}) = hash_map (pages_by_place pages places) tt 0 in
@@ -142,9 +137,9 @@ none_by_place pages (p ∷ ps) ino from none = by (is_cut ino from p.name) refl 
     by false is None rest none = rest none
     by false is (Some page) rest none = rw is (rest none)
 
-module _ (pages : ByName) (places : List Place) (next : ℕ) (queue : IsQueue pages places next) where
+module _ (pages : ByName) (places : List Place) (next : ℕ) (queue : IsOrdered pages places next) where
   -- with places that give the same order
-  pub queue_tidied : (fewer : List Place) → pages_by_place pages fewer ≡ pages_by_place pages places → ArePlacesBelow next fewer → IsQueue pages fewer next
+  pub queue_tidied : (fewer : List Place) → pages_by_place pages fewer ≡ pages_by_place pages places → ArePlacesBelow next fewer → IsOrdered pages fewer next
   queue_tidied fewer same below = record {
     placed = λ name. ap (lookup (is_page name)) same ∙ queue.placed name;
     once = subst (λ l. IsDistinct is_page (keys_of l)) (sym same) queue.once;
@@ -152,7 +147,7 @@ module _ (pages : ByName) (places : List Place) (next : ℕ) (queue : IsQueue pa
   }
 
   -- without a page
-  pub queue_without : (name : ℕ × ℕ) (now : ByName) → IsChangedAt name None pages now → IsQueue now places next
+  pub queue_without : (name : ℕ × ℕ) (now : ByName) → IsChangedAt name None pages now → IsOrdered now places next
   queue_without name now changes =
       let order = order_without pages now name changes places queue.once in
       record {
@@ -166,7 +161,7 @@ module _ (pages : ByName) (places : List Place) (next : ℕ) (queue : IsQueue pa
 
   -- with another page at a place
   pub queue_set : (name : ℕ × ℕ) (placed : Placed) (page : DirtyPage) (now : ByName) → lookup (is_page name) pages ≡ Some placed
-      → IsChangedAt name (Some (record { page = page; place = placed.place })) pages now → IsQueue now places next
+      → IsChangedAt name (Some (record { page = page; place = placed.place })) pages now → IsOrdered now places next
   queue_set name placed page now there changes =
       let order = order_set pages now name placed page there changes places queue.once in
       let found : IsSome (lookup (is_page name) (pages_by_place pages places)) = ap is_some (queue.placed name ∙ ap (option_map page_in) there) in
@@ -183,17 +178,17 @@ module _ (pages : ByName) (places : List Place) (next : ℕ) (queue : IsQueue pa
   pub set_or_back : (name : ℕ × ℕ) (page : DirtyPage) (now : ByName) (result : Option DirtyPage)
       → ((placed : Placed) → lookup (is_page name) pages ≡ Some placed → IsChangedAt name (Some (record { page = page; place = placed.place })) pages now)
       → is_some result ≡ not (is_some (lookup (is_page name) pages)) → IfSome result (λ back. (back ≡ page) × (now ≡ pages))
-      → IsQueue now places next × (pages_by_place now places ≡ set_value (is_page name) (pages_by_place pages places) page)
+      → IsOrdered now places next × (pages_by_place now places ≡ set_value (is_page name) (pages_by_place pages places) page)
   set_or_back name page now result changes found back = by (lookup (is_page name) pages) refl result found back
     where
       by : (o : Option Placed) → lookup (is_page name) pages ≡ o → (r : Option DirtyPage) → is_some r ≡ not (is_some o) → IfSome r (λ back. (back ≡ page) × (now ≡ pages))
-          → IsQueue now places next × (pages_by_place now places ≡ set_value (is_page name) (pages_by_place pages places) page)
+          → IsOrdered now places next × (pages_by_place now places ≡ set_value (is_page name) (pages_by_place pages places) page)
       by (Some placed) at r found back =
           (queue_set name placed page now at (changes placed at), order_set pages now name placed page at (changes placed at) places queue.once)
       by None at None found back = absurd (false≢true found)
       by None at (Some r) found back =
           let none : lookup (is_page name) (pages_by_place pages places) ≡ None = queue.placed name ∙ ap (option_map page_in) at in
-          (subst (λ ps. IsQueue ps places next) (sym back.1) queue, ap (λ ps. pages_by_place ps places) back.1 ∙ sym (set_absent (is_page name) (pages_by_place pages places) page none))
+          (subst (λ ps. IsOrdered ps places next) (sym back.1) queue, ap (λ ps. pages_by_place ps places) back.1 ∙ sym (set_absent (is_page name) (pages_by_place pages places) page none))
 
   -- with a new page at a new place
   module _ (place : Place) (page : DirtyPage) (now : ByName) (is : place.number ≡ next) (none : lookup (is_page place.name) (pages_by_place pages places) ≡ None)
@@ -201,7 +196,7 @@ module _ (pages : ByName) (places : List Place) (next : ℕ) (queue : IsQueue pa
     pub with_added : pages_by_place now (places ++ place ∷ []) ≡ pages_by_place pages places ++ (place.name, page) ∷ []
     with_added = order_added pages now place page (none_mapped (lookup (is_page place.name) pages) _ (queue.placed place.name) none) changes places (subst (λ n. ArePlacesBelow n places) (sym is) queue.below)
 
-    pub queue_added : IsQueue now (places ++ place ∷ []) (next + 1)
+    pub queue_added : IsOrdered now (places ++ place ∷ []) (next + 1)
     queue_added = record {
       placed = λ q. ap (lookup (is_page q)) with_added
           ∙ (found_pushed q place.name (pages_by_place pages places) page none
@@ -224,7 +219,7 @@ module _ (pages : ByName) (places : List Place) (next : ℕ) (queue : IsQueue pa
     pub cut_by_place : pages_by_place (cut_list pages ino from) (filter (λ p. not (is_cut ino from p.name)) places) ≡ cut_list (pages_by_place pages places) ino from
     cut_by_place = order_cut pages (cut_list pages ino from) ino from (found_cut pages) places
 
-    pub queue_cut : IsQueue (cut_list pages ino from) (filter (λ p. not (is_cut ino from p.name)) places) next
+    pub queue_cut : IsOrdered (cut_list pages ino from) (filter (λ p. not (is_cut ino from p.name)) places) next
     queue_cut = record {
       placed = λ q. ap (lookup (is_page q)) cut_by_place
           ∙ (found_cut (pages_by_place pages places) q
@@ -258,9 +253,42 @@ pub trimmed_shorter : (places new : List Place) → 0 < length places → new �
 trimmed_shorter [] new some is = absurd (omega (arith, some))
 trimmed_shorter (p ∷ ps) new some is = omega (arith, ap length is)
 
+-- so many places have a page as pages stand in the order
+filled_many : (pages : ByName) (places : List Place) → length (filter (λ p. is_some (page_placed pages p)) places) ≡ length (pages_by_place pages places)
+filled_many pages [] = refl
+filled_many pages (p ∷ ps) = by (page_placed pages p) (filled_many pages ps)
+  where
+    by : (o : Option DirtyPage) → length (filter (λ q. is_some (page_placed pages q)) ps) ≡ length (pages_by_place pages ps)
+        → length (cond (is_some o) (p ∷ filter (λ q. is_some (page_placed pages q)) ps) (filter (λ q. is_some (page_placed pages q)) ps))
+        ≡ length (option_map_or (λ page. (p.name, page) ∷ pages_by_place pages ps) o (pages_by_place pages ps))
+    by None rest = rest
+    by (Some page) rest = omega (arith, rest)
+
+-- once places that were left went
+module _ (pages : ByName) (old trimmed : List Place) (so : TrimmedSoFar pages old trimmed) (next : ℕ) (was : IsOrdered pages old next) where
+  ordered_trimmed : IsOrdered pages trimmed next
+  ordered_trimmed = queue_tidied pages old next was trimmed so.order (so.below next was.below)
+
+  -- they were few
+  pub queue_trimmed : IsDistinct is_page (keys_of pages) → length trimmed ≤ 2 * length pages + 1 → IsQueue pages trimmed next
+  queue_trimmed unique few = record {
+    ordered = ordered_trimmed;
+    few = omega (arith, few, as_many pages trimmed next ordered_trimmed unique);
+  }
+
+  -- all of them went
+  pub queue_swept : (swept : List Place) → swept ≡ filter (λ p. is_some (page_placed pages p)) trimmed → IsQueue pages swept next
+  queue_swept swept is =
+      let same : pages_by_place pages swept ≡ pages_by_place pages trimmed = ap (pages_by_place pages) is ∙ order_swept pages trimmed in
+      let below = subst (ArePlacesBelow next) (sym is) (below_filtered next (λ p. is_some (page_placed pages p)) trimmed ordered_trimmed.below) in
+      record {
+        ordered = queue_tidied pages trimmed next ordered_trimmed swept same below;
+        few = omega (arith, ap length is, filled_many pages trimmed, ap length same);
+      }
+
 -- pages that were taken away from the end, none of the first
 pub record KeptSoFar (old : List ((ℕ × ℕ) × DirtyPage)) (len : ℕ) (pages : ByName) (places : List Place) (next : ℕ) : Type 0 where
-  pub queue : IsQueue pages places next
+  pub ordered : IsOrdered pages places next
   pub front : take len (pages_by_place pages places) ≡ take len old
 
 module _ (old : List ((ℕ × ℕ) × DirtyPage)) (len : ℕ) (pages : ByName) (places fewer : List Place) (next : ℕ) (p : Place) (kept : KeptSoFar old len pages places next) (is : places ≡ fewer ++ p ∷ []) where
@@ -268,14 +296,14 @@ module _ (old : List ((ℕ × ℕ) × DirtyPage)) (len : ℕ) (pages : ByName) (
   at_end = ap (pages_by_place pages) is ∙ order_last pages fewer p
 
   below_fewer : ArePlacesBelow next fewer
-  below_fewer = below_front next fewer (p ∷ []) (subst (ArePlacesBelow next) is kept.queue.below)
+  below_fewer = below_front next fewer (p ∷ []) (subst (ArePlacesBelow next) is kept.ordered.below)
 
   -- the last place was left
   pub kept_without_place : is_some (page_placed pages p) ≡ false → KeptSoFar old len pages fewer next
   kept_without_place left =
       let same : pages_by_place pages fewer ≡ pages_by_place pages places = sym (at_end ∙ (ap (λ o. pages_by_place pages fewer ++ option_map_or (λ page. (p.name, page) ∷ []) o []) (none_of (page_placed pages p) left) ∙ append-nil (pages_by_place pages fewer))) in
       record {
-        queue = queue_tidied pages places next kept.queue fewer same below_fewer;
+        ordered = queue_tidied pages places next kept.ordered fewer same below_fewer;
         front = ap (take len) same ∙ kept.front;
       }
 
@@ -288,13 +316,13 @@ module _ (old : List ((ℕ × ℕ) × DirtyPage)) (len : ℕ) (pages : ByName) (
       by (Some page) at some =
           let front = pages_by_place pages fewer in
           let end : pages_by_place pages places ≡ front ++ (p.name, page) ∷ [] = at_end ∙ ap (λ o. front ++ option_map_or (λ page. (p.name, page) ∷ []) o []) at in
-          let without : pages_by_place now places ≡ remove_entry (is_page p.name) (pages_by_place pages places) = order_without pages now p.name changes places kept.queue.once in
-          let last = last_found is_page is_page_laws front (p.name, page) (subst (λ l. IsDistinct is_page (keys_of l)) end kept.queue.once) in
+          let without : pages_by_place now places ≡ remove_entry (is_page p.name) (pages_by_place pages places) = order_without pages now p.name changes places kept.ordered.once in
+          let last = last_found is_page is_page_laws front (p.name, page) (subst (λ l. IsDistinct is_page (keys_of l)) end kept.ordered.once) in
           let gone : page_placed now p ≡ None = left_place pages now p changes in
           let shorter : pages_by_place now places ≡ pages_by_place now fewer = ap (pages_by_place now) is ∙ (order_last now fewer p ∙ (ap (λ o. pages_by_place now fewer ++ option_map_or (λ page. (p.name, page) ∷ []) o []) gone ∙ append-nil (pages_by_place now fewer))) in
           let order : pages_by_place now fewer ≡ front = sym shorter ∙ (without ∙ (ap (remove_entry (is_page p.name)) end ∙ last.1)) in
-          let long : len ≤ length front = omega (arith, more, as_many pages places next kept.queue unique, ap length end, length-append front ((p.name, page) ∷ [])) in
+          let long : len ≤ length front = omega (arith, more, as_many pages places next kept.ordered unique, ap length end, length-append front ((p.name, page) ∷ [])) in
           record {
-            queue = queue_tidied now places next (queue_without pages places next kept.queue p.name now changes) fewer (sym shorter) below_fewer;
+            ordered = queue_tidied now places next (queue_without pages places next kept.ordered p.name now changes) fewer (sym shorter) below_fewer;
             front = ap (take len) order ∙ (sym (take-append-le len front ((p.name, page) ∷ []) long) ∙ (ap (take len) (sym end) ∙ kept.front));
           }

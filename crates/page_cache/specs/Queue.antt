@@ -1,6 +1,6 @@
 -- Dirty pages by name, each with the number of the place that it took, and the places in the order in which they were taken. A page
 -- that is clean again leaves its place behind, and takes another one when it becomes dirty again.
-use Rattle.std.specs.Prelude.{◌≡◌, ℕ, ◌<◌, ◌==◌, if◌then◌else◌, List, [], ◌∷◌, Some, None}
+use Rattle.std.specs.Prelude.{◌≡◌, ℕ, ◌+◌, ◌*◌, ◌<◌, ◌≤◌, ◌==◌, if◌then◌else◌, List, [], ◌∷◌, length, Some, None}
 use Rattle.std.specs.declared.option.Option.{Option}
 use Rattle.std.specs.List.{AllByRecursion, IsDistinct}
 use Rattle.std.specs.Option.{option_map, option_map_or}
@@ -27,8 +27,13 @@ IsChangedAt name value old new = (other : ℕ × ℕ) → lookup (is_page other)
 abbrev pub ArePlacesBelow : ℕ → List Place → Type 0
 ArePlacesBelow next places = AllByRecursion (λ place. place.number < next) places
 
--- What holds of pages and places: each page has a place, none stands twice in the order, and the next place is a new one.
-pub record IsQueue (pages : List ((ℕ × ℕ) × Placed)) (places : List Place) (next : ℕ) : Type 0 where
+-- Pages are in the order of their places: each page has a place, none stands twice in the order, and the next place is a new one.
+pub record IsOrdered (pages : List ((ℕ × ℕ) × Placed)) (places : List Place) (next : ℕ) : Type 0 where
   pub placed : (name : ℕ × ℕ) → lookup (is_page name) (pages_by_place pages places) ≡ option_map (λ placed. placed.page) (lookup (is_page name) pages)
   pub once : IsDistinct is_page (keys_of (pages_by_place pages places))
   pub below : ArePlacesBelow next places
+
+-- What holds of pages and places: the pages are in order, and places that were left are no more than the others and one.
+pub record IsQueue (pages : List ((ℕ × ℕ) × Placed)) (places : List Place) (next : ℕ) : Type 0 where
+  pub ordered : IsOrdered pages places next
+  pub few : length places ≤ 2 * length (pages_by_place pages places) + 1

@@ -196,7 +196,7 @@ impl Cache {
         ensures bytes { option_copied result ≡ bytes_at self.old ino block }
     {
         let clean = self.use_page(ino, block);
-        self.peek(ino, block, clean)
+        self.used_bytes(ino, block, clean)
     }
 
     // A clean page was used last. Answers whether there is one, which is the first then.
@@ -213,7 +213,7 @@ impl Cache {
     }
 
     // The bytes of a page, which is the first of the clean ones or a dirty one.
-    fn peek(&self, ino: u32, block: u32, clean: bool) -> Option<&Bytes>
+    fn used_bytes(&self, ino: u32, block: u32, clean: bool) -> Option<&Bytes>
         requires { bytes_at self.now ino block ≡ (if clean then option_map (λ e. e.1) (slice_get self.now.clean 0) else option_map (λ page. page.bytes) (dirty_at self.now ino block)) }
         ensures { option_copied result ≡ bytes_at self.now ino block }
     {
@@ -226,6 +226,17 @@ impl Cache {
         match self.dirty.get((ino, block)) {
             Some(page) => Some(&page.bytes),
             None => None,
+        }
+    }
+
+    /// The bytes of a page: of the dirty one where there is one, else of the clean one. It doesn't count as a use. Takes no
+    /// memory.
+    pub fn peek(&self, ino: u32, block: u32) -> Option<&Bytes>
+        ensures { option_copied result ≡ bytes_at self.now ino block }
+    {
+        match self.dirty.get((ino, block)) {
+            Some(page) => Some(&page.bytes),
+            None => self.clean.get((ino, block)),
         }
     }
 

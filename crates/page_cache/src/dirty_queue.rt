@@ -164,6 +164,7 @@ impl DirtyQueue {
                 self.pages.swap_remove(&place.name);
             }
         }
+        tidy(&self.pages, &mut self.places);
     }
 
     /// Takes out the pages of an inode from a block on, and answers how many there were. The others keep their order. Takes

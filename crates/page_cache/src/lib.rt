@@ -4,7 +4,8 @@
 //! it became dirty, and a page that is clean again just leaves its place behind, wherever it stands: places that were left
 //! go once they come to the front, and all of them once they are more than the others. So a page is found, added or taken out
 //! at a cost that doesn't grow with the pages; only what is asked of all pages of an inode goes over the places. The invariant:
-//! each dirty page has one place, no page is both dirty and clean, and no version is past the count of calls.
+//! each dirty page has one place, places that were left are no more than the others and one, no page is both dirty and clean, and no
+//! version is past the count of calls.
 #![tactic(auto)]
 
 mod cache;

@@ -2,7 +2,7 @@
 
 ghost use Rattle.std.specs.Prelude.{◌≡◌, ◌-◌, ◌^◌, ◌<◌, ◌≤◌, ℕ, List, [], ◌∷◌, ◌++◌, if◌then◌else◌, IfOk, OnOk, OnErr, is_some, IsNone, length, slice_get, take};
 ghost use Rattle.std.specs.List.{list_any};
-ghost use Rattle.std.specs.Option.{option_map};
+ghost use Rattle.std.specs.Option.{option_copied, option_map};
 ghost use Rattle.std.specs.NonZero.{non_zero_usize_get};
 ghost use Rattle.std.specs.Map.{lookup, remove_entry};
 ghost use Rattle.std.specs.Map.Iter.{deref_pair};
@@ -49,6 +49,13 @@ impl<V: Drop> PageList<V> {
         ensures { option_map deref_pair result ≡ slice_get self.now.entries 0 }
     {
         self.pages.peek_mru()
+    }
+
+    /// The page of a name. It stays at its place.
+    pub(crate) fn get(&self, name: (u32, u32)) -> Option<&V>
+        ensures { option_copied result ≡ lookup (is_page name) self.now.entries }
+    {
+        self.pages.peek(&name)
     }
 
     /// Puts a page at the front, with the one at the end gone where there are too many. Where there is no memory all is as

@@ -5,7 +5,7 @@ ghost use Rattle.std.specs.Option.{option_map, option_map_or, option_copied};
 ghost use Rattle.std.specs.Map.{lookup};
 ghost use Rattle.page_cache.specs.declared.place.Placed.{Placed};
 ghost use Rattle.page_cache.specs.declared.place.Place.{Place};
-ghost use Rattle.page_cache.specs.Queue.{page_placed, pages_by_place, ArePlacesBelow, IsChangedAt};
+ghost use Rattle.page_cache.specs.Queue.{page_placed, pages_by_place, ArePlacesBelow, IsChangedAt, IsOrdered, IsQueue};
 ghost use Rattle.page_cache.specs.Pages.{is_page, is_cut, pages_of, ticket_of};
 
 use crate::dirty_page::DirtyPage;
@@ -156,7 +156,7 @@ pub(crate) fn take_page(
 /// Takes the places that were left away from the front, and all such places once they are more than the others.
 pub(crate) fn tidy(pages: &IndexMap<(u32, u32), Placed>, places: &mut VecDeque<Place>)
     ensures order { pages_by_place pages.now.entries places.new.items ≡ pages_by_place pages.now.entries places.old.items }
-    ensures below { (next : ℕ) → ArePlacesBelow next places.old.items → ArePlacesBelow next places.new.items }
+    ensures queue { (next : ℕ) → IsOrdered pages.now.entries places.old.items next → IsQueue pages.now.entries places.new.items next }
 {
     trim(pages, places);
     if places.len() / 2 > pages.len() {

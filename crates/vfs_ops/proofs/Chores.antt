@@ -1,12 +1,17 @@
 -- Events of the background, and the files that they leave.
-use Rattle.std.proofs.Common.{◌≡◌, ℕ, ◌+◌, ◌-◌, ◌<◌, ◌≤◌, length, inl, inr, refl, sym, ap, subst, arith}
+use Rattle.std.proofs.Common.{◌≡◌, ℕ, true, Option, Some, None, ◌+◌, ◌-◌, ◌<◌, ◌≤◌, length, inl, inr, refl, sym, ap, subst, arith}
 use Rattle.std.specs.Prelude.{Result, Ok, Err}
-use Rattle.std.proofs.lemmas.Bool.{cases_lt}
+use Rattle.std.proofs.lemmas.Bool.{cases_lt, false≢true}
+use Rattle.fs_model.specs.declared.backing_answers.Mode.TheVariants.{ReadOnly}
 use Rattle.fs_model.specs.declared.backing_answers.StoreFault.{StoreFault}
+use Rattle.fs_model.specs.declared.backing_answers.StoreFault.TheVariants.{ReadOnly as IsReadOnly}
+use Rattle.fs_model.specs.declared.refusal.Cause.{Cause}
 use Rattle.fs_model.specs.declared.refusal.NoSpace.{NoSpace}
 use Rattle.fs_model.specs.declared.space.Need.{Need}
-use Rattle.fs_model.specs.Backing.{BackingState, Goes, KeepsFiles, Outlook, KeepsSure, given_back, granted, next_orphans}
+use Rattle.fs_model.specs.Backing.{BackingState, Goes, HasMode, KeepsCommit, KeepsFiles, KeepsStart, Outlook, KeepsSure, given_back, granted, next_orphans}
 use Rattle.fs_model.specs.Cover.{needed, room_for}
+use Rattle.fs_model.specs.Journal.{Journal, Medium}
+use Rattle.fs_model.specs.JournalLaws.{Leaves-none}
 use Rattle.cached_files.specs.declared.kept.Kept.{Kept}
 use Rattle.cached_files.specs.Calls.{SureGoes}
 use Rattle.cached_files.specs.CallLaws.{Goes-none}
@@ -15,7 +20,7 @@ use Rattle.vfs_ops.specs.declared.event.Event.{Event}
 use Rattle.vfs_ops.specs.declared.event.Event.TheVariants.{Call, Pick, Put, Sync, Collect, CommitStart, CommitStep, CommitEnd, Refill, Drain}
 use Rattle.vfs_ops.specs.declared.event.Outcome.{Outcome}
 use Rattle.vfs_ops.specs.declared.event.Outcome.TheVariants.{Synced, Did, Began, Went, Closed, Granted, Refused, Drained, Fault}
-use Rattle.vfs_ops.specs.Background.{IsBackgroundStep, IsBackingCall, IsChore, IsMade, added_in, drained_in, granted_in, nodes_in}
+use Rattle.vfs_ops.specs.Background.{IsBackgroundStep, IsBackingCall, IsChore, IsMade, is_chore, is_work, added_in, drained_in, granted_in, nodes_in}
 use Rattle.vfs_ops.specs.Events.{grant_of}
 use Rattle.vfs_ops.specs.FilesState.{FilesState}
 use Rattle.vfs_ops.specs.Passing.{IsStep}
@@ -128,3 +133,38 @@ refused_by old new n space same told never = (same, told.0, told.1, refuted (nee
       | inl lt ↦ omega (arith, p, q, lt)
       | inr ge ↦ absurd (never (omega (arith, ge)))
     ]
+
+-- a read-only backing isn't asked
+closed_call : (old : BackingState) (cause : Cause) → old.mode ≡ ReadOnly cause → IsBackingCall {T = Unit {0}} old old (Err (IsReadOnly cause))
+closed_call old cause is = record {
+  files = record { tree = refl; credits = refl; grant = refl; held = omega arith; closed = omega arith };
+  cut = Leaves-none old.journal;
+  goes = Goes-none old;
+  cause = tt;
+  mode = subst (λ m. HasMode {T = Unit {0}} m (Err (IsReadOnly cause))) (sym is) (inl refl);
+  idle = λ closed. refl;
+}
+
+still : (j : Journal) → KeepsCommit j j
+still j = record { running = refl; left = refl; nodes = refl; later = refl; start = start j.medium refl }
+  where
+    start : (told : Option Medium) → j.medium ≡ told → KeepsStart j j
+    start None none = rw none tt
+    start (Some medium) some = rw some (refl, refl, refl)
+
+pub closed_by : (old : BackingState) (cause : Cause) (event : Event) → is_work event ≡ true → old.mode ≡ ReadOnly cause → IsChore old old event (Fault (IsReadOnly cause))
+closed_by old cause Sync work is = (closed_call old cause is, inl (still old.journal))
+closed_by old cause Collect work is = (closed_call old cause is, inl (still old.journal))
+closed_by old cause CommitStart work is = (closed_call old cause is, still old.journal)
+closed_by old cause CommitStep work is = (closed_call old cause is, still old.journal)
+closed_by old cause CommitEnd work is = (closed_call old cause is, still old.journal)
+closed_by old cause event work is = absurd (false≢true work)
+
+-- what the backing alone is asked for is work, but for credits that come and go
+pub work_by : (event : Event) → is_chore event ≡ true → ((n : ℕ) → event ≡ Refill n → ⊥) → ((n : ℕ) → event ≡ Drain n → ⊥) → is_work event ≡ true
+work_by (Refill n) chore refill drain = absurd (refill n refl)
+work_by (Drain n) chore refill drain = absurd (drain n refl)
+work_by (Call caller now grant op) chore refill drain = absurd (false≢true chore)
+work_by Pick chore refill drain = absurd (false≢true chore)
+work_by (Put shown) chore refill drain = absurd (false≢true chore)
+work_by event chore refill drain = refl

@@ -79,13 +79,14 @@ IsPut p shown (Stale kept now) = IsStale p shown kept now
 IsPut p shown (Fault why) = IsUnplaced p shown why
 IsPut p shown outcome = ⊥
 
--- What each call of the background of a backing keeps to: the files stay, nothing is put, and why it fails.
+-- What each call of the background of a backing keeps to: the files stay, nothing is put, and why it fails. One that is read-only isn't asked.
 pub record IsBackingCall {T : Type 0} (old new : BackingState) (result : Result T StoreFault) : Type 0 where
   pub files : KeepsFiles old new
   pub cut : Leaves old.journal new.journal []
   pub goes : Goes 0 old new
   pub cause : HasCause old new result
   pub mode : HasMode old.mode result
+  pub idle : old.mode ≢ ReadWrite → new ≡ old
 
 -- more credits are covered, since there is room for them
 abbrev pub IsGranted : BackingState → BackingState → ℕ → Type 0
@@ -108,6 +109,15 @@ IsChore old new (Refill n) (Refused space) =
     (new ≡ old) × (space.need ≡ needed old.space (credits_need n)) × (space.room ≡ room_for old.geometry old.space (credits_need n)) × (space.room < space.need)
 IsChore old new (Drain n) (Drained m) = (m ≡ n) × (new ≡ given_back old n)
 IsChore old new event outcome = ⊥
+
+-- whether it is asked for work on what was put, which a read-only one doesn't do
+abbrev pub is_work : Event → Bool
+is_work Sync = true
+is_work Collect = true
+is_work CommitStart = true
+is_work CommitStep = true
+is_work CommitEnd = true
+is_work event = false
 
 -- whether the backing alone is asked for something
 abbrev pub is_chore : Event → Bool

@@ -1,5 +1,5 @@
 -- What a step of the file system answers and leaves, over any backing.
-use Rattle.std.specs.Prelude.{◌≡◌, ◌⊎◌, ℕ, ◌-◌, ◌≤◌, Bool, true, false, if◌then◌else◌, Option, Some, None, IsSome, Result, Ok, Err, List, [], ◌∷◌, ◌++◌, length}
+use Rattle.std.specs.Prelude.{◌≡◌, ◌≢◌, ◌⊎◌, ℕ, ◌-◌, ◌≤◌, Bool, true, false, if◌then◌else◌, Option, Some, None, IsSome, Result, Ok, Err, List, [], ◌∷◌, ◌++◌, length}
 use Rattle.fs_model.specs.declared.backing_answers.Mode.TheVariants.{ReadWrite, ReadOnly}
 use Rattle.fs_model.specs.declared.op.Op.{Op}
 use Rattle.fs_model.specs.declared.op.Op.TheVariants.{OpenFile, Close, Read, Write, Fsync, Flush, List as ListDir, Stat, Readlink}
@@ -136,11 +136,16 @@ pub record Passage : Type 0 where
   pub before : Kept
   pub after : Kept
 
--- Done as the plain operation is: what is left is the grant less the pages that became dirty, and a question only looked.
+-- a sync on a store that is read-only leaves all as it is
+abbrev pub IsIdle : BackingState → BackingState → Kept → Kept → Op → Type 0
+IsIdle old new before after op = is_sync op ≡ true → old.mode ≢ ReadWrite → (new ≡ old) × (after ≡ before)
+
+-- Done as the plain operation is: what is left is the grant less the pages that became dirty, and a question only looked. A sync on a read-only store did nothing.
 pub record WasDone (p : Passage) (caller now grant : ℕ) (op : Op) (reply : Reply) (left : ℕ) : Type 0 where
   pub done : IsDone (allowed_on p.old (present p.old.tree p.before) caller now op) (present p.new.tree p.after) reply
   pub given_back : left ≡ grant - newly_by p.before caller op
   pub looked : is_question op ≡ true → OnlyLooks p.old p.new p.before p.after
+  pub idle : IsIdle p.old p.new p.before p.after op
 
 -- Refused: the whole grant is left. A question only looked, and so did a refusal that comes before anything is put. If it is read-only, all is as it was.
 pub record WasRefused (p : Passage) (grant : ℕ) (op : Op) (reply : Reply) (left : ℕ) : Type 0 where

@@ -16,7 +16,7 @@ ghost use Rattle.vfs_ops.specs.Events.{HasSynced};
 ghost use Rattle.vfs_ops.specs.Kinds.{IsEarly, IsLookOnly, KeepsOrphans, KeepsOthers, OnlyLooks};
 ghost use Rattle.vfs_ops.specs.Operations.{is_of_names};
 ghost use Rattle.vfs_ops.specs.Writing.{Buffers, newly_by};
-ghost use Rattle.vfs_ops.specs.Steps.{IsReady, IsAtOnce, WasAdmitted, IsDone, IsTurnedDown, IsLast, IsRefusedFor, IsUnsynced, allowed_on, asked, is_write, read_only_cause};
+ghost use Rattle.vfs_ops.specs.Steps.{IsReady, IsAtOnce, WasAdmitted, IsDone, IsIdle, IsTurnedDown, IsLast, IsRefusedFor, IsUnsynced, allowed_on, asked, is_write, read_only_cause};
 
 use crate::changes::change;
 use crate::handles::{close, open};
@@ -84,6 +84,7 @@ pub(crate) fn call<B: Backing>(
     ensures looked { IsLookOnly op.now result → OnlyLooks (B.state backing.old) (B.state backing.new) kept.old kept.new }
     ensures written { IfOk result (λ r. HasSynced (B.state backing.old).mode (B.state backing.new) kept.old kept.new caller op.now r.0) }
     ensures others { KeepsOthers kept.old kept.new caller op.now }
+    ensures idle { IsIdle (B.state backing.old) (B.state backing.new) kept.old kept.new op.now }
     ensures admitted { OnOk result (WasAdmitted (B.state backing.old) (B.state backing.new) kept.old caller now grant op.now) }
     ensures at_once { IsAtOnce (B.state backing.old) kept.old caller now op.now result }
     ensures buffered { Buffers (B.state backing.old) (B.state backing.new) kept.old kept.new caller grant op.now result }
@@ -126,6 +127,7 @@ pub(crate) fn serve<B: Backing>(
     ensures looked { IsLookOnly op.now result → OnlyLooks (B.state backing.old) (B.state backing.new) kept.old kept.new }
     ensures written { IfOk result (λ r. HasSynced (B.state backing.old).mode (B.state backing.new) kept.old kept.new caller op.now r.0) }
     ensures others { KeepsOthers kept.old kept.new caller op.now }
+    ensures idle { IsIdle (B.state backing.old) (B.state backing.new) kept.old kept.new op.now }
     ensures admitted { OnOk result (WasAdmitted (B.state backing.old) (B.state backing.new) kept.old caller now grant op.now) }
     ensures at_once { IsAtOnce (B.state backing.old) kept.old caller now op.now result }
     ensures buffered { Buffers (B.state backing.old) (B.state backing.new) kept.old kept.new caller grant op.now result }
@@ -178,6 +180,7 @@ fn serve_without<B: Backing>(
     ensures looked { IsLookOnly op.now result → OnlyLooks (B.state backing.old) (B.state backing.new) kept.old kept.new }
     ensures written { IfOk result (λ reply. HasSynced (B.state backing.old).mode (B.state backing.new) kept.old kept.new caller op.now reply) }
     ensures others { KeepsOthers kept.old kept.new caller op.now }
+    ensures idle { IsIdle (B.state backing.old) (B.state backing.new) kept.old kept.new op.now }
     ensures admitted { OnOk result (WasAdmitted (B.state backing.old) (B.state backing.new) kept.old caller now grant op.now) }
     ensures at_once { IsAtOnce (B.state backing.old) kept.old caller now op.now result }
     ensures grows { GrowsBy (added_or_refused (length (group_of (present (B.state backing.old).tree kept.old) caller now op.now)) (max 2 (length (group_of (present (B.state backing.old).tree kept.old) caller now op.now))) result) (B.state backing.old) (B.state backing.new) kept.old kept.new }
@@ -253,6 +256,7 @@ fn synced<B: Backing>(
     ensures early { IsEarly result → OnlyLooks (B.state backing.old) (B.state backing.new) kept.old kept.new }
     ensures written { IfOk result (λ reply. HasSynced (B.state backing.old).mode (B.state backing.new) kept.old kept.new caller (Fsync slot) reply) }
     ensures others { KeepsOthers kept.old kept.new caller (Fsync slot) }
+    ensures idle { IsIdle (B.state backing.old) (B.state backing.new) kept.old kept.new (Fsync slot) }
     ensures issued { (B.state backing.new).space.credits + length kept.old.pages.dirty ≡ (B.state backing.old).space.credits + length kept.new.pages.dirty }
     ensures grows { GrowsBy (added_or_refused 0 2 result) (B.state backing.old) (B.state backing.new) kept.old kept.new }
     ensures closed { (B.state backing.new).closed ≤ (B.state backing.old).closed }
@@ -296,6 +300,7 @@ fn flushed<B: Backing>(alloc: Global, backing: &mut B, kept: &mut Kept) -> Resul
     ensures refused { IfErr result (λ refusal. IsUnsynced (B.state backing.old) (B.state backing.new) refusal) }
     ensures issued { (B.state backing.new).space.credits + length kept.old.pages.dirty ≡ (B.state backing.old).space.credits + length kept.new.pages.dirty }
     ensures written { IfOk result (λ reply. (caller : ℕ) → HasSynced (B.state backing.old).mode (B.state backing.new) kept.old kept.new caller Flush reply) }
+    ensures idle { IsIdle (B.state backing.old) (B.state backing.new) kept.old kept.new Flush }
     ensures grows { GrowsBy (added_or_refused 0 2 result) (B.state backing.old) (B.state backing.new) kept.old kept.new }
     ensures closed { (B.state backing.new).closed ≤ (B.state backing.old).closed }
     ensures cut { PutsSeen (B.state backing.old) (B.state backing.new) kept.old }

@@ -1,16 +1,17 @@
 // What the backing is asked for beside callers: all is synced, LEBs are collected, commits go on, and credits come and go.
 
 ghost use Rattle.std.specs.Prelude.{◌≡◌, ◌+◌, ◌^◌, ◌<◌, ◌≤◌, true, length};
+ghost use Rattle.fs_model.specs.declared.backing_answers.Mode.TheVariants.{ReadWrite};
 ghost use Rattle.fs_model.specs.Proper.{IsProper};
 ghost use Rattle.cached_files.specs.Calls.{SureGoes};
 ghost use Rattle.vfs_ops.specs.declared.event.Event.TheVariants.{Sync, Collect, CommitStart, CommitStep, CommitEnd, Refill, Drain};
-ghost use Rattle.vfs_ops.specs.Background.{IsChore, is_chore};
+ghost use Rattle.vfs_ops.specs.Background.{IsChore, is_chore, is_work};
 ghost use Rattle.vfs_ops.specs.Events.{IsCalled, grant_of};
 ghost use Rattle.vfs_ops.specs.Steps.{IsReady};
 
 use crate::event::{Event, Outcome};
 use cached_files::Kept;
-use fs_model::{Backing, Class, Need};
+use fs_model::{Backing, Class, Mode, Need, StoreFault};
 
 /// Whether the backing alone is asked for something.
 pub(crate) fn is_chore(event: &Event) -> bool
@@ -41,7 +42,7 @@ pub(crate) fn chore<B: Backing>(backing: &mut B, kept: &Kept, event: &Event) -> 
     asked(backing, event)
 }
 
-// Asks the backing.
+// Asks the backing. One that is read-only is asked for no work.
 fn asked<B: Backing>(backing: &mut B, event: &Event) -> Outcome
     requires kind { is_chore event.now ≡ true }
     requires proper { IsProper (B.state backing.old).tree }
@@ -51,19 +52,41 @@ fn asked<B: Backing>(backing: &mut B, event: &Event) -> Outcome
     ensures sure { SureGoes (B.outlook backing.old) (B.outlook backing.new) (B.state backing.old) (B.state backing.new) }
 {
     match event {
+        Event::Refill { n } => refill(backing, *n),
+        Event::Drain { n } => drain(backing, *n),
+        _ => match backing.mode() {
+            Mode::ReadWrite => worked(backing, event),
+            Mode::ReadOnly { cause } => Outcome::Fault {
+                fault: StoreFault::ReadOnly { cause },
+            },
+        },
+    }
+}
+
+// Asks a backing that can be written for work.
+fn worked<B: Backing>(backing: &mut B, event: &Event) -> Outcome
+    requires kind { is_work event.now ≡ true }
+    requires open { (B.state backing.old).mode ≡ ReadWrite }
+    ensures did { IsChore (B.state backing.old) (B.state backing.new) event.now result }
+    ensures sure { SureGoes (B.outlook backing.old) (B.outlook backing.new) (B.state backing.old) (B.state backing.new) }
+{
+    match event {
         Event::Sync => sync(backing),
         Event::Collect => collect(backing),
         Event::CommitStart => commit_start(backing),
         Event::CommitStep => commit_step(backing),
         Event::CommitEnd => commit_end(backing),
-        Event::Refill { n } => refill(backing, *n),
-        Event::Drain { n } => drain(backing, *n),
-        Event::Call { .. } | Event::Pick | Event::Put { .. } => unreachable!(),
+        Event::Call { .. }
+        | Event::Pick
+        | Event::Put { .. }
+        | Event::Refill { .. }
+        | Event::Drain { .. } => unreachable!(),
     }
 }
 
 // Brings all that was put to the medium.
 fn sync<B: Backing>(backing: &mut B) -> Outcome
+    requires open { (B.state backing.old).mode ≡ ReadWrite }
     ensures did { IsChore (B.state backing.old) (B.state backing.new) Sync result }
     ensures sure { SureGoes (B.outlook backing.old) (B.outlook backing.new) (B.state backing.old) (B.state backing.new) }
 {
@@ -75,6 +98,7 @@ fn sync<B: Backing>(backing: &mut B) -> Outcome
 
 // Collects one LEB.
 fn collect<B: Backing>(backing: &mut B) -> Outcome
+    requires open { (B.state backing.old).mode ≡ ReadWrite }
     ensures did { IsChore (B.state backing.old) (B.state backing.new) Collect result }
     ensures sure { SureGoes (B.outlook backing.old) (B.outlook backing.new) (B.state backing.old) (B.state backing.new) }
 {
@@ -86,6 +110,7 @@ fn collect<B: Backing>(backing: &mut B) -> Outcome
 
 // Starts a commit.
 fn commit_start<B: Backing>(backing: &mut B) -> Outcome
+    requires open { (B.state backing.old).mode ≡ ReadWrite }
     ensures did { IsChore (B.state backing.old) (B.state backing.new) CommitStart result }
     ensures sure { SureGoes (B.outlook backing.old) (B.outlook backing.new) (B.state backing.old) (B.state backing.new) }
 {
@@ -97,6 +122,7 @@ fn commit_start<B: Backing>(backing: &mut B) -> Outcome
 
 // Writes one LEB of the index of the commit that runs.
 fn commit_step<B: Backing>(backing: &mut B) -> Outcome
+    requires open { (B.state backing.old).mode ≡ ReadWrite }
     ensures did { IsChore (B.state backing.old) (B.state backing.new) CommitStep result }
     ensures sure { SureGoes (B.outlook backing.old) (B.outlook backing.new) (B.state backing.old) (B.state backing.new) }
 {
@@ -108,6 +134,7 @@ fn commit_step<B: Backing>(backing: &mut B) -> Outcome
 
 // Ends the commit that runs.
 fn commit_end<B: Backing>(backing: &mut B) -> Outcome
+    requires open { (B.state backing.old).mode ≡ ReadWrite }
     ensures did { IsChore (B.state backing.old) (B.state backing.new) CommitEnd result }
     ensures sure { SureGoes (B.outlook backing.old) (B.outlook backing.new) (B.state backing.old) (B.state backing.new) }
 {

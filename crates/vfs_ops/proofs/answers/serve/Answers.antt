@@ -1,4 +1,5 @@
 use Rattle.std.proofs.Common.{◌≡◌, ℕ, ◌+◌, ◌-◌, ◌*◌, ap, arith, length, max, refl, subst, sym}
+use Rattle.std.proofs.lemmas.Bool.{false≢true}
 use Rattle.fs_model.specs.declared.reply.Reply.{Reply}
 use Rattle.fs_model.specs.declared.op.Op.{Op}
 use Rattle.vfs_ops.specs.Operations.{is_of_names}
@@ -7,7 +8,7 @@ use Rattle.vfs_ops.specs.Writing.{newly_by}
 use Rattle.vfs_ops.proofs.Cutting.{cut_answered}
 use Rattle.vfs_ops.proofs.Admitted.{on_ok, other_at_once, retyped}
 use Rattle.vfs_ops.proofs.Looking.{only_early, whole_left}
-use Rattle.vfs_ops.proofs.Others.{others_on}
+use Rattle.vfs_ops.proofs.Others.{idle_on, others_on}
 use Rattle.vfs_ops.proofs.Serving.{none_buffered, not_write, ok_map}
 use Rattle.fs_model.specs.Legal.{pages_in}
 use Rattle.fs_model.specs.Operation.{group_of}
@@ -28,6 +29,7 @@ returns-in-Err g c = let e = c.in-Err.ensures in record {
   looked = e.looked;
   written = tt;
   others = e.others;
+  idle = e.idle;
   admitted = tt;
   at_once = λ is done out room. retyped Reply (Reply × ℕ) c.in-Err.refusal (e.at_once is done out room);
   buffered = none_buffered (g.B.Backing.state c.args.backing.now) (g.B.Backing.state c.serve_without.new.backing) c.args.kept.now c.serve_without.new.kept c.args.caller c.args.grant c.args.op.now _ (not_write c.args.op.now c.in_default.not-Write);
@@ -83,3 +85,10 @@ returns-in-Write-clause-orphans g c =
 pub returns-in-Write-clause-cut : goal.returns-in-Write-clause-cut
 returns-in-Write-clause-cut g c =
     cut_answered (g.B.Backing.state c.args.backing.now) (g.B.Backing.state c.write.new.backing) c.args.kept.now c.args.caller c.args.now c.args.op.now c.write.result (ap (λ (o : Op). is_of_names o) c.in-Write.is) c.requires.op c.write.ensures.cut
+
+pub returns-in-Write-clause-idle : goal.returns-in-Write-clause-idle
+returns-in-Write-clause-idle g c =
+    idle_on (g.B.Backing.state c.args.backing.now) (g.B.Backing.state c.write.new.backing) c.args.kept.now c.write.new.kept c.args.op.now _ c.in-Write.is (λ sync closed. absurd (false≢true sync))
+
+pub returns-in-Ok-clause-idle : goal.returns-in-Ok-clause-idle
+returns-in-Ok-clause-idle g c = c.in-Ok.ensures.idle

@@ -1,9 +1,10 @@
 use Rattle.std.proofs.Common.{◌≡◌, ap, arith, inr, length, max, refl, sym, ◌∙◌}
+use Rattle.std.proofs.lemmas.Bool.{false≢true}
 use Rattle.cached_files.specs.Present.{present}
 use Rattle.vfs_ops.proofs.Cutting.{cut_answered, cut_looked, cut_same}
 use Rattle.vfs_ops.proofs.Admitted.{after_ok, names_admitted, none_admitted, on_ok, other_at_once}
 use Rattle.vfs_ops.proofs.Looking.{names_early, only_early, opened_looks, unsynced_early}
-use Rattle.vfs_ops.proofs.Others.{names_leave, others_on}
+use Rattle.vfs_ops.proofs.Others.{idle_on, names_idle, names_leave, others_on}
 use Rattle.vfs_ops.proofs.Serving.{alike_self, done_on, refused_on, ok_map, err_map, at_now, names_synced, or_fault_last, or_unsynced_last, synced_on, unsynced_last}
 use Rattle.fs_model.specs.Operation.{group_of}
 use Rattle.page_cache.specs.Pages.{Pages}
@@ -185,3 +186,23 @@ returns-in-Flush-clause-cut g c =
 pub returns-in-Read-clause-cut : goal.returns-in-Read-clause-cut
 returns-in-Read-clause-cut g c =
     cut_answered (g.B.Backing.state c.args.backing.now) (g.B.Backing.state c.look.new.backing) c.args.kept.now c.args.caller c.args.now c.args.op.now c.look.result (sym c.is_of_names.ensures ∙ c.if-is_of_names.false) c.requires.op (cut_looked c.look.ensures.looks c.args.kept.now)
+
+pub returns-then-is_of_names-clause-idle : goal.returns-then-is_of_names-clause-idle
+returns-then-is_of_names-clause-idle g c =
+    names_idle (g.B.Backing.state c.args.backing.now) (g.B.Backing.state c.change.new.backing) c.args.kept.now c.change.new.kept c.args.op.now (sym c.is_of_names.ensures ∙ c.if-is_of_names.true)
+
+pub returns-in-OpenFile-clause-idle : goal.returns-in-OpenFile-clause-idle
+returns-in-OpenFile-clause-idle g c =
+    idle_on (g.B.Backing.state c.args.backing.now) (g.B.Backing.state c.open.new.backing) c.args.kept.now c.open.new.kept c.args.op.now _ c.in-OpenFile.is (λ sync closed. absurd (false≢true sync))
+
+pub returns-in-Close-clause-idle : goal.returns-in-Close-clause-idle
+returns-in-Close-clause-idle g c =
+    idle_on (g.B.Backing.state c.args.backing.now) (g.B.Backing.state c.close.new.backing) c.args.kept.now c.close.new.kept c.args.op.now _ c.in-Close.is (λ sync closed. absurd (false≢true sync))
+
+pub returns-in-Fsync-clause-idle : goal.returns-in-Fsync-clause-idle
+returns-in-Fsync-clause-idle g c =
+    idle_on (g.B.Backing.state c.args.backing.now) (g.B.Backing.state c.synced.new.backing) c.args.kept.now c.synced.new.kept c.args.op.now _ c.in-Fsync.is c.synced.ensures.idle
+
+pub returns-in-Flush-clause-idle : goal.returns-in-Flush-clause-idle
+returns-in-Flush-clause-idle g c =
+    idle_on (g.B.Backing.state c.args.backing.now) (g.B.Backing.state c.flushed.new.backing) c.args.kept.now c.flushed.new.kept c.args.op.now _ c.in-Flush.is c.flushed.ensures.idle

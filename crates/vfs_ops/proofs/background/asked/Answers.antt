@@ -1,23 +1,9 @@
-use Rattle.std.proofs.Common.{◌≤◌, subst, sym}
+use Rattle.std.proofs.Common.{◌≤◌, subst, sym, ◌∙◌}
 use Rattle.vfs_ops.specs.declared.event.Event.{Event}
 use Rattle.vfs_ops.specs.Background.{IsChore}
 use Rattle.vfs_ops.specs.Events.{IsCalled, grant_of}
+use Rattle.vfs_ops.proofs.Chores.{closed_by, work_by}
 use Rattle.vfs_ops.proofs.background.asked.Goals as goal
-
-pub returns-in-Sync-clause-did : goal.returns-in-Sync-clause-did
-returns-in-Sync-clause-did g c = subst (λ (e : Event). IsChore (g.B.Backing.state c.args.backing.now) (g.B.Backing.state c.sync.new.backing) e c.sync.result) (sym c.in-Sync.is) c.sync.ensures.did
-
-pub returns-in-Collect-clause-did : goal.returns-in-Collect-clause-did
-returns-in-Collect-clause-did g c = subst (λ (e : Event). IsChore (g.B.Backing.state c.args.backing.now) (g.B.Backing.state c.collect.new.backing) e c.collect.result) (sym c.in-Collect.is) c.collect.ensures.did
-
-pub returns-in-CommitStart-clause-did : goal.returns-in-CommitStart-clause-did
-returns-in-CommitStart-clause-did g c = subst (λ (e : Event). IsChore (g.B.Backing.state c.args.backing.now) (g.B.Backing.state c.commit_start.new.backing) e c.commit_start.result) (sym c.in-CommitStart.is) c.commit_start.ensures.did
-
-pub returns-in-CommitStep-clause-did : goal.returns-in-CommitStep-clause-did
-returns-in-CommitStep-clause-did g c = subst (λ (e : Event). IsChore (g.B.Backing.state c.args.backing.now) (g.B.Backing.state c.commit_step.new.backing) e c.commit_step.result) (sym c.in-CommitStep.is) c.commit_step.ensures.did
-
-pub returns-in-CommitEnd-clause-did : goal.returns-in-CommitEnd-clause-did
-returns-in-CommitEnd-clause-did g c = subst (λ (e : Event). IsChore (g.B.Backing.state c.args.backing.now) (g.B.Backing.state c.commit_end.new.backing) e c.commit_end.result) (sym c.in-CommitEnd.is) c.commit_end.ensures.did
 
 pub returns-in-Refill-clause-did : goal.returns-in-Refill-clause-did
 returns-in-Refill-clause-did g c = subst (λ (e : Event). IsChore (g.B.Backing.state c.args.backing.now) (g.B.Backing.state c.refill.new.backing) e c.refill.result) (sym c.in-Refill.is) c.refill.ensures.did
@@ -31,3 +17,10 @@ refill-requires-clause-few g c = subst (λ (e : Event). IsCalled e) c.in-Refill.
 pub drain-requires : goal.drain-requires
 drain-requires g c =
     record { few = subst (λ (e : Event). grant_of e ≤ (g.B.Backing.state c.args.backing.now).space.credits) c.in-Drain.is c.requires.few }
+
+pub returns-in-ReadOnly-clause-did : goal.returns-in-ReadOnly-clause-did
+returns-in-ReadOnly-clause-did g c =
+    closed_by (g.B.Backing.state c.args.backing.now) c.in-ReadOnly.cause c.args.event.now (work_by c.args.event.now c.requires.kind c.in_default.not-Refill c.in_default.not-Drain) (sym c.mode.ensures ∙ c.in-ReadOnly.is)
+
+pub worked-requires-clause-kind : goal.worked-requires-clause-kind
+worked-requires-clause-kind g c = work_by c.args.event.now c.requires.kind c.in_default.not-Refill c.in_default.not-Drain

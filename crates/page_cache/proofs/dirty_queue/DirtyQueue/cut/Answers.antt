@@ -1,14 +1,14 @@
 use Rattle.std.proofs.Common.{◌≡◌, false, sym, subst, ap, length, ◌∙◌, arith}
 use Rattle.std.specs.List.{list_any}
-use Rattle.page_cache.specs.Queue.{pages_by_place, IsQueue}
+use Rattle.page_cache.specs.Queue.{pages_by_place, IsOrdered}
 use Rattle.page_cache.specs.Pages.{is_cut, cut_list, cut_count}
-use Rattle.page_cache.proofs.Queue.{cut_by_place, queue_cut, queue_tidied, cut_counted, cut_many, cut_none, none_counted, none_by_place}
+use Rattle.page_cache.proofs.Queue.{cut_by_place, queue_cut, cut_counted, cut_many, cut_none, none_counted, none_by_place}
 use Rattle.page_cache.proofs.dirty_queue.DirtyQueue.cut.Goals as goal
 
 pub invariant_of-self : goal.invariant_of-self
 invariant_of-self c =
-    let was : IsQueue c.cut_pages.new.pages.entries c.cut_places.new.places.items c.self.inside.next = rw (c.cut_pages.ensures, c.cut_places.ensures) (queue_cut _ _ _ c.self.invariant c.args.ino c.args.from) in
-    queue_tidied _ _ _ was _ c.tidy.ensures.order (c.tidy.ensures.below _ was.below)
+    let was : IsOrdered c.cut_pages.new.pages.entries c.cut_places.new.places.items c.self.inside.next = rw (c.cut_pages.ensures, c.cut_places.ensures) (queue_cut _ _ _ c.self.invariant.ordered c.args.ino c.args.from) in
+    c.tidy.ensures.queue _ was
 
 pub overflow_sub-result : goal.overflow_sub-result
 overflow_sub-result c =
@@ -20,11 +20,11 @@ returns-clause-rest c =
     c.tidy.ensures.order
     ∙ (ap (λ ps. pages_by_place ps c.cut_places.new.places.items) c.cut_pages.ensures
     ∙ (ap (pages_by_place (cut_list c.self.inside.pages.entries c.args.ino c.args.from)) c.cut_places.ensures
-    ∙ (cut_by_place _ _ _ c.self.invariant c.args.ino c.args.from ∙ ap (λ l. cut_list l c.args.ino c.args.from) c.self.view_is)))
+    ∙ (cut_by_place _ _ _ c.self.invariant.ordered c.args.ino c.args.from ∙ ap (λ l. cut_list l c.args.ino c.args.from) c.self.view_is)))
 
 pub returns-clause-count : goal.returns-clause-count
 returns-clause-count c =
-    let all = cut_many _ _ _ c.self.invariant c.args.ino c.args.from c.len-before.ensures.unique in
+    let all = cut_many _ _ _ c.self.invariant.ordered c.args.ino c.args.from c.len-before.ensures.unique in
     omega (arith, c.len.ensures.len, c.len-before.ensures.len, ap length c.cut_pages.ensures, all, ap (λ l. cut_count l c.args.ino c.args.from) c.self.view_is)
 
 pub returns-then-not-is_any_within-clause-rest : goal.returns-then-not-is_any_within-clause-rest

@@ -16,5 +16,8 @@ loop-self-preserved c =
 pub returns : goal.returns
 returns c =
     let order = pages_by_place c.loop-self.self-inside.pages.entries c.loop-self.self-inside.places.items in
-    let few : length order ≤ c.args.len = omega (arith, c.loop-self-test.false, c.len.ensures.len, as_many _ _ _ c.loop-self.invariant.queue c.len.ensures.unique) in
-    sym (take_all c.args.len order few) ∙ c.loop-self.invariant.front
+    let few : length order ≤ c.args.len = omega (arith, c.loop-self-test.false, c.len.ensures.len, as_many _ _ _ c.loop-self.invariant.ordered c.len.ensures.unique) in
+    c.tidy.ensures.order ∙ (sym (take_all c.args.len order few) ∙ c.loop-self.invariant.front)
+
+pub invariant_of-self-2 : goal.invariant_of-self-2
+invariant_of-self-2 c = c.tidy.ensures.queue _ c.loop-self.invariant.ordered

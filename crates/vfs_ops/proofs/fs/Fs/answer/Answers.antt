@@ -58,7 +58,7 @@ returns-in-Err-clause-exact g c =
 pub returns-in-Ok-clause-exact : goal.returns-in-Ok-clause-exact
 returns-in-Ok-clause-exact g c =
     let e = c.in-Ok.ensures in
-    inl (record { done = e.done; given_back = e.left; looked = λ asks. e.looked (inl asks) })
+    inl (record { done = e.done; given_back = e.left; looked = λ asks. e.looked (inl asks); idle = e.idle })
 
 pub returns-in-Ok-clause-left : goal.returns-in-Ok-clause-left
 returns-in-Ok-clause-left g c = let e = c.in-Ok.ensures.left in omega (arith, e)
