@@ -1,12 +1,21 @@
 -- What was read of an image stands in the volume.
-use Rattle.std.proofs.Common.{◌≡◌, inl, inr, ℕ, List, [], ◌∷◌, map, refl, ap, sym, ◌∙◌, subst, Option, Some, None}
+use Rattle.std.proofs.Common.{◌≡◌, inl, inr, ℕ, Bool, true, false, List, [], ◌∷◌, map, refl, ap, sym, ◌∙◌, subst, Option, Some, None}
+use Rattle.std.specs.Prelude.{◌==◌, if◌then◌else◌, is_some, not}
 use Rattle.std.specs.List.{AllByRecursion}
+use Rattle.ubifs_base.specs.R5.{r5_of}
+use Rattle.ubifs_base.specs.declared.key.Key.TheVariants.{Ino, Xent}
+use Rattle.media_leaf.specs.LeafNode.{LeafNode, inode, block, entry, truncation}
+use Rattle.media_leaf.specs.declared.dent_node.DentNode.{DentNode}
+use Rattle.media_leaf.specs.declared.ino_node.InoNode.{InoNode}
+use Rattle.change_nodes.specs.Nodes.{bits_of, kind_of_bits}
 use Rattle.media_sys.specs.declared.ref_node.RefNode.{RefNode}
 use Rattle.bud_log.specs.Buds.{buds_of}
 use Rattle.index_tree.specs.Shape.{contents as leaves_in}
 use Rattle.index_tree.specs.declared.leaf.Leaf.{Leaf}
 use Rattle.index_media.specs.PlacedRow.{plain}
-use Rattle.journal_scan.specs.Content.{told}
+use Rattle.journal_scan.specs.Content.{content_of, told}
+use Rattle.journal_scan.specs.declared.node_content.NodeContent.{NodeContent}
+use Rattle.journal_scan.specs.declared.node_content.NodeContent.TheVariants.{Inode, Entry, Unknown}
 use Rattle.journal_scan.specs.Journal.{BudRead, copies_in, nodes_in}
 use Rattle.journal_scan.specs.declared.journal_read.JournalRead.{JournalRead}
 use Rattle.leaf_map.specs.Kept.{Kept, Placed}
@@ -18,9 +27,9 @@ use Rattle.leaf_recovery.specs.declared.recovered_leaf.RecoveredLeaf.{RecoveredL
 use Rattle.sound_image.specs.Image.{Image, named_by, parts_of}
 use Rattle.sound_image.specs.Leaves.{AreCommitted, IsFoundAt, IsPlacedIn}
 use Rattle.shown_leaves.specs.Copies.{FoundStands}
-use Rattle.shown_leaves.specs.Sources.{AreSourced, HasSource}
+use Rattle.shown_leaves.specs.Sources.{AreSourced, HasSource, IsKnownBlock}
 use Rattle.image_tree.specs.Reads.{IsJournalOf, IsReadOf}
-use Rattle.image_tree.specs.Sources.{source_of, sourced_of}
+use Rattle.image_tree.specs.Sources.{block_of, source_of, sourced_of}
 use Rattle.image_tree.specs.Trees.{AreNodesTold}
 use Rattle.image_tree.specs.declared.tree_read.TreeRead.{TreeRead}
 use Rattle.image_tree.proofs.StandingNodes.{StandingLaws}
@@ -58,11 +67,25 @@ source_here contents parts x None reads s = s
 source_here contents parts x (Some place) reads (node, read, is, e) =
     (node, record { lnum = ap (λ (p : Place). p.lnum) (sym is); offs = ap (λ (p : Place). p.offs) (sym is); len = ap (λ (p : Place). p.len) (sym is) }, reads node read, e)
 
+inode_here : (node : InoNode) (kind : Bool) → IsKnownBlock (inode node) (block_of (if kind then Inode node.ino (not (node.nlink == 0)) else Unknown (Ino node.ino) (not (node.nlink == 0))))
+inode_here node true = tt
+inode_here node false = tt
+
+entry_here : (node : DentNode) (attribute : Bool) → IsKnownBlock (entry node) (block_of (if attribute then Unknown (Xent node.dir (r5_of node.name)) true else Entry node.dir node.name (not (node.inum == 0))))
+entry_here node true = tt
+entry_here node false = tt
+
+block_here : (node : LeafNode) → IsKnownBlock node (block_of (content_of node))
+block_here (inode node) = inode_here node (is_some (kind_of_bits (bits_of node.mode)))
+block_here (block node) = (node.bytes, refl)
+block_here (entry node) = entry_here node node.attribute
+block_here (truncation node) = tt
+
 pub sourced_all : (contents : ℕ → List ℕ) (parts : Parts) (kept : List Kept) (rs : List RecoveredLeaf) → ((node : Placed) → WasRead parts node → IsPlacedIn contents node) → AreLeavesTold parts kept rs → AreSourced contents kept (map sourced_of rs)
 sourced_all contents parts [] [] reads h = tt
 sourced_all contents parts [] (r ∷ rs) reads h = absurd h
 sourced_all contents parts (x ∷ kept) [] reads h = absurd h
-sourced_all contents parts (x ∷ kept) (r ∷ rs) reads h = (record { is = h.0.leaf; source = source_here contents parts x r.source reads h.0.source }, sourced_all contents parts kept rs reads h.1)
+sourced_all contents parts (x ∷ kept) (r ∷ rs) reads h = (record { is = h.0.leaf; source = source_here contents parts x r.source reads h.0.source; known = (let P : NodeContent → Type 0 = λ k. IsKnownBlock x.node (block_of k) in subst P (sym h.0.content) (block_here x.node)) }, sourced_all contents parts kept rs reads h.1)
 
 module _ (laws : StandingLaws) (contents : ℕ → List ℕ) (leaves : List Leaf) (references : List RefNode) (journal : JournalRead) (image : Image) (read : TreeRead) (s : IsJournalOf contents leaves references journal image) (r : IsReadOf contents image read) where
   stand : AllByRecursion (FoundStands contents) image.committed

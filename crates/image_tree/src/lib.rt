@@ -9,6 +9,7 @@ mod judged;
 mod links;
 mod reading;
 mod recovered;
+mod recovered_tree;
 mod sourced;
 mod tree;
 mod tree_found;

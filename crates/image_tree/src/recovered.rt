@@ -1,11 +1,12 @@
 // The rule on leaves.
 
-ghost use Rattle.std.specs.Prelude.{◌≡◌, IfErr, IfOk, OnOk};
+ghost use Rattle.std.specs.Prelude.{◌≡◌, All, IfErr, IfOk, OnOk};
 ghost use Rattle.ubifs_base.specs.RawOf.{raw_of};
 ghost use Rattle.ubi_volume.specs.Geometry.{IsGeometryOf};
 ghost use Rattle.ubi_volume.specs.Volume.{Keeps, SameShape};
 ghost use Rattle.sound_image.specs.Breaches.{IsBrokenLeaf};
 ghost use Rattle.sound_image.specs.Image.{Image};
+ghost use Rattle.sound_image.specs.Leaves.{HasItsNode};
 ghost use Rattle.sound_image.specs.LeafBreaches.{IsWrongOfLeaves};
 ghost use Rattle.sound_image.specs.Wrong.{IsFirstWrong};
 ghost use Rattle.sound_image.specs.declared.rule.Rule.TheVariants as rules;
@@ -13,6 +14,7 @@ ghost use Rattle.image_check.specs.Told.{HasCheckCause, IsBreachOf, StaysSureChe
 ghost use Rattle.image_tree.specs.Reads.{AreLeavesMet, IsReadOfSome, IsReadSoFar, leaves_told};
 
 use crate::reading::{leaves_of, read_tree};
+use crate::recovered_tree::RecoveredTree;
 use crate::tree_read::TreeRead;
 use image_check::CheckFault;
 use index_tree::Leaf;
@@ -22,6 +24,7 @@ use media_lpt::Lprop;
 use media_sys::RefNode;
 use sound_image::what_was_read_stands;
 use std::alloc::Global;
+use std::thread::Threads;
 use ubi_volume::{AreaFault, Volume};
 use ubifs_base::Geometry;
 
@@ -31,7 +34,8 @@ use ubifs_base::Geometry;
 /// index has an intact node of its key and length, which needs no feature that isn't known here, in a main LEB that isn't marked as the
 /// index's; no two overlap, and none is missing (`dbg_walk_index` with `check_leaf` of Linux fs/ubifs). `Unsound` tells the first place.
 /// Takes memory for a fixed multiple of the leaves and of what the journal says, and for a LEB.
-pub fn check_recovered<V: Volume>(
+pub fn check_recovered<R: Threads + Sync, V: Volume>(
+    rt: &R,
     alloc: Global,
     volume: &mut V,
     geometry: &Geometry,
@@ -48,8 +52,8 @@ pub fn check_recovered<V: Volume>(
     ensures sure { StaysSureCheck (V.state volume.old) (V.state volume.new) result }
 {
     what_was_read_stands();
-    match read_tree(alloc, volume, geometry, leaves, references, journal) {
-        Ok(read) => check_read(alloc, volume, geometry, props, read),
+    match read_tree(rt, alloc, volume, geometry, leaves, references, journal) {
+        Ok(found) => check_read(alloc, volume, geometry, props, found),
         Err(AreaFault::Memory) => Err(CheckFault::Memory),
         Err(AreaFault::Volume { count }) => Err(CheckFault::Volume { count }),
     }
@@ -61,16 +65,17 @@ fn check_read<V: Volume>(
     volume: &mut V,
     geometry: &Geometry,
     props: &[Lprop],
-    read: TreeRead,
+    found: RecoveredTree,
 ) -> Result<TreeRead, CheckFault>
-    ensures same { IfOk result (λ made. made ≡ read) }
-    ensures met { OnOk result (AreLeavesMet (V.state volume.old).holds (raw_of geometry.now) props.now read.recovered.missing.items (leaves_told read.recovered)) }
-    ensures broken { IfErr result (TellsBreach (IsBreachOf rules.Leaves (IsFirstWrong (IsWrongOfLeaves (V.state volume.old).holds (raw_of geometry.now) props.now read.recovered.missing.items (leaves_told read.recovered))))) }
+    requires { All (HasItsNode (V.state volume.old).holds) found.intact.items }
+    ensures same { IfOk result (λ made. made ≡ found.read) }
+    ensures met { OnOk result (AreLeavesMet (V.state volume.old).holds (raw_of geometry.now) props.now found.read.recovered.missing.items (leaves_told found.read.recovered)) }
+    ensures broken { IfErr result (TellsBreach (IsBreachOf rules.Leaves (IsFirstWrong (IsWrongOfLeaves (V.state volume.old).holds (raw_of geometry.now) props.now found.read.recovered.missing.items (leaves_told found.read.recovered))))) }
     ensures keeps { Keeps (V.state volume.old) (V.state volume.new) × SameShape (V.state volume.old) (V.state volume.new) }
     ensures cause { HasCheckCause (V.state volume.old).faults (V.state volume.new).faults result }
     ensures sure { StaysSureCheck (V.state volume.old) (V.state volume.new) result }
 {
-    let Ok(all) = leaves_of(alloc, &read.recovered) else {
+    let Ok(all) = leaves_of(alloc, &found.read.recovered) else {
         return Err(CheckFault::Memory);
     };
     check_leaves(
@@ -79,7 +84,8 @@ fn check_read<V: Volume>(
         geometry,
         props,
         all.as_slice(),
-        read.recovered.missing.as_slice(),
+        found.read.recovered.missing.as_slice(),
+        found.intact.as_slice(),
     )?;
-    Ok(read)
+    Ok(found.read)
 }

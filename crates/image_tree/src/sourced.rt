@@ -3,12 +3,13 @@
 ghost use Rattle.std.specs.Prelude.{◌≡◌, None, Some, IfOk, fold, map};
 ghost use Rattle.image_check.specs.WrongValues.{sooner_of};
 ghost use Rattle.tree_check.specs.Places.{misplaced_at};
-ghost use Rattle.image_tree.specs.Sources.{empty_at, source_of, sourced_of};
+ghost use Rattle.image_tree.specs.Sources.{block_of, empty_at, source_of, sourced_of};
 
 use image_check::{WrongValue, sooner};
 use index_tree::Leaf;
+use journal_scan::NodeContent;
 use leaf_recovery::{Place, RecoveredLeaf};
-use shown_leaves::{Source, SourcedLeaf};
+use shown_leaves::{KnownBlock, Source, SourcedLeaf};
 use std::alloc::Global;
 use tree_check::{ShownLeaf, number_shown};
 use ubifs_base::Memory;
@@ -29,6 +30,7 @@ fn sourced_leaf(leaf: &RecoveredLeaf) -> SourcedLeaf
     SourcedLeaf {
         leaf: leaf.leaf,
         source: source(leaf.source),
+        block: block(&leaf.content),
     }
 }
 
@@ -42,6 +44,22 @@ fn source(place: Option<Place>) -> Option<Source>
             len: at.len,
         }),
         None => None,
+    }
+}
+
+// The block that a node is told to be.
+fn block(content: &NodeContent) -> Option<KnownBlock>
+    ensures { result ≡ block_of content.now }
+{
+    match content {
+        NodeContent::Block { ino, block } => Some(KnownBlock {
+            ino: *ino,
+            number: *block,
+        }),
+        NodeContent::Inode { .. }
+        | NodeContent::Entry { .. }
+        | NodeContent::Truncation { .. }
+        | NodeContent::Unknown { .. } => None,
     }
 }
 

@@ -1,6 +1,9 @@
 -- Leaves with what stands at their places, read one after another.
-use Rattle.std.proofs.Common.{◌≡◌, ℕ, ◌+◌, ◌≤◌, List, [], ◌∷◌, ◌++◌, length, map, take, drop, Option, Some, None, IfNone, IfSome, refl, ap, sym, subst, ◌∙◌, append_assoc, append-nil, arith}
+use Rattle.std.proofs.Common.{◌≡◌, ℕ, ◌+◌, ◌≤◌, Bool, true, false, List, [], ◌∷◌, ◌++◌, length, map, take, drop, Option, Some, None, IfNone, IfSome, refl, ap, sym, subst, ◌∙◌, append_assoc, append-nil, arith}
+use Rattle.std.specs.Prelude.{All, IsTrue}
 use Rattle.std.specs.List.{AllByRecursion}
+use Rattle.std.proofs.lemmas.List.Elements.{All-append, All-from_recursion, All-nil}
+use Rattle.ubifs_base.specs.NodeLaws.{IsBytes}
 use Rattle.ubi_volume.specs.Volume.{VolumeState}
 use Rattle.media_leaf.specs.LeafNode.{IsLeafNode, LeafNode}
 use Rattle.leb_scan.specs.declared.found.Found.{Found}
@@ -14,9 +17,10 @@ use Rattle.journal_scan.specs.declared.node_content.NodeContent.{NodeContent}
 use Rattle.log_replay.specs.Replay.{told_committed}
 use Rattle.log_replay.specs.Settling.{HasGrammar}
 use Rattle.log_replay.specs.declared.committed_leaf.CommittedLeaf.{CommittedLeaf}
-use Rattle.sound_image.specs.Leaves.{AreCommitted, IsFoundAt, IsPlaceOf, IsPlacedIn}
-use Rattle.leaf_check.specs.Committed.{IsCommittedRead}
-use Rattle.leaf_check.specs.LeafReads.{HasWholeLeaf, IsLeafRead}
+use Rattle.sound_image.specs.Frames.{IsKnownAt}
+use Rattle.sound_image.specs.Leaves.{AreCommitted, HasItsNode, IsFoundAt, IsPlaceOf, IsPlacedIn}
+use Rattle.leaf_check.specs.Committed.{HasBytes, IsCommittedRead, IsKeptIf, IsLeafAnswer, nothing_told}
+use Rattle.leaf_check.specs.LeafReads.{HasWholeLeaf, IsLeafRead, IsWholeOf}
 use Rattle.leaf_check.proofs.Kept.{IsKept, kept_start}
 
 -- ---- one leaf
@@ -37,28 +41,31 @@ placed_whole contents x node place h =
       is = subst U place.len (subst T place.offs (subst S place.lnum h.is));
     }
 
-pub none_told : (contents : ℕ → List ℕ) (x : Leaf) → (HasWholeLeaf contents x → ⊥) → IsCommittedRead contents x (record { leaf = x; found = None })
-none_told contents x none = record { committed = record { leaf = x; found = None }; leaf_is = refl; found = λ node place there. none (placed_whole contents x node place there); grammar = tt; is = refl }
+pub none_told : (contents : ℕ → List ℕ) (x : Leaf) → (HasWholeLeaf contents x → ⊥) → IsLeafAnswer contents x (nothing_told x)
+none_told contents x none = record {
+  told = record { committed = record { leaf = x; found = None }; leaf_is = refl; found = λ node place there. none (placed_whole contents x node place there); grammar = tt; is = refl };
+  intact = λ h. absurd cc;
+}
 
--- the node that was read is placed there
-abbrev placed_of : (contents : ℕ → List ℕ) (x : Leaf) (buffer : List ℕ) (found : Found) → IsLeafRead contents x buffer found → Placed
-placed_of contents x buffer found h = record { node = h.node; sqnum = found.sqnum; group = found.group; lnum = x.lnum; offs = x.offs; len = x.len }
-
-pub some_told : (contents : ℕ → List ℕ) (x : Leaf) (buffer bytes : List ℕ) (found : Found) (content : NodeContent) → (h : IsLeafRead contents x buffer found) → bytes ≡ take found.len buffer
+-- the node that was found is placed there
+pub some_told : (contents : ℕ → List ℕ) (x : Leaf) (bytes : List ℕ) (found : Found) (node : LeafNode) (content : NodeContent) → HasBytes contents x bytes → (h : IsWholeOf bytes found node)
     → ((sqnum group : ℕ) (node : LeafNode) → IsLeafNode bytes sqnum group node → found.kind ≡ leaf_type node → content ≡ content_of node)
     → IsCommittedRead contents x (record { leaf = x; found = Some (record { content = content; sqnum = found.sqnum; lnum = x.lnum; offs = x.offs; len = x.len }) })
-some_told contents x buffer bytes found content h cut says =
-    let placed = placed_of contents x buffer found h in
-    let P : List ℕ → Type 0 = λ b. IsLeafNode b found.sqnum found.group h.node in
-    let own : bytes ≡ take x.len buffer = cut ∙ ap (λ (n : ℕ). take n buffer) h.len in
-    let same = says found.sqnum found.group h.node (subst P (sym own) h.is) h.kind in
+some_told contents x bytes found node content here h says =
+    let placed : Placed = record { node = node; sqnum = found.sqnum; group = found.group; lnum = x.lnum; offs = x.offs; len = x.len } in
+    let P : List ℕ → Type 0 = λ b. IsLeafNode b found.sqnum found.group node in
+    let same = says found.sqnum found.group node h.is h.kind in
     record {
       committed = record { leaf = x; found = Some placed };
       leaf_is = refl;
-      found = (record { lnum = refl; offs = refl; len = refl }, record { room = h.room; is = subst P h.bytes h.is });
+      found = (record { lnum = refl; offs = refl; len = refl }, record { room = here.room; is = subst P here.is h.is });
       grammar = h.is.is;
       is = ap (λ (k : NodeContent). let node : JournalNode = record { content = k; sqnum = found.sqnum; lnum = x.lnum; offs = x.offs; len = x.len } in let told : CommittedLeaf = record { leaf = x; found = Some node } in told) same;
     }
+
+-- the bytes with which the buffer begins
+pub read_here : (contents : ℕ → List ℕ) (x : Leaf) (buffer bytes : List ℕ) (found : Found) → IsBytes (contents x.lnum) → IsLeafRead contents x buffer found → bytes ≡ take found.len buffer → HasBytes contents x bytes
+read_here contents x buffer bytes found fits h cut = record { fits = fits; room = h.room; is = cut ∙ ap (λ (n : ℕ). take n buffer) h.len ∙ h.bytes }
 
 -- ---- leaves one after another
 pub placed_moved : (c d : ℕ → List ℕ) (node : Placed) → ((k : ℕ) → c k ≡ d k) → IsPlacedIn c node → IsPlacedIn d node
@@ -124,3 +131,22 @@ none_at {X} o P e h = let Q : Option X → Type 0 = λ r. IfNone r P in subst Q 
 
 pub some_at : {X : Type 0} (o : Option X) (x : X) (P : X → Type 0) → o ≡ Some x → IfSome o P → P x
 some_at {X} o x P e h = let Q : Option X → Type 0 = λ r. IfSome r P in subst Q e h
+
+-- ---- leaves whose places have their nodes
+pub its_moved : (c d : ℕ → List ℕ) (x : Leaf) → ((k : ℕ) → c k ≡ d k) → HasItsNode c x → HasItsNode d x
+its_moved c d x e h =
+    let P : List ℕ → Type 0 = λ leb. IsKnownAt leb x.offs in
+    record { node = h.node; placed = h.placed; stands = placed_moved c d h.node e h.stands; key = h.key; known = subst P (e x.lnum) h.known }
+
+-- those behind others
+pub all_behind : (P : Leaf → Type 0) (all before xs : List Leaf) → all ≡ before ++ xs → AllByRecursion P all → AllByRecursion P xs
+all_behind P all before xs e h = let Q : List Leaf → Type 0 = λ zs. AllByRecursion P zs in back before (subst Q e h)
+  where
+    back : (ys : List Leaf) → AllByRecursion P (ys ++ xs) → AllByRecursion P xs
+    back [] k = k
+    back (y ∷ ys) k = back ys k.1
+
+-- one more is kept if it has
+pub kept_if : (P : Leaf → Type 0) (intact : Bool) (x : Leaf) (old new : List Leaf) → IsKeptIf intact x old new → (IsTrue intact → P x) → All P old → All P new
+kept_if P true x old new e has h = let Q : List Leaf → Type 0 = λ xs. All P xs in subst Q (sym e) (All-append P old (x ∷ []) h (All-from_recursion P (x ∷ []) (has refl, tt)))
+kept_if P false x old new e has h = let Q : List Leaf → Type 0 = λ xs. All P xs in subst Q (sym e) h

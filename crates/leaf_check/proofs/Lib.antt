@@ -4,6 +4,7 @@ pub mod Copies
 pub mod Firsts
 pub mod Judged
 pub mod Kept
+pub mod KnownNodes
 pub mod NodeKeys
 pub mod Overlaps
 pub mod ReadBytes

@@ -20,13 +20,14 @@ use Rattle.index_tree.specs.declared.leaf.Leaf.{Leaf}
 use Rattle.sound_image.specs.Frames.{HasFrameAt, IsKnownAt, NeedsFeature}
 use Rattle.sound_image.specs.Leaves.{HasItsNode, IsSoundLeaf}
 use Rattle.sound_image.specs.Properties.{is_unmarked}
+use Rattle.leaf_check.specs.Committed.{HasBytes}
 use Rattle.leaf_check.specs.LeafReads.{HasWholeLeaf, IsItsNode, IsLeafRead, IsWholeOf}
-use Rattle.leaf_check.proofs.CommittedLeaves.{placed_moved, placed_whole}
+use Rattle.leaf_check.proofs.CommittedLeaves.{its_moved, placed_whole}
 use Rattle.leaf_check.proofs.Standings.{needs_moved}
 use Rattle.leaf_check.proofs.WholeLeaves.{IsOneLeaf, bytes_drop, bytes_take}
 
 -- the header says how long the node in front is
-front_len : (rest : List ℕ) (n sqnum kind group : ℕ) (body : List ℕ) → IsBytes rest → n ≤ length rest → IsNode (take n rest) sqnum kind group body → n ≡ little_number 4 (drop 16 rest)
+pub front_len : (rest : List ℕ) (n sqnum kind group : ℕ) (body : List ℕ) → IsBytes rest → n ≤ length rest → IsNode (take n rest) sqnum kind group body → n ≡ little_number 4 (drop 16 rest)
 front_len rest n sqnum kind group body fits room h =
     let front = take n rest in
     let long : length front ≡ n = length-take-le n rest room in
@@ -72,7 +73,7 @@ module _ (leb : List ℕ) (offs len : ℕ) (fits : IsBytes leb) (room : offs + l
   known_out h what needs = h what (needs_moved leb (take len (drop offs leb)) offs 0 what frame_in needs)
 
 -- ---- a leaf at whose place a node was read
-its_node : (contents : ℕ → List ℕ) (x : Leaf) → IsBytes (contents x.lnum) → x.offs + x.len ≤ length (contents x.lnum) → IsItsNode (take x.len (drop x.offs (contents x.lnum))) x → HasItsNode contents x
+pub its_node : (contents : ℕ → List ℕ) (x : Leaf) → IsBytes (contents x.lnum) → x.offs + x.len ≤ length (contents x.lnum) → IsItsNode (take x.len (drop x.offs (contents x.lnum))) x → HasItsNode contents x
 its_node contents x fits room h = record {
   node = record { node = h.node; sqnum = h.sqnum; group = h.group; lnum = x.lnum; offs = x.offs; len = x.len };
   placed = record { lnum = refl; offs = refl; len = refl };
@@ -99,6 +100,10 @@ read_sound contents geo props x buffer bytes found fits h cut free own =
     let P : List ℕ → Type 0 = λ b. IsItsNode b x in
     (its_node contents x fits h.room (subst P (cut ∙ ap (λ (n : ℕ). take n buffer) h.len ∙ h.bytes) own), free)
 
+-- its place has its node
+pub read_its : (contents : ℕ → List ℕ) (x : Leaf) (bytes : List ℕ) → HasBytes contents x bytes → IsItsNode bytes x → HasItsNode contents x
+read_its contents x bytes h own = let P : List ℕ → Type 0 = λ b. IsItsNode b x in its_node contents x h.fits h.room (subst P h.is own)
+
 pub sound_read : (contents : ℕ → List ℕ) (geo : RawGeometry) (props : List Lprop) (x : Leaf) (buffer bytes : List ℕ) (found : Found) → IsBytes (contents x.lnum) → (h : IsLeafRead contents x buffer found) → bytes ≡ take found.len buffer → IsSoundLeaf contents geo props x → IsItsNode bytes x
 sound_read contents geo props x buffer bytes found fits h cut sound =
     let P : List ℕ → Type 0 = λ b. IsItsNode b x in
@@ -110,24 +115,19 @@ sound_whole contents geo props x h = placed_whole contents x h.0.node h.0.placed
 
 -- contents that are the same have the same sound leaves
 pub sound_moved : (c d : ℕ → List ℕ) (geo : RawGeometry) (props : List Lprop) (x : Leaf) → ((k : ℕ) → c k ≡ d k) → IsSoundLeaf c geo props x → IsSoundLeaf d geo props x
-sound_moved c d geo props x e h =
-    let P : List ℕ → Type 0 = λ leb. IsKnownAt leb x.offs in
-    (record { node = h.0.node; placed = h.0.placed; stands = placed_moved c d h.0.node e h.0.stands; key = h.0.key; known = subst P (e x.lnum) h.0.known }, h.1)
+sound_moved c d geo props x e h = (its_moved c d x e h.0, h.1)
 
 -- ---- bytes that are a leaf's own node
-pub its_node_of : (bytes : List ℕ) (x : Leaf) (found : Found) (o : Option Key) (need : Option Feature) → (node : (node : LeafNode) × IsWholeOf bytes found node)
-    → ((sqnum group : ℕ) (node : LeafNode) → IsLeafNode bytes sqnum group node → found.kind ≡ leaf_type node → o ≡ leaf_key node) → ((what : Feature) → NeedsFeature bytes 0 what → need ≡ Some what) → need ≡ None → o ≡ Some x.key → IsItsNode bytes x
-its_node_of bytes x found o need node keyed only none same = record {
+pub its_node_of : (bytes : List ℕ) (x : Leaf) (found : Found) (o : Option Key) → (node : (node : LeafNode) × IsWholeOf bytes found node)
+    → ((sqnum group : ℕ) (node : LeafNode) → IsLeafNode bytes sqnum group node → found.kind ≡ leaf_type node → o ≡ leaf_key node) → IsKnownAt bytes 0 → o ≡ Some x.key → IsItsNode bytes x
+its_node_of bytes x found o node keyed known same = record {
   sqnum = found.sqnum;
   group = found.group;
   node = node.0;
   is = node.1.is;
   key = sym (keyed found.sqnum found.group node.0 node.1.is node.1.kind) ∙ same;
-  known = λ what h. no_feature what (sym none ∙ only what h);
+  known = known;
 }
-  where
-    no_feature : (what : Feature) → None ≡ Some what → ⊥
-    no_feature what e = cc
 
 pub key_of_its : IsOneLeaf → (bytes : List ℕ) (x : Leaf) (found : Found) (o : Option Key) → IsBytes bytes → (node : (node : LeafNode) × IsWholeOf bytes found node)
     → ((sqnum group : ℕ) (node : LeafNode) → IsLeafNode bytes sqnum group node → found.kind ≡ leaf_type node → o ≡ leaf_key node) → IsItsNode bytes x → o ≡ Some x.key

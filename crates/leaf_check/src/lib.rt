@@ -6,10 +6,14 @@
 //! the leaves in this order finds all that are wrong at the first place at which one is (`specs/Sweep.antt`). What stands there is read once.
 #![tactic(auto)]
 
+mod answers;
 mod check;
 mod committed;
+mod committed_read;
 mod first;
 mod keys;
+mod known;
+mod leaf_answer;
 mod nodes;
 mod order;
 mod reading;
@@ -20,3 +24,4 @@ mod touching;
 
 pub use crate::check::check_leaves;
 pub use crate::committed::read_committed;
+pub use crate::committed_read::CommittedRead;

@@ -41,16 +41,16 @@ fn same(leaf: Leaf) -> Leaf
     leaf
 }
 
-// Puts leaves in order.
-fn put_in_order(leaves: &mut Vec<Leaf>)
+/// Puts leaves in order of LEB, offset and length.
+pub(crate) fn put_in_order(leaves: &mut Vec<Leaf>)
     ensures same { IsPermutation leaves.old.items leaves.new.items }
     ensures order { AreInOrder leaves.new.items }
 {
     leaves.sort_unstable_by_key(|leaf| place_rank(leaf));
 }
 
-// The number by which leaves are put in order.
-fn place_rank(leaf: &Leaf) -> u128
+/// The number by which leaves are put in order.
+pub(crate) fn place_rank(leaf: &Leaf) -> u128
     ensures { result ≡ rank_of leaf.now }
 {
     leaf.lnum as u128 * (1 << 64) + leaf.offs as u128 * (1 << 32) + leaf.len as u128

@@ -5,9 +5,11 @@ ghost use Rattle.ubifs_base.specs.RawOf.{raw_of};
 ghost use Rattle.ubi_volume.specs.Volume.{Keeps, SameShape};
 ghost use Rattle.ubi_volume.specs.Faults.{HasCause, StaysSure};
 ghost use Rattle.media_leaf.specs.LeafNode.{LeafNode};
-ghost use Rattle.sound_image.specs.Leaves.{IsSoundLeaf};
+ghost use Rattle.sound_image.specs.Frames.{IsKnownAt};
+ghost use Rattle.sound_image.specs.Leaves.{HasItsNode, IsSoundLeaf};
 ghost use Rattle.sound_image.specs.Properties.{is_unmarked as is_no_index};
 ghost use Rattle.leaf_check.specs.LeafReads.{IsItsNode, IsWholeOf};
+ghost use Rattle.leaf_check.specs.NodeKeys.{may_need};
 
 use crate::keys::key_in;
 use crate::reading::read_node;
@@ -17,18 +19,21 @@ use leb_scan::Found;
 use media_leaf::one_node;
 use media_lpt::Lprop;
 use ubi_volume::{VolFault, Volume};
-use ubifs_base::{Geometry, Key};
+use ubifs_base::{Geometry, Key, NodeType};
 
 /// Whether a leaf is sound: an intact node of its key and length stands at its place, needs no feature that isn't known here, and stands
-/// in a main LEB that isn't marked as the index's. The buffer has room for any leaf node.
+/// in a main LEB that isn't marked as the index's. Of a leaf that is known to be intact nothing is read. The buffer has room for any leaf
+/// node.
 pub(crate) fn is_sound<V: Volume>(
     volume: &mut V,
     geometry: &Geometry,
     props: &[Lprop],
     leaf: &Leaf,
+    intact: bool,
     buffer: &mut [u8],
 ) -> Result<bool, VolFault>
-    requires { length buffer.old ≡ 4256 }
+    requires room { length buffer.old ≡ 4256 }
+    requires intact { IsTrue intact → HasItsNode (V.state volume.old).holds leaf.now }
     ensures len { length buffer.new ≡ length buffer.old }
     ensures yes { IfOk result (λ sound. IsTrue sound → IsSoundLeaf (V.state volume.old).holds (raw_of geometry.now) props.now leaf.now) }
     ensures no { IfOk result (λ sound. IsFalse sound → IsSoundLeaf (V.state volume.old).holds (raw_of geometry.now) props.now leaf.now → ⊥) }
@@ -38,6 +43,9 @@ pub(crate) fn is_sound<V: Volume>(
     ensures sure { StaysSure (V.state volume.old) (V.state volume.new) result }
 {
     let unmarked = is_unmarked(geometry, props, leaf.lnum);
+    if intact {
+        return Ok(unmarked);
+    }
     let read = read_node(volume, leaf, buffer)?;
     let Some(found) = read else {
         return Ok(false);
@@ -48,17 +56,53 @@ pub(crate) fn is_sound<V: Volume>(
     Ok(is_its_node(leaf, found, buffer.split_at(found.len as usize).0))
 }
 
-// Whether the leaf node that the bytes are is that of the leaf, and needs no feature.
-fn is_its_node(leaf: &Leaf, found: Found, bytes: &[u8]) -> bool
+/// Whether the leaf node that the bytes are is that of the leaf, and needs no feature that isn't known here.
+pub(crate) fn is_its_node(leaf: &Leaf, found: Found, bytes: &[u8]) -> bool
     requires node { (node : LeafNode) × IsWholeOf bytes.now found node }
     requires len { length bytes.now < 2 ^ 32 }
     ensures { IsTrue result ↔ IsItsNode bytes.now leaf.now }
 {
     one_node();
-    if let Some(_what) = needed_feature(bytes, 0) {
+    if needs_feature(found, bytes) {
         return false;
     }
     is_key(key_in(found.kind, bytes), leaf.key)
+}
+
+// Whether the leaf node that the bytes are needs a feature that isn't known here. A node of a block or of a name needs none.
+fn needs_feature(found: Found, bytes: &[u8]) -> bool
+    requires node { (node : LeafNode) × IsWholeOf bytes.now found node }
+    requires len { length bytes.now < 2 ^ 32 }
+    ensures yes { IsTrue result → IsKnownAt bytes.now 0 → ⊥ }
+    ensures no { IsFalse result → IsKnownAt bytes.now 0 }
+{
+    if may_need(found.kind) {
+        return has_unknown(bytes);
+    }
+    false
+}
+
+// Whether a leaf node of this type may need a feature.
+fn may_need(kind: NodeType) -> bool
+    ensures { result ≡ may_need kind }
+{
+    match kind {
+        NodeType::Data => false,
+        NodeType::Entry => false,
+        _ => true,
+    }
+}
+
+// Whether what the bytes begin with does, whatever it is.
+fn has_unknown(bytes: &[u8]) -> bool
+    requires { length bytes.now < 2 ^ 32 }
+    ensures yes { IsTrue result → IsKnownAt bytes.now 0 → ⊥ }
+    ensures no { IsFalse result → IsKnownAt bytes.now 0 }
+{
+    match needed_feature(bytes, 0) {
+        Some(_what) => true,
+        None => false,
+    }
 }
 
 // Whether a key was found, and is this.

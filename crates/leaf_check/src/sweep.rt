@@ -5,10 +5,11 @@ ghost use Rattle.std.specs.List.{AllByRecursion};
 ghost use Rattle.ubifs_base.specs.RawOf.{raw_of};
 ghost use Rattle.ubi_volume.specs.Volume.{Keeps, SameShape};
 ghost use Rattle.ubi_volume.specs.Faults.{HasAreaCause, HasCause, StaysSure, StaysSureArea};
-ghost use Rattle.sound_image.specs.Leaves.{IsSoundLeaf};
+ghost use Rattle.sound_image.specs.Leaves.{HasItsNode, IsSoundLeaf};
 ghost use Rattle.leaf_check.specs.Overlaps.{AreInOrder, IsNarrow, touches as touches_one};
 ghost use Rattle.leaf_check.specs.Sweep.{IsJudged, IsSwept};
 
+use crate::known::{from_place, is_first};
 use crate::order::in_order;
 use crate::reading::MOST_BYTES;
 use crate::sound::is_sound;
@@ -19,14 +20,17 @@ use std::alloc::Global;
 use ubi_volume::{AreaFault, VolFault, Volume};
 use ubifs_base::Geometry;
 
-/// Those of some leaves that are wrong: not sound, or overlapping another. Each that is left out stands behind one of them.
+/// Those of some leaves that are wrong: not sound, or overlapping another. Each that is left out stands behind one of them. Of leaves
+/// that are known to be intact nothing is read, if these stand in order of LEB, offset and length.
 pub(crate) fn wrong_leaves<V: Volume>(
     alloc: Global,
     volume: &mut V,
     geometry: &Geometry,
     props: &[Lprop],
     leaves: &[Leaf],
+    intact: &[Leaf],
 ) -> Result<Vec<Leaf>, AreaFault>
+    requires { AllByRecursion (HasItsNode (V.state volume.old).holds) intact.now }
     ensures swept { IfOk result (λ wrong. IsSwept (IsSoundLeaf (V.state volume.old).holds (raw_of geometry.now) props.now) leaves.now wrong.items) }
     ensures keeps { Keeps (V.state volume.old) (V.state volume.new) }
     ensures shape { SameShape (V.state volume.old) (V.state volume.new) }
@@ -35,7 +39,15 @@ pub(crate) fn wrong_leaves<V: Volume>(
 {
     let ordered = in_order(alloc, leaves)?;
     let mut buffer = vec![in alloc; 0; MOST_BYTES as usize]?;
-    sweep(alloc, volume, geometry, props, &ordered, &mut buffer)
+    sweep(
+        alloc,
+        volume,
+        geometry,
+        props,
+        &ordered,
+        intact,
+        &mut buffer,
+    )
 }
 
 // The same of leaves in order of place, with room for any leaf node.
@@ -45,11 +57,13 @@ fn sweep<V: Volume>(
     geometry: &Geometry,
     props: &[Lprop],
     ordered: &[Leaf],
+    intact: &[Leaf],
     buffer: &mut [u8],
 ) -> Result<Vec<Leaf>, AreaFault>
     requires room { length buffer.old ≡ 4256 }
     requires order { AreInOrder ordered.now }
     requires narrow { AllByRecursion IsNarrow ordered.now }
+    requires intact { AllByRecursion (HasItsNode (V.state volume.old).holds) intact.now }
     ensures swept { IfOk result (λ wrong. IsSwept (IsSoundLeaf (V.state volume.old).holds (raw_of geometry.now) props.now) ordered.now wrong.items) }
     ensures keeps { Keeps (V.state volume.old) (V.state volume.new) }
     ensures shape { SameShape (V.state volume.old) (V.state volume.new) }
@@ -58,13 +72,16 @@ fn sweep<V: Volume>(
 {
     let mut wrong = Vec::new(alloc);
     let mut last = None;
+    let mut known = intact;
     let mut left = ordered;
     'sweeping: while let Some((leaf, rest)) = left.split_first() {
         if is_past(&wrong, leaf) {
             return Ok(wrong);
         }
+        known = from_place(known, leaf);
+        let seen = is_first(known, leaf);
         judge(
-            volume, geometry, props, last, leaf, rest, buffer, &mut wrong,
+            volume, geometry, props, last, leaf, rest, seen, buffer, &mut wrong,
         )?;
         last = Some(*leaf);
         left = rest;
@@ -80,10 +97,12 @@ fn judge<V: Volume>(
     last: Option<Leaf>,
     leaf: &Leaf,
     behind: &[Leaf],
+    intact: bool,
     buffer: &mut [u8],
     wrong: &mut Vec<Leaf>,
 ) -> Result<(), AreaFault>
-    requires { length buffer.old ≡ 4256 }
+    requires room { length buffer.old ≡ 4256 }
+    requires intact { IsTrue intact → HasItsNode (V.state volume.old).holds leaf.now }
     ensures len { length buffer.new ≡ length buffer.old }
     ensures judged { OnOk result (IsJudged (IsSoundLeaf (V.state volume.old).holds (raw_of geometry.now) props.now) last leaf.now behind.now wrong.old.items wrong.new.items) }
     ensures keeps { Keeps (V.state volume.old) (V.state volume.new) }
@@ -91,7 +110,7 @@ fn judge<V: Volume>(
     ensures cause { HasAreaCause (V.state volume.old).faults (V.state volume.new).faults result }
     ensures sure { StaysSureArea (V.state volume.old) (V.state volume.new) result }
 {
-    let bad = is_wrong(volume, geometry, props, last, leaf, behind, buffer)?;
+    let bad = is_wrong(volume, geometry, props, last, leaf, behind, intact, buffer)?;
     if !bad {
         return Ok(());
     }
@@ -107,9 +126,11 @@ fn is_wrong<V: Volume>(
     last: Option<Leaf>,
     leaf: &Leaf,
     behind: &[Leaf],
+    intact: bool,
     buffer: &mut [u8],
 ) -> Result<bool, VolFault>
-    requires { length buffer.old ≡ 4256 }
+    requires room { length buffer.old ≡ 4256 }
+    requires intact { IsTrue intact → HasItsNode (V.state volume.old).holds leaf.now }
     ensures len { length buffer.new ≡ length buffer.old }
     ensures yes { IfOk result (λ wrong. IsTrue wrong → IsTrue (touches_one last leaf.now behind.now) ⊎ (IsSoundLeaf (V.state volume.old).holds (raw_of geometry.now) props.now leaf.now → ⊥)) }
     ensures apart { IfOk result (λ wrong. IsFalse wrong → IsFalse (touches_one last leaf.now behind.now)) }
@@ -119,7 +140,7 @@ fn is_wrong<V: Volume>(
     ensures cause { HasCause (V.state volume.old).faults (V.state volume.new).faults result }
     ensures sure { StaysSure (V.state volume.old) (V.state volume.new) result }
 {
-    let sound = is_sound(volume, geometry, props, leaf, buffer)?;
+    let sound = is_sound(volume, geometry, props, leaf, intact, buffer)?;
     if touches(last, leaf, behind) {
         return Ok(true);
     }

@@ -11,7 +11,7 @@ use Rattle.media_leaf.specs.LeafNode.{IsLeafNode, LeafNode}
 use Rattle.index_tree.specs.declared.leaf.Leaf.{Leaf}
 use Rattle.fs_model.specs.declared.change.Change.{Change}
 use Rattle.fs_model.specs.declared.change.Change.TheVariants as changes
-use Rattle.leaf_map.specs.Kept.{Kept, Placed, shown_by}
+use Rattle.leaf_map.specs.Kept.{Kept, Placed, shown, shown_by}
 use Rattle.leaf_map.specs.Parts.{is_shown}
 use Rattle.leaf_map.specs.Recovered.{stand_in}
 use Rattle.sound_image.specs.Breaches.{number_of}
@@ -21,13 +21,15 @@ use Rattle.sound_image.specs.Wrong.{Wrong, differs}
 use Rattle.image_check.specs.FirstLaws.{first_alone, first_of_both, first_same}
 use Rattle.image_check.specs.WrongValues.{IsFirstOf, sooner_of, wrong_at}
 use Rattle.image_check.specs.declared.wrong_value.WrongValue.{WrongValue}
-use Rattle.shown_leaves.specs.Judged.{is_at_source, is_shown_told, judged_of, unlike_told}
+use Rattle.shown_leaves.specs.Judged.{is_at_source, is_shown_told, judged_of, known_in_place, unlike_told}
 use Rattle.tree_check.specs.Places.{number_shown}
 use Rattle.tree_check.specs.Told.{AreShownBy, IsShownBy, shown_told}
-use Rattle.shown_leaves.specs.Sources.{AreSourced, IsReadFrom, HasSource, IsSourced, IsUnlike, IsUnlikeIn, StandsAtLeaf, bytes_of}
+use Rattle.shown_leaves.specs.Sources.{AreSourced, IsReadFrom, HasSource, IsKnownBlock, IsSourced, IsUnlike, IsUnlikeIn, StandsAtLeaf, bytes_of}
 use Rattle.shown_leaves.specs.Stored.{IsStoredIn, leaf_node}
 use Rattle.tree_check.specs.declared.shown_leaf.Shown.{Shown}
+use Rattle.tree_check.specs.declared.shown_leaf.Shown.TheVariants.{Block}
 use Rattle.tree_check.specs.declared.shown_leaf.ShownLeaf.{ShownLeaf}
+use Rattle.shown_leaves.specs.declared.sourced_leaf.KnownBlock.{KnownBlock}
 use Rattle.shown_leaves.specs.declared.sourced_leaf.Source.{Source}
 use Rattle.shown_leaves.specs.declared.sourced_leaf.SourcedLeaf.{SourcedLeaf}
 use Rattle.shown_leaves.specs.declared.stored_node.StoredNode.{StoredNode}
@@ -104,6 +106,17 @@ stands_if one contents fits x leaf there node same (s, g, h) is named tests =
       (λ yes. (s, g, subst Q (tests.0 yes ∙ named) here)),
       (λ stands. tests.1 ((one (bytes_of contents x.leaf) s g stands.0 stands.1 (leaf_node there) x.node (part_bytes x.leaf.offs x.leaf.len (contents x.leaf.lnum) (fits x.leaf.lnum)) here stands.2).2 ∙ sym named)),
     )
+
+-- a block that is known, where it stands
+pub known_here : (leaf : SourcedLeaf) (known : KnownBlock) → known_in_place leaf ≡ Some known → (is_at_source leaf ≡ true) × (leaf.block ≡ Some known)
+known_here leaf known e = by (is_at_source leaf) refl e
+  where
+    by : (b : Bool) → is_at_source leaf ≡ b → cond b leaf.block None ≡ Some known → (is_at_source leaf ≡ true) × (leaf.block ≡ Some known)
+    by true h e = (h, e)
+    by false h e = absurd cc
+
+pub block_shown : (node : LeafNode) (known : KnownBlock) → IsKnownBlock node (Some known) → shown_told (shown node) ≡ Some (Block known.ino known.number)
+block_shown node known (bytes, e) = ap (λ (n : LeafNode). shown_told (shown n)) e
 
 -- ---- what is told of it
 is_shown_is : (c : Option Change) (s : Shown) → shown_told c ≡ Some s → is_shown_told s ≡ is_shown c
@@ -186,7 +199,7 @@ placed_moved a b node e h =
     record { room = subst P (sym e) h.room; is = subst Q (sym e) h.is }
 
 pub sourced_moved : (a b : ℕ → List ℕ) → ((k : ℕ) → b k ≡ a k) → (x : Kept) (leaf : SourcedLeaf) → IsSourced a x leaf → IsSourced b x leaf
-sourced_moved a b e x leaf h = record { is = h.is; source = by leaf.source h.source }
+sourced_moved a b e x leaf h = record { is = h.is; source = by leaf.source h.source; known = h.known }
   where
     by : (o : Option Source) → HasSource a x o → HasSource b x o
     by None s = s

@@ -6,6 +6,7 @@ use Rattle.shown_leaves.specs.declared.leaves.JudgedLeaf.{JudgedLeaf}
 use Rattle.tree_check.specs.Places.{number_shown}
 use Rattle.tree_check.specs.declared.shown_leaf.Shown.{Shown}
 use Rattle.tree_check.specs.declared.shown_leaf.Shown.TheVariants.{Inode, Entry, Block}
+use Rattle.shown_leaves.specs.declared.sourced_leaf.KnownBlock.{KnownBlock}
 use Rattle.shown_leaves.specs.declared.sourced_leaf.Source.{Source}
 use Rattle.shown_leaves.specs.declared.sourced_leaf.SourcedLeaf.{SourcedLeaf}
 
@@ -23,6 +24,10 @@ is_at_source leaf = by leaf.source
     by : Option Source → Bool
     by None = false
     by (Some source) = (source.lnum == leaf.leaf.lnum) && ((source.offs == leaf.leaf.offs) && (source.len == leaf.leaf.len))
+
+-- the block that a leaf is known to be, if it stands where its node was read
+abbrev pub known_in_place : SourcedLeaf → Option KnownBlock
+known_in_place leaf = if is_at_source leaf then leaf.block else None
 
 -- what is wrong with a leaf that shows this and stands at its place or doesn't
 abbrev pub unlike_told : SourcedLeaf → Shown → Bool → Option WrongValue

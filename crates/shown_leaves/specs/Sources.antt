@@ -2,12 +2,13 @@
 use Rattle.std.specs.Prelude.{◌≡◌, ⊤, ℕ, List, [], ◌∷◌, Option, Some, None, take, drop}
 use Rattle.leaf_map.specs.Kept.{Kept, Placed}
 use Rattle.leaf_map.specs.Recovered.{stand_in}
-use Rattle.media_leaf.specs.LeafNode.{IsLeafNode, LeafNode}
+use Rattle.media_leaf.specs.LeafNode.{IsLeafNode, LeafNode, block}
 use Rattle.sound_image.specs.Breaches.{IsAtNode, number_of}
 use Rattle.sound_image.specs.Leaves.{IsPlacedIn}
 use Rattle.sound_image.specs.Tree.{ShowsItsNode}
 use Rattle.sound_image.specs.Wrong.{IsOneOf, Wrong, differs}
 use Rattle.index_tree.specs.declared.leaf.Leaf.{Leaf}
+use Rattle.shown_leaves.specs.declared.sourced_leaf.KnownBlock.{KnownBlock}
 use Rattle.shown_leaves.specs.declared.sourced_leaf.Source.{Source}
 use Rattle.shown_leaves.specs.declared.sourced_leaf.SourcedLeaf.{SourcedLeaf}
 
@@ -22,10 +23,16 @@ abbrev pub HasSource : (ℕ → List ℕ) → Kept → Option Source → Type 0
 HasSource contents x (Some source) = (node : Placed) × IsReadFrom source node × IsPlacedIn contents node × (node.node ≡ x.node)
 HasSource contents x None = stand_in x.leaf.key ≡ Some x.node
 
--- this is a leaf, and where its node was read
+-- a node is this block, if it is known to be one
+abbrev pub IsKnownBlock : LeafNode → Option KnownBlock → Type 0
+IsKnownBlock node None = ⊤
+IsKnownBlock node (Some known) = (bytes : List ℕ) × (node ≡ block (record { ino = known.ino; block = known.number; bytes = bytes }))
+
+-- this is a leaf, where its node was read, and which block that is
 pub record IsSourced (contents : ℕ → List ℕ) (x : Kept) (leaf : SourcedLeaf) : Type 0 where
   pub is : leaf.leaf ≡ x.leaf
   pub source : HasSource contents x leaf.source
+  pub known : IsKnownBlock x.node leaf.block
 
 -- each of these leaves, in order
 abbrev pub AreSourced : (ℕ → List ℕ) → List Kept → List SourcedLeaf → Type 0

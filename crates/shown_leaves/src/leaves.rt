@@ -8,15 +8,16 @@ ghost use Rattle.ubi_volume.specs.Faults.{HasAreaCause, StaysSureArea};
 ghost use Rattle.sound_image.specs.Tree.{ShowsItsNode};
 ghost use Rattle.image_check.specs.WrongValues.{IsFirstOf};
 ghost use Rattle.tree_check.specs.Told.{AreShownBy, IsShownBy};
+ghost use Rattle.tree_check.specs.declared.shown_leaf.Shown.TheVariants.{Block};
 ghost use Rattle.shown_leaves.specs.Sources.{AreSourced, IsSourced, IsUnlike, IsUnlikeIn, StandsAtLeaf};
-ghost use Rattle.shown_leaves.specs.Judged.{is_at_source, judged_of};
+ghost use Rattle.shown_leaves.specs.Judged.{is_at_source, judged_of, known_in_place};
 ghost use Rattle.shown_leaves.specs.Stored.{leaf_node};
 
 use crate::key_order::number_of;
 use crate::reading::read_node;
 use crate::shown::{is_leaf_shown, shown_of};
 use crate::shown_leaves::ShownLeaves;
-use crate::sourced_leaf::SourcedLeaf;
+use crate::sourced_leaf::{KnownBlock, SourcedLeaf};
 use crate::standing_in::stand_in;
 use crate::stored_node::{StoredNode, is_same_node};
 use image_check::{WrongValue, sooner};
@@ -35,7 +36,7 @@ struct JudgedLeaf {
 /// What leaves of a recovered index show (the node table of ubifs-media.h), and the first of them that doesn't show what stands at its
 /// place: an inode of a known kind, a block or a name (`dbg_check_filesystem` of Linux fs/ubifs reads each leaf's node). Each leaf's
 /// node stands where it was read; without a source it is what stands in for it. A leaf that stands where its node was read takes one
-/// read, another one two. Places may lie outside the volume. Takes memory for a node's bytes and for what is shown.
+/// read, another one two; a block that is known and stands there takes none. Places may lie outside the volume. Takes memory for a node's bytes and for what is shown.
 pub fn read_shown<V: Volume>(
     alloc: Global,
     volume: &mut V,
@@ -65,6 +66,24 @@ pub fn read_shown<V: Volume>(
 
 // One leaf.
 fn judge_leaf<V: Volume>(
+    alloc: Global,
+    volume: &mut V,
+    leaf: &SourcedLeaf,
+) -> Result<JudgedLeaf, AreaFault>
+    ensures judged { IfOk result (λ one. (x : Kept) → IsSourced (V.state volume.old).holds x leaf.now → IsShownBy x one.leaf × IsFirstOf (IsUnlike (V.state volume.old).holds x) one.unlike × IfNone one.unlike (ShowsItsNode (V.state volume.old).holds x)) }
+    ensures keeps { Keeps (V.state volume.old) (V.state volume.new) }
+    ensures shape { SameShape (V.state volume.old) (V.state volume.new) }
+    ensures cause { HasAreaCause (V.state volume.old).faults (V.state volume.new).faults result }
+    ensures sure { StaysSureArea (V.state volume.old) (V.state volume.new) result }
+{
+    match known_in_place(leaf) {
+        Some(known) => Ok(judged(leaf, known_shown(known), true)),
+        None => judge_read(alloc, volume, leaf),
+    }
+}
+
+// One that is read.
+fn judge_read<V: Volume>(
     alloc: Global,
     volume: &mut V,
     leaf: &SourcedLeaf,
@@ -136,6 +155,26 @@ fn is_at_source(leaf: &SourcedLeaf) -> bool
                 && source.len == leaf.leaf.len
         }
         None => false,
+    }
+}
+
+// The block that a leaf is known to be, if it stands where its node was read.
+fn known_in_place(leaf: &SourcedLeaf) -> Option<KnownBlock>
+    ensures { result ≡ known_in_place leaf.now }
+{
+    if !is_at_source(leaf) {
+        return None;
+    }
+    leaf.block
+}
+
+// What a block shows.
+fn known_shown(known: KnownBlock) -> Shown
+    ensures { result ≡ Block known.ino known.number }
+{
+    Shown::Block {
+        ino: known.ino,
+        block: known.number,
     }
 }
 

@@ -24,6 +24,6 @@ pub use crate::copies::first_false_copy;
 pub use crate::laws::wrong_nodes_are_of_two_kinds;
 pub use crate::leaves::read_shown;
 pub use crate::shown_leaves::ShownLeaves;
-pub use crate::sourced_leaf::{Source, SourcedLeaf};
+pub use crate::sourced_leaf::{KnownBlock, Source, SourcedLeaf};
 pub use crate::twice::first_twice;
 pub use crate::unchanging::first_unchanging;

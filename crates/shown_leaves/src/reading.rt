@@ -49,14 +49,14 @@ pub(crate) fn read_node<V: Volume>(
 fn node_in(alloc: Global, bytes: &[u8]) -> Result<Option<StoredNode>, Memory>
     ensures { IfOk result (IsStoredIn bytes.now) }
 {
-    if let Some(node) = DataNode::decode(alloc, bytes)? {
-        return Ok(Some(StoredNode::Block { node }));
-    }
     if let Some(node) = InoNode::decode(alloc, bytes)? {
         return Ok(Some(StoredNode::Inode { node }));
     }
     if let Some(node) = DentNode::decode(alloc, bytes)? {
         return Ok(Some(StoredNode::Entry { node }));
+    }
+    if let Some(node) = DataNode::decode(alloc, bytes)? {
+        return Ok(Some(StoredNode::Block { node }));
     }
     if let Some(node) = TrunNode::decode(alloc, bytes)? {
         return Ok(Some(StoredNode::Truncation { node }));

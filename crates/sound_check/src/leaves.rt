@@ -16,6 +16,7 @@ use crate::journal::{FoundJournal, read_journal};
 use image_check::{CheckFault, a_breach_is_first};
 use image_tree::{TreeRead, check_recovered};
 use std::alloc::Global;
+use std::thread::Threads;
 use ubi_volume::Volume;
 
 // What is recovered.
@@ -25,7 +26,8 @@ pub(crate) struct FoundLeaves {
     pub(crate) tree: TreeRead,
 }
 
-pub(crate) fn read_leaves<V: Volume>(
+pub(crate) fn read_leaves<R: Threads + Sync, V: Volume>(
+    rt: &R,
     alloc: Global,
     volume: &mut V,
 ) -> Result<FoundLeaves, CheckFault>
@@ -38,6 +40,7 @@ pub(crate) fn read_leaves<V: Volume>(
     a_breach_is_first();
     let journal = read_journal(alloc, volume)?;
     let tree = check_recovered(
+        rt,
         alloc,
         volume,
         &journal.areas.begun.geometry,

@@ -20,9 +20,11 @@ use crate::leaves::{FoundLeaves, read_leaves};
 use image_check::{CheckFault, a_breach_is_first, check_orphans};
 use space_check::{check_ends, check_sums};
 use std::alloc::Global;
+use std::thread::Threads;
 use ubi_volume::Volume;
 
-pub(crate) fn read_space<V: Volume>(
+pub(crate) fn read_space<R: Threads + Sync, V: Volume>(
+    rt: &R,
     alloc: Global,
     volume: &mut V,
 ) -> Result<FoundLeaves, CheckFault>
@@ -32,7 +34,7 @@ pub(crate) fn read_space<V: Volume>(
     ensures reads { ReadsOnly (V.state volume.old) (V.state volume.new) result }
 {
     a_breach_is_first();
-    let found = read_leaves(alloc, volume)?;
+    let found = read_leaves(rt, alloc, volume)?;
     let geometry = found.journal.areas.begun.geometry;
     add_up(alloc, &found.journal.areas)?;
     check_ends(

@@ -1,9 +1,11 @@
-use Rattle.std.proofs.Common.{ℕ, List, subst}
+use Rattle.std.proofs.Common.{ℕ, List, subst, sym}
+use Rattle.std.specs.Prelude.{All}
 use Rattle.std.proofs.Math.Path.{fun_ext}
 use Rattle.ubifs_base.specs.RawOf.{raw_of}
 use Rattle.ubi_volume.specs.VolumeLaws.{Keeps-then, SameShape-then}
 use Rattle.sound_image.specs.Breaches.{IsBrokenLeaf}
 use Rattle.sound_image.specs.Image.{Image}
+use Rattle.sound_image.specs.Leaves.{HasItsNode}
 use Rattle.sound_image.specs.LeafBreaches.{IsWrongOfLeaves}
 use Rattle.sound_image.specs.Wrong.{IsFirstWrong}
 use Rattle.sound_image.specs.declared.rule.Rule.TheVariants as rules
@@ -15,13 +17,16 @@ use Rattle.image_tree.proofs.StandingNodes.{StandingLaws}
 use Rattle.image_tree.proofs.WholeImage.{broken_of, met_of, whole_broken, whole_met}
 use Rattle.image_tree.proofs.recovered.check_recovered.Goals as goal
 
+pub check_read-requires : goal.check_read-requires
+check_read-requires g c = subst (λ (holds : ℕ → List ℕ). All (HasItsNode holds) c.in-Ok.found.intact.items) (sym (fun_ext c.in-Ok.ensures.keeps.holds)) c.in-Ok.ensures.intact
+
 pub returns-in-Ok-clause-met : goal.returns-in-Ok-clause-met
 returns-in-Ok-clause-met g c =
     let old = g.V.Volume.state c.args.volume.now in
     let now = g.V.Volume.state c.read_tree.new.volume in
     let geo = raw_of c.args.geometry.now in
     let laws : StandingLaws = record { nodes = c.what_was_read_stands.ensures.nodes; copies = c.what_was_read_stands.ensures.copies; grammar = c.what_was_read_stands.ensures.grammar } in
-    let read = c.in-Ok.read in
+    let read = c.in-Ok.found.read in
     let before : ReadBefore = record { geo = geo; props = c.args.props.now; leaves = c.args.leaves.now; references = c.args.references.now; journal = c.args.journal.now } in
     let Met : (ℕ → List ℕ) → Type 0 = λ holds. AreLeavesMet holds geo c.args.props.now read.recovered.missing.items (leaves_told read.recovered) in
     let Answer : TreeRead → Type 0 = λ made. (image : Image) → IsReadSoFar old.holds before image → IsReadOfSome old.holds before image made in
@@ -34,7 +39,7 @@ returns-in-Ok-clause-broken g c =
     let now = g.V.Volume.state c.read_tree.new.volume in
     let geo = raw_of c.args.geometry.now in
     let laws : StandingLaws = record { nodes = c.what_was_read_stands.ensures.nodes; copies = c.what_was_read_stands.ensures.copies; grammar = c.what_was_read_stands.ensures.grammar } in
-    let read = c.in-Ok.read in
+    let read = c.in-Ok.found.read in
     let before : ReadBefore = record { geo = geo; props = c.args.props.now; leaves = c.args.leaves.now; references = c.args.references.now; journal = c.args.journal.now } in
     let Told : (ℕ → List ℕ) → CheckFault → Type 0 = λ holds fault. TellsBreach (IsBreachOf rules.Leaves (IsFirstWrong (IsWrongOfLeaves holds geo c.args.props.now read.recovered.missing.items (leaves_told read.recovered)))) fault in
     let Answer : CheckFault → Type 0 = λ fault. (image : Image) → IsReadSoFar old.holds before image → TellsBreach (IsBreachOf rules.Leaves (IsBrokenLeaf old.holds image)) fault in

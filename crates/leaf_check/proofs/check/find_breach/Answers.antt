@@ -1,7 +1,11 @@
 use Rattle.ubifs_base.specs.RawOf.{raw_of}
-use Rattle.sound_image.specs.Leaves.{IsSoundLeaf}
+use Rattle.std.proofs.lemmas.List.Elements.{recursion_from_All}
+use Rattle.sound_image.specs.Leaves.{HasItsNode, IsSoundLeaf}
 use Rattle.leaf_check.proofs.Checked.{none_met, ok_then, some_broken}
 use Rattle.leaf_check.proofs.check.find_breach.Goals as goal
+
+pub wrong_leaves-requires : goal.wrong_leaves-requires
+wrong_leaves-requires g c = recursion_from_All (HasItsNode (g.V.Volume.state c.args.volume.now).holds) c.args.intact.now c.requires
 
 pub returns-clause-met : goal.returns-clause-met
 returns-clause-met g c =

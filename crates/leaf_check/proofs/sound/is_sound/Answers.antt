@@ -5,6 +5,12 @@ use Rattle.leaf_check.proofs.Kept.{contents_bytes}
 use Rattle.leaf_check.proofs.SoundLeaves.{read_sound, sound_read, sound_whole, whole_of_read}
 use Rattle.leaf_check.proofs.sound.is_sound.Goals as goal
 
+pub returns-then-intact-clause-yes : goal.returns-then-intact-clause-yes
+returns-then-intact-clause-yes g c = λ h. (c.requires.intact c.if-intact.true, sym c.is_unmarked-unmarked.ensures ∙ h)
+
+pub returns-then-intact-clause-no : goal.returns-then-intact-clause-no
+returns-then-intact-clause-no g c = λ off sound. let on = c.is_unmarked-unmarked.ensures ∙ sound.1 in absurd (cc (on, off))
+
 pub is_its_node-requires-clause-node : goal.is_its_node-requires-clause-node
 is_its_node-requires-clause-node g c =
     whole_of_read (g.V.Volume.state c.args.volume.now).holds c.args.leaf.now c.read_node.new.buffer c.split_at.result.0.now c.in-Some.found (some_at c.in_ok-read.read c.in-Some.found _ c.in-Some.is c.in_ok-read.ensures.some) c.split_at.ensures.front
