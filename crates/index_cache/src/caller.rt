@@ -11,6 +11,7 @@ ghost use Rattle.ubifs_base.specs.Key.{IsKey};
 ghost use Rattle.index_cache.specs.Loaded.{IsRead, IsIndexOn};
 ghost use Rattle.index_cache.specs.Paged.{tree_of, leaves_of, frozen_of, fanout_of, KeepsNodes};
 
+use crate::buffer::NodeBuffer;
 use crate::paged::PagedIndex;
 use index_media::an_insertion_goes_by_the_keys_of_branches;
 use index_tree::Leaf;
@@ -100,6 +101,7 @@ fn write_frozen(
     index: &mut PagedIndex,
     alloc: Global,
     sqnum: u64,
+    buffer: &mut NodeBuffer,
     places: &[NodePlace],
 ) -> Result<bool, Memory>
     ensures clean { IfOk result (λ done. IsTrue done → frozen_of index.new ≡ all_clean (placed_of (frozen_of index.new))) }
@@ -114,11 +116,11 @@ fn write_frozen(
         return Ok(false);
     };
     let mut bytes = vec![in alloc; 0; found.len as usize]?;
-    if !index.write_node(alloc, found.node, sqnum, &mut bytes)? {
+    if !index.write_node(found.node, sqnum, buffer, &mut bytes) {
         return Ok(false);
     }
     index.place(found.node, place.lnum, place.offs);
-    write_frozen(index, alloc, sqnum, rest)
+    write_frozen(index, alloc, sqnum, buffer, rest)
 }
 
 /// Freezes an index, makes changes of it then, and writes what is frozen beside them. Where it is true, what is frozen is a
@@ -142,5 +144,6 @@ pub fn commit_beside_changes(
     index.freeze();
     let staged = index.stage(alloc, changes)?;
     index.adopt(staged);
-    write_frozen(index, alloc, sqnum, places)
+    let mut buffer = NodeBuffer::new(alloc)?;
+    write_frozen(index, alloc, sqnum, &mut buffer, places)
 }

@@ -1,6 +1,6 @@
 // Look-ups and changes.
 
-ghost use Rattle.std.specs.Prelude.{◌≡◌, ◌≤◌, ◌==◌, ◌-◌, ◌^◌, min, IfOk, OnOk, OnErr, filter, length, slice_get};
+ghost use Rattle.std.specs.Prelude.{◌≡◌, ◌≤◌, true, ◌==◌, ◌-◌, ◌^◌, min, IfOk, OnOk, OnErr, filter, length, slice_get};
 ghost use Rattle.index_media.specs.Insertion.{with_leaf_by_keys};
 ghost use Rattle.index_media.specs.KeyedRange.{without_range_by_keys};
 ghost use Rattle.index_media.specs.KeyedRemoval.{replaced_by_keys};
@@ -10,7 +10,7 @@ ghost use Rattle.index_tree.specs.Order.{key_rank, leaf_rank, of_rank, first_aft
 ghost use Rattle.index_tree.specs.RangeRemoval.{within_range, outside_range};
 ghost use Rattle.index_tree.specs.Removal.{holds, without};
 ghost use Rattle.index_tree.specs.Replacement.{swapped};
-ghost use Rattle.index_tree.specs.Shape.{node_count, shape_weight};
+ghost use Rattle.index_tree.specs.Shape.{fits, node_count, shape_weight};
 ghost use Rattle.node_table.specs.Changing.{IsChange, AreChanges, changed, changed_by, leaves_after, leaves_after_all};
 ghost use Rattle.node_table.specs.Exchange.{tree_without};
 ghost use Rattle.node_table.specs.NodeView.{tree_at, leaves_at};
@@ -87,6 +87,17 @@ impl PagedIndex {
         ensures { IfOk result (λ leaves. leaves.items ≡ within_range (key_rank from.now) (key_rank to.now) (leaves_of self.now)) }
     {
         self.table.leaves_between(alloc, self.root, from, to)
+    }
+
+    /// The index that is seen and the frozen one are indexes: their nodes have 1 to `fanout` children, and their keys are keys and lie
+    /// between those of branches.
+    pub fn trees_are_sound(&self)
+        ensures seen { IsSoundRoot self.now.table.nodes.items self.now.root }
+        ensures frozen { IsSoundRoot self.now.table.nodes.items self.now.frozen }
+        ensures fits { fits (fanout_of self.now) (bare (tree_of self.now)) ≡ true }
+        ensures least { 3 ≤ fanout_of self.now }
+    {
+        self.table.trees_fit();
     }
 
     /// The number of nodes.

@@ -15,12 +15,11 @@ ghost use Rattle.node_table.specs.declared.node.Root.{Root as ARoot};
 ghost use Rattle.index_cache.specs.Commit.{IsNextNode, said_of, below_node, node_length, place_for};
 ghost use Rattle.index_cache.specs.Paged.{tree_of, frozen_of, dirty_of, fanout_of, KeepsRoots};
 
+use crate::buffer::NodeBuffer;
 use crate::paged::PagedIndex;
-use crate::writing::{are_in_order, branch_to_node, index_node};
+use crate::writing::{are_in_order, branch_to_node, tell_node};
 use media_sys::Branch;
 use node_table::{NodePlace, clean_rows_are_placed};
-use std::alloc::Global;
-use ubifs_base::Memory;
 
 /// A dirty node: its number, its level, and its length on the medium in bytes.
 #[derive(Clone, Copy, Debug, PartialEq, Eq)]
@@ -90,34 +89,27 @@ impl PagedIndex {
         }
     }
 
-    /// Writes the bytes of the next dirty node over all of `out`: an index node with this sequence number, in no group.
+    /// Writes the bytes of the next dirty node over all of `out`: an index node with this sequence number, in no group. It takes no
+    /// memory but the buffer's.
     ///
     /// False exactly where two of its branches have one key that isn't an entry's. No index node says such, and nothing is
     /// said of `out` then.
-    pub fn write_node(
-        &self,
-        alloc: Global,
-        node: u64,
-        sqnum: u64,
-        out: &mut [u8],
-    ) -> Result<bool, Memory>
+    pub fn write_node(&self, node: u64, sqnum: u64, buffer: &mut NodeBuffer, out: &mut [u8]) -> bool
         requires next { IsNextNode self.now node }
         requires room { length out.old ≡ node_length (said_of self.now node) }
-        ensures order { IfOk result (λ done. done ≡ in_order None (said_of self.now node).branches) }
-        ensures spelling { IfOk result (λ done. IsTrue done → out.new ≡ written sqnum 0 (index (said_of self.now node))) }
-        ensures grammar { IfOk result (λ done. IsTrue done → IsSystemNode out.new sqnum 0 (index (said_of self.now node))) }
+        ensures order { result ≡ in_order None (said_of self.now node).branches }
+        ensures spelling { IsTrue result → out.new ≡ written sqnum 0 (index (said_of self.now node)) }
+        ensures grammar { IsTrue result → IsSystemNode out.new sqnum 0 (index (said_of self.now node)) }
     {
-        match self.table.node_at(node) {
-            None => Err(Memory),
-            Some(found) => {
-                let said = index_node(&self.table, alloc, found)?;
-                if !are_in_order(None, said.branches.as_slice()) {
-                    return Ok(false);
-                }
-                said.encode(sqnum, 0, out);
-                Ok(true)
-            }
+        let Some(found) = self.table.node_at(node) else {
+            return false;
+        };
+        tell_node(&self.table, found, &mut buffer.node);
+        if !are_in_order(None, buffer.node.branches.as_slice()) {
+            return false;
         }
+        buffer.node.encode(sqnum, 0, out);
+        true
     }
 
     /// Gives the next dirty node its place on the medium: in this LEB, from this offset on, as long as it is. Below each root

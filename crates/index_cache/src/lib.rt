@@ -6,6 +6,7 @@
 //! has to stand on a volume so that it can be loaded.
 #![tactic(auto)]
 
+mod buffer;
 pub mod caller;
 mod calls;
 mod commit;
@@ -16,6 +17,7 @@ mod reading;
 pub mod worked;
 mod writing;
 
+pub use crate::buffer::NodeBuffer;
 pub use crate::calls::Staged;
 pub use crate::commit::DirtyNode;
 pub use crate::paged::PagedIndex;

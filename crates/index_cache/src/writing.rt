@@ -1,6 +1,6 @@
 // A node of the table as an index node of the medium.
 
-ghost use Rattle.std.specs.Prelude.{◌≡◌, ◌++◌, IfOk, OnOk, map, slice_get};
+ghost use Rattle.std.specs.Prelude.{◌≡◌, ◌≤◌, ◌+◌, ◌++◌, length, map, slice_get, vec_len, vec_capacity};
 ghost use Rattle.index_media.specs.PlacedRow.{branches_of};
 ghost use Rattle.media_sys.specs.Index.{in_order, is_entry as is_entry_key, may_follow as may_follow_key};
 ghost use Rattle.node_table.specs.Clean.{node_branch, placed_of};
@@ -11,8 +11,7 @@ ghost use Rattle.index_cache.specs.Commit.{link_branch};
 
 use media_sys::{Branch, IdxNode};
 use node_table::{Link, NodeTable, TableNode};
-use std::alloc::Global;
-use ubifs_base::{Key, Memory};
+use ubifs_base::Key;
 
 // The bits of a key's value, below its type.
 const VALUE_BITS: u32 = 29;
@@ -115,31 +114,26 @@ pub fn branch_to_node(table: &NodeTable, key: Key, number: u64) -> Branch
 }
 
 /// Pushes the branches to what links lead to.
-fn push_branches(
-    table: &NodeTable,
-    links: &[Link],
-    branches: &mut Vec<Branch>,
-) -> Result<(), Memory>
-    ensures { OnOk result (branches.new.items ≡ branches.old.items ++ map (link_branch (views table.now.nodes.items)) links.now) }
+fn push_branches(table: &NodeTable, links: &[Link], branches: &mut Vec<Branch>)
+    requires room { vec_len branches.old + length links.now ≤ vec_capacity branches.old }
+    ensures items { branches.new.items ≡ branches.old.items ++ map (link_branch (views table.now.nodes.items)) links.now }
+    ensures room { vec_capacity branches.new ≡ vec_capacity branches.old }
 {
-    match links.split_first() {
-        None => Ok(()),
-        Some((link, rest)) => {
-            branches.push(branch_to(table, link))?;
-            push_branches(table, rest, branches)
-        }
-    }
+    let Some((link, rest)) = links.split_first() else {
+        return;
+    };
+    branches.push_reserved(branch_to(table, link));
+    push_branches(table, rest, branches)
 }
 
-/// The index node that a node of the table is on the medium.
-pub fn index_node(table: &NodeTable, alloc: Global, node: &TableNode) -> Result<IdxNode, Memory>
-    ensures level { IfOk result (λ made. made.level ≡ node.now.level) }
-    ensures branches { IfOk result (λ made. made.branches.items ≡ branches_of (placed_of (row_of (views table.now.nodes.items) node.now.links.items))) }
+/// Makes of an index node what a node of the table is on the medium.
+pub fn tell_node(table: &NodeTable, node: &TableNode, said: &mut IdxNode)
+    requires room { length node.now.links.items ≤ vec_capacity said.old.branches }
+    ensures level { said.new.level ≡ node.now.level }
+    ensures branches { said.new.branches.items ≡ branches_of (placed_of (row_of (views table.now.nodes.items) node.now.links.items)) }
+    ensures room { vec_capacity said.new.branches ≡ vec_capacity said.old.branches }
 {
-    let mut branches = Vec::new(alloc);
-    push_branches(table, node.links.as_slice(), &mut branches)?;
-    Ok(IdxNode {
-        level: node.level,
-        branches,
-    })
+    said.branches.clear();
+    push_branches(table, node.links.as_slice(), &mut said.branches);
+    said.level = node.level;
 }

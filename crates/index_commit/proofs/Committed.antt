@@ -28,7 +28,7 @@ use Rattle.index_commit.specs.declared.index_at.IndexHead.{IndexHead}
 use Rattle.index_commit.proofs.Standing.{clean_node}
 use Rattle.index_commit.proofs.Whole.{IsFrozenIndex, root_of}
 
-all_is_clean : (row : PlacedRow) → is_clean_row (all_clean row) ≡ true
+pub all_is_clean : (row : PlacedRow) → is_clean_row (all_clean row) ≡ true
 all_is_clean ended = refl
 all_is_clean (leaf_at x rest) = all_is_clean rest
 all_is_clean (node_at branch children rest) = rw (all_is_clean children, all_is_clean rest) refl

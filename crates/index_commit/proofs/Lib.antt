@@ -12,3 +12,4 @@ pub mod Changes
 pub mod Ordered
 pub mod RowRooms
 pub mod Twice
+pub mod KeysApart

@@ -35,10 +35,10 @@ HasIndexCause before now (Err (Volume count)) = IsCause before now count
 abbrev pub StaysSureIndex : {T : Type 0} → VolumeState → VolumeState → Result T IndexFault → Type 0
 StaysSureIndex old new result = old.sure → new.spent ⊎ (new.sure × ((new.faults ≡ old.faults) × IsIndexNotFailed result))
 
--- the call wants memory, or an order of keys, if it fails
+-- the call wants an order of keys, if it fails
 abbrev pub IsLayingFault : {T : Type 0} → Result T IndexFault → Type 0
 IsLayingFault (Ok x) = ⊤
-IsLayingFault (Err Memory) = ⊤
+IsLayingFault (Err Memory) = ⊥
 IsLayingFault (Err (Full need given)) = ⊥
 IsLayingFault (Err EqualKeys) = ⊤
 IsLayingFault (Err (Volume count)) = ⊥
@@ -50,6 +50,14 @@ IsNotFull (Err Memory) = ⊤
 IsNotFull (Err (Full need given)) = ⊥
 IsNotFull (Err EqualKeys) = ⊤
 IsNotFull (Err (Volume count)) = ⊤
+
+-- this holds where the call wants memory
+abbrev pub OnMemory : {T : Type 0} → Type 0 → Result T IndexFault → Type 0
+OnMemory P (Ok x) = ⊤
+OnMemory P (Err Memory) = P
+OnMemory P (Err (Full need given)) = ⊤
+OnMemory P (Err EqualKeys) = ⊤
+OnMemory P (Err (Volume count)) = ⊤
 
 -- The LEBs don't suffice exactly where it says so, with how many are needed and how many there are. Then nothing is touched
 abbrev pub IsFullOf : {T : Type 0} → Type 0 → ℕ → ℕ → Result T IndexFault → Type 0

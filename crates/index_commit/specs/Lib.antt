@@ -5,3 +5,4 @@ pub mod Standing
 pub mod Answers
 pub mod Written
 pub mod Ordered
+pub mod KeysApart

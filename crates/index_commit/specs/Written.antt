@@ -13,7 +13,7 @@ use Rattle.node_table.specs.declared.link.Link.{Link}
 use Rattle.node_table.specs.declared.node.Root.{Root}
 use Rattle.node_table.specs.declared.node.TableNode.{TableNode}
 use Rattle.ubi_volume.specs.Frame.{Elsewhere, IsSameLeb, Works}
-use Rattle.ubi_volume.specs.Volume.{VolumeState, Leaves, Only, filled}
+use Rattle.ubi_volume.specs.Volume.{VolumeState, Keeps, Leaves, Only, filled}
 use Rattle.index_cache.specs.Commit.{said_of}
 use Rattle.index_cache.specs.Paged.{dirty_of, frozen_of, tree_of, KeepsRoots}
 use Rattle.index_cache.specs.declared.paged.PagedIndex.{PagedIndex}
@@ -55,6 +55,12 @@ pub record IsIndexTaken (room : ℕ → Room) (old new : PagedIndex) (before aft
   pub others : (number : ℕ) → IsNotAmong numbers number → place_by_number new number ≡ place_by_number old number
   pub number : after ≡ before + length numbers
   pub most : after + length (dirty_of new) ≤ before + length (dirty_of old)
+
+-- nothing was written, and no node was given a place
+pub record IsUntouched (old new : VolumeState) (before after : PagedIndex) (first last : ℕ) : Type 0 where
+  pub volume : Keeps old new
+  pub index : after ≡ before
+  pub number : last ≡ first
 
 -- a LEB's bytes in the place of those that it holds
 abbrev pub with_leb_bytes : ℕ → List ℕ → (ℕ → List ℕ) → ℕ → List ℕ

@@ -1,6 +1,6 @@
 // What holds of an index that is loaded, and of one that is changed then: each clean node stands, and keys are in order.
 
-ghost use Rattle.std.specs.Prelude.{◌≡◌, ◌≤◌, ◌+◌, ◌*◌, ℕ, All, List, Some, slice_get, true};
+ghost use Rattle.std.specs.Prelude.{◌≡◌, ◌≤◌, ◌+◌, ◌*◌, ℕ, All, List, None, Some, slice_get, true};
 ghost use Rattle.ubifs_base.specs.Geometry.{index_node_len, index_nodes_per_leb};
 ghost use Rattle.ubifs_base.specs.declared.raw_geometry.RawGeometry.{RawGeometry as ARawGeometry};
 ghost use Rattle.index_cache.specs.declared.paged.PagedIndex.{PagedIndex as APagedIndex};
@@ -9,11 +9,15 @@ ghost use Rattle.index_commit.specs.Rooms.{AreDistinctNumbers, room_in, taken_ro
 ghost use Rattle.index_commit.specs.Written.{IsIndexTaken};
 ghost use Rattle.index_tree.specs.Distinct.{AreDistinct};
 ghost use Rattle.index_tree.specs.Shape.{contents, fits};
-ghost use Rattle.index_media.specs.KeyedRow.{KeyedRow, all_clean, bare};
+ghost use Rattle.index_media.specs.KeyedRow.{HaveFirstKeys, KeyedRow, all_clean, bare};
 ghost use Rattle.index_media.specs.PlacedRow.{PlacedRow, lebs_of};
 ghost use Rattle.index_media.specs.Stored.{IsStoredIndex};
 ghost use Rattle.media_sys.specs.declared.branch.Branch.{Branch as ABranch};
-ghost use Rattle.node_table.specs.Changing.{changed};
+ghost use Rattle.node_table.specs.Changing.{IsChange, changed};
+ghost use Rattle.node_table.specs.Placing.{KeepsPlaces};
+ghost use Rattle.index_media.specs.InsertionSound.{AreKeys};
+ghost use Rattle.index_media.specs.KeyedKeys.{AreKeysBounded};
+ghost use Rattle.index_commit.specs.KeysApart.{AreKeysApart, AreLeavesApart, IsFreeChange};
 ghost use Rattle.node_table.specs.declared.change.Change.{Change as AChange};
 ghost use Rattle.index_commit.specs.Lebs.{IsGiven};
 ghost use Rattle.index_commit.specs.Ordered.{AreKeysInOrder};
@@ -50,4 +54,15 @@ pub fn a_leb_follows_those_before_it()
 /// Where no leaf of the frozen index stands twice, no node of it does, so a commit writes each dirty node once, and counts it once.
 pub fn dirty_nodes_are_distinct()
     ensures { (index : APagedIndex) → fits (fanout_of index) (bare (frozen_of index)) ≡ true → AreDistinct (contents (bare (frozen_of index))) → AreDistinctNumbers (dirty_of index) }
+{}
+
+/// Keys that are apart are in order, so a commit of an index whose keys are apart never answers `EqualKeys`. A change keeps them apart,
+/// if the key of a leaf that it puts is an entry's or none of the leaves has it; and so do places that are given. Keys are apart where
+/// each branch has its first leaf's and no leaf's key that isn't an entry's stands twice.
+pub fn changes_keep_keys_apart()
+    ensures in_order { (row : KeyedRow) → AreKeys row → AreKeysApart None row → AreKeysInOrder row }
+    ensures changed { (fanout : ℕ) (change : AChange) (row : KeyedRow) → 1 ≤ fanout → IsChange change → IsFreeChange change row → AreKeysBounded 0 None row
+        → AreKeysApart None row → AreKeysApart None (changed fanout change row) }
+    ensures places { (old new : KeyedRow) → KeepsPlaces old new → AreKeysApart None old → AreKeysApart None new }
+    ensures first_keys { (row : KeyedRow) → HaveFirstKeys row → AreLeavesApart None (contents (bare row)) → AreKeysApart None row }
 {}

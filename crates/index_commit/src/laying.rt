@@ -9,18 +9,17 @@ ghost use Rattle.index_commit.specs.LebTexts.{in_room, index_bytes, nodes_writte
 ghost use Rattle.index_commit.specs.Written.{AreNodesLaid};
 
 use crate::index_fault::IndexFault;
-use index_cache::{DirtyNode, PagedIndex};
+use index_cache::{DirtyNode, NodeBuffer, PagedIndex};
 use node_table::places_are_kept;
-use std::alloc::Global;
 use ubifs_base::fill_gap;
 
 // Writes the next dirty node at the start of these bytes, and fills the rest: what is left of the last 8 bytes, and what is
 // left of the room.
 fn lay_node(
-    alloc: Global,
     index: &PagedIndex,
     found: &DirtyNode,
     sqnum: u64,
+    buffer: &mut NodeBuffer,
     room: &mut [u8],
 ) -> Result<(), IndexFault>
     requires next { IsNextNode index.now found.now.node }
@@ -34,7 +33,7 @@ fn lay_node(
     ensures len { length room.new ≡ length room.old }
 {
     let (node, gap) = room.split_at_mut(found.len as usize);
-    if !index.write_node(alloc, found.node, sqnum, node)? {
+    if !index.write_node(found.node, sqnum, buffer, node) {
         return Err(IndexFault::EqualKeys);
     }
     let (odd, rest) = gap.split_at_mut(gap.len() % 8);
@@ -46,7 +45,7 @@ fn lay_node(
 // Lays the next dirty node behind the bytes that are laid, gives it its place, and counts its bytes in whole eights; false exactly
 // where none is dirty.
 fn lay_next(
-    alloc: Global,
+    buffer: &mut NodeBuffer,
     lnum: u32,
     room: u32,
     index: &mut PagedIndex,
@@ -78,7 +77,7 @@ fn lay_next(
     let number = *sqnum + 1;
     let (_laid, rest) = leb.split_at_mut(offs as usize);
     let (own, _behind) = rest.split_at_mut(room as usize);
-    lay_node(alloc, index, &found, number, own)?;
+    lay_node(index, &found, number, buffer, own)?;
     index.place(found.node, lnum, offs);
     *sqnum = number;
     *used = offs + room;
@@ -89,7 +88,7 @@ fn lay_next(
 // Lays dirty nodes, each in as much room as a full node takes, until the buffer has room for none or none is dirty. Whatever
 // ends it, the nodes that are laid have their places, and no other.
 pub(crate) fn lay_nodes(
-    alloc: Global,
+    buffer: &mut NodeBuffer,
     lnum: u32,
     room: u32,
     index: &mut PagedIndex,
@@ -115,7 +114,7 @@ pub(crate) fn lay_nodes(
 {
     places_are_kept();
     while *used as usize + room as usize <= leb.len() {
-        if !lay_next(alloc, lnum, room, index, sqnum, leb, used, live)? {
+        if !lay_next(buffer, lnum, room, index, sqnum, leb, used, live)? {
             return Ok(());
         }
     }

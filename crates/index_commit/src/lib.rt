@@ -11,14 +11,16 @@ mod index_at;
 mod index_fault;
 mod laws;
 mod laying;
+mod root;
 mod step;
 mod writing;
 
 pub use crate::index_at::{IndexAt, IndexHead, WrittenLeb};
 pub use crate::index_fault::IndexFault;
 pub use crate::laws::{
-    a_leb_follows_those_before_it, changes_keep_what_stands, dirty_nodes_are_distinct,
-    loaded_keys_are_in_order,
+    a_leb_follows_those_before_it, changes_keep_keys_apart, changes_keep_what_stands,
+    dirty_nodes_are_distinct, loaded_keys_are_in_order,
 };
+pub use crate::root::committed_root;
 pub use crate::step::write_next_leb;
 pub use crate::writing::write_index;

@@ -6,16 +6,16 @@ ghost use Rattle.ubifs_base.specs.RawOf.{raw_of};
 ghost use Rattle.ubi_volume.specs.Geometry.{IsGeometryOf};
 ghost use Rattle.ubi_volume.specs.Volume.{Leaves};
 ghost use Rattle.index_cache.specs.Paged.{dirty_of, fanout_of, frozen_of};
-ghost use Rattle.index_commit.specs.Answers.{HasEqualKeys, IsIndexAnswered, IsIndexNotFailed, IsNotFull};
+ghost use Rattle.index_commit.specs.Answers.{HasEqualKeys, IsIndexAnswered, IsIndexNotFailed, IsNotFull, OnMemory};
 ghost use Rattle.index_commit.specs.LebTexts.{IsLebLeft, IsLebOf, IsNextLeb, index_bytes, nodes_written};
 ghost use Rattle.index_commit.specs.Ordered.{AreKeysInOrder, IsNotEqualKeys};
 ghost use Rattle.index_commit.specs.Rooms.{room_in};
-ghost use Rattle.index_commit.specs.Written.{AreStanding, IsIndexTaken, KeepsOtherIndexes, WorksInLebs};
+ghost use Rattle.index_commit.specs.Written.{AreStanding, IsIndexTaken, IsUntouched, KeepsOtherIndexes, WorksInLebs};
 
 use crate::index_at::{IndexHead, WrittenLeb};
 use crate::index_fault::IndexFault;
 use crate::writing::write_leb;
-use index_cache::PagedIndex;
+use index_cache::{NodeBuffer, PagedIndex};
 use index_media::an_index_depends_on_its_lebs_alone;
 use node_table::places_are_kept;
 use std::alloc::Global;
@@ -28,8 +28,8 @@ use ubifs_base::Geometry;
 /// Whoever calls it for one LEB after another, until no node is dirty, has written the index as `write_index` does, and may do other work
 /// between.
 ///
-/// After any fault but `Volume` all clean nodes stand on the volume. `Full` never comes. Memory for the bytes of the LEB is taken before
-/// anything is written; that for a node may still be missing, and then the LEB has the nodes before it.
+/// After any fault but `Volume` each clean node below a root stands, if those stood that were clean before, and none of them in this
+/// LEB. `Full` never comes. All memory is taken before anything is written: after `Memory` all is as before.
 pub fn write_next_leb<V: Volume>(
     alloc: Global,
     volume: &mut V,
@@ -52,14 +52,23 @@ pub fn write_next_leb<V: Volume>(
         (λ c. IsLebLeft (raw_of geometry.now) (V.state volume.old) lnum sqnum.old (nodes_written index.old index.new (sqnum.new - sqnum.old)) (c lnum)) }
     ensures old_stays { KeepsOtherIndexes (V.state volume.old) (V.state volume.new) (lnum ∷ []) }
     ensures answer { IsIndexAnswered (V.state volume.old) (V.state volume.new) result × IsNotFull result
-        × HasEqualKeys index.new result × (AreKeysInOrder (frozen_of index.old) → IsNotEqualKeys result) }
+        × HasEqualKeys index.new result × (AreKeysInOrder (frozen_of index.old) → IsNotEqualKeys result)
+        × OnMemory (IsUntouched (V.state volume.old) (V.state volume.new) index.old index.new sqnum.old sqnum.new) result }
 {
     an_index_depends_on_its_lebs_alone();
     places_are_kept();
     let mut leb = vec![in alloc; 0; geometry.leb_size as usize]?;
     let mut live = 0;
+    let mut buffer = NodeBuffer::new(alloc)?;
     let offs = write_leb(
-        alloc, volume, geometry, index, lnum, sqnum, &mut leb, &mut live,
+        &mut buffer,
+        volume,
+        geometry,
+        index,
+        lnum,
+        sqnum,
+        &mut leb,
+        &mut live,
     )?;
     Ok(WrittenLeb {
         head: IndexHead { lnum, offs },

@@ -11,18 +11,18 @@ ghost use Rattle.ubi_volume.specs.Faults.{HasAnswer};
 ghost use Rattle.ubi_volume.specs.Geometry.{IsGeometryOf};
 ghost use Rattle.ubi_volume.specs.Volume.{Keeps, Leaves};
 ghost use Rattle.index_cache.specs.Paged.{dirty_of, frozen_of, fanout_of};
-ghost use Rattle.index_commit.specs.Answers.{HasEqualKeys, IsIndexNotFailed, IsNotFull, IsFullOf, IsIndexAnswered};
+ghost use Rattle.index_commit.specs.Answers.{HasEqualKeys, IsIndexNotFailed, IsNotFull, IsFullOf, IsIndexAnswered, OnMemory};
 ghost use Rattle.index_commit.specs.LebTexts.{AreLebsLeft, AreLebsOf, IsLebLeft, IsLebOf, index_bytes, nodes_written};
 ghost use Rattle.index_commit.specs.Lebs.{AreGivable};
 ghost use Rattle.index_commit.specs.Ordered.{AreKeysInOrder, IsNotEqualKeys};
 ghost use Rattle.index_commit.specs.Rooms.{IsIndexLaidOut, head_after, room_in, taken_room, whole_units};
 ghost use Rattle.index_commit.specs.Standing.{AreOutside};
-ghost use Rattle.index_commit.specs.Written.{AreStanding, AreWritten, IsHeadAfter, IsIndexAt, IsIndexTaken, IsLebPut, IsPutLeft, KeepsOtherIndexes, WorksInLebs, with_leb_bytes};
+ghost use Rattle.index_commit.specs.Written.{AreStanding, AreWritten, IsHeadAfter, IsIndexAt, IsIndexTaken, IsLebPut, IsPutLeft, IsUntouched, KeepsOtherIndexes, WorksInLebs, with_leb_bytes};
 
 use crate::index_at::{IndexAt, IndexHead};
 use crate::index_fault::IndexFault;
 use crate::laying::lay_nodes;
-use index_cache::PagedIndex;
+use index_cache::{NodeBuffer, PagedIndex};
 use index_media::an_index_depends_on_its_lebs_alone;
 use node_table::places_are_kept;
 use std::alloc::Global;
@@ -36,8 +36,8 @@ use ubifs_base::{Geometry, fill_gap};
 ///
 /// The LEBs of the volume that a clean node of the frozen index stands in may not be among those given. `Full` comes before
 /// anything is written. After any fault but `Volume` all clean nodes stand on the volume, so the call may be made again, with
-/// other LEBs. After `Volume` the index may have places where nothing stands. Takes memory for the bytes of a LEB, and for one
-/// node at a time.
+/// other LEBs. After `Volume` the index may have places where nothing stands. All memory is taken before anything is written:
+/// after `Memory` all is as before.
 pub fn write_index<V: Volume>(
     alloc: Global,
     volume: &mut V,
@@ -60,7 +60,8 @@ pub fn write_index<V: Volume>(
     ensures old_stays { KeepsOtherIndexes (V.state volume.old) (V.state volume.new) lebs.now }
     ensures answer { IsIndexAnswered (V.state volume.old) (V.state volume.new) result
         × IsFullOf (Keeps (V.state volume.old) (V.state volume.new) × (index.new ≡ index.old)) (div_ceil (length (dirty_of index.old)) (index_nodes_per_leb (raw_of geometry.now))) (length lebs.now) result
-        × HasEqualKeys index.new result × (AreKeysInOrder (frozen_of index.old) → IsNotEqualKeys result) }
+        × HasEqualKeys index.new result × (AreKeysInOrder (frozen_of index.old) → IsNotEqualKeys result)
+        × OnMemory (IsUntouched (V.state volume.old) (V.state volume.new) index.old index.new sqnum.old sqnum.new) result }
 {
     an_index_depends_on_its_lebs_alone();
     places_are_kept();
@@ -71,7 +72,17 @@ pub fn write_index<V: Volume>(
         return Err(IndexFault::Full { need, given });
     }
     let mut leb = vec![in alloc; 0; geometry.leb_size as usize]?;
-    let head = write_lebs(alloc, volume, geometry, index, lebs, sqnum, &mut leb, None)?;
+    let mut buffer = NodeBuffer::new(alloc)?;
+    let head = write_lebs(
+        &mut buffer,
+        volume,
+        geometry,
+        index,
+        lebs,
+        sqnum,
+        &mut leb,
+        None,
+    )?;
     Ok(IndexAt {
         root: index.frozen_branch(),
         head,
@@ -80,7 +91,7 @@ pub fn write_index<V: Volume>(
 
 // Writes the dirty nodes to these LEBs, and answers where the last LEB that was written ends; the head of before where none was.
 fn write_lebs<V: Volume>(
-    alloc: Global,
+    buffer: &mut NodeBuffer,
     volume: &mut V,
     geometry: &Geometry,
     index: &mut PagedIndex,
@@ -106,6 +117,7 @@ fn write_lebs<V: Volume>(
     ensures left { Leaves (V.state volume.old) (V.state volume.new) (AreLebsLeft (raw_of geometry.now) lebs.now (V.state volume.old) sqnum.old (nodes_written index.old index.new (sqnum.new - sqnum.old))) }
     ensures answer { IsIndexAnswered (V.state volume.old) (V.state volume.new) result }
     ensures fault { IsNotFull result }
+    ensures memory { OnMemory ⊥ result }
     ensures equal { HasEqualKeys index.new result }
 {
     places_are_kept();
@@ -117,14 +129,14 @@ fn write_lebs<V: Volume>(
     };
     let lnum = *lnum;
     let mut live = 0;
-    let offs = write_leb(alloc, volume, geometry, index, lnum, sqnum, leb, &mut live)?;
+    let offs = write_leb(buffer, volume, geometry, index, lnum, sqnum, leb, &mut live)?;
     let now = Some(IndexHead { lnum, offs });
-    write_lebs(alloc, volume, geometry, index, rest, sqnum, leb, now)
+    write_lebs(buffer, volume, geometry, index, rest, sqnum, leb, now)
 }
 
 // Writes as many dirty nodes to a LEB as it has room for, and answers where what is written there ends. It counts their bytes.
 pub(crate) fn write_leb<V: Volume>(
-    alloc: Global,
+    buffer: &mut NodeBuffer,
     volume: &mut V,
     geometry: &Geometry,
     index: &mut PagedIndex,
@@ -153,6 +165,7 @@ pub(crate) fn write_leb<V: Volume>(
     ensures left { Leaves (V.state volume.old) (V.state volume.new) (λ c. IsLebLeft (raw_of geometry.now) (V.state volume.old) lnum sqnum.old (nodes_written index.old index.new (sqnum.new - sqnum.old)) (c lnum)) }
     ensures answer { IsIndexAnswered (V.state volume.old) (V.state volume.new) result }
     ensures fault { IsNotFull result }
+    ensures memory { OnMemory ⊥ result }
     ensures equal { HasEqualKeys index.new result }
     ensures len { length leb.new ≡ length leb.old }
     ensures live { live.new ≡ index_bytes (nodes_written index.old index.new (sqnum.new - sqnum.old)) }
@@ -160,7 +173,7 @@ pub(crate) fn write_leb<V: Volume>(
     places_are_kept();
     let room = geometry.index_node_len();
     let mut used = 0;
-    let laid = lay_nodes(alloc, lnum, room, index, sqnum, leb, &mut used, live);
+    let laid = lay_nodes(buffer, lnum, room, index, sqnum, leb, &mut used, live);
     let end = put_leb(volume, geometry, lnum, leb, used)?;
     laid?;
     Ok(end)

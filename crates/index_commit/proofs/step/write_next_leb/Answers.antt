@@ -37,7 +37,7 @@ pub returns-in_err-offs-clause-answer : goal.returns-in_err-offs-clause-answer
 returns-in_err-offs-clause-answer g c =
     let fine : AreKeysInOrder (frozen_of c.args.index.now) → IsNotEqualKeys c.write_leb.result =
     λ order. never_equal c.args.index.now c.write_leb.new.index c.write_leb.result c.write_leb.ensures.index.kept.frozen order c.write_leb.ensures.equal in
-    (search rules, search rules, search rules, λ order. let fact = fine order in search (rules, fact))
+    (search rules, search rules, search rules, (λ order. let fact = fine order in search (rules, fact)), search rules)
 
 pub returns-clause-done : goal.returns-clause-done
 returns-clause-done g c =
@@ -63,3 +63,15 @@ returns-in_err-offs-clause-works g c = (c.write_leb.ensures.works, c.write_leb.e
 
 pub returns-clause-works : goal.returns-clause-works
 returns-clause-works g c = (c.write_leb.ensures.works, c.write_leb.ensures.left)
+
+pub returns-in_err-buffer-clause-standing : goal.returns-in_err-buffer-clause-standing
+returns-in_err-buffer-clause-standing g c = λ other. (
+  none_standing (g.V.Volume.state c.args.volume.now) (c.args.lnum ∷ []) c.args.index.now c.args.sqnum.now,
+  idle_leb (raw_of c.args.geometry.now) (g.V.Volume.state c.args.volume.now) c.args.lnum c.args.index.now c.args.sqnum.now,
+)
+
+pub returns-in_err-buffer-clause-index : goal.returns-in_err-buffer-clause-index
+returns-in_err-buffer-clause-index g c = index_none c.places_are_kept.ensures.none (room_in c.args.lnum (index_node_len (raw_of c.args.geometry.now)) 0) c.args.index.now c.args.sqnum.now
+
+pub returns-in_err-buffer-clause-works : goal.returns-in_err-buffer-clause-works
+returns-in_err-buffer-clause-works g c = (none_works (g.V.Volume.state c.args.volume.now) (c.args.lnum ∷ []), Leaves-none (g.V.Volume.state c.args.volume.now) _)

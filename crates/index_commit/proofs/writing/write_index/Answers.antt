@@ -90,7 +90,7 @@ pub returns-in_err-head-clause-answer : goal.returns-in_err-head-clause-answer
 returns-in_err-head-clause-answer g c =
     let fine : AreKeysInOrder (frozen_of c.args.index.now) → IsNotEqualKeys c.write_lebs.result =
     λ order. never_equal c.args.index.now c.write_lebs.new.index c.write_lebs.result c.write_lebs.ensures.index.kept.frozen order c.write_lebs.ensures.equal in
-    (search rules, search rules, search rules, λ order. let fact = fine order in search (rules, fact))
+    (search rules, search rules, search rules, (λ order. let fact = fine order in search (rules, fact)), search rules)
 
 pub returns-then-need-given-clause-works : goal.returns-then-need-given-clause-works
 returns-then-need-given-clause-works g c = (none_works (g.V.Volume.state c.args.volume.now) c.args.lebs.now, Leaves-none (g.V.Volume.state c.args.volume.now) _)
@@ -103,3 +103,15 @@ returns-in_err-head-clause-works g c = (c.write_lebs.ensures.works, c.write_lebs
 
 pub returns-clause-works : goal.returns-clause-works
 returns-clause-works g c = (c.write_lebs.ensures.works, c.write_lebs.ensures.left)
+
+pub returns-in_err-buffer-clause-standing : goal.returns-in_err-buffer-clause-standing
+returns-in_err-buffer-clause-standing g c = λ other. (
+  none_standing (g.V.Volume.state c.args.volume.now) c.args.lebs.now c.args.index.now c.args.sqnum.now,
+  idle_lebs (raw_of c.args.geometry.now) (g.V.Volume.state c.args.volume.now) c.args.lebs.now c.args.index.now c.args.sqnum.now,
+)
+
+pub returns-in_err-buffer-clause-index : goal.returns-in_err-buffer-clause-index
+returns-in_err-buffer-clause-index g c = index_none c.places_are_kept.ensures.none (taken_room (raw_of c.args.geometry.now) c.args.lebs.now) c.args.index.now c.args.sqnum.now
+
+pub returns-in_err-buffer-clause-works : goal.returns-in_err-buffer-clause-works
+returns-in_err-buffer-clause-works g c = (none_works (g.V.Volume.state c.args.volume.now) c.args.lebs.now, Leaves-none (g.V.Volume.state c.args.volume.now) _)

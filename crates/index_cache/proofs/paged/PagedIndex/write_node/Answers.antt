@@ -1,15 +1,22 @@
-use Rattle.std.proofs.Common.{rules, ◌≡◌, true, ap, sym, ◌∙◌}
+use Rattle.std.proofs.Common.{rules, ◌≡◌, ◌≤◌, length, true, ap, sym, ◌∙◌, arith}
 use Rattle.std.specs.Prelude.{None}
 use Rattle.media_sys.specs.Index.{in_order}
 use Rattle.node_table.specs.NodeView.{views, view_of}
-use Rattle.index_cache.proofs.Written.{says_node}
+use Rattle.index_cache.proofs.Written.{few_links, says_node}
 use Rattle.index_cache.proofs.paged.PagedIndex.write_node.Goals as goal
+
+pub tell_node-requires : goal.tell_node-requires
+tell_node-requires c =
+    let t = c.args.self.now.table in
+    let few = few_links t.fanout (views t.nodes.items) c.in-Some.found.now t.most c.in-Some.ensures.sound in
+    let room = c.args.buffer.now.room in
+    omega (arith, few, room)
 
 pub encode-requires-clause-node : goal.encode-requires-clause-node
 encode-requires-clause-node c =
     let t = c.args.self.now.table in
     let v = view_of (views t.nodes.items) c.in-Some.found.now in
-    let said = c.in_ok-said-in-Some in
+    let said = c.tell_node.new.said in
     let yes : c.are_in_order.result ≡ true = search (rules, c.if-not-are_in_order.false) in
-    let order : in_order None said.said.branches.items ≡ true = ap (in_order None) (sym c.as_slice.ensures.value) ∙ sym c.are_in_order.ensures ∙ yes in
-    says_node t.fanout said.said.level v said.said.branches.items t.most c.in-Some.ensures.sound said.ensures.branches order
+    let order : in_order None said.branches.items ≡ true = ap (in_order None) (sym c.as_slice.ensures.value) ∙ sym c.are_in_order.ensures ∙ yes in
+    says_node t.fanout said.level v said.branches.items t.most c.in-Some.ensures.sound c.tell_node.ensures.branches order

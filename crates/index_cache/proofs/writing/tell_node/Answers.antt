@@ -4,12 +4,12 @@ use Rattle.media_sys.specs.declared.branch.Branch.{Branch}
 use Rattle.node_table.specs.NodeView.{views}
 use Rattle.index_cache.specs.Commit.{link_branch}
 use Rattle.index_cache.proofs.Written.{linked_branches}
-use Rattle.index_cache.proofs.writing.index_node.Goals as goal
+use Rattle.index_cache.proofs.writing.tell_node.Goals as goal
 
 pub returns-clause-branches : goal.returns-clause-branches
 returns-clause-branches c =
     let seen = views c.args.table.now.nodes.items in
-    c.in_ok-push_branches.ensures
-    ∙ ap (λ (v : List Branch). v ++ map (link_branch seen) c.as_slice.result.now) c.new-branches.ensures.items
+    c.push_branches.ensures.items
+    ∙ ap (λ (v : List Branch). v ++ map (link_branch seen) c.as_slice.result.now) c.clear.ensures.items
     ∙ ap (map (link_branch seen)) c.as_slice.ensures.value
     ∙ sym (linked_branches seen c.args.node.now.links.items)
