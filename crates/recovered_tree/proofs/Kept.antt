@@ -1,0 +1,99 @@
+-- A volume that is only read.
+use Rattle.std.proofs.Common.{◌≡◌, ◌⊎◌, ◌<◌, ◌≤◌, ◌∙◌, ℕ, List, [], Result, Ok, Err, inl, inr, arith, refl, sym, subst}
+use Rattle.std.specs.Prelude.{IfErr}
+use Rattle.std.specs.Result.{IsErrAnd}
+use Rattle.std.proofs.lemmas.Bool.{cases_lt}
+use Rattle.ubifs_base.specs.Faults.{IsCause-before}
+use Rattle.ubifs_base.specs.NodeLaws.{IsBytes}
+use Rattle.ubi_volume.specs.Faults.{HasAreaCause, StaysSureArea}
+use Rattle.ubi_volume.specs.Volume.{VolumeState, Keeps, SameShape}
+use Rattle.ubi_volume.specs.VolumeLaws.{Keeps-none, Keeps-then, SameShape-then}
+use Rattle.ubi_volume.specs.declared.fault.AreaFault.{AreaFault}
+use Rattle.ubi_volume.specs.declared.fault.AreaFault.TheVariants as area
+use Rattle.image_check.specs.Told.{HasCheckCause, StaysSureCheck}
+use Rattle.image_check.specs.declared.fault.CheckFault.{CheckFault}
+use Rattle.image_check.specs.declared.fault.CheckFault.TheVariants.{Memory, Volume}
+use Rattle.sound_check.specs.Calls.{ReadsOnly}
+
+-- a volume as it was, but for its count of faults
+pub record IsKept (old now : VolumeState) : Type 0 where
+  pub keeps : Keeps old now
+  pub shape : SameShape old now
+  pub count : old.faults ≤ now.faults
+  pub sure : old.sure → now.spent ⊎ (now.sure × (now.faults ≡ old.faults))
+
+pub kept_start : (a : VolumeState) → IsKept a a
+kept_start a = record { keeps = Keeps-none a; shape = record { leb_size = refl; min_io = refl; leb_cnt = refl }; count = omega arith; sure = λ s. inr (s, refl) }
+
+stays_sure : (old now new : VolumeState) → (old.sure → now.spent ⊎ (now.sure × (now.faults ≡ old.faults))) → (now.spent → new.spent) → (now.sure → new.spent ⊎ (new.sure × (new.faults ≡ now.faults)))
+    → old.sure → new.spent ⊎ (new.sure × (new.faults ≡ old.faults))
+stays_sure old now new before spent step sure = elim (before sure) [
+  | inl gone ↦ inl (spent gone)
+  | inr still ↦ elim (step still.0) [ inl gone ↦ inl gone | inr fine ↦ inr (fine.0, fine.1 ∙ still.1) ]
+]
+
+-- one call more that keeps all
+pub kept_next : (old now new : VolumeState) → IsKept old now → Keeps now new → SameShape now new → now.faults ≤ new.faults → (now.sure → new.spent ⊎ (new.sure × (new.faults ≡ now.faults))) → IsKept old new
+kept_next old now new kept keeps shape count sure =
+    let before = kept.count in
+    record {
+      keeps = Keeps-then old now new kept.keeps keeps;
+      shape = SameShape-then old now new kept.shape shape;
+      count = omega (arith, before, count);
+      sure = stays_sure old now new kept.sure keeps.spent sure;
+    }
+
+pub sure_of_area : {T : Type 0} (old new : VolumeState) (r : Result T AreaFault) → StaysSureArea old new r → old.sure → new.spent ⊎ (new.sure × (new.faults ≡ old.faults))
+sure_of_area old new r stays sure = elim (stays sure) [ inl gone ↦ inl gone | inr fine ↦ inr (fine.0, fine.1.0) ]
+
+-- ---- a check, and a call behind it
+pub kept_check : {T : Type 0} (old now : VolumeState) (x : T) → ReadsOnly old now (Ok x) → IsKept old now
+kept_check old now x h = record {
+  keeps = h.keeps;
+  shape = h.shape;
+  count = h.cause;
+  sure = λ sure. elim (h.sure sure) [ inl gone ↦ inl gone | inr fine ↦ inr (fine.0, fine.1.0) ];
+}
+
+-- what succeeded
+pub reads_ok : {S T : Type 0} (a b c : VolumeState) (y : S) (x : T) → IsKept a b → Keeps b c × SameShape b c → HasAreaCause {T = S} b.faults c.faults (Ok y) → StaysSureArea {T = S} b c (Ok y) → ReadsOnly a c (Ok x)
+reads_ok {S} a b c y x kept keeps cause stays =
+    let all = kept_next a b c kept keeps.0 keeps.1 cause (sure_of_area {T = S} b c (Ok y) stays) in
+    record { keeps = all.keeps; shape = all.shape; cause = all.count; sure = λ sure. elim (all.sure sure) [ inl gone ↦ inl gone | inr fine ↦ inr (fine.0, (fine.1, tt)) ] }
+
+-- want of memory
+pub reads_memory : (S : Type 0) {T : Type 0} (a b c : VolumeState) → IsKept a b → Keeps b c × SameShape b c → HasAreaCause {T = S} b.faults c.faults (Err area.Memory) → StaysSureArea {T = S} b c (Err area.Memory) → ReadsOnly {T = T} a c (Err Memory)
+reads_memory S a b c kept keeps cause stays =
+    let all = kept_next a b c kept keeps.0 keeps.1 cause (sure_of_area {T = S} b c (Err area.Memory) stays) in
+    record { keeps = all.keeps; shape = all.shape; cause = all.count; sure = λ sure. elim (all.sure sure) [ inl gone ↦ inl gone | inr fine ↦ inr (fine.0, (fine.1, tt)) ] }
+
+-- a fault of the volume
+pub reads_volume : (S : Type 0) {T : Type 0} (a b c : VolumeState) (count : ℕ) → IsKept a b → Keeps b c × SameShape b c → HasAreaCause {T = S} b.faults c.faults (Err (area.Volume count)) → StaysSureArea {T = S} b c (Err (area.Volume count)) → ReadsOnly {T = T} a c (Err (Volume count))
+reads_volume S a b c count kept keeps cause stays = record {
+  keeps = Keeps-then a b c kept.keeps keeps.0;
+  shape = SameShape-then a b c kept.shape keeps.1;
+  cause = IsCause-before a.faults b.faults c.faults count kept.count cause;
+  sure = λ sure. elim (kept.sure sure) [
+    | inl gone ↦ inl (keeps.0.spent gone)
+    | inr still ↦ elim (stays still.0) [ inl gone ↦ inl gone | inr fine ↦ absurd fine.1.1 ]
+  ];
+}
+
+-- ---- the exit of a question mark, which hands the fault on
+pub exit_reads : (S : Type 0) {T : Type 0} (old now : VolumeState) (fault : CheckFault) (r : Result T CheckFault) → IsErrAnd r (λ y. y ≡ fault) → ReadsOnly {T = S} old now (Err fault) → ReadsOnly old now r
+exit_reads S old now fault (Ok x) e h = absurd e
+exit_reads S {T} old now fault (Err y) e h =
+    let P : CheckFault → Type 0 = λ f. ReadsOnly {T = T} old now (Err f) in
+    subst P (sym e) (record { keeps = h.keeps; shape = h.shape; cause = h.cause; sure = h.sure })
+
+-- ---- contents
+-- contents that are alike LEB by LEB are the same
+pub kept_holds : (old now : VolumeState) → Keeps old now → now.holds ≡ old.holds
+kept_holds old now keeps = λ i k. keeps.holds k i
+
+-- a volume's contents are bytes
+pub contents_bytes : (s : VolumeState) → ((k : ℕ) → k < s.leb_cnt → IsBytes (s.holds k)) → ((k : ℕ) → s.leb_cnt ≤ k → s.holds k ≡ []) → (k : ℕ) → IsBytes (s.holds k)
+contents_bytes s bytes none k = elim (cases_lt k s.leb_cnt) [
+  | inl less ↦ bytes k less
+  | inr high ↦ let P : List ℕ → Type 0 = λ leb. IsBytes leb in subst P (sym (none k high)) (λ i. omega arith)
+]
