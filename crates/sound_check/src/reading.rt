@@ -14,13 +14,18 @@ use crate::space::read_space;
 use image_check::{CheckFault, a_breach_is_first};
 use image_tree::{check_links, check_tree};
 use std::alloc::Global;
+use std::thread::Threads;
 use ubi_volume::Volume;
 
 /// Whether the volume holds a sound image (`SoundImage` of crate sound_image), and all that was read of it. The twelve rules are tested in
 /// their order: superblock, masters, properties, index, log, buds, leaves, sums, erased ends, orphan area, tree and links. `Unsound` tells
 /// what is wrong with the contents first. The volume has at least one LEB, and the shape that its superblock tells, if LEB 0 meets the
 /// rule on it. Nothing is written. Takes memory for a fixed multiple of the leaves and of what the buds say, and for the largest area.
-pub fn read_image<V: Volume>(alloc: Global, volume: &mut V) -> Result<ImageRead, CheckFault>
+pub fn read_image<R: Threads + Sync, V: Volume>(
+    _rt: &R,
+    alloc: Global,
+    volume: &mut V,
+) -> Result<ImageRead, CheckFault>
     requires shape { HasShapeOfImage (V.state volume.old) }
     ensures sound { IfOk result (λ read. (image : Image) × SoundImage (V.state volume.old).holds image × IsReadImage (V.state volume.old).holds read image) }
     ensures broken { IfErr result (TellsBreach (IsFirstBreach (V.state volume.old).holds)) }

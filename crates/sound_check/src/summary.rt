@@ -17,12 +17,17 @@ use image_space::space_of;
 use index_tree::Leaf;
 use leaf_recovery::RecoveredLeaf;
 use std::alloc::Global;
+use std::thread::Threads;
 use ubi_volume::Volume;
 use ubifs_base::Memory;
 
 /// Whether the volume holds a sound image, and what is told of it: whether no bud holds a node, and its space. Otherwise as [`read_image`],
 /// which tells all that was read too. Want of memory is also told of bytes or of a weight that pass 64 bits.
-pub fn check<V: Volume>(alloc: Global, volume: &mut V) -> Result<Sound, CheckFault>
+pub fn check<R: Threads + Sync, V: Volume>(
+    rt: &R,
+    alloc: Global,
+    volume: &mut V,
+) -> Result<Sound, CheckFault>
     requires shape { HasShapeOfImage (V.state volume.old) }
     ensures sound { IfOk result (λ sound. (image : Image) × SoundImage (V.state volume.old).holds image × (sound ≡ told_of image)) }
     ensures broken { IfErr result (TellsBreach (IsFirstBreach (V.state volume.old).holds)) }
@@ -30,7 +35,7 @@ pub fn check<V: Volume>(alloc: Global, volume: &mut V) -> Result<Sound, CheckFau
     ensures cause { HasCheckCause (V.state volume.old).faults (V.state volume.new).faults result }
     ensures sure { StaysSureCheck (V.state volume.old) (V.state volume.new) result }
 {
-    let read = read_image(alloc, volume)?;
+    let read = read_image(rt, alloc, volume)?;
     match told(alloc, &read) {
         Ok(sound) => Ok(sound),
         Err(_fault) => Err(CheckFault::Memory),
