@@ -3,10 +3,10 @@ use Rattle.std.specs.Prelude.{◌≡◌, ◌≢◌, ◌⊎◌, ℕ, ◌*◌, ◌
 use Rattle.ubifs_base.specs.RawOf.{raw_of}
 use Rattle.ubifs_base.specs.declared.raw_geometry.RawGeometry.{RawGeometry}
 use Rattle.ubi_volume.specs.Loading.{Fits, IsLoaded, IsLong, leb_of}
-use Rattle.ubi_volume.specs.MemVolume.{state_of}
 use Rattle.ubi_volume.specs.declared.fault.LoadFault.{LoadFault}
 use Rattle.ubi_volume.specs.declared.fault.LoadFault.TheVariants as load
 use Rattle.ubi_volume.specs.declared.mem_volume.VolShape.{VolShape}
+use Rattle.image_volume.specs.ImageVolume.{state_of}
 use Rattle.media_sys.specs.Features.{features_of, first_of}
 use Rattle.media_sys.specs.declared.super_node.Super.{Super}
 use Rattle.sound_image.specs.Breaches.{IsWrongField}
@@ -32,7 +32,7 @@ pub record HasVolume (image : List ℕ) (geo : RawGeometry) : Type 0 where
   pub geometry : HasGeometry image geo
   pub fits : Fits (shape_of geo) image
 
--- why an image wasn't loaded, as what is wrong with it
+-- why an image isn't a volume of its shape, as what is wrong with it
 abbrev pub fault_of : LoadFault → ImageFault
 fault_of load.Memory = fault.Memory
 fault_of (load.Short len) = fault.Short len

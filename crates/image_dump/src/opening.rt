@@ -3,33 +3,34 @@
 ghost use Rattle.std.specs.Prelude.{◌≡◌, ℕ, IfOk, IfErr, IfSome, IfNone};
 ghost use Rattle.ubifs_base.specs.RawOf.{raw_of};
 ghost use Rattle.ubi_volume.specs.Loading.{IsLoaded};
-ghost use Rattle.ubi_volume.specs.MemVolume.{state_of};
+ghost use Rattle.image_volume.specs.ImageVolume.{state_of};
 ghost use Rattle.media_sys.specs.SystemNode.{IsSuper};
 ghost use Rattle.media_sys.specs.declared.super_node.Super.{Super as ASuper};
 ghost use Rattle.sound_image.specs.Breaches.{super_field_of};
 ghost use Rattle.image_dump.specs.Opening.{IsOpened, IsFaulty, HasGeometry, HasVolume, shape_of, fault_of};
 
 use crate::fault::ImageFault;
+use image_volume::ImageVolume;
 use media_sys::{Super, SuperField};
 use std::alloc::Global;
-use ubi_volume::{LoadFault, MemVolume, VolShape, load_image};
+use ubi_volume::{LoadFault, VolShape};
 use ubifs_base::{GeomField, Geometry};
 
-/// A volume in memory, and its geometry.
+/// The bytes of an image as a volume, and its geometry.
 #[derive(Drop)]
-pub struct Opened {
-    pub volume: MemVolume,
+pub struct Opened<'a> {
+    pub volume: ImageVolume<'a>,
     pub geometry: Geometry,
 }
 
-/// The volume of an image, whose shape its superblock tells. What else stands in it isn't looked at. Errors are those of
-/// `ImageFault`, the first that applies.
-pub fn open_image(alloc: Global, image: &[u8]) -> Result<Opened, ImageFault>
+/// The volume of an image, whose shape its superblock tells. What else stands in it isn't looked at, and nothing is copied. Errors are
+/// those of `ImageFault`, the first that applies.
+pub fn open_image<'a>(alloc: Global, image: &'a [u8]) -> Result<Opened<'a>, ImageFault>
     ensures opened { IfOk result (IsOpened image.now) }
     ensures fault { IfErr result (IsFaulty image.now) }
 {
     let geometry = geometry_in(alloc, image)?;
-    let volume = load(alloc, image, &geometry)?;
+    let volume = volume_of(image, &geometry)?;
     Ok(Opened { volume, geometry })
 }
 
@@ -92,7 +93,7 @@ fn field_named(field: GeomField) -> SuperField
 }
 
 // The volume of an image whose geometry is told.
-fn load(alloc: Global, image: &[u8], geometry: &Geometry) -> Result<MemVolume, ImageFault>
+fn volume_of<'a>(image: &'a [u8], geometry: &Geometry) -> Result<ImageVolume<'a>, ImageFault>
     requires { HasGeometry image.now (raw_of geometry.now) }
     ensures fits { IfOk result (λ _. HasVolume image.now (raw_of geometry.now)) }
     ensures loaded { IfOk result (λ volume. IsLoaded (shape_of (raw_of geometry.now)) image.now (state_of volume)) }
@@ -103,13 +104,13 @@ fn load(alloc: Global, image: &[u8], geometry: &Geometry) -> Result<MemVolume, I
         min_io: geometry.min_io,
         leb_cnt: geometry.leb_cnt,
     };
-    match load_image(alloc, image, shape) {
+    match ImageVolume::new(image, shape) {
         Ok(volume) => Ok(volume),
         Err(fault) => Err(fault_told(fault)),
     }
 }
 
-// Why the image wasn't loaded.
+// Why the image isn't one of a volume.
 fn fault_told(fault: LoadFault) -> ImageFault
     ensures { result ≡ fault_of fault }
 {

@@ -10,10 +10,10 @@ use Rattle.ubifs_base.specs.RawOf.{raw_of}
 use Rattle.ubi_volume.specs.FoundLaws.{IsLoaded-holds, IsLoaded-keeps}
 use Rattle.ubi_volume.specs.Geometry.{IsGeometryOf}
 use Rattle.ubi_volume.specs.Loading.{IsLoaded, leb_of}
-use Rattle.ubi_volume.specs.MemVolume.{state_of}
-use Rattle.ubi_volume.specs.MemVolumeLaws.{leb_bytes_of, none_of, unbroken_of}
 use Rattle.ubi_volume.specs.Volume.{Keeps, SameShape, filled}
-use Rattle.ubi_volume.specs.declared.mem_volume.MemVolume.{MemVolume}
+use Rattle.image_volume.specs.ImageVolume.{state_of}
+use Rattle.image_volume.specs.ImageVolumeLaws.{leb_bytes_of, none_of, unbroken_of}
+use Rattle.image_volume.specs.declared.image_volume.ImageVolume.{ImageVolume}
 use Rattle.media_sys.specs.SystemNode.{IsSuper}
 use Rattle.media_sys.specs.declared.super_node.Super.{Super}
 use Rattle.sound_image.specs.Breaches.{IsFirstBreach}
@@ -32,8 +32,8 @@ use Rattle.image_report.specs.Told.{HoldsSoundImage, IsUnsound}
 abbrev pub OneGeometry : Type 0
 OneGeometry = (contents : ℕ → List ℕ) (a b : RawGeometry) → IsBytes (contents 0) → HasSuperblock contents a → HasSuperblock contents b → a ≡ b
 
--- a volume that was loaded holds the contents of the image
-pub holds_are : (image : List ℕ) (geo : RawGeometry) (v : MemVolume) → IsLoaded (shape_of geo) image (state_of v) → (state_of v).holds ≡ contents_of geo image
+-- the volume of an image holds the contents of the image
+pub holds_are : (image : List ℕ) (geo : RawGeometry) (v : ImageVolume) → IsLoaded (shape_of geo) image (state_of v) → (state_of v).holds ≡ contents_of geo image
 holds_are image geo v loaded = fun_ext (λ k. at k (nat_lt k geo.leb_cnt) refl)
   where
     at : (k : ℕ) (b : Bool) → nat_lt k geo.leb_cnt ≡ b → (state_of v).holds k ≡ (if b then leb_of geo.leb_size image k else [])
@@ -72,7 +72,7 @@ superblock_of image geo volume =
     }
 
 -- and the volume has the shape that they tell
-pub shape_at : OneGeometry → (image : List ℕ) (geo : RawGeometry) (v : MemVolume) → HasVolume image geo → IsLoaded (shape_of geo) image (state_of v) → HasShapeOfImage (state_of v)
+pub shape_at : OneGeometry → (image : List ℕ) (geo : RawGeometry) (v : ImageVolume) → HasVolume image geo → IsLoaded (shape_of geo) image (state_of v) → HasShapeOfImage (state_of v)
 shape_at one image geo v volume loaded =
     let least = volume.geometry.in_range.leb_cnt.0 in
     let count = loaded.leb_cnt in
@@ -88,7 +88,7 @@ shape_at one image geo v volume loaded =
     }
 
 -- after a call that keeps all it is still the volume of the image
-pub still_opened : (image : List ℕ) (opened : Opened) (new : MemVolume) → IsOpened image opened → Keeps (state_of opened.volume) (state_of new) → SameShape (state_of opened.volume) (state_of new)
+pub still_opened : (image : List ℕ) (opened : Opened) (new : ImageVolume) → IsOpened image opened → Keeps (state_of opened.volume) (state_of new) → SameShape (state_of opened.volume) (state_of new)
     → (state_of new).sure → (state_of new).faults ≡ (state_of opened.volume).faults → IsOpened image (record { volume = new; geometry = opened.geometry })
 still_opened image opened new is keeps shape sure faults = record {
   volume = is.volume;
@@ -96,7 +96,7 @@ still_opened image opened new is keeps shape sure faults = record {
 }
 
 -- a sound image that it holds is one that the bytes hold, and of its geometry
-pub held : OneGeometry → (bytes : List ℕ) (geo : RawGeometry) (v : MemVolume) (image : Image) → HasVolume bytes geo → IsLoaded (shape_of geo) bytes (state_of v)
+pub held : OneGeometry → (bytes : List ℕ) (geo : RawGeometry) (v : ImageVolume) (image : Image) → HasVolume bytes geo → IsLoaded (shape_of geo) bytes (state_of v)
     → SoundImage (state_of v).holds image → HoldsSoundImage bytes image × (image.geo ≡ geo)
 held one bytes geo v image volume loaded sound =
     let least = volume.geometry.in_range.leb_cnt.0 in
@@ -111,14 +111,14 @@ held one bytes geo v image volume loaded sound =
     (record { volume = subst Q (sym same) volume; sound = subst R (sym same) (subst P same_holds sound) }, same)
 
 -- its first breach is that of the bytes
-pub broken : (bytes : List ℕ) (geo : RawGeometry) (v : MemVolume) (breach : Breach) → HasVolume bytes geo → IsLoaded (shape_of geo) bytes (state_of v)
+pub broken : (bytes : List ℕ) (geo : RawGeometry) (v : ImageVolume) (breach : Breach) → HasVolume bytes geo → IsLoaded (shape_of geo) bytes (state_of v)
     → IsFirstBreach (state_of v).holds breach → (line : List ℕ) → line ≡ breach_line breach → IsUnsound bytes line
 broken bytes geo v breach volume loaded first line is =
     let P : (ℕ → List ℕ) → Type 0 = λ holds. IsFirstBreach holds breach in
     inr (geo, breach, volume, subst P (holds_are bytes geo v loaded) first, is)
 
 -- and its listing is theirs
-pub listed_of : (bytes : List ℕ) (geo : RawGeometry) (v : MemVolume) (out text : List ℕ) → IsLoaded (shape_of geo) bytes (state_of v) → IsListing geo (state_of v).holds (state_of v).leb_cnt text
+pub listed_of : (bytes : List ℕ) (geo : RawGeometry) (v : ImageVolume) (out text : List ℕ) → IsLoaded (shape_of geo) bytes (state_of v) → IsListing geo (state_of v).holds (state_of v).leb_cnt text
     → out ≡ text → IsListing geo (contents_of geo bytes) geo.leb_cnt out
 listed_of bytes geo v out text loaded listing is =
     let P : (ℕ → List ℕ) → Type 0 = λ holds. IsListing geo holds (state_of v).leb_cnt text in

@@ -10,21 +10,26 @@ use image_dump::{ImageFault, Opened, open_image};
 use sound_check::{Sound, check};
 use sound_image::contents_say_one_thing;
 use std::alloc::Global;
+use std::thread::Threads;
 use ubifs_base::Memory;
 
 // A line that says what is wrong with an image, or its volume with what is told of it.
 #[derive(Drop)]
-pub(crate) enum Looked {
+pub(crate) enum Looked<'a> {
     Unsound { line: Vec<u8> },
-    Sound { opened: Opened, sound: Sound },
+    Sound { opened: Opened<'a>, sound: Sound },
 }
 
 // Opens an image and checks it.
-pub(crate) fn look(alloc: Global, bytes: &[u8]) -> Result<Looked, Memory>
+pub(crate) fn look<'a, R: Threads + Sync>(
+    rt: &R,
+    alloc: Global,
+    bytes: &'a [u8],
+) -> Result<Looked<'a>, Memory>
     ensures { IfOk result (IsLooked bytes.now) }
 {
     match open_image(alloc, bytes) {
-        Ok(opened) => check_opened(alloc, bytes, opened),
+        Ok(opened) => check_opened(rt, alloc, bytes, opened),
         Err(ImageFault::Memory) => Err(Memory),
         Err(fault) => {
             let line = fault_line(alloc, fault)?;
@@ -34,13 +39,18 @@ pub(crate) fn look(alloc: Global, bytes: &[u8]) -> Result<Looked, Memory>
 }
 
 // Checks the volume of an image.
-fn check_opened(alloc: Global, bytes: &[u8], opened: Opened) -> Result<Looked, Memory>
+fn check_opened<'a, R: Threads + Sync>(
+    rt: &R,
+    alloc: Global,
+    bytes: &[u8],
+    opened: Opened<'a>,
+) -> Result<Looked<'a>, Memory>
     requires { IsOpened bytes.now opened }
     ensures { IfOk result (IsLooked bytes.now) }
 {
     contents_say_one_thing();
     let mut opened = opened;
-    match check(alloc, &mut opened.volume) {
+    match check(rt, alloc, &mut opened.volume) {
         Ok(sound) => Ok(Looked::Sound { opened, sound }),
         Err(CheckFault::Unsound { breach }) => {
             let line = breach_line(alloc, breach)?;

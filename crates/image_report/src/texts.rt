@@ -10,6 +10,7 @@ use crate::looking::{Looked, look};
 use crate::sound_line::sound_line;
 use image_dump::{Opened, dump};
 use std::alloc::Global;
+use std::thread::Threads;
 use ubi_volume::AreaFault;
 use ubifs_base::Memory;
 
@@ -21,10 +22,14 @@ pub enum ImageText {
 }
 
 /// The line of a sound image: whether it is clean, and its space once it is recovered and before any commit. Memory is the only error.
-pub fn check_text(alloc: Global, bytes: &[u8]) -> Result<ImageText, Memory>
+pub fn check_text<R: Threads + Sync>(
+    rt: &R,
+    alloc: Global,
+    bytes: &[u8],
+) -> Result<ImageText, Memory>
     ensures { IfOk result (IsText (TellsSound bytes.now) bytes.now) }
 {
-    let looked = look(alloc, bytes)?;
+    let looked = look(rt, alloc, bytes)?;
     match looked {
         Looked::Unsound { line } => Ok(ImageText::Unsound { line }),
         Looked::Sound { sound, .. } => {
@@ -35,10 +40,14 @@ pub fn check_text(alloc: Global, bytes: &[u8]) -> Result<ImageText, Memory>
 }
 
 /// The listing of a sound image: the nodes of each LEB. Memory is the only error.
-pub fn dump_text(alloc: Global, bytes: &[u8]) -> Result<ImageText, Memory>
+pub fn dump_text<R: Threads + Sync>(
+    rt: &R,
+    alloc: Global,
+    bytes: &[u8],
+) -> Result<ImageText, Memory>
     ensures { IfOk result (IsText (ListsSound bytes.now) bytes.now) }
 {
-    match look(alloc, bytes)? {
+    match look(rt, alloc, bytes)? {
         Looked::Unsound { line } => Ok(ImageText::Unsound { line }),
         Looked::Sound { opened, .. } => {
             let text = listing(alloc, bytes, opened)?;
@@ -48,7 +57,7 @@ pub fn dump_text(alloc: Global, bytes: &[u8]) -> Result<ImageText, Memory>
 }
 
 // The listing of the volume of an image.
-fn listing(alloc: Global, bytes: &[u8], opened: Opened) -> Result<Vec<u8>, Memory>
+fn listing(alloc: Global, bytes: &[u8], opened: Opened<'_>) -> Result<Vec<u8>, Memory>
     requires { IsOpened bytes.now opened }
     ensures { IfOk result (λ text. IsListing (raw_of opened.geometry) (contents_of (raw_of opened.geometry) bytes.now) (raw_of opened.geometry).leb_cnt text.items) }
 {

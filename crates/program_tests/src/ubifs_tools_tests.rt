@@ -2,6 +2,7 @@
 
 use io_edges::{KeepFault, Keeper, MemKeeper, MemSink};
 use std::alloc::Global;
+use std::thread::Threads;
 use std::collections::BTreeMap;
 use ubifs_base::{Bytes, Memory};
 use ubifs_tools::ubifs;
@@ -82,18 +83,18 @@ fn is_left(image: Result<Vec<u8>, KeepFault>, status: u8) -> bool {
     }
 }
 
-fn is_answered(alloc: Global, row: &Row) -> Result<bool, Memory> {
+fn is_answered<R: Threads + Sync>(rt: &R, alloc: Global, row: &Row) -> Result<bool, Memory> {
     let (names, keeper_fails, sink_fails, status, text) = *row;
     let mut keeper = keeper(alloc, keeper_fails)?;
     let mut out = MemSink::new(alloc, vec![in alloc; sink_fails]?);
     let words = words(alloc, names)?;
-    let answer = ubifs(alloc, &words, &mut keeper, &mut out);
+    let answer = ubifs(rt, alloc, &words, &mut keeper, &mut out);
     Ok(answer == status && out.text() == text && is_left(keeper.read("c"), status))
 }
 
 #[test]
 fn each_status_has_its_line(rt: HostRuntime) {
     for (number, row) in ROWS.iter().enumerate() {
-        assert_eq!(rt; is_answered(rt.alloc(), row), Ok(true), "row {number}");
+        assert_eq!(rt; is_answered(&rt, rt.alloc(), row), Ok(true), "row {number}");
     }
 }

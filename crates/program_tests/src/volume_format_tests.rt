@@ -2,6 +2,7 @@
 
 use image_report::{ImageText, check_text};
 use std::alloc::Global;
+use std::thread::Threads;
 use ubi_volume::{MemVolume, VolShape, save_image};
 use ubifs_base::{Geometry, Memory, RawGeometry};
 use volume_format::format;
@@ -25,8 +26,8 @@ fn formatted(alloc: Global) -> Result<Vec<u8>, Memory> {
     save_image(alloc, &volume)
 }
 
-fn is_told(alloc: Global) -> Result<bool, Memory> {
-    match check_text(alloc, &formatted(alloc)?)? {
+fn is_told<R: Threads + Sync>(rt: &R, alloc: Global) -> Result<bool, Memory> {
+    match check_text(rt, alloc, &formatted(alloc)?)? {
         ImageText::Sound { text } => Ok(text.as_slice() == LINE),
         ImageText::Unsound { .. } => Ok(false),
     }
@@ -34,5 +35,5 @@ fn is_told(alloc: Global) -> Result<bool, Memory> {
 
 #[test]
 fn a_new_file_system_is_sound(rt: HostRuntime) {
-    assert_eq!(rt; is_told(rt.alloc()), Ok(true));
+    assert_eq!(rt; is_told(&rt, rt.alloc()), Ok(true));
 }

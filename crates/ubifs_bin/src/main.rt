@@ -1,4 +1,4 @@
-//! The program: `ubifs run MANIFEST SCRIPT IMAGE`, over the host's files and standard output.
+//! The program: `ubifs run MANIFEST SCRIPT IMAGE`, `ubifs check IMAGE` and `ubifs dump IMAGE`, over the host's files and standard output.
 #![tactic(auto)]
 
 use io_edges::{FileKeeper, OutSink};
@@ -23,5 +23,5 @@ fn run(rt: &HostRuntime) -> io::Result<u8> {
     }
     let mut keeper = FileKeeper::new(rt.alloc(), rt.clone()?);
     let mut out = OutSink::new(rt.clone()?);
-    Ok(ubifs(rt.alloc(), &words, &mut keeper, &mut out))
+    Ok(ubifs(rt, rt.alloc(), &words, &mut keeper, &mut out))
 }

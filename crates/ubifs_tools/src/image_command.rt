@@ -10,6 +10,7 @@ ghost use Rattle.ubifs_tools.specs.Reported.{IsReported};
 use image_report::{ImageText, check_text, dump_text};
 use io_edges::{KeepFault, Keeper};
 use std::alloc::Global;
+use std::thread::Threads;
 use text_lines::line_of_two;
 use ubifs_base::Memory;
 
@@ -29,7 +30,8 @@ pub(crate) enum Reported {
 }
 
 /// Reads the image and tells what was asked for.
-pub(crate) fn report<K: Keeper>(
+pub(crate) fn report<R: Threads + Sync, K: Keeper>(
+    rt: &R,
     alloc: Global,
     command: ImageCommand,
     image: &str,
@@ -46,18 +48,23 @@ pub(crate) fn report<K: Keeper>(
             return Ok(Reported::Unread { line });
         }
     };
-    match text_of(alloc, command, &bytes)? {
+    match text_of(rt, alloc, command, &bytes)? {
         ImageText::Unsound { line } => Ok(Reported::BadImage { line }),
         ImageText::Sound { text } => Ok(Reported::Done { text }),
     }
 }
 
 // What is told of the bytes of an image.
-fn text_of(alloc: Global, command: ImageCommand, bytes: &[u8]) -> Result<ImageText, Memory>
+fn text_of<R: Threads + Sync>(
+    rt: &R,
+    alloc: Global,
+    command: ImageCommand,
+    bytes: &[u8],
+) -> Result<ImageText, Memory>
     ensures { IfOk result (IsText (Tells command bytes.now) bytes.now) }
 {
     match command {
-        ImageCommand::Check => check_text(alloc, bytes),
-        ImageCommand::Dump => dump_text(alloc, bytes),
+        ImageCommand::Check => check_text(rt, alloc, bytes),
+        ImageCommand::Dump => dump_text(rt, alloc, bytes),
     }
 }

@@ -15,12 +15,19 @@ use crate::image_command::{ImageCommand, Reported, report};
 use crate::words::{image_words, run_words};
 use io_edges::{Keeper, Sink, SinkFault};
 use std::alloc::Global;
+use std::thread::Threads;
 use ubifs_base::Memory;
 
 /// Runs the command that the words say, over the keeper's files, and prints to the sink. The answer is the status: 0 the
 /// work was done, 1 the words aren't a command, 2 a text isn't in its grammar, 3 an image isn't sound, 4 a file wasn't read
 /// or written, 5 the output failed, 6 there was no memory, 7 the manifest's geometry is out of range.
-pub fn ubifs<K: Keeper, O: Sink>(alloc: Global, words: &[String], keeper: &mut K, out: &mut O) -> u8
+pub fn ubifs<R: Threads + Sync, K: Keeper, O: Sink>(
+    rt: &R,
+    alloc: Global,
+    words: &[String],
+    keeper: &mut K,
+    out: &mut O,
+) -> u8
     ensures known { result ≤ 7 }
 
     // The words are neither a run of three files nor a check or a dump of one.
@@ -69,7 +76,7 @@ pub fn ubifs<K: Keeper, O: Sink>(alloc: Global, words: &[String], keeper: &mut K
         return run_told(alloc, manifest, script, image, keeper, out);
     }
     if let Some((command, image)) = image_words(words) {
-        return image_told(alloc, command, image, keeper, out);
+        return image_told(rt, alloc, command, image, keeper, out);
     }
     told(out, b"usage\n".as_slice(), 1)
 }
@@ -112,7 +119,8 @@ fn run_told<K: Keeper, O: Sink>(
 }
 
 // Looks at an image, and prints what was asked for or what is wrong with it.
-fn image_told<K: Keeper, O: Sink>(
+fn image_told<R: Threads + Sync, K: Keeper, O: Sink>(
+    rt: &R,
     alloc: Global,
     command: ImageCommand,
     image: &str,
@@ -133,7 +141,7 @@ fn image_told<K: Keeper, O: Sink>(
     ensures memory { result ≡ 6 → IsPrinted (O.state out.old) (O.state out.new) (line_of (codes "memory" ∷ [])) }
     ensures kept { SameFiles (K.state keeper.old) (K.state keeper.new) }
 {
-    match report(alloc, command, image, keeper) {
+    match report(rt, alloc, command, image, keeper) {
         Ok(Reported::Unread { line }) => told(out, &line, 4),
         Ok(Reported::BadImage { line }) => told(out, &line, 3),
         Ok(Reported::Done { text }) => printed(out, &text),

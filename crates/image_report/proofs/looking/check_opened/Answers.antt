@@ -1,6 +1,7 @@
 use Rattle.std.proofs.Common.{◌≡◌, inl, inr, subst}
 use Rattle.ubifs_base.specs.RawOf.{raw_of}
-use Rattle.ubi_volume.specs.MemVolume.{state_of}
+use Rattle.image_volume.specs.ImageVolume.{state_of}
+use Rattle.image_volume.specs.ImageVolumeLaws.{never_spent}
 use Rattle.image_check.specs.Told.{IsNoVolumeFault, TellsBreach}
 use Rattle.image_check.specs.declared.fault.CheckFault.{CheckFault}
 use Rattle.sound_image.specs.Breaches.{IsFirstBreach}
@@ -14,7 +15,10 @@ pub returns-in-Ok : goal.returns-in-Ok
 returns-in-Ok c =
     let old = state_of c.args.opened.volume in
     let new = state_of c.check.new.volume in
-    let fine : new.sure × ((new.faults ≡ old.faults) × IsNoVolumeFault c.check.result) = elim (c.check.ensures.sure c.requires.loaded.found.sure) [ inl gone ↦ absurd gone | inr is ↦ is ] in
+    let fine : new.sure × ((new.faults ≡ old.faults) × IsNoVolumeFault c.check.result) = elim (c.check.ensures.sure c.requires.loaded.found.sure) [
+      | inl gone ↦ absurd (never_spent c.args.opened.volume c.check.new.volume c.requires.loaded.found.sure c.check.ensures.keeps.1 c.check.ensures.keeps.0 gone)
+      | inr is ↦ is
+    ] in
     let sound = c.in-Ok.ensures.sound in
     let told = held c.contents_say_one_thing.ensures.geometry c.args.bytes.now (raw_of c.args.opened.geometry) c.args.opened.volume sound.0 c.requires.volume c.requires.loaded sound.1 in (
       still_opened c.args.bytes.now c.args.opened c.check.new.volume c.requires c.check.ensures.keeps.0 c.check.ensures.keeps.1 fine.0 fine.1.0,
