@@ -49,9 +49,15 @@ fn check_opened<'a, R: Threads + Sync>(
     ensures { IfOk result (IsLooked bytes.now) }
 {
     contents_say_one_thing();
-    let mut opened = opened;
-    match check(rt, alloc, &mut opened.volume) {
-        Ok(sound) => Ok(Looked::Sound { opened, sound }),
+    let Opened {
+        mut volume,
+        geometry,
+    } = opened;
+    match check(rt, alloc, &mut volume) {
+        Ok(sound) => Ok(Looked::Sound {
+            opened: Opened { volume, geometry },
+            sound,
+        }),
         Err(CheckFault::Unsound { breach }) => {
             let line = breach_line(alloc, breach)?;
             Ok(Looked::Unsound { line })

@@ -59,11 +59,14 @@ pub fn dump_text<R: Threads + Sync>(
 // The listing of the volume of an image.
 fn listing(alloc: Global, bytes: &[u8], opened: Opened<'_>) -> Result<Vec<u8>, Memory>
     requires { IsOpened bytes.now opened }
-    ensures { IfOk result (λ text. IsListing (raw_of opened.geometry) (contents_of (raw_of opened.geometry) bytes.now) (raw_of opened.geometry).leb_cnt text.items) }
+    ensures { IfOk result (λ text. IsListing (raw_of opened.entry.geometry) (contents_of (raw_of opened.entry.geometry) bytes.now) (raw_of opened.entry.geometry).leb_cnt text.items) }
 {
-    let mut opened = opened;
+    let Opened {
+        mut volume,
+        geometry,
+    } = opened;
     let mut text = Vec::new(alloc);
-    match dump(alloc, &mut opened.volume, &opened.geometry, &mut text) {
+    match dump(alloc, &mut volume, &geometry, &mut text) {
         Ok(()) => Ok(text),
         Err(AreaFault::Memory) => Err(Memory),
         Err(AreaFault::Volume { .. }) => unreachable!(),

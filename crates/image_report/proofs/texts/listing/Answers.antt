@@ -1,7 +1,19 @@
-use Rattle.std.proofs.Common.{List, ℕ, ◌++◌, ap, ◌∙◌}
+use Rattle.std.specs.Prelude.{Err}
+use Rattle.std.proofs.Common.{List, ℕ, ◌++◌, ap, ◌∙◌, inl, inr, subst}
 use Rattle.ubifs_base.specs.RawOf.{raw_of}
+use Rattle.ubi_volume.specs.Faults.{IsNotVolume}
+use Rattle.ubi_volume.specs.declared.fault.AreaFault.{AreaFault}
+use Rattle.image_volume.specs.ImageVolumeLaws.{never_spent}
 use Rattle.image_report.proofs.Contents.{listed_of}
 use Rattle.image_report.proofs.texts.listing.Goals as goal
+
+pub unreachable-requires : goal.unreachable-requires
+unreachable-requires c =
+    let P : AreaFault → Type 0 = λ fault. IsNotVolume {T = Unit {0}} (Err fault) in
+    elim (c.in-Err-Volume.ensures.sure c.requires.loaded.found.sure) [
+      | inl gone ↦ never_spent c.args.opened.volume c.dump.new.volume c.requires.loaded.found.sure c.in-Err-Volume.ensures.shape c.in-Err-Volume.ensures.keeps gone
+      | inr is ↦ subst P c.in-Err-Volume.field-0-is is.1.1
+    ]
 
 pub returns-in-Ok : goal.returns-in-Ok
 returns-in-Ok c =
