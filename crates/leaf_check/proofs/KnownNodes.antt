@@ -1,5 +1,5 @@
 -- Nodes of blocks and of names need no feature.
-use Rattle.std.proofs.Common.{◌≡◌, ℕ, ◌+◌, ◌≤◌, Bool, true, false, List, inl, inr, length, take, drop, ap, sym, ◌∙◌, subst, arith, drop-drop, slice_index, take_all}
+use Rattle.std.proofs.Common.{◌≡◌, ℕ, Bool, true, false, List, inl, inr, length, drop, ap, sym, ◌∙◌, subst, arith, take_all}
 use Rattle.std.specs.Prelude.{if◌then◌else◌}
 use Rattle.std.proofs.lemmas.Bool.{false≢true}
 use Rattle.byteorder.specs.Endian.{little_number}
@@ -11,9 +11,8 @@ use Rattle.ubifs_base.specs.declared.node_type.NodeType.TheVariants as types
 use Rattle.node_fields.specs.FieldLaws.{reads_back}
 use Rattle.node_fields.specs.FormLaws.{body_in}
 use Rattle.media_leaf.specs.LeafNode.{LeafNode, IsLeafNode, block, entry, fields_of, inode, leaf_form, tail_of, truncation, type_of}
-use Rattle.media_sys.specs.declared.feature.Feature.{Feature}
 use Rattle.leb_scan.specs.Text.{leaf_type}
-use Rattle.sound_image.specs.Frames.{HasFrameAt, IsKnownAt, NeedsFeature}
+use Rattle.sound_image.specs.Frames.{HasFrameAt, IsKnownAt}
 use Rattle.leaf_check.specs.NodeKeys.{may_need}
 use Rattle.leaf_check.proofs.SoundLeaves.{front_len}
 use Rattle.leaf_check.proofs.WholeLeaves.{leaf_numbered}

@@ -1,5 +1,5 @@
 -- Whether a leaf is sound, told by the bytes at its place.
-use Rattle.std.proofs.Common.{◌≡◌, ℕ, ◌+◌, ◌≤◌, List, length, take, drop, Option, Some, None, refl, ap, sym, ◌∙◌, subst, arith, length-drop, take-append-drop, take_all}
+use Rattle.std.proofs.Common.{◌≡◌, ℕ, ◌+◌, ◌≤◌, List, length, take, drop, Option, Some, refl, ap, sym, ◌∙◌, subst, arith, length-drop, take-append-drop, take_all}
 use Rattle.std.specs.Prelude.{IsTrue}
 use Rattle.std.proofs.lemmas.List.{drop-append-le, length-take-le}
 use Rattle.byteorder.specs.Endian.{little_number}
@@ -11,13 +11,12 @@ use Rattle.ubifs_base.specs.declared.node_type.NodeType.{NodeType}
 use Rattle.ubifs_base.specs.declared.raw_geometry.RawGeometry.{RawGeometry}
 use Rattle.media_leaf.specs.LeafNode.{IsLeafNode, LeafNode, type_of}
 use Rattle.media_lpt.specs.declared.lprop.Lprop.{Lprop}
-use Rattle.media_sys.specs.declared.feature.Feature.{Feature}
 use Rattle.leb_scan.specs.Text.{leaf_type}
 use Rattle.change_nodes.specs.Nodes.{leaf_key}
 use Rattle.ubifs_base.specs.declared.key.Key.{Key}
 use Rattle.leb_scan.specs.declared.found.Found.{Found}
 use Rattle.index_tree.specs.declared.leaf.Leaf.{Leaf}
-use Rattle.sound_image.specs.Frames.{HasFrameAt, IsKnownAt, NeedsFeature}
+use Rattle.sound_image.specs.Frames.{HasFrameAt, IsKnownAt}
 use Rattle.sound_image.specs.Leaves.{HasItsNode, IsSoundLeaf}
 use Rattle.sound_image.specs.Properties.{is_unmarked}
 use Rattle.leaf_check.specs.Committed.{HasBytes}

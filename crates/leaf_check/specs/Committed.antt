@@ -1,5 +1,6 @@
 -- What is told of a committed leaf.
-use Rattle.std.specs.Prelude.{◌≡◌, ℕ, ◌+◌, ◌≤◌, IsTrue, Bool, true, false, List, [], ◌∷◌, ◌++◌, None, length, take, drop}
+use Rattle.std.specs.Prelude.{◌≡◌, ℕ, ◌+◌, ◌≤◌, IfNone, IfSome, IsTrue, false, List, None, length, map, take, drop}
+use Rattle.std.specs.List.{filter}
 use Rattle.ubifs_base.specs.NodeLaws.{IsBytes}
 use Rattle.index_tree.specs.declared.leaf.Leaf.{Leaf}
 use Rattle.leaf_map.specs.Parts.{Committed}
@@ -7,7 +8,9 @@ use Rattle.log_replay.specs.Replay.{told_committed}
 use Rattle.log_replay.specs.Settling.{HasGrammar}
 use Rattle.log_replay.specs.declared.committed_leaf.CommittedLeaf.{CommittedLeaf}
 use Rattle.sound_image.specs.Leaves.{HasItsNode, IsFoundAt}
+use Rattle.leaf_check.specs.LeafReads.{HasWholeLeaf}
 use Rattle.leaf_check.specs.declared.leaf_answer.LeafAnswer.{LeafAnswer}
+use Rattle.leaf_check.specs.declared.leaf_bytes.LeafBytes.{LeafBytes}
 
 -- this is told of a leaf: itself, and what stands at its place
 pub record IsCommittedRead (contents : ℕ → List ℕ) (leaf : Leaf) (told : CommittedLeaf) : Type 0 where
@@ -32,7 +35,16 @@ pub record HasBytes (contents : ℕ → List ℕ) (leaf : Leaf) (bytes : List �
   pub room : leaf.offs + leaf.len ≤ length (contents leaf.lnum)
   pub is : bytes ≡ take leaf.len (drop leaf.offs (contents leaf.lnum))
 
--- a leaf is kept behind others if it is intact
-abbrev pub IsKeptIf : Bool → Leaf → List Leaf → List Leaf → Type 0
-IsKeptIf true leaf old new = new ≡ old ++ (leaf ∷ [])
-IsKeptIf false leaf old new = new ≡ old
+-- what was read for a leaf: the bytes at its place, or none where no whole leaf node stands
+pub record IsReadFor (contents : ℕ → List ℕ) (leaf : Leaf) (read : LeafBytes) : Type 0 where
+  pub leaf_is : read.leaf ≡ leaf
+  pub some : IfSome read.bytes (λ bytes. HasBytes contents leaf bytes.items)
+  pub none : IfNone read.bytes (HasWholeLeaf contents leaf → ⊥)
+
+-- an answer is that of the leaf for which this was read, whatever volume it was read from
+abbrev pub IsAnswerTo : LeafBytes → LeafAnswer → Type 0
+IsAnswerTo read answer = (contents : ℕ → List ℕ) (leaf : Leaf) → IsReadFor contents leaf read → IsLeafAnswer contents leaf answer
+
+-- those leaves that are called intact
+abbrev pub intact_leaves : List LeafAnswer → List Leaf
+intact_leaves answers = map (λ (answer : LeafAnswer). answer.told.leaf) (filter (λ (answer : LeafAnswer). answer.intact) answers)

@@ -1,11 +1,12 @@
 -- Leaf nodes that are read.
-use Rattle.std.specs.Prelude.{◌≡◌, ℕ, ◌+◌, ◌≤◌, List, length, take, drop, Some}
+use Rattle.std.specs.Prelude.{◌≡◌, ℕ, ◌+◌, ◌≤◌, ◌<◌, List, length, take, drop, Some}
 use Rattle.media_leaf.specs.LeafNode.{IsLeafNode, LeafNode}
 use Rattle.leb_scan.specs.Text.{leaf_type}
 use Rattle.leb_scan.specs.declared.found.Found.{Found}
 use Rattle.change_nodes.specs.Nodes.{leaf_key}
 use Rattle.sound_image.specs.Frames.{IsKnownAt}
 use Rattle.index_tree.specs.declared.leaf.Leaf.{Leaf}
+use Rattle.ubi_volume.specs.Volume.{VolumeState}
 
 -- these bytes are this leaf node, all of them
 pub record IsWholeLeaf (bytes : List ℕ) (found : Found) (node : LeafNode) : Type 0 where
@@ -44,3 +45,10 @@ pub record HasWholeLeaf (contents : ℕ → List ℕ) (leaf : Leaf) : Type 0 whe
   pub node : LeafNode
   pub room : leaf.offs + leaf.len ≤ length (contents leaf.lnum)
   pub is : IsLeafNode (take leaf.len (drop leaf.offs (contents leaf.lnum))) sqnum group node
+
+-- a leaf's place lies in the volume, and is no longer than any leaf node
+pub record IsPlaceFor (state : VolumeState) (leaf : Leaf) : Type 0 where
+  pub lnum : leaf.lnum < state.leb_cnt
+  pub range : leaf.offs + leaf.len ≤ state.leb_size
+  pub room : leaf.offs + leaf.len ≤ length (state.holds leaf.lnum)
+  pub most : leaf.len ≤ 4256

@@ -1,7 +1,7 @@
 // The leaves of the committed index, with what stands at their places.
 
-ghost use Rattle.std.specs.Prelude.{◌≡◌, All, IfOk, List, OnOk, length, map};
-ghost use Rattle.std.specs.List.{AllByRecursion};
+ghost use Rattle.std.specs.Prelude.{◌≡◌, ◌∷◌, ◌++◌, [], All, IfOk, List, OnOk, map};
+ghost use Rattle.std.specs.List.{AllByRecursion, AllZip};
 ghost use Rattle.std.specs.List.Sorted.{IsPermutation};
 ghost use Rattle.ubi_volume.specs.Volume.{Keeps, SameShape};
 ghost use Rattle.ubi_volume.specs.Faults.{HasAreaCause, StaysSureArea};
@@ -9,25 +9,32 @@ ghost use Rattle.leaf_map.specs.Parts.{Committed};
 ghost use Rattle.log_replay.specs.Replay.{told_committed};
 ghost use Rattle.log_replay.specs.Settling.{HasGrammar};
 ghost use Rattle.sound_image.specs.Leaves.{AreCommitted, HasItsNode};
-ghost use Rattle.leaf_check.specs.Committed.{IsKeptIf, IsLeafAnswer};
+ghost use Rattle.leaf_check.specs.Committed.{IsLeafAnswer, IsReadFor, intact_leaves};
+ghost use Rattle.leaf_check.specs.declared.leaf_answer.LeafAnswer.{LeafAnswer as ALeafAnswer};
 
-use crate::answers::{answer_of, nothing_at};
+use crate::answers::answers_of;
 use crate::committed_read::CommittedRead;
 use crate::leaf_answer::LeafAnswer;
+use crate::leaf_bytes::LeafBytes;
 use crate::order::put_in_order;
-use crate::reading::{MOST_BYTES, read_node};
+use crate::reading::read_bytes;
 use index_tree::Leaf;
+use log_replay::CommittedLeaf;
 use std::alloc::Global;
 use std::thread::Threads;
 use ubi_volume::{AreaFault, Volume};
 use ubifs_base::Memory;
 
+// The bytes of so many leaves at most are kept at once.
+const BATCH: usize = 1024;
+
 /// What is told of the intact leaf node that stands at the place of each of these leaves with its length, if one does, whatever node that
 /// is (`ubifs_tnc_read_node` of Linux fs/ubifs); and leaves of them whose place has their own node. Nothing is asked of the leaves: outside
-/// the volume stands none, and none is longer than 4,256 bytes, of which no more are read for a leaf. Takes memory for what is told, for
-/// the leaves once more, and for the bytes of one node.
+/// the volume stands none, and none is longer than 4,256 bytes, of which no more are read for a leaf. The leaves are read one after
+/// another, and what was read is looked at side by side. Takes memory for what is told, for the leaves once more, and for the bytes of
+/// 1,024 nodes.
 pub fn read_committed<R: Threads + Sync, V: Volume>(
-    _rt: &R,
+    rt: &R,
     alloc: Global,
     volume: &mut V,
     leaves: &[Leaf],
@@ -38,32 +45,13 @@ pub fn read_committed<R: Threads + Sync, V: Volume>(
     ensures cause { HasAreaCause (V.state volume.old).faults (V.state volume.new).faults result }
     ensures sure { StaysSureArea (V.state volume.old) (V.state volume.new) result }
 {
-    let mut buffer = vec![in alloc; 0; MOST_BYTES as usize]?;
-    read_leaves(alloc, volume, leaves, &mut buffer)
-}
-
-// The same, with room for a leaf node.
-fn read_leaves<V: Volume>(
-    alloc: Global,
-    volume: &mut V,
-    leaves: &[Leaf],
-    buffer: &mut [u8],
-) -> Result<CommittedRead, AreaFault>
-    requires { length buffer.old ≡ 4256 }
-    ensures read { IfOk result (λ found. (committed : List Committed) × AreCommitted (V.state volume.old).holds leaves.now committed × AllByRecursion HasGrammar committed × (found.leaves.items ≡ map told_committed committed)) }
-    ensures intact { IfOk result (λ found. All (HasItsNode (V.state volume.old).holds) found.intact.items) }
-    ensures keeps { Keeps (V.state volume.old) (V.state volume.new) }
-    ensures shape { SameShape (V.state volume.old) (V.state volume.new) }
-    ensures cause { HasAreaCause (V.state volume.old).faults (V.state volume.new).faults result }
-    ensures sure { StaysSureArea (V.state volume.old) (V.state volume.new) result }
-{
     let mut committed = Vec::new(alloc);
     let mut intact = Vec::new(alloc);
     let mut left = leaves;
-    'reading: while let Some((leaf, rest)) = left.split_first() {
-        let answer = read_leaf(alloc, volume, leaf, buffer)?;
-        keep_intact(&mut intact, leaf, answer.intact)?;
-        committed.push(answer.told)?;
+    'reading: while !left.is_empty() {
+        let (batch, rest) = left.split_at(left.len().min(BATCH));
+        let answers = read_batch(rt, alloc, volume, batch)?;
+        keep_answers(&mut committed, &mut intact, answers)?;
         left = rest;
     }
     Ok(ordered(CommittedRead {
@@ -85,36 +73,68 @@ fn ordered(read: CommittedRead) -> CommittedRead
     }
 }
 
-// Keeps a leaf that is intact.
-fn keep_intact(kept: &mut Vec<Leaf>, leaf: &Leaf, intact: bool) -> Result<(), Memory>
-    ensures { OnOk result (IsKeptIf intact leaf.now kept.old.items kept.new.items) }
+// Keeps what is told of leaves, and those of them that are intact.
+fn keep_answers(
+    committed: &mut Vec<CommittedLeaf>,
+    intact: &mut Vec<Leaf>,
+    answers: Vec<LeafAnswer>,
+) -> Result<(), Memory>
+    ensures committed { OnOk result (committed.new.items ≡ committed.old.items ++ map (λ (answer : ALeafAnswer). answer.told) answers.items) }
+    ensures intact { OnOk result (intact.new.items ≡ intact.old.items ++ intact_leaves answers.items) }
 {
-    if intact {
-        kept.push(*leaf)?;
+    'keeping: for answer in answers {
+        keep_intact(intact, &answer)?;
+        committed.push(answer.told)?;
     }
     Ok(())
 }
 
-// One of them.
-fn read_leaf<V: Volume>(
+// Keeps a leaf that is intact.
+fn keep_intact(intact: &mut Vec<Leaf>, answer: &LeafAnswer) -> Result<(), Memory>
+    ensures { OnOk result (intact.new.items ≡ intact.old.items ++ intact_leaves (answer.now ∷ [])) }
+{
+    if answer.intact {
+        intact.push(answer.told.leaf)?;
+    }
+    Ok(())
+}
+
+// What is told of each of these leaves, in their order.
+fn read_batch<R: Threads + Sync, V: Volume>(
+    rt: &R,
     alloc: Global,
     volume: &mut V,
-    leaf: &Leaf,
-    buffer: &mut [u8],
-) -> Result<LeafAnswer, AreaFault>
-    requires { length buffer.old ≡ 4256 }
-    ensures len { length buffer.new ≡ length buffer.old }
-    ensures read { IfOk result (IsLeafAnswer (V.state volume.old).holds leaf.now) }
+    leaves: &[Leaf],
+) -> Result<Vec<LeafAnswer>, AreaFault>
+    ensures read { IfOk result (λ answers. AllZip (IsLeafAnswer (V.state volume.old).holds) leaves.now answers.items) }
     ensures keeps { Keeps (V.state volume.old) (V.state volume.new) }
     ensures shape { SameShape (V.state volume.old) (V.state volume.new) }
     ensures cause { HasAreaCause (V.state volume.old).faults (V.state volume.new).faults result }
     ensures sure { StaysSureArea (V.state volume.old) (V.state volume.new) result }
 {
-    let read = read_node(volume, leaf, buffer)?;
-    let Some(found) = read else {
-        return Ok(nothing_at(leaf));
-    };
-    let bytes = buffer.split_at(found.len as usize).0;
-    let answer = answer_of(alloc, leaf, found, bytes)?;
-    Ok(answer)
+    let reads = read_places(alloc, volume, leaves)?;
+    let answers = answers_of(rt, alloc, &reads)?;
+    Ok(answers)
+}
+
+// The bytes at the place of each of them.
+fn read_places<V: Volume>(
+    alloc: Global,
+    volume: &mut V,
+    leaves: &[Leaf],
+) -> Result<Vec<LeafBytes>, AreaFault>
+    ensures read { IfOk result (λ reads. AllZip (IsReadFor (V.state volume.old).holds) leaves.now reads.items) }
+    ensures keeps { Keeps (V.state volume.old) (V.state volume.new) }
+    ensures shape { SameShape (V.state volume.old) (V.state volume.new) }
+    ensures cause { HasAreaCause (V.state volume.old).faults (V.state volume.new).faults result }
+    ensures sure { StaysSureArea (V.state volume.old) (V.state volume.new) result }
+{
+    let mut reads = Vec::new(alloc);
+    let mut left = leaves;
+    'reading: while let Some((leaf, rest)) = left.split_first() {
+        let read = read_bytes(alloc, volume, leaf)?;
+        reads.push(read)?;
+        left = rest;
+    }
+    Ok(reads)
 }

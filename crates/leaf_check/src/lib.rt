@@ -14,6 +14,7 @@ mod first;
 mod keys;
 mod known;
 mod leaf_answer;
+mod leaf_bytes;
 mod nodes;
 mod order;
 mod reading;

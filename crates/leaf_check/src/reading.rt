@@ -1,14 +1,17 @@
-// The node at a leaf's place is read from a volume.
+// What stands at a leaf's place is read from a volume.
 
-ghost use Rattle.std.specs.Prelude.{◌≡◌, ◌≤◌, IfNone, IfOk, IfSome, length};
+ghost use Rattle.std.specs.Prelude.{◌≡◌, ◌+◌, ◌≤◌, ◌<◌, IfNone, IfOk, IfSome, IsFalse, IsTrue, length};
 ghost use Rattle.ubi_volume.specs.Volume.{Keeps, SameShape};
-ghost use Rattle.ubi_volume.specs.Faults.{HasCause, StaysSure};
-ghost use Rattle.leaf_check.specs.LeafReads.{HasWholeLeaf, IsLeafRead};
+ghost use Rattle.ubi_volume.specs.Faults.{HasAreaCause, HasCause, StaysSure, StaysSureArea};
+ghost use Rattle.leaf_check.specs.Committed.{IsReadFor};
+ghost use Rattle.leaf_check.specs.LeafReads.{HasWholeLeaf, IsLeafRead, IsPlaceFor};
 
+use crate::leaf_bytes::LeafBytes;
 use crate::nodes::whole_leaf;
 use index_tree::Leaf;
 use leb_scan::Found;
-use ubi_volume::{VolFault, Volume};
+use std::alloc::Global;
+use ubi_volume::{AreaFault, VolFault, Volume};
 
 /// No leaf node has more bytes: an inode has 160, and at most a page of data.
 pub(crate) const MOST_BYTES: u32 = 160 + 4096;
@@ -29,20 +32,57 @@ pub(crate) fn read_node<V: Volume>(
     ensures cause { HasCause (V.state volume.old).faults (V.state volume.new).faults result }
     ensures sure { StaysSure (V.state volume.old) (V.state volume.new) result }
 {
-    let size = volume.leb_size();
-    if leaf.lnum >= volume.leb_cnt() {
-        return Ok(None);
-    }
-    if leaf.offs > size {
-        return Ok(None);
-    }
-    if leaf.len > size - leaf.offs {
-        return Ok(None);
-    }
-    if leaf.len > MOST_BYTES {
+    if !has_place(volume, leaf) {
         return Ok(None);
     }
     let bytes = buffer.split_at_mut(leaf.len as usize).0;
     volume.read(leaf.lnum, leaf.offs, bytes)?;
     Ok(whole_leaf(bytes))
+}
+
+/// The bytes at a leaf's place. Takes memory for them.
+pub(crate) fn read_bytes<V: Volume>(
+    alloc: Global,
+    volume: &mut V,
+    leaf: &Leaf,
+) -> Result<LeafBytes, AreaFault>
+    ensures read { IfOk result (IsReadFor (V.state volume.old).holds leaf.now) }
+    ensures keeps { Keeps (V.state volume.old) (V.state volume.new) }
+    ensures shape { SameShape (V.state volume.old) (V.state volume.new) }
+    ensures cause { HasAreaCause (V.state volume.old).faults (V.state volume.new).faults result }
+    ensures sure { StaysSureArea (V.state volume.old) (V.state volume.new) result }
+{
+    if !has_place(volume, leaf) {
+        return Ok(LeafBytes {
+            leaf: *leaf,
+            bytes: None,
+        });
+    }
+    let mut bytes = vec![in alloc; 0; leaf.len as usize]?;
+    volume.read(leaf.lnum, leaf.offs, &mut bytes)?;
+    Ok(LeafBytes {
+        leaf: *leaf,
+        bytes: Some(bytes),
+    })
+}
+
+// Whether a leaf's place lies in the volume, and is no longer than any leaf node.
+fn has_place<V: Volume>(volume: &V, leaf: &Leaf) -> bool
+    ensures yes { IsTrue result → IsPlaceFor (V.state volume.now) leaf.now }
+    ensures no { IsFalse result → HasWholeLeaf (V.state volume.now).holds leaf.now → ⊥ }
+{
+    let size = volume.leb_size();
+    if leaf.lnum >= volume.leb_cnt() {
+        return false;
+    }
+    if leaf.offs > size {
+        return false;
+    }
+    if leaf.len > size - leaf.offs {
+        return false;
+    }
+    if leaf.len > MOST_BYTES {
+        return false;
+    }
+    true
 }
