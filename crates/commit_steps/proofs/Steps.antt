@@ -1,6 +1,8 @@
 -- LEBs of a caller's steps.
 use Rattle.std.proofs.Common.{◌≡◌, ℕ, ◌<◌, ◌≤◌, true, List, [], ◌∷◌, ◌++◌, refl, ap, sym, ◌∙◌, subst, inl, inr}
-use Rattle.std.specs.Prelude.{None, Result, Ok, Err, OnOk, slice_get}
+use Rattle.std.proofs.lemmas.List.Elements.{All-cons, All-nil, All-weaker}
+use Rattle.commit_steps.specs.UnderWayLaws.{given_behind, given_front, given_of}
+use Rattle.std.specs.Prelude.{All, None, Result, Ok, Err, OnOk, slice_get}
 use Rattle.index_media.specs.KeyedRow.{KeyedRow, all_clean}
 use Rattle.index_media.specs.PlacedRow.{PlacedRow, ended, leaf_at, node_at}
 use Rattle.node_table.specs.Clean.{is_clean_row}
@@ -10,9 +12,9 @@ use Rattle.ubifs_base.specs.declared.raw_geometry.RawGeometry.{RawGeometry}
 use Rattle.index_commit.specs.Lebs.{AreApart, AreGivable, IsGiven}
 use Rattle.index_commit.specs.declared.index_fault.IndexFault.{IndexFault}
 
-pub on_ok : {T : Type 0} (P : Type 0) (r : Result T IndexFault) → P → OnOk r P
-on_ok P (Ok x) p = p
-on_ok P (Err e) p = tt
+pub on_ok_more : {T : Type 0} {P Q : Type 0} (r : Result T IndexFault) → (P → Q) → OnOk r P → OnOk r Q
+on_ok_more (Ok x) f p = f p
+on_ok_more (Err e) f p = tt
 
 pub geometry_then : (geo : RawGeometry) (a b : VolumeState) → SameShape a b → IsGeometryOf geo a → IsGeometryOf geo b
 geometry_then geo a b shape h =
@@ -66,6 +68,24 @@ apart_then n kept given bud lnum rest lebs apart k one other =
 
 pub bud_apart : (n : ℕ) (kept given : List ℕ) (bud lnum : ℕ) (rest : List ℕ) → AreStepLebs n bud lnum rest → AreApart (given ++ kept) (bud ∷ rest) → IsGiven ((lnum ∷ given) ++ kept) bud → ⊥
 bud_apart n kept given bud lnum rest lebs apart one = elim one [ inl e ↦ lebs.two e | inr before ↦ apart bud before (inl refl) ]
+
+all_given_of : (P : ℕ → Type 0) (xs : List ℕ) → ((k : ℕ) → IsGiven xs k → P k) → All P xs
+all_given_of P [] f = All-nil P
+all_given_of P (x ∷ xs) f = All-cons P x xs (f x (inl refl)) (all_given_of P xs (λ k one. f k (inr one)))
+
+-- without a step, the LEBs that a commit was given are those that it was given before
+pub given_at_first : (lebs given : List ℕ) → All (IsGiven (lebs ++ given)) given
+given_at_first lebs given = all_given_of (IsGiven (lebs ++ given)) given (λ k one. given_behind lebs given k one)
+
+-- after a step, the next LEB is one of them
+pub given_since : (lnum : ℕ) (rest lebs given now : List ℕ) → lebs ≡ lnum ∷ rest → All (IsGiven (rest ++ (lnum ∷ given))) now → All (IsGiven (lebs ++ given)) now
+given_since lnum rest lebs given now is all =
+    let P : List ℕ → Type 0 = λ xs. All (IsGiven (xs ++ given)) now in
+    let more : (k : ℕ) → IsGiven (rest ++ (lnum ∷ given)) k → IsGiven (lnum ∷ (rest ++ given)) k = λ k one. elim (given_of rest (lnum ∷ given) k one) [
+      | inl later ↦ inr (given_front rest given k later)
+      | inr before ↦ elim before [ inl e ↦ inl e | inr old ↦ inr (given_behind rest given k old) ]
+    ] in
+    subst P (sym is) (All-weaker (IsGiven (rest ++ (lnum ∷ given))) (IsGiven (lnum ∷ (rest ++ given))) more now all)
 
 all_is_clean : (row : PlacedRow) → is_clean_row (all_clean row) ≡ true
 all_is_clean ended = refl

@@ -40,16 +40,16 @@ is_given (lnum ∷ lebs) k = elim (cases_eq k lnum) [
   ]
 ]
 
-given_front : (xs ys : List ℕ) (k : ℕ) → IsGiven xs k → IsGiven (xs ++ ys) k
+pub given_front : (xs ys : List ℕ) (k : ℕ) → IsGiven xs k → IsGiven (xs ++ ys) k
 given_front [] ys k h = absurd h
 given_front (x ∷ xs) ys k (inl e) = inl e
 given_front (x ∷ xs) ys k (inr h) = inr (given_front xs ys k h)
 
-given_behind : (xs ys : List ℕ) (k : ℕ) → IsGiven ys k → IsGiven (xs ++ ys) k
+pub given_behind : (xs ys : List ℕ) (k : ℕ) → IsGiven ys k → IsGiven (xs ++ ys) k
 given_behind [] ys k h = h
 given_behind (x ∷ xs) ys k h = inr (given_behind xs ys k h)
 
-given_of : (xs ys : List ℕ) (k : ℕ) → IsGiven (xs ++ ys) k → IsGiven xs k ⊎ IsGiven ys k
+pub given_of : (xs ys : List ℕ) (k : ℕ) → IsGiven (xs ++ ys) k → IsGiven xs k ⊎ IsGiven ys k
 given_of [] ys k h = inr h
 given_of (x ∷ xs) ys k (inl e) = inl (inl e)
 given_of (x ∷ xs) ys k (inr h) = elim (given_of xs ys k h) [

@@ -78,7 +78,7 @@ fn take_steps<V: Volume>(
     requires key { IsKey leaf.key }
     requires number { sqnum.old + length (dirty_of index.old) + length lebs.now < 2 ^ 64 - 1 }
     ensures done { (kept given : List ℕ) → AreApart (given ++ kept) (bud ∷ lebs.now) → IsCommitUnderWay (V.state volume.old) kept given index.old
-        → OnOk result ((now : List ℕ) × IsCommitUnderWay (V.state volume.new) kept now index.new) }
+        → OnOk result ((now : List ℕ) × All (IsGiven (lebs.now ++ given)) now × IsCommitUnderWay (V.state volume.new) kept now index.new) }
     ensures none { OnOk result (dirty_of index.new ≡ []) }
     ensures beside { (others : List ℕ) → AreApart others (bud ∷ lebs.now) → WorksBeside (V.state volume.old) (V.state volume.new) others }
     ensures frozen { KeepsPlaces (frozen_of index.old) (frozen_of index.new) }
@@ -120,7 +120,7 @@ pub fn commit_beside_puts<V: Volume>(
         → IfOk result (λ root. IsRootOf (V.state volume.new).holds geometry.now.fanout (frozen_of index.new) root
         × All (λ k. Only ((V.state volume.new).holds k) ((V.state volume.new).left_now k)) (lebs_of (placed_of (frozen_of index.new)))) }
     ensures next { (kept : List ℕ) → AreApart kept (bud ∷ lebs.now) → IsSeenWithin (V.state volume.old) kept index.old
-        → OnOk result ((given : List ℕ) × IsSeenWithin (V.state volume.new) (given ++ lebs_of (placed_of (frozen_of index.new))) index.new) }
+        → OnOk result ((given : List ℕ) × All (IsGiven lebs.now) given × IsSeenWithin (V.state volume.new) (given ++ lebs_of (placed_of (frozen_of index.new))) index.new) }
     ensures frozen { OnOk result (KeepsPlaces (tree_of index.old) (frozen_of index.new)) }
     ensures old_stays { (kept : List ℕ) (fanout : ℕ) (root : ABranch) (placed : PlacedRow) → AreApart kept (bud ∷ lebs.now) → IsSeenWithin (V.state volume.old) kept index.old
         → All (IsGiven kept) (lebs_of placed) → IsStoredIndex (V.state volume.old).holds fanout root placed

@@ -6,11 +6,13 @@ use Rattle.ubi_volume.specs.Volume.{AreUnits}
 use Rattle.index_cache.specs.Paged.{frozen_of}
 use Rattle.commit_steps.specs.UnderWay.{IsCommitUnderWay}
 use Rattle.commit_steps.specs.UnderWayLaws.{WorksBeside-none, WorksBeside-step, WorksBeside-then, commit_step}
-use Rattle.commit_steps.proofs.Steps.{apart_now, apart_then, bud_apart, geometry_then, step_lebs}
+use Rattle.commit_steps.proofs.Steps.{apart_now, apart_then, bud_apart, geometry_then, given_at_first, given_since, on_ok_more, step_lebs}
+use Rattle.index_commit.specs.Rooms.{Room, room_in}
+use Rattle.ubifs_base.specs.Geometry.{index_node_len}
 use Rattle.commit_steps.proofs.caller.+take_steps.Goals as goal
 
 pub returns-then-is_none-clause-done : goal.returns-then-is_none-clause-done
-returns-then-is_none-clause-done g t c = λ kept given apart way. (given, way)
+returns-then-is_none-clause-done g t c = λ kept given apart way. (given, given_at_first c.args.lebs.now given, way)
 
 pub returns-then-is_none-clause-beside : goal.returns-then-is_none-clause-beside
 returns-then-is_none-clause-beside g t c = λ others apart. WorksBeside-none (g.V.Volume.state c.args.volume.now) others
@@ -89,11 +91,13 @@ returns-clause-done g t c = λ kept given apart way.
     let lebs = step_lebs a.leb_cnt a.leb_cnt c.args.bud lnum rest c.args.lebs.now refl is c.requires.lebs in
     let done = c.in_ok-write_next_leb.ensures in
     let some = done.done.0.some in
+    let room : ℕ → Room = room_in lnum (index_node_len (raw_of c.args.geometry.now)) 0 in
     let stepped : IsCommitUnderWay b kept (lnum ∷ given) c.write_next_leb.new.index =
-    commit_step (raw_of c.args.geometry.now) a b kept given lnum c.args.sqnum.now c.write_next_leb.new.sqnum c.args.index.now c.write_next_leb.new.index now.step c.write_next_leb.ensures.index (omega (arith, some))
+    commit_step {room = room} (raw_of c.args.geometry.now) a b kept given lnum c.args.sqnum.now c.write_next_leb.new.sqnum c.args.index.now c.write_next_leb.new.index now.step c.write_next_leb.ensures.index (omega (arith, some))
     (done.standing tt) c.write_next_leb.ensures.works.0 way in
     let put = c.in_ok-put_leaf.ensures.kept kept (lnum ∷ given) (bud_apart a.leb_cnt kept given c.args.bud lnum rest lebs now.later) stepped in
-    c.take_steps.ensures.done kept (lnum ∷ given) (apart_then a.leb_cnt kept given c.args.bud lnum rest lebs now.later) put
+    let then = c.take_steps.ensures.done kept (lnum ∷ given) (apart_then a.leb_cnt kept given c.args.bud lnum rest lebs now.later) put in
+    on_ok_more c.take_steps.result (λ way. (way.0, given_since lnum rest c.args.lebs.now given way.0 is way.1, way.2)) then
 
 pub returns-in_err-put_leaf-clause-frozen : goal.returns-in_err-put_leaf-clause-frozen
 returns-in_err-put_leaf-clause-frozen g t c =

@@ -1,4 +1,6 @@
-use Rattle.std.proofs.Common.{◌≡◌, ◌++◌, [], ℕ, ◌∙◌, subst}
+use Rattle.std.proofs.Common.{◌≡◌, ◌++◌, [], ℕ, List, ◌∙◌, subst, append-nil}
+use Rattle.std.specs.Prelude.{All}
+use Rattle.index_commit.specs.Lebs.{IsGiven}
 use Rattle.index_media.specs.KeyedRow.{KeyedRow}
 use Rattle.node_table.specs.Clean.{placed_of}
 use Rattle.node_table.specs.Placing.{KeepsPlaces}
@@ -17,10 +19,10 @@ returns-clause-stands g c = λ kept apart seen.
     let way = c.in_ok-take_steps.ensures.done kept [] apart (commit_begun a kept c.args.index.now begun c.freeze.ensures.frozen c.freeze.ensures.tree seen) in
     let given = way.0 in
     let clean = clean_row (frozen_of final) (placed_of (frozen_of final)) c.committed_root.ensures.clean in
-    let out = outside_of b.holds (given ++ kept) [] (frozen_of final) (λ k one none. none) way.1.frozen in
+    let out = outside_of b.holds (given ++ kept) [] (frozen_of final) (λ k one none. none) way.2.frozen in
     let same : fanout_of final ≡ c.args.geometry.now.fanout = c.take_steps.ensures.fanout ∙ c.freeze.ensures.fanout ∙ c.requires.fanout in
     let R : ℕ → Type 0 = λ n. IsRootOf b.holds n (frozen_of final) c.committed_root.result in
-    (subst R same (c.committed_root.ensures.root b.holds [] out), commit_settled b kept given final clean way.1)
+    (subst R same (c.committed_root.ensures.root b.holds [] out), commit_settled b kept given final clean way.2)
 
 pub returns-clause-next : goal.returns-clause-next
 returns-clause-next g c = λ kept apart seen.
@@ -29,7 +31,8 @@ returns-clause-next g c = λ kept apart seen.
     let final = c.take_steps.new.index in
     let way = c.in_ok-take_steps.ensures.done kept [] apart (commit_begun a kept c.args.index.now c.freeze.new.self c.freeze.ensures.frozen c.freeze.ensures.tree seen) in
     let clean = clean_row (frozen_of final) (placed_of (frozen_of final)) c.committed_root.ensures.clean in
-    (way.0, commit_ended b kept way.0 final clean way.1)
+    let P : List ℕ → Type 0 = λ xs. All (IsGiven xs) way.0 in
+    (way.0, subst P (append-nil c.args.lebs.now) way.1, commit_ended b kept way.0 final clean way.2)
 
 pub returns-clause-frozen : goal.returns-clause-frozen
 returns-clause-frozen g c =
