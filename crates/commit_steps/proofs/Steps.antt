@@ -1,8 +1,8 @@
 -- LEBs of a caller's steps.
 use Rattle.std.proofs.Common.{◌≡◌, ℕ, ◌<◌, ◌≤◌, true, List, [], ◌∷◌, ◌++◌, refl, ap, sym, ◌∙◌, subst, inl, inr}
-use Rattle.std.proofs.lemmas.List.Elements.{All-cons, All-nil, All-weaker}
-use Rattle.commit_steps.specs.UnderWayLaws.{given_behind, given_front, given_of}
-use Rattle.std.specs.Prelude.{All, None, Result, Ok, Err, OnOk, slice_get}
+use Rattle.std.proofs.lemmas.List.Elements.{All-weaker}
+use Rattle.commit_steps.specs.UnderWayLaws.{given_all, given_behind, given_front, given_of}
+use Rattle.std.specs.Prelude.{All, None, Result, Ok, Err, IfOk, OnOk, slice_get}
 use Rattle.index_media.specs.KeyedRow.{KeyedRow, all_clean}
 use Rattle.index_media.specs.PlacedRow.{PlacedRow, ended, leaf_at, node_at}
 use Rattle.node_table.specs.Clean.{is_clean_row}
@@ -15,6 +15,10 @@ use Rattle.index_commit.specs.declared.index_fault.IndexFault.{IndexFault}
 pub on_ok_more : {T : Type 0} {P Q : Type 0} (r : Result T IndexFault) → (P → Q) → OnOk r P → OnOk r Q
 on_ok_more (Ok x) f p = f p
 on_ok_more (Err e) f p = tt
+
+pub if_ok_both : {T : Type 0} (P : T → Type 0) (Q : Type 0) (R : T → Type 0) (r : Result T IndexFault) → ((x : T) → P x → Q → R x) → IfOk r P → OnOk r Q → IfOk r R
+if_ok_both P Q R (Ok x) f p q = f x p q
+if_ok_both P Q R (Err e) f p q = tt
 
 pub geometry_then : (geo : RawGeometry) (a b : VolumeState) → SameShape a b → IsGeometryOf geo a → IsGeometryOf geo b
 geometry_then geo a b shape h =
@@ -69,13 +73,9 @@ apart_then n kept given bud lnum rest lebs apart k one other =
 pub bud_apart : (n : ℕ) (kept given : List ℕ) (bud lnum : ℕ) (rest : List ℕ) → AreStepLebs n bud lnum rest → AreApart (given ++ kept) (bud ∷ rest) → IsGiven ((lnum ∷ given) ++ kept) bud → ⊥
 bud_apart n kept given bud lnum rest lebs apart one = elim one [ inl e ↦ lebs.two e | inr before ↦ apart bud before (inl refl) ]
 
-all_given_of : (P : ℕ → Type 0) (xs : List ℕ) → ((k : ℕ) → IsGiven xs k → P k) → All P xs
-all_given_of P [] f = All-nil P
-all_given_of P (x ∷ xs) f = All-cons P x xs (f x (inl refl)) (all_given_of P xs (λ k one. f k (inr one)))
-
 -- without a step, the LEBs that a commit was given are those that it was given before
 pub given_at_first : (lebs given : List ℕ) → All (IsGiven (lebs ++ given)) given
-given_at_first lebs given = all_given_of (IsGiven (lebs ++ given)) given (λ k one. given_behind lebs given k one)
+given_at_first lebs given = given_all (IsGiven (lebs ++ given)) given (λ k one. given_behind lebs given k one)
 
 -- after a step, the next LEB is one of them
 pub given_since : (lnum : ℕ) (rest lebs given now : List ℕ) → lebs ≡ lnum ∷ rest → All (IsGiven (rest ++ (lnum ∷ given))) now → All (IsGiven (lebs ++ given)) now

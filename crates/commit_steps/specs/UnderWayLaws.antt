@@ -5,7 +5,7 @@ use Rattle.std.proofs.lemmas.Bool.{cases_eq}
 use Rattle.std.proofs.lemmas.List.Elements.{All-cons, All-head, All-nil, All-tail, All-weaker}
 use Rattle.ubifs_base.specs.declared.key.Key.{Key}
 use Rattle.ubifs_base.specs.declared.raw_geometry.RawGeometry.{RawGeometry}
-use Rattle.index_media.specs.KeyedRow.{KeyedRow, no_more, leaf_in, node_in}
+use Rattle.index_media.specs.KeyedRow.{KeyedRow, no_more, leaf_in, node_in, all_clean}
 use Rattle.index_media.specs.PlacedRow.{PlacedRow, Stretch, all_nodes, branches_of, lebs_of}
 use Rattle.index_media.specs.Stored.{IsIndexNodeAt, IsStoredIndex}
 use Rattle.media_sys.specs.Index.{Index}
@@ -16,9 +16,9 @@ use Rattle.node_table.specs.NodeView.{tree_at}
 use Rattle.node_table.specs.Placing.{KeepsPlaces}
 use Rattle.node_table.specs.declared.node.Root.{Root}
 use Rattle.ubi_volume.specs.Frame.{Elsewhere, Works}
-use Rattle.ubi_volume.specs.FrameLaws.{IsSameLeb-none, IsSameLeb-then, Only-same, Works-on}
-use Rattle.ubi_volume.specs.Volume.{VolumeState, Leaves, Only, UnderWay, WorksOn}
-use Rattle.ubi_volume.specs.VolumeLaws.{Leaves-more, Leaves-none, Leaves-then}
+use Rattle.ubi_volume.specs.FrameLaws.{IsSameLeb-keeps, IsSameLeb-none, IsSameLeb-then, Only-same, Works-on}
+use Rattle.ubi_volume.specs.Volume.{VolumeState, Keeps, Leaves, Only, UnderWay, WorksOn}
+use Rattle.ubi_volume.specs.VolumeLaws.{Leaves-keeps, Leaves-more, Leaves-none, Leaves-then}
 use Rattle.index_cache.specs.Paged.{dirty_of, frozen_of, tree_of}
 use Rattle.index_cache.specs.declared.paged.PagedIndex.{PagedIndex}
 use Rattle.index_commit.specs.Lebs.{AreApart, IsGiven}
@@ -56,6 +56,15 @@ given_of (x ∷ xs) ys k (inr h) = elim (given_of xs ys k h) [
   | inl one ↦ inl (inr one)
   | inr other ↦ inr other
 ]
+
+all_given : (P : ℕ → Type 0) (xs : List ℕ) → All P xs → (k : ℕ) → IsGiven xs k → P k
+all_given P [] all k given = absurd given
+all_given P (x ∷ xs) all k (inl e) = subst P (sym e) (All-head P x xs all)
+all_given P (x ∷ xs) all k (inr h) = all_given P xs (All-tail P x xs all) k h
+
+pub given_all : (P : ℕ → Type 0) (xs : List ℕ) → ((k : ℕ) → IsGiven xs k → P k) → All P xs
+given_all P [] f = All-nil P
+given_all P (x ∷ xs) f = All-cons P x xs (f x (inl refl)) (given_all P xs (λ k one. f k (inr one)))
 
 -- ---- nodes that stand still do
 node_moved : (old new : ℕ → List ℕ) (branch : Branch) (said : Index) → new branch.lnum ≡ old branch.lnum → IsIndexNodeAt old branch said → IsIndexNodeAt new branch said
@@ -118,6 +127,24 @@ within_of contents lebs (node_in key place children rest) f = (
   within_of contents lebs children (λ others two. (f others two).1),
   within_of contents lebs rest (λ others two. (f others two).2),
 )
+
+-- ---- before a commit
+-- an index that is loaded from settled LEBs, where its nodes stand outside of all others
+pub index_loaded : (state : VolumeState) (placed : PlacedRow) (index : PagedIndex) → ((others : List ℕ) → All (λ k. IsGiven others k → ⊥) (lebs_of placed) → AreOutside state.holds others (all_clean placed))
+    → tree_of index ≡ all_clean placed → AreSettledLebs state (lebs_of placed) → IsSeenWithin state (lebs_of placed) index
+index_loaded state placed index stands loaded settled =
+    let lebs : List ℕ = lebs_of placed in
+    let W : KeyedRow → Type 0 = λ r. AreWithinLebs state.holds lebs r in
+    record {
+      settled = settled;
+      seen = subst W (sym loaded) (within_of state.holds lebs (all_clean placed) (λ others two. stands others (given_all (λ k. IsGiven others k → ⊥) lebs (λ k one other. two k one other))));
+    }
+
+-- a change of the index that is seen
+pub seen_changed : (state : VolumeState) (lebs : List ℕ) (a b : PagedIndex) → ((others : List ℕ) → AreOutside state.holds others (tree_of a) → AreOutside state.holds others (tree_of b))
+    → IsSeenWithin state lebs a → IsSeenWithin state lebs b
+seen_changed state lebs a b keeps h =
+    record { settled = h.settled; seen = within_of state.holds lebs (tree_of b) (λ others two. keeps others (outside_of state.holds lebs others (tree_of a) two h.seen)) }
 
 -- ---- a commit begins
 pub commit_begun : (state : VolumeState) (kept : List ℕ) (a b : PagedIndex) → frozen_of b ≡ tree_of a → tree_of b ≡ tree_of a → IsSeenWithin state kept a → IsCommitUnderWay state kept [] b
@@ -239,6 +266,10 @@ index_changed state kept given a b keeps frozen h =
 -- ---- other work
 pub WorksBeside-none : (state : VolumeState) (lebs : List ℕ) → WorksBeside state state lebs
 WorksBeside-none state lebs = record { same = λ k given. IsSameLeb-none state k; time = Leaves-none state (λ c. (k : ℕ) → IsGiven lebs k → state.left_now k (c k)) }
+
+-- a call that keeps all
+pub WorksBeside-keeps : (old new : VolumeState) (lebs : List ℕ) → Keeps old new → WorksBeside old new lebs
+WorksBeside-keeps old new lebs keeps = record { same = λ k given. IsSameLeb-keeps old new k keeps; time = Leaves-keeps old new (λ c. (k : ℕ) → IsGiven lebs k → old.left_now k (c k)) keeps }
 
 pub WorksBeside-then : (a b c : VolumeState) (lebs : List ℕ) → WorksBeside a b lebs → WorksBeside b c lebs → WorksBeside a c lebs
 WorksBeside-then a b c lebs ab bc =
@@ -388,11 +419,6 @@ own_outside contents lebs others (node_in key (Some s) children rest) two h = (
   own_outside contents lebs others children (λ k given. two k (inr (given_map_front (all_nodes (placed_of children)) (all_nodes (placed_of rest)) k given))) h.1,
   own_outside contents lebs others rest (λ k given. two k (inr (given_map_behind (all_nodes (placed_of children)) (all_nodes (placed_of rest)) k given))) h.2,
 )
-
-all_given : (P : ℕ → Type 0) (xs : List ℕ) → All P xs → (k : ℕ) → IsGiven xs k → P k
-all_given P [] all k given = absurd given
-all_given P (x ∷ xs) all k (inl e) = subst P (sym e) (All-head P x xs all)
-all_given P (x ∷ xs) all k (inr h) = all_given P xs (All-tail P x xs all) k h
 
 -- the frozen index is clean: of each LEB that it is in a cut leaves what it holds
 pub commit_settled : (state : VolumeState) (kept given : List ℕ) (index : PagedIndex) → is_clean_row (frozen_of index) ≡ true → IsCommitUnderWay state kept given index

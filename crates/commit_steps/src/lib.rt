@@ -8,4 +8,4 @@
 
 mod caller;
 
-pub use crate::caller::commit_beside_puts;
+pub use crate::caller::{commit_beside_puts, load_and_commit};
