@@ -128,6 +128,7 @@ pub fn commit_beside_puts<V: Volume>(
     ensures next { (kept : List ℕ) → AreApart kept (bud ∷ lebs.now) → IsSeenWithin (V.state volume.old) kept index.old
         → OnOk result ((given : List ℕ) × All (IsGiven lebs.now) given × IsSeenWithin (V.state volume.new) (given ++ lebs_of (placed_of (frozen_of index.new))) index.new) }
     ensures frozen { OnOk result (KeepsPlaces (tree_of index.old) (frozen_of index.new)) }
+    ensures beside { (others : List ℕ) → AreApart others (bud ∷ lebs.now) → WorksBeside (V.state volume.old) (V.state volume.new) others }
     ensures old_stays { (kept : List ℕ) (fanout : ℕ) (root : ABranch) (placed : PlacedRow) → AreApart kept (bud ∷ lebs.now) → IsSeenWithin (V.state volume.old) kept index.old
         → All (IsGiven kept) (lebs_of placed) → IsStoredIndex (V.state volume.old).holds fanout root placed
         → Leaves (V.state volume.old) (V.state volume.new) (λ c. IsStoredIndex c fanout root placed) }
@@ -162,6 +163,7 @@ pub fn load_and_commit<V: Volume>(
     requires number { sqnum.old + 1 + length lebs.now < 2 ^ 63 }
     ensures leaves { (row : PlacedRow) → IsIndexOn (V.state volume.old) geometry.now.fanout root.now row → AreSettledLebs (V.state volume.old) (lebs_of row) → AreApart (lebs_of row) (bud ∷ lebs.now)
         → IfOk result (λ at. (now : KeyedRow) × (contents (bare now) ≡ placed leaf (contents (plain row))) × IsRootOf (V.state volume.new).holds geometry.now.fanout now at) }
+    ensures beside { (others : List ℕ) → AreApart others (bud ∷ lebs.now) → WorksBeside (V.state volume.old) (V.state volume.new) others }
     ensures old_stays { (row : PlacedRow) → IsIndexOn (V.state volume.old) geometry.now.fanout root.now row → AreSettledLebs (V.state volume.old) (lebs_of row) → AreApart (lebs_of row) (bud ∷ lebs.now)
         → Leaves (V.state volume.old) (V.state volume.new) (λ c. IsStoredIndex c geometry.now.fanout root.now row) }
 {

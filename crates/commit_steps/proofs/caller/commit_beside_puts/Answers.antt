@@ -50,3 +50,9 @@ returns-clause-old_stays g c = λ kept fanout root placed apart seen all stored.
     let a = g.V.Volume.state c.args.volume.now in
     let b = g.V.Volume.state c.take_steps.new.volume in
     (index_stays c.an_index_depends_on_its_lebs_alone.ensures a b kept fanout root placed (c.take_steps.ensures.beside kept apart) seen.settled all stored).1
+
+pub returns-in_err-take_steps-clause-beside : goal.returns-in_err-take_steps-clause-beside
+returns-in_err-take_steps-clause-beside g c = c.take_steps.ensures.beside
+
+pub returns-clause-beside : goal.returns-clause-beside
+returns-clause-beside g c = c.take_steps.ensures.beside

@@ -67,3 +67,20 @@ returns-clause-old_stays g c = λ row on settled apart.
     let put = index_stays c.an_index_depends_on_its_lebs_alone.ensures a d lebs f root row beside settled all on.index in
     let P : (ℕ → List ℕ) → Type 0 = λ x. IsStoredIndex x f root row in
     Leaves-then a d e P P P (λ x h. h) (λ x h. h) put.1 (c.commit_beside_puts.ensures.old_stays lebs f root row apart seen all put.0)
+
+pub returns-in_err-index-clause-beside : goal.returns-in_err-index-clause-beside
+returns-in_err-index-clause-beside g c = λ others apart. WorksBeside-keeps (g.V.Volume.state c.args.volume.now) (g.V.Volume.state c.at_root.new.volume) others c.at_root.ensures.reads.keeps
+
+pub returns-in_err-put_leaf-clause-beside : goal.returns-in_err-put_leaf-clause-beside
+returns-in_err-put_leaf-clause-beside g c = λ others apart.
+    let a = g.V.Volume.state c.args.volume.now in
+    let b = g.V.Volume.state c.at_root.new.volume in
+    WorksBeside-then a b (g.V.Volume.state c.put_leaf.new.volume) others (WorksBeside-keeps a b others c.at_root.ensures.reads.keeps) (c.put_leaf.ensures.beside others (λ given. apart c.args.bud given (inl refl)))
+
+pub returns-clause-beside : goal.returns-clause-beside
+returns-clause-beside g c = λ others apart.
+    let a = g.V.Volume.state c.args.volume.now in
+    let b = g.V.Volume.state c.at_root.new.volume in
+    let d = g.V.Volume.state c.put_leaf.new.volume in
+    let put = WorksBeside-then a b d others (WorksBeside-keeps a b others c.at_root.ensures.reads.keeps) (c.put_leaf.ensures.beside others (λ given. apart c.args.bud given (inl refl))) in
+    WorksBeside-then a d (g.V.Volume.state c.commit_beside_puts.new.volume) others put (c.commit_beside_puts.ensures.beside others apart)
