@@ -1,8 +1,7 @@
 -- Changes keep keys apart.
 use Rattle.std.proofs.Common.{◌≡◌, ℕ, ◌+◌, ◌-◌, ◌*◌, ◌%◌, ◌<◌, ◌≤◌, true, false, List, [], ◌∷◌, ◌++◌, refl, ap, sym, ◌∙◌, subst, arith, inl, inr, append_assoc}
-use Rattle.std.specs.Prelude.{◌^◌, ◌⊎◌, ◌&&◌, ◌||◌, ◌==◌, nat_le, nat_lt, Bool, filter, Option, None, Some, ⊤, length}
+use Rattle.std.specs.Prelude.{◌^◌, ◌⊎◌, ◌&&◌, ◌||◌, ◌==◌, nat_le, nat_lt, Bool, Option, None, Some, ⊤}
 use Rattle.std.proofs.lemmas.Bool.{cases_Bool, cases_order, leb-true, leb-false, ltb-true, ltb-false, le-ltb, lt-ltb, lt-leb, eq-eqb, eqb-false, eqb-true, and_from}
-use Rattle.std.proofs.lemmas.Bool.Decides.{nat_tests}
 use Rattle.ubifs_base.specs.Key.{IsKey, key_words}
 use Rattle.ubifs_base.specs.declared.key.Key.{Key}
 use Rattle.ubifs_base.specs.declared.key.Key.TheVariants.{Ino, Block, Dent, Xent}
@@ -14,8 +13,8 @@ use Rattle.index_tree.specs.declared.leaf.Leaf.{Leaf}
 use Rattle.index_media.specs.Insertion.{first_key, inserted_by_keys, keyed_back, keyed_front, keyed_parted, lowered, starts_by, with_leaf_by_keys}
 use Rattle.index_media.specs.InsertionSound.{AreKeys}
 use Rattle.index_media.specs.KeyedKeys.{AreKeysBounded, key_before}
-use Rattle.index_media.specs.KeyedRange.{place_without_range, pruned_by_keys, without_range_by_keys}
-use Rattle.index_media.specs.KeyedRemoval.{keyed_collapsed, keyed_tidied, removed_by_keys, replaced_by_keys, without_leaf_by_keys}
+use Rattle.index_media.specs.KeyedRange.{pruned_by_keys, without_range_by_keys}
+use Rattle.index_media.specs.KeyedRemoval.{keyed_collapsed, removed_by_keys, replaced_by_keys, without_leaf_by_keys}
 use Rattle.index_media.specs.KeyedRow.{KeyedRow, HaveFirstKeys, no_more, leaf_in, node_in, bare}
 use Rattle.index_media.specs.PlacedRow.{Stretch, branches_of}
 use Rattle.media_sys.specs.Index.{in_order, is_entry, may_follow}

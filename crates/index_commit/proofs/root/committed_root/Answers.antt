@@ -1,4 +1,4 @@
-use Rattle.std.proofs.Common.{◌≡◌, ℕ, List, ap, ◌∙◌}
+use Rattle.std.proofs.Common.{ℕ, List, ap, ◌∙◌}
 use Rattle.std.specs.Prelude.{slice_get}
 use Rattle.node_table.specs.Clean.{is_clean_row, placed_of}
 use Rattle.index_cache.specs.Paged.{fanout_of, frozen_of}
