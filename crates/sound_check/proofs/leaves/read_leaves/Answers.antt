@@ -15,9 +15,6 @@ pub returns-in_err-journal-clause-reads : goal.returns-in_err-journal-clause-rea
 returns-in_err-journal-clause-reads g c =
     exit_reads _ _ c.in_err-journal.field-0.0 c.from_residual.result c.from_residual.ensures.1 (failed_stage _ _ (g.V.Volume.state c.args.volume.now) (g.V.Volume.state c.read_journal.new.volume) c.in_err-journal.field-0.0 c.in_err-journal.ensures.reads)
 
-pub check_recovered-requires : goal.check_recovered-requires
-check_recovered-requires g c = record { geometry = c.in_ok-journal.ensures.geometry }
-
 pub returns-in_err-tree-clause-broken : goal.returns-in_err-tree-clause-broken
 returns-in_err-tree-clause-broken g c =
     let old = g.V.Volume.state c.args.volume.now in
