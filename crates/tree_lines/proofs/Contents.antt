@@ -9,10 +9,10 @@ use Rattle.ubifs_base.specs.declared.raw_geometry.RawGeometry.{RawGeometry}
 use Rattle.ubi_volume.specs.FoundLaws.{IsLoaded-holds}
 use Rattle.ubi_volume.specs.Geometry.{IsGeometryOf}
 use Rattle.ubi_volume.specs.Loading.{IsLoaded, leb_of}
-use Rattle.ubi_volume.specs.MemVolume.{state_of}
-use Rattle.ubi_volume.specs.MemVolumeLaws.{leb_bytes_of, none_of}
 use Rattle.ubi_volume.specs.Volume.{filled}
-use Rattle.ubi_volume.specs.declared.mem_volume.MemVolume.{MemVolume}
+use Rattle.image_volume.specs.ImageVolume.{state_of}
+use Rattle.image_volume.specs.ImageVolumeLaws.{leb_bytes_of, none_of}
+use Rattle.image_volume.specs.declared.image_volume.ImageVolume.{ImageVolume}
 use Rattle.media_sys.specs.SystemNode.{IsSuper}
 use Rattle.media_sys.specs.declared.super_node.Super.{Super}
 use Rattle.sound_image.specs.Superblock.{BeginsWithSuper, HasSuperblock}
@@ -23,8 +23,8 @@ use Rattle.image_dump.specs.Opening.{HasVolume, contents_of, shape_of}
 abbrev pub OneGeometry : Type 0
 OneGeometry = (contents : ℕ → List ℕ) (a b : RawGeometry) → IsBytes (contents 0) → HasSuperblock contents a → HasSuperblock contents b → a ≡ b
 
--- a volume that was loaded holds the contents of the image
-pub holds_are : (image : List ℕ) (geo : RawGeometry) (v : MemVolume) → IsLoaded (shape_of geo) image (state_of v) → (state_of v).holds ≡ contents_of geo image
+-- the volume of an image holds the contents of the image
+pub holds_are : (image : List ℕ) (geo : RawGeometry) (v : ImageVolume) → IsLoaded (shape_of geo) image (state_of v) → (state_of v).holds ≡ contents_of geo image
 holds_are image geo v loaded = fun_ext (λ k. at k (nat_lt k geo.leb_cnt) refl)
   where
     at : (k : ℕ) (b : Bool) → nat_lt k geo.leb_cnt ≡ b → (state_of v).holds k ≡ (if b then leb_of geo.leb_size image k else [])
@@ -63,7 +63,7 @@ superblock_of image geo volume =
     }
 
 -- and the volume has the shape that they tell
-pub shape_at : OneGeometry → (image : List ℕ) (geo : RawGeometry) (v : MemVolume) → HasVolume image geo → IsLoaded (shape_of geo) image (state_of v) → HasShapeOfImage (state_of v)
+pub shape_at : OneGeometry → (image : List ℕ) (geo : RawGeometry) (v : ImageVolume) → HasVolume image geo → IsLoaded (shape_of geo) image (state_of v) → HasShapeOfImage (state_of v)
 shape_at one image geo v volume loaded =
     let least = volume.geometry.in_range.leb_cnt.0 in
     let count = loaded.leb_cnt in

@@ -14,6 +14,7 @@ use recovered_tree::read_tree_of;
 use sound_image::contents_say_one_thing;
 use std::alloc::{AllocError, Global};
 use std::env;
+use std::thread::Threads;
 use text_lines::{push_number, push_number_word};
 use ubifs_base::{Memory, crc32};
 
@@ -49,7 +50,7 @@ fn main(rt: HostRuntime) -> anyhow::Result<()> {
 }
 
 // The files of an image.
-fn read<R>(rt: &R, alloc: Global, image: &[u8]) -> anyhow::Result<Tree> {
+fn read<R: Threads + Sync>(rt: &R, alloc: Global, image: &[u8]) -> anyhow::Result<Tree> {
     contents_say_one_thing();
     let mut opened = open_image(alloc, image)?;
     let files = read_tree_of(rt, alloc, &mut opened.volume)?;
@@ -81,8 +82,8 @@ fn lines_of(alloc: Global, tree: &Tree) -> Result<Vec<u8>, Memory> {
 
 // Appends what a directory names, so that the first name is last.
 fn push_below(alloc: Global, left: &mut Vec<Row>, tree: &Tree, dir: &Row) -> Result<(), Memory> {
-    let mut entries = tree.entries_in(alloc, dir.ino)?;
-    while let Some(entry) = entries.pop() {
+    let entries = tree.entries_in(alloc, dir.ino)?;
+    for entry in entries.iter().rev() {
         let mut path = Vec::from_slice(alloc, dir.path.as_slice())?;
         path.push(b'/')?;
         path.extend_from_slice(entry.name.as_slice())?;
@@ -106,7 +107,16 @@ fn push_line(
     push_number(text, row.ino as u64)?;
     text.push(b' ')?;
     text.push(letter_of(inode.kind))?;
-    let words = format!(in alloc; " {:04o} {} {} {} {} {} {:08x} ", inode.mode, inode.uid, inode.gid, inode.nlink, inode.size.max(contents.len() as u64), inode.mtime, crc32(contents.as_slice()))?;
+    let words = format!(in alloc;
+        " {:04o} {} {} {} {} {} {:08x} ",
+        inode.mode,
+        inode.uid,
+        inode.gid,
+        inode.nlink,
+        inode.size.max(contents.len() as u64),
+        inode.mtime,
+        crc32(contents.as_slice())
+    )?;
     text.extend_from_slice(words.as_bytes())?;
     push_path(text, row.path.as_slice())?;
     if !inode.extra.as_slice().is_empty() {
