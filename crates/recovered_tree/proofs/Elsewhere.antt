@@ -1,5 +1,5 @@
 -- The files of an image whose latest master stands elsewhere.
-use Rattle.std.proofs.Common.{◌≡◌, ℕ, List, map, ap, sym, ◌∙◌}
+use Rattle.std.proofs.Common.{◌≡◌, map, ap}
 use Rattle.small_areas.specs.declared.placed_master.PlacedMaster.{PlacedMaster}
 use Rattle.bud_log.specs.Log.{references_of}
 use Rattle.journal_scan.specs.Journal.{copies_in, nodes_in}

@@ -1,6 +1,5 @@
 -- A volume that is only read.
 use Rattle.std.proofs.Common.{◌≡◌, ◌⊎◌, ◌<◌, ◌≤◌, ◌∙◌, ℕ, List, [], Result, Ok, Err, inl, inr, arith, refl, sym, subst}
-use Rattle.std.specs.Prelude.{IfErr}
 use Rattle.std.specs.Result.{IsErrAnd}
 use Rattle.std.proofs.lemmas.Bool.{cases_lt}
 use Rattle.ubifs_base.specs.Faults.{IsCause-before}
@@ -10,7 +9,6 @@ use Rattle.ubi_volume.specs.Volume.{VolumeState, Keeps, SameShape}
 use Rattle.ubi_volume.specs.VolumeLaws.{Keeps-none, Keeps-then, SameShape-then}
 use Rattle.ubi_volume.specs.declared.fault.AreaFault.{AreaFault}
 use Rattle.ubi_volume.specs.declared.fault.AreaFault.TheVariants as area
-use Rattle.image_check.specs.Told.{HasCheckCause, StaysSureCheck}
 use Rattle.image_check.specs.declared.fault.CheckFault.{CheckFault}
 use Rattle.image_check.specs.declared.fault.CheckFault.TheVariants.{Memory, Volume}
 use Rattle.sound_check.specs.Calls.{ReadsOnly}

@@ -1,5 +1,5 @@
 -- The highest inode number that is read is the recovered one.
-use Rattle.std.proofs.Common.{◌≡◌, ℕ, List, [], ◌∷◌, map, max, refl, ap, sym, ◌∙◌, subst, arith}
+use Rattle.std.proofs.Common.{◌≡◌, ℕ, List, [], ◌∷◌, map, max, refl, ap, sym, ◌∙◌, arith}
 use Rattle.std.specs.Prelude.{fold}
 use Rattle.ubifs_base.specs.Key.{key_words}
 use Rattle.ubifs_base.specs.declared.key.Key.{Key}

@@ -1,15 +1,15 @@
 -- A proper tree without blocks of inodes that it hasn't is proper.
-use Rattle.std.proofs.Common.{◌≡◌, ℕ, zero, suc, Bool, true, false, cond, List, [], ◌∷◌, filter, length, refl, ap, ◌∙◌}
-use Rattle.std.specs.Prelude.{◌==◌, ◌&&◌, ◌||◌, if◌then◌else◌, is_some, nat_le, not}
+use Rattle.std.proofs.Common.{◌≡◌, ℕ, zero, suc, Bool, true, cond, List, [], ◌∷◌, filter, length, refl, ap, ◌∙◌}
+use Rattle.std.specs.Prelude.{◌==◌, ◌&&◌, ◌||◌, if◌then◌else◌, is_some, nat_le}
 use Rattle.std.specs.List.{list_all, list_any}
 use Rattle.std.proofs.lemmas.Bool.{and_from, and_parts}
 use Rattle.fs_laws.specs.Maps.{all_filter, filter_ascends}
 use Rattle.fs_laws.specs.Orders.{pairs}
 use Rattle.fs_model.specs.declared.inode.Entry.{Entry}
 use Rattle.fs_model.specs.declared.inode.Inode.{Inode}
-use Rattle.fs_model.specs.Files.{Blocks, Inodes, Tree, inode_at, pair_cmp}
+use Rattle.fs_model.specs.Files.{Inodes, Tree, inode_at, pair_cmp}
 use Rattle.fs_model.specs.Path.{is_dir}
-use Rattle.fs_model.specs.Proper.{IsProper, climbs, is_block_node, is_sound_dir, is_sound_inode, names_of}
+use Rattle.fs_model.specs.Proper.{IsProper, climbs, is_block_node, is_sound_inode, names_of}
 use Rattle.recovered_tree.specs.Files.{without_lone_blocks}
 
 any_alike : (p q : Entry → Bool) → ((e : Entry) → p e ≡ q e) → (es : List Entry) → list_any p es ≡ list_any q es

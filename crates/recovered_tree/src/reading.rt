@@ -25,6 +25,7 @@ use plain_backing::Tree;
 use sound_check::{ImageRead, read_image};
 use sound_image::the_tree_of_a_mount_is_proper;
 use std::alloc::Global;
+use std::thread::Threads;
 use ubi_volume::{AreaFault, Volume};
 use ubifs_base::Memory;
 
@@ -32,8 +33,8 @@ use ubifs_base::Memory;
 /// `read_image` of crate sound_check does. The volume has at least one LEB, and the shape that its superblock tells, if LEB 0 meets the
 /// rule on it. Nothing is written. After the whole check each recovered leaf's node is read once more. Takes memory for a fixed multiple
 /// of what the check takes and of the files; want of it is also told of files of 2^40 bytes or more.
-pub fn read_tree_of<R, V: Volume>(
-    _rt: &R,
+pub fn read_tree_of<R: Threads + Sync, V: Volume>(
+    rt: &R,
     alloc: Global,
     volume: &mut V,
 ) -> Result<RecoveredFiles, CheckFault>
@@ -43,7 +44,7 @@ pub fn read_tree_of<R, V: Volume>(
     ensures reads { ReadsOnly (V.state volume.old) (V.state volume.new) result }
 {
     the_tree_of_a_mount_is_proper();
-    let read = read_image(alloc, volume)?;
+    let read = read_image(rt, alloc, volume)?;
     match read_files(alloc, volume, &read) {
         Ok(tree) => Ok(RecoveredFiles { read, tree }),
         Err(AreaFault::Memory) => Err(CheckFault::Memory),

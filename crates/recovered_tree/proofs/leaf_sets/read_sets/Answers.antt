@@ -1,4 +1,4 @@
-use Rattle.std.proofs.Common.{◌≡◌, ℕ, List, Option, refl, sym, subst}
+use Rattle.std.proofs.Common.{ℕ, List, subst}
 use Rattle.std.specs.Prelude.{take, drop}
 use Rattle.recovered_tree.specs.Sets.{IsShownIn}
 use Rattle.recovered_tree.proofs.Kept.{kept_next, kept_start, sure_of_area}
