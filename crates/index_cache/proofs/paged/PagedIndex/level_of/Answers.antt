@@ -1,4 +1,4 @@
-use Rattle.std.proofs.Common.{◌≤◌, length, ap, sym, ◌∙◌, arith}
+use Rattle.std.proofs.Common.{length, ap, sym, ◌∙◌, arith}
 use Rattle.index_media.specs.KeyedRow.{bare}
 use Rattle.index_tree.specs.Levels.{levelled}
 use Rattle.index_media.specs.PlacedRow.{branches_of}
