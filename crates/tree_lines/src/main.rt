@@ -4,8 +4,6 @@
 //! stand in a word are `%` and two hex digits. Without a word nothing is printed. The status is 1 where there is no sound image.
 #![tactic(auto)]
 
-ghost use Rattle.std.specs.Prelude.{◌<◌};
-
 use fs_model::{Inode, Kind};
 use image_dump::open_image;
 use io_edges::{FileKeeper, Keeper, OutSink, Sink};
@@ -15,7 +13,7 @@ use sound_image::contents_say_one_thing;
 use std::alloc::{AllocError, Global};
 use std::env;
 use std::thread::Threads;
-use text_lines::{push_number, push_number_word};
+use text_lines::push_number;
 use ubifs_base::{Memory, crc32};
 
 /// The number of the root's inode (`UBIFS_ROOT_INO` of ubifs-media.h).
