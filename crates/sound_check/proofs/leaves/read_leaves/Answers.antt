@@ -1,4 +1,6 @@
 use Rattle.std.proofs.Common.{sym}
+use Rattle.std.proofs.Crossing.{crosses}
+use denote.Param.Send.{sendable}
 use Rattle.ubifs_base.specs.RawOf.{raw_of}
 use Rattle.sound_image.specs.Breaches.{IsFirstBreach}
 use Rattle.sound_image.specs.declared.rule.Rule.TheVariants as rules
@@ -16,7 +18,7 @@ returns-in_err-journal-clause-reads g c =
     exit_reads _ _ c.in_err-journal.field-0.0 c.from_residual.result c.from_residual.ensures.1 (failed_stage _ _ (g.V.Volume.state c.args.volume.now) (g.V.Volume.state c.read_journal.new.volume) c.in_err-journal.field-0.0 c.in_err-journal.ensures.reads)
 
 pub check_recovered-requires : goal.check_recovered-requires
-check_recovered-requires g c = record { geometry = c.in_ok-journal.ensures.geometry }
+check_recovered-requires g c = (search (sendable, crosses) depth 40, c.in_ok-journal.ensures.geometry)
 
 pub returns-in_err-tree-clause-broken : goal.returns-in_err-tree-clause-broken
 returns-in_err-tree-clause-broken g c =
