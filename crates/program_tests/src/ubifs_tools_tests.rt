@@ -2,8 +2,8 @@
 
 use io_edges::{KeepFault, Keeper, MemKeeper, MemSink};
 use std::alloc::Global;
-use std::thread::Threads;
 use std::collections::BTreeMap;
+use std::thread::Threads;
 use ubifs_base::{Bytes, Memory};
 use ubifs_tools::ubifs;
 
