@@ -10,18 +10,33 @@ use ubifs_tools::ubifs;
 const OUT_OF_MEMORY: u8 = 6;
 
 fn main(rt: HostRuntime) -> ExitCode {
-    match run(&rt) {
-        Ok(status) => ExitCode::from(status),
-        Err(_) => ExitCode::from(OUT_OF_MEMORY),
-    }
+    let Ok(edges) = open_edges(&rt) else {
+        return ExitCode::from(OUT_OF_MEMORY);
+    };
+    let Edges {
+        words,
+        mut keeper,
+        mut out,
+    } = edges;
+    ExitCode::from(ubifs(&rt, rt.alloc(), &words, &mut keeper, &mut out))
 }
 
-fn run(rt: &HostRuntime) -> io::Result<u8> {
+// What the program meets of the host: its words, the files, and standard output.
+#[derive(Drop)]
+struct Edges {
+    words: Vec<String>,
+    keeper: FileKeeper<HostRuntime>,
+    out: OutSink<HostRuntime>,
+}
+
+fn open_edges(rt: &HostRuntime) -> io::Result<Edges> {
     let mut words = Vec::new(rt.alloc());
     for word in env::args(rt)?.skip(1) {
         words.push(word)?;
     }
-    let mut keeper = FileKeeper::new(rt.alloc(), rt.clone()?);
-    let mut out = OutSink::new(rt.clone()?);
-    Ok(ubifs(rt, rt.alloc(), &words, &mut keeper, &mut out))
+    Ok(Edges {
+        words,
+        keeper: FileKeeper::new(rt.alloc(), rt.clone()?),
+        out: OutSink::new(rt.clone()?),
+    })
 }
