@@ -1,0 +1,2 @@
+//! What is taken of main LEBs into which nodes were laid one behind another?
+#![tactic(auto)]
