@@ -9,7 +9,7 @@ ghost use Rattle.fs_model.specs.Proper.{IsProper};
 ghost use Rattle.program_tests.specs.SampleTree.{inode_of, entry_of, sample, sample_inodes, sample_entries, sample_blocks};
 
 use fs_model::{Change, Entry, Group, Inode, Kind};
-use image_maker::lay_tree;
+use image_maker::{LaidLeaves, lay_tree};
 use media_leaf::{DataNode, DentNode, InoNode};
 use plain_backing::Tree;
 use std::alloc::Global;
@@ -129,8 +129,8 @@ fn plain() -> Result<Geometry, Memory>
     }
 }
 
-// The first bytes of the first two main LEBs.
-fn laid(alloc: Global) -> Result<(Vec<u8>, Vec<u8>), Memory> {
+// The first bytes of the first two main LEBs, and what is answered.
+fn laid(alloc: Global) -> Result<(Vec<u8>, Vec<u8>, LaidLeaves), Memory> {
     let geometry = plain()?;
     let tree = sample_tree(alloc)?;
     let shape = VolShape {
@@ -139,7 +139,7 @@ fn laid(alloc: Global) -> Result<(Vec<u8>, Vec<u8>), Memory> {
         leb_cnt: geometry.leb_cnt,
     };
     let mut volume = MemVolume::new(alloc, shape)?;
-    lay_tree(alloc, &mut volume, &geometry, &tree)?;
+    let answer = lay_tree(alloc, &mut volume, &geometry, &tree)?;
     let mut first = Vec::new(alloc);
     first.resize(1032, 0)?;
     let mut second = Vec::new(alloc);
@@ -150,7 +150,7 @@ fn laid(alloc: Global) -> Result<(Vec<u8>, Vec<u8>), Memory> {
     let Ok(()) = volume.read(11, 0, &mut second) else {
         return Err(Memory);
     };
-    Ok((first, second))
+    Ok((first, second, answer))
 }
 
 // Bytes of a LEB, none where it has fewer.
@@ -207,16 +207,30 @@ const ROWS: &[Row] = &[
     (848, 162, (0, 67, 2, 1, 2)),
 ];
 
-// Whether each node is laid, 0xCE up to a multiple of 8, a gap up to the unit, and nothing behind it.
+// Whether the leaf at this place of the list is told in the first main LEB, at this offset and of this length.
+fn is_told(answer: &LaidLeaves, at: usize, from: usize, len: usize) -> bool {
+    match answer.leaves.as_slice().get(at) {
+        Some(leaf) => leaf.lnum == 10 && leaf.offs as usize == from && leaf.len as usize == len,
+        None => false,
+    }
+}
+
+// Whether each node is laid and its place told, 0xCE up to a multiple of 8, a gap up to the unit, and nothing behind it.
 fn are_laid(alloc: Global) -> Result<bool, Memory> {
-    let (leb, next) = laid(alloc)?;
-    for (from, len, wanted) in ROWS {
+    let (leb, next, answer) = laid(alloc)?;
+    for (at, (from, len, wanted)) in ROWS.iter().enumerate() {
+        if !is_told(&answer, at, *from, *len) {
+            return Ok(false);
+        }
         if told(alloc, bytes_at(&leb, *from, *len))? != *wanted {
             return Ok(false);
         }
     }
     Ok(
-        bytes_at(&leb, 1010, 6) == [0xce; 6].as_slice()
+        answer.leaves.len() == ROWS.len()
+            && answer.used.as_slice() == [1016].as_slice()
+            && answer.sqnum == 11
+            && bytes_at(&leb, 1010, 6) == [0xce; 6].as_slice()
             && bytes_at(&leb, 1024, 8) == [0xff; 8].as_slice()
             && next.as_slice() == [0xff; 8].as_slice(),
     )
