@@ -19,7 +19,7 @@ use Rattle.index_tree.specs.declared.leaf.Leaf.{Leaf}
 use Rattle.image_maker.specs.declared.laid_leaves.LaidLeaves.{LaidLeaves}
 use Rattle.image_maker.specs.declared.open_leb.OpenLeb.{OpenLeb}
 use Rattle.image_maker.specs.Image.{leb_text, to_unit, AreHeld, IsImage}
-use Rattle.image_maker.specs.Laying.{HasTaken, IsLaid, IsClosed}
+use Rattle.image_maker.specs.Laying.{TakesLeaf, IsLaid, IsClosed}
 use Rattle.image_maker.specs.Places.{AreLaid, IsWrittenLeaf, numbered_leaves, numbered_text, placed_leaf, placed_rows, row_bytes}
 use Rattle.image_maker.proofs.Rows.{all-row, flat_texts, length_texts, numbered-append, placed-next, placed-none, texts_are}
 use Rattle.change_nodes.specs.Texts.{leaf_bytes, leaf_text}
@@ -33,7 +33,7 @@ buffer_bytes raw leaves open_leb holds h = ap length h.buffer ∙ length_texts h
 
 -- one node more
 pub IsLaid-append : (raw : RawGeometry) (leaves : List LeafNode) (leaf : LeafNode) (before after : OpenLeb) (holds : ℕ → List ℕ)
-    → HasTaken leaf before after
+    → TakesLeaf leaf before after
     → IsLaid raw leaves before holds
     → IsLaid raw (leaves ++ leaf ∷ []) after holds
 IsLaid-append raw leaves leaf before after holds new h =

@@ -38,7 +38,7 @@ pub record IsLaid (raw : RawGeometry) (leaves : List LeafNode) (open_leb : OpenL
   pub used : open_leb.used.items ≡ map row_bytes rows
 
 -- A node went into the buffer, and its leaf behind the others.
-pub record HasTaken (leaf : LeafNode) (before after : OpenLeb) : Type 0 where
+pub record TakesLeaf (leaf : LeafNode) (before after : OpenLeb) : Type 0 where
   pub lnum : after.lnum ≡ before.lnum
   pub sqnum : after.sqnum ≡ before.sqnum + 1
   pub bytes : after.bytes.items ≡ before.bytes.items ++ leaf_text before.sqnum 0 leaf

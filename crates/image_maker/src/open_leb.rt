@@ -8,7 +8,7 @@ ghost use Rattle.media_leaf.specs.LeafNode.{LeafNode, IsLeaf};
 ghost use Rattle.change_nodes.specs.Nodes.{node_of, HasPlainMode};
 ghost use Rattle.change_nodes.specs.Texts.{leaf_bytes, leaf_text};
 ghost use Rattle.image_maker.specs.Image.{to_unit, round_up};
-ghost use Rattle.image_maker.specs.Laying.{HasGeometry, HasTaken, IsLaid, IsReady, Lays, IsClosed};
+ghost use Rattle.image_maker.specs.Laying.{HasGeometry, TakesLeaf, IsLaid, IsReady, Lays, IsClosed};
 
 use crate::tree_leaves::leaf_at;
 use change_nodes::{text_len, write_text};
@@ -141,7 +141,7 @@ impl OpenLeb {
         requires mode { HasPlainMode leaf.now }
         requires number { self.old.sqnum < 2 ^ 63 }
         requires fits { length self.old.bytes.items ≤ 2097152 }
-        ensures { OnOk result (HasTaken (node_of leaf.now) self.old self.new) }
+        ensures { OnOk result (TakesLeaf (node_of leaf.now) self.old self.new) }
     {
         let offs = self.bytes.len() as u32;
         append_text(alloc, &mut self.bytes, leaf, self.sqnum)?;
