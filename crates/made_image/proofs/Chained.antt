@@ -1,7 +1,7 @@
 -- What is laid in three calls around main LEBs is an image of them.
 use Rattle.std.proofs.Common.{◌≡◌, ℕ, ◌+◌, ◌-◌, ◌^◌, ◌<◌, ◌≤◌, nat_lt, Bool, true, false, List, [], inl, inr, refl, ap, sym, ◌∙◌, subst, length, arith}
 use Rattle.std.specs.Prelude.{◌≢◌, ◌⊎◌, Result, Ok, Err, OnOk}
-use Rattle.std.proofs.lemmas.Bool.{ltb-false, ltb-true}
+use Rattle.std.proofs.lemmas.Bool.{lt-ltb, ltb-false, ltb-true}
 use Rattle.ubifs_base.specs.Areas.{lpt_first, main_first, main_lebs}
 use Rattle.ubifs_base.specs.Geometry.{IsGeometry}
 use Rattle.ubifs_base.specs.NodeLaws.{IsBytes}
@@ -17,7 +17,7 @@ use Rattle.media_sys.specs.declared.master.Master.{Master}
 use Rattle.media_sys.specs.declared.super_node.Super.{Super}
 use Rattle.small_areas.specs.Copies.{IsMasterLeb, master_copy, room_of}
 use Rattle.small_areas.specs.Masters.{IsLatest}
-use Rattle.lpt_area.specs.Written.{IsTreeLeb}
+use Rattle.lpt_area.specs.Written.{IsTreeLeb, next_lpt}
 use Rattle.index_media.specs.PlacedRow.{PlacedRow}
 use Rattle.leaf_map.specs.Kept.{Placed}
 use Rattle.sound_image.specs.Laid.{BeginsAlone}
@@ -49,7 +49,26 @@ no_master : (lnum : ℕ) → 2 < lnum → IsMasterLeb lnum → ⊥
 no_master lnum low (inl one) = omega (arith, low, one)
 no_master lnum low (inr two) = omega (arith, low, two)
 
+-- the first tree of properties is written to the first LEB of its area
+pub first_lpt : (geo : RawGeometry) → next_lpt geo 0 ≡ lpt_first geo
+first_lpt geo = rw (lt-ltb 0 (lpt_first geo) (omega arith)) refl
+
 -- ---- which LEBs stay
+pub masters_blank : (geo : RawGeometry) → IsGeometry geo → (a b : VolumeState) → b.leb_size ≡ a.leb_size → ((lnum : ℕ) → lnum ≢ lpt_first geo → IsSameLeb a b lnum)
+    → ((lnum : ℕ) → lnum < main_first geo → IsBlankLeb a lnum) → (lnum : ℕ) → IsMasterLeb lnum → IsBlankLeb b lnum
+masters_blank geo g a b size others blank lnum is =
+    let low : lnum < 3 = elim is [ inl one ↦ omega (arith, one) | inr two ↦ omega (arith, two) ] in
+    let same = others lnum (λ e. omega (arith, e, low)) in
+    let before = blank lnum (omega (arith, low)) in
+    record { blank = same.holds ∙ before.blank ∙ ap (λ (n : ℕ). filled n []) (sym size); open_there = same.written ∙ before.open_there }
+
+pub main_so_far : (geo : RawGeometry) → IsGeometry geo → (a b c : VolumeState) → ((lnum : ℕ) → lnum ≢ lpt_first geo → IsSameLeb a b lnum)
+    → ((lnum : ℕ) → lnum ≢ 3 → (IsMasterLeb lnum → ⊥) → IsSameLeb b c lnum) → (lnum : ℕ) → main_first geo ≤ lnum → IsSameLeb a c lnum
+main_so_far geo g a b c first second lnum low =
+    let logs = g.log_lebs.0 in
+    let lpt = g.lpt_lebs.0 in
+    IsSameLeb-then a b c lnum (first lnum (λ e. omega (arith, e, low, lpt))) (second lnum (λ e. omega (arith, e, low, logs)) (no_master lnum (omega (arith, low, logs))))
+
 module _ (geo : RawGeometry) (g : IsGeometry geo) (s0 s1 s2 s3 : VolumeState) (first : (lnum : ℕ) → lnum ≢ lpt_first geo → IsSameLeb s0 s1 lnum)
     (second : (lnum : ℕ) → lnum ≢ 3 → (IsMasterLeb lnum → ⊥) → IsSameLeb s1 s2 lnum) {P : List ℕ → Type 0} (works : WorksOn s2 s3 0 P) where
   pub stays : (lnum : ℕ) → 3 < lnum → IsSameLeb s1 s3 lnum

@@ -2,7 +2,7 @@ use Rattle.std.proofs.Common.{◌≡◌, ◌+◌, ◌<◌, List, sym, ◌∙◌,
 use Rattle.ubifs_base.specs.RawOf.{raw_of}
 use Rattle.ubi_volume.specs.FaultLaws.{HasAreaCause-before}
 use Rattle.media_sys.specs.SystemNode.{superblock, written}
-use Rattle.made_image.proofs.Chained.{all_bytes, finished, main_stays, sure_then}
+use Rattle.made_image.proofs.Chained.{all_bytes, finished, main_so_far, main_stays, masters_blank, sure_then}
 use Rattle.made_image.proofs.finishing.finish_image.Goals as goal
 
 pub returns-clause-made : goal.returns-clause-made
@@ -51,3 +51,13 @@ returns-clause-sure g c =
     let s2 = g.V.Volume.state c.lay_areas.new.volume in
     let s3 = g.V.Volume.state c.write_superblock.new.volume in
     sure_then s0 s2 s3 (sure_then s0 s1 s2 c.lay_properties.ensures.sure c.lay_areas.ensures.spent c.lay_areas.ensures.sure) c.write_superblock.ensures.works.spent c.write_superblock.ensures.sure
+
+pub lay_areas-requires-clause-blank : goal.lay_areas-requires-clause-blank
+lay_areas-requires-clause-blank g c =
+    masters_blank (raw_of c.args.geometry.now) c.args.geometry.now.in_range (g.V.Volume.state c.args.volume.now) (g.V.Volume.state c.lay_properties.new.volume) c.lay_properties.ensures.shape.leb_size
+    c.lay_properties.ensures.others c.requires.blank
+
+pub returns-in_err-lay_areas-clause-main : goal.returns-in_err-lay_areas-clause-main
+returns-in_err-lay_areas-clause-main g c lnum low =
+    main_so_far (raw_of c.args.geometry.now) c.args.geometry.now.in_range (g.V.Volume.state c.args.volume.now) (g.V.Volume.state c.lay_properties.new.volume) (g.V.Volume.state c.lay_areas.new.volume)
+    c.lay_properties.ensures.others c.lay_areas.ensures.others lnum low
