@@ -55,12 +55,11 @@ first_lpt geo = rw (lt-ltb 0 (lpt_first geo) (omega arith)) refl
 
 -- ---- which LEBs stay
 pub masters_blank : (geo : RawGeometry) → IsGeometry geo → (a b : VolumeState) → b.leb_size ≡ a.leb_size → ((lnum : ℕ) → lnum ≢ lpt_first geo → IsSameLeb a b lnum)
-    → ((lnum : ℕ) → lnum < main_first geo → IsBlankLeb a lnum) → (lnum : ℕ) → IsMasterLeb lnum → IsBlankLeb b lnum
-masters_blank geo g a b size others blank lnum is =
+    → ((lnum : ℕ) → lnum < main_first geo → a.holds lnum ≡ filled a.leb_size []) → ((lnum : ℕ) → IsMasterLeb lnum → a.written lnum ≡ 0) → (lnum : ℕ) → IsMasterLeb lnum → IsBlankLeb b lnum
+masters_blank geo g a b size others blank open_there lnum is =
     let low : lnum < 3 = elim is [ inl one ↦ omega (arith, one) | inr two ↦ omega (arith, two) ] in
     let same = others lnum (λ e. omega (arith, e, low)) in
-    let before = blank lnum (omega (arith, low)) in
-    record { blank = same.holds ∙ before.blank ∙ ap (λ (n : ℕ). filled n []) (sym size); open_there = same.written ∙ before.open_there }
+    record { blank = same.holds ∙ blank lnum (omega (arith, low)) ∙ ap (λ (n : ℕ). filled n []) (sym size); open_there = same.written ∙ open_there lnum is }
 
 pub main_so_far : (geo : RawGeometry) → IsGeometry geo → (a b c : VolumeState) → ((lnum : ℕ) → lnum ≢ lpt_first geo → IsSameLeb a b lnum)
     → ((lnum : ℕ) → lnum ≢ 3 → (IsMasterLeb lnum → ⊥) → IsSameLeb b c lnum) → (lnum : ℕ) → main_first geo ≤ lnum → IsSameLeb a c lnum
@@ -86,14 +85,14 @@ module _ (geo : RawGeometry) (g : IsGeometry geo) (s0 s1 s2 s3 : VolumeState) (f
   pub kept : (lnum : ℕ) → 0 < lnum → s3.holds lnum ≡ s2.holds lnum
   kept lnum low = (IsSameLeb-works s2 s3 0 lnum P (λ e. omega (arith, low, e)) works).holds
 
-  module _ (small : geo.big ≡ false) (main : FilledMain) (filled_main : AreMainFilled geo main) (sqnum : ℕ) (few : sqnum < 2 ^ 63) (uuid : List ℕ) (blank_there : (lnum : ℕ) → lnum < main_first geo → IsBlankLeb s0 lnum)
+  module _ (small : geo.big ≡ false) (main : FilledMain) (filled_main : AreMainFilled geo main) (sqnum : ℕ) (few : sqnum < 2 ^ 63) (uuid : List ℕ) (blank_there : (lnum : ℕ) → lnum < main_first geo → s0.holds lnum ≡ filled s0.leb_size [])
       (master : Master) (treed : HasTreeLaid geo main s1.holds master) (areas : AreLogAndMasters geo sqnum master s2.holds)
       (bytes : (lnum : ℕ) → IsBytes (s3.holds lnum)) (full : (lnum : ℕ) → lnum < geo.leb_cnt → length (s3.holds lnum) ≡ geo.leb_size)
       (none_written : (leb : List ℕ) → is_blank leb ≡ true → HasOrphanNodes leb) (meets : PropertiesMet) (laws : PropsLaws) (still : StaysInItsLebs) where
     blank : (lnum : ℕ) → 3 < lnum → lnum < main_first geo → lnum ≢ lpt_first geo → is_blank (s3.holds lnum) ≡ true
     blank lnum low high other =
         let B : List ℕ → Type 0 = λ leb. is_blank leb ≡ true in
-        let is : s3.holds lnum ≡ filled s0.leb_size [] = (all_stays lnum low other).holds ∙ (blank_there lnum high).blank in
+        let is : s3.holds lnum ≡ filled s0.leb_size [] = (all_stays lnum low other).holds ∙ blank_there lnum high in
         subst B (sym is) (blank_replicate (s0.leb_size - 0))
 
     pub finished : (all : List ℕ) (node : Super) (r : Result (Unit {0}) AreaFault) → node ≡ new_super geo uuid → OnOk r (HoldsAlone geo s3 0 all × BeginsWithSuper (s3.holds 0) node)

@@ -1,15 +1,16 @@
 // The areas around leaves and an index.
 
-ghost use Rattle.std.specs.Prelude.{◌≡◌, ◌≢◌, ◌<◌, ◌≤◌, ◌^◌, ◌+◌, ℕ, List, false, IfOk, OnOk};
+ghost use Rattle.std.specs.Prelude.{◌≡◌, ◌≢◌, ◌<◌, ◌≤◌, ◌^◌, ◌+◌, ℕ, List, [], false, IfOk, OnOk};
 ghost use Rattle.ubifs_base.specs.Areas.{lpt_first, main_first};
 ghost use Rattle.ubifs_base.specs.RawOf.{raw_of};
 ghost use Rattle.ubi_volume.specs.Faults.{HasAreaCause, StaysSureArea};
 ghost use Rattle.ubi_volume.specs.Frame.{IsSameLeb};
 ghost use Rattle.ubi_volume.specs.Geometry.{IsGeometryOf};
-ghost use Rattle.ubi_volume.specs.Volume.{SameShape};
+ghost use Rattle.ubi_volume.specs.Volume.{SameShape, filled};
+ghost use Rattle.small_areas.specs.Copies.{IsMasterLeb};
 ghost use Rattle.index_media.specs.PlacedRow.{PlacedRow};
 ghost use Rattle.leaf_map.specs.Kept.{Placed};
-ghost use Rattle.made_image.specs.Around.{AreMainFilled, HoldsIndexed, IsBlankLeb, IsMadeAround, HasTreeLaid};
+ghost use Rattle.made_image.specs.Around.{AreMainFilled, HoldsIndexed, IsMadeAround, HasTreeLaid};
 
 use crate::areas::lay_areas;
 use crate::filled_main::FilledMain;
@@ -41,7 +42,8 @@ pub fn finish_image<V: Volume>(
     requires small { geometry.now.big ≡ false }
     requires number { sqnum < 2 ^ 63 }
     requires filled { AreMainFilled (raw_of geometry.now) main.now }
-    requires blank { (lnum : ℕ) → lnum < main_first (raw_of geometry.now) → IsBlankLeb (V.state volume.old) lnum }
+    requires blank { (lnum : ℕ) → lnum < main_first (raw_of geometry.now) → (V.state volume.old).holds lnum ≡ filled (V.state volume.old).leb_size [] }
+    requires open_there { (lnum : ℕ) → IsMasterLeb lnum → (V.state volume.old).written lnum ≡ 0 }
     ensures made { OnOk result ((placed : PlacedRow) (nodes : List Placed) → HoldsIndexed (raw_of geometry.now) (V.state volume.old).holds main.now placed nodes
         → IsMadeAround (V.state volume.new).holds (raw_of geometry.now) uuid.now sqnum main.now placed nodes) }
     ensures main { (lnum : ℕ) → main_first (raw_of geometry.now) ≤ lnum → IsSameLeb (V.state volume.old) (V.state volume.new) lnum }

@@ -55,7 +55,7 @@ returns-clause-sure g c =
 pub lay_areas-requires-clause-blank : goal.lay_areas-requires-clause-blank
 lay_areas-requires-clause-blank g c =
     masters_blank (raw_of c.args.geometry.now) c.args.geometry.now.in_range (g.V.Volume.state c.args.volume.now) (g.V.Volume.state c.lay_properties.new.volume) c.lay_properties.ensures.shape.leb_size
-    c.lay_properties.ensures.others c.requires.blank
+    c.lay_properties.ensures.others c.requires.blank c.requires.open_there
 
 pub returns-in_err-lay_areas-clause-main : goal.returns-in_err-lay_areas-clause-main
 returns-in_err-lay_areas-clause-main g c lnum low =
