@@ -1,5 +1,5 @@
 -- What the properties of main LEBs say where nodes were laid.
-use Rattle.std.proofs.Common.{◌≡◌, ℕ, zero, suc, ◌+◌, ◌-◌, ◌%◌, ◌<◌, ◌≤◌, ◌==◌, Bool, true, false, List, [], ◌∷◌, ◌++◌, Some, inl, inr, length, drop, replicate, get_or, refl, ap, sym, ◌∙◌, subst, arith, length-append}
+use Rattle.std.proofs.Common.{◌≡◌, ℕ, zero, suc, ◌+◌, ◌-◌, ◌%◌, ◌<◌, ◌≤◌, ◌==◌, Bool, true, false, List, [], ◌∷◌, ◌++◌, Some, inl, inr, length, drop, replicate, get_or, refl, ap, ◌∙◌, subst, arith, length-append}
 use Rattle.std.specs.Prelude.{◌⊎◌, All, filter, map, slice_get}
 use Rattle.std.proofs.lemmas.Bool.{ne_eqb}
 use Rattle.std.proofs.lemmas.List.Elements.{All-nil, All-cons, All-head, All-tail, filter-append}
@@ -9,7 +9,7 @@ use Rattle.ubifs_base.specs.GeometryLaws.{leb_size-mod, min_io-mod}
 use Rattle.ubifs_base.specs.declared.raw_geometry.RawGeometry.{RawGeometry}
 use Rattle.media_lpt.specs.declared.lprop.Lprop.{Lprop}
 use Rattle.media_sys.specs.declared.branch.Branch.{Branch}
-use Rattle.index_media.specs.PlacedRow.{bytes_taken, node_end}
+use Rattle.index_media.specs.PlacedRow.{bytes_taken}
 use Rattle.leb_scan.specs.Text.{is_blank}
 use Rattle.lpt_area.specs.Tree.{empty_leb}
 use Rattle.lpt_area.specs.Written.{AreProps, IsLprop, in_units}
@@ -124,7 +124,7 @@ module _ (geo : RawGeometry) (g : IsGeometry geo) where
       let P : ℕ → Type 0 = λ bytes. (0 < bytes) × (bytes % 8 ≡ 0) × (bytes ≤ geo.leb_size) in
       let h = All-head P x used taken in
       All-cons (IsLprop geo) (prop_behind geo x kind) (map (λ bytes. prop_behind geo bytes kind) used ++ rest) (possible_behind x kind h.1 h.2)
-          (each_behind kind used rest (All-tail P x used taken) others)
+      (each_behind kind used rest (All-tail P x used taken) others)
 
   each_empty : (n : ℕ) → All (IsLprop geo) (replicate n (empty_leb geo))
   each_empty zero = All-nil (IsLprop geo)

@@ -1,12 +1,11 @@
 -- The addresses of a master over filled main LEBs lie in their areas.
-use Rattle.std.proofs.Common.{◌≡◌, ℕ, ◌+◌, ◌-◌, ◌<◌, ◌≤◌, None, length, refl, arith}
+use Rattle.std.proofs.Common.{◌≡◌, ℕ, ◌-◌, ◌<◌, ◌≤◌, None, refl, arith}
 use Rattle.std.proofs.lemmas.Bool.{le-ltb, lt-ltb}
-use Rattle.ubifs_base.specs.Areas.{lpt_first, main_first, main_lebs, orph_first}
+use Rattle.ubifs_base.specs.Areas.{lpt_first, main_first, orph_first}
 use Rattle.ubifs_base.specs.Geometry.{IsGeometry}
 use Rattle.ubifs_base.specs.Properties.{ltab_len, nnode_len}
 use Rattle.ubifs_base.specs.declared.raw_geometry.RawGeometry.{RawGeometry}
 use Rattle.media_sys.specs.declared.master.Master.{Master}
-use Rattle.lpt_area.specs.declared.lpt_at.LptAt.{LptAt}
 use Rattle.small_areas.specs.Addresses.{addresses_of, first_past, in_area, in_leb, past_limit}
 
 in_its_area : (lnum first past : ℕ) → first ≤ lnum → lnum < past → past_limit (in_area lnum first past) ≡ None

@@ -1,5 +1,5 @@
 -- Copies of a master that were written to blank LEBs stand there alone.
-use Rattle.std.proofs.Common.{◌≡◌, ℕ, zero, suc, ◌+◌, ◌-◌, ◌<◌, ◌≤◌, true, List, [], ◌∷◌, ◌++◌, length, take, drop, replicate, inl, inr, refl, ap, sym, ◌∙◌, subst, arith}
+use Rattle.std.proofs.Common.{◌≡◌, ℕ, zero, suc, ◌+◌, ◌-◌, ◌≤◌, true, List, [], ◌++◌, length, replicate, inl, inr, refl, ap, sym, ◌∙◌, subst, arith}
 use Rattle.std.specs.Prelude.{◌≢◌, Result, Ok, Err, OnOk}
 use Rattle.std.proofs.lemmas.Bool.{ltb-true}
 use Rattle.std.proofs.lemmas.List.{drop-replicate}
@@ -50,7 +50,7 @@ pub areas_laid : OneText → (geo : RawGeometry) (a b c : VolumeState) (sqnum : 
 areas_laid one geo a b c sqnum master (Err fault) size same blank log first copied others = tt
 areas_laid one geo a b c sqnum master (Ok done) {P} size same blank log first copied others =
     let still : (lnum : ℕ) → lnum ≢ 3 → IsMasterLeb lnum → b.holds lnum ≡ filled b.leb_size [] =
-        λ lnum other is. (IsSameLeb-works a b 3 lnum P other first).holds ∙ (blank lnum is).blank ∙ ap (λ (n : ℕ). filled n []) (sym same) in
+    λ lnum other is. (IsSameLeb-works a b 3 lnum P other first).holds ∙ (blank lnum is).blank ∙ ap (λ (n : ℕ). filled n []) (sym same) in
     let A : List ℕ → Type 0 = λ leb. BeginsAlone leb (written (sqnum + 1) 0 (commit_start (record { cmt_no = 0 }))) in
     let two : sqnum + 1 + 1 ≡ sqnum + 2 = omega arith in
     let three : sqnum + 1 + 2 ≡ sqnum + 3 = omega arith in

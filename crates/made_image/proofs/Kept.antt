@@ -14,7 +14,7 @@ use Rattle.index_media.specs.Stored.{IsStoredIndex}
 use Rattle.leaf_map.specs.Kept.{Placed}
 use Rattle.sound_image.specs.Leaves.{IsPlacedIn}
 use Rattle.laid_image.specs.Laid.{leaf_of}
-use Rattle.laid_main.specs.Filling.{AreFilled, Takes}
+use Rattle.laid_main.specs.Filling.{AreFilled}
 use Rattle.made_image.specs.Around.{HoldsIndexed, StandsPlain}
 use Rattle.made_image.specs.declared.filled_main.FilledMain.{FilledMain}
 
@@ -43,7 +43,7 @@ module _ (geo : RawGeometry) (c d : ℕ → List ℕ) (same : (lnum : ℕ) → m
   lebs_still first high (x ∷ branches) low within =
       let here = (All-head (Lies first high) x branches within).0 in
       All-cons (λ (k : ℕ). d k ≡ c k) x.lnum (map (λ (branch : Branch). branch.lnum) branches) (same x.lnum (omega (arith, low, here)))
-          (lebs_still first high branches low (All-tail (Lies first high) x branches within))
+      (lebs_still first high branches low (All-tail (Lies first high) x branches within))
 
   placed_still : (x : Placed) → main_first geo ≤ x.lnum → IsPlacedIn c x → IsPlacedIn d x
   placed_still x low is =
@@ -55,9 +55,10 @@ module _ (geo : RawGeometry) (c d : ℕ → List ℕ) (same : (lnum : ℕ) → m
   nodes_still high [] within stand = tt
   nodes_still high (x ∷ nodes) within stand =
       let P : Branch → Type 0 = Lies (main_first geo) high in
-      let rest = map branch_to (map leaf_of nodes) in
-      (record { stands = placed_still x (All-head P (branch_to (leaf_of x)) rest within).0 stand.0.stands; plain = stand.0.plain; shows = stand.0.shows },
-       nodes_still high nodes (All-tail P (branch_to (leaf_of x)) rest within) stand.1)
+      let rest = map branch_to (map leaf_of nodes) in (
+        record { stands = placed_still x (All-head P (branch_to (leaf_of x)) rest within).0 stand.0.stands; plain = stand.0.plain; shows = stand.0.shows },
+        nodes_still high nodes (All-tail P (branch_to (leaf_of x)) rest within) stand.1,
+      )
 
   pub indexed_still : (main : FilledMain) (placed : PlacedRow) (nodes : List Placed) → StaysInItsLebs → HoldsIndexed geo c main placed nodes → HoldsIndexed geo d main placed nodes
   indexed_still main placed nodes stays h =

@@ -1,11 +1,11 @@
 -- Contents in which the areas were laid around leaves and an index are a laid image of them.
-use Rattle.std.proofs.Common.{◌≡◌, ℕ, zero, suc, ◌+◌, ◌-◌, ◌*◌, ◌/◌, ◌%◌, ◌^◌, ◌<◌, ◌≤◌, ◌==◌, nat_lt, Bool, true, false, List, [], ◌∷◌, ◌++◌, Some, None, length, take, drop, get_or, refl, ap, sym, ◌∙◌, subst, arith}
+use Rattle.std.proofs.Common.{◌≡◌, ℕ, zero, suc, ◌+◌, ◌-◌, ◌%◌, ◌^◌, ◌<◌, ◌≤◌, ◌==◌, nat_lt, Bool, true, false, List, [], ◌∷◌, ◌++◌, Some, None, length, drop, get_or, refl, ap, sym, subst, arith}
 use Rattle.std.specs.Prelude.{◌≢◌, All, cond, filter, map, not, slice_get}
 use Rattle.std.specs.List.{AllByRecursion}
 use Rattle.std.specs.Option.{option_map_or}
 use Rattle.std.proofs.lemmas.Bool.{le-ltb, ltb-false, ltb-true}
 use Rattle.std.proofs.lemmas.List.Elements.{All-nil, All-cons, All-head, All-tail}
-use Rattle.ubifs_base.specs.Areas.{lpt_first, main_first, main_lebs, orph_first}
+use Rattle.ubifs_base.specs.Areas.{lpt_first, main_first, orph_first}
 use Rattle.ubifs_base.specs.Geometry.{IsGeometry}
 use Rattle.ubifs_base.specs.NodeLaws.{IsBytes}
 use Rattle.ubifs_base.specs.declared.raw_geometry.RawGeometry.{RawGeometry}
@@ -14,8 +14,8 @@ use Rattle.media_sys.specs.declared.branch.Branch.{Branch}
 use Rattle.media_sys.specs.declared.master.Master.{Master}
 use Rattle.index_tree.specs.Shape.{contents as leaves_in}
 use Rattle.index_tree.specs.declared.leaf.Leaf.{Leaf}
-use Rattle.index_media.specs.PlacedRow.{PlacedRow, all_nodes, branch_to, branches_of, bytes_taken, ended, lebs_of, node_at, plain}
-use Rattle.index_media.specs.Stored.{AreStored, IsIndexNodeAt}
+use Rattle.index_media.specs.PlacedRow.{PlacedRow, all_nodes, branch_to, bytes_taken, plain}
+use Rattle.index_media.specs.Stored.{AreStored}
 use Rattle.leb_scan.specs.Text.{is_blank}
 use Rattle.leb_scan.specs.declared.tail.Tail.TheVariants.{Clean}
 use Rattle.small_areas.specs.Addresses.{addresses_of, first_past}
@@ -33,7 +33,7 @@ use Rattle.laid_image.specs.Laid.{AreEndsBlank, IsLaidImage, IsLaidNode, ShowTre
 use Rattle.laid_main.specs.Filling.{AreFilled, Takes}
 use Rattle.laid_main.specs.Props.{AreTaken, laid_props, prop_behind}
 use Rattle.volume_format.specs.Format.{new_super}
-use Rattle.made_image.specs.Around.{AreLogAndMasters, AreMainFilled, HoldsIndexed, IsMadeAround, StandsPlain, made_master, props_over}
+use Rattle.made_image.specs.Around.{AreLogAndMasters, AreMainFilled, HoldsIndexed, StandsPlain, made_master, props_over}
 use Rattle.made_image.specs.declared.filled_main.FilledMain.{FilledMain}
 use Rattle.made_image.proofs.Addresses.{AreInAreas, none_past}
 use Rattle.made_image.proofs.Kept.{Lies}
@@ -116,16 +116,17 @@ module _ (geo : RawGeometry) (g : IsGeometry geo) (small : geo.big ≡ false) (m
   marked (x ∷ branches) within =
       let here = All-head (Lies behind past) x branches within in
       All-cons (λ (lnum : ℕ). is_marked_index geo props lnum ≡ true) x.lnum (map (λ (branch : Branch). branch.lnum) branches) (marked_at x.lnum here.0 here.1)
-          (marked branches (All-tail (Lies behind past) x branches within))
+      (marked branches (All-tail (Lies behind past) x branches within))
 
   stand : (xs : List Placed) → All (Lies first behind) (map branch_to (map leaf_of xs)) → AllByRecursion (StandsPlain c) xs → AllByRecursion (IsLaidNode c geo props) xs
   stand [] within stands = tt
   stand (x ∷ xs) within stands =
       let P : Branch → Type 0 = Lies first behind in
       let rest = map branch_to (map leaf_of xs) in
-      let here = All-head P (branch_to (leaf_of x)) rest within in
-      (record { stands = stands.0.stands; unmarked = unmarked x.lnum here.0 here.1; plain = stands.0.plain; shows = stands.0.shows },
-       stand xs (All-tail P (branch_to (leaf_of x)) rest within) stands.1)
+      let here = All-head P (branch_to (leaf_of x)) rest within in (
+        record { stands = stands.0.stands; unmarked = unmarked x.lnum here.0 here.1; plain = stands.0.plain; shows = stands.0.shows },
+        stand xs (All-tail P (branch_to (leaf_of x)) rest within) stands.1,
+      )
 
   -- ---- sums and ends
   sums : HasSums geo props placed

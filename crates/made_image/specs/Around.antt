@@ -1,5 +1,5 @@
 -- What is laid around leaves and an index of them that stand in the main LEBs, and which image comes of it.
-use Rattle.std.specs.Prelude.{◌≡◌, ℕ, ◌+◌, ◌-◌, ◌*◌, ◌<◌, nat_lt, if◌then◌else◌, IsTrue, List, [], ◌∷◌, get_or, length, map, sum, take}
+use Rattle.std.specs.Prelude.{◌≡◌, ℕ, ◌+◌, ◌-◌, ◌<◌, nat_lt, if◌then◌else◌, IsTrue, List, [], ◌∷◌, get_or, length, map, sum, take}
 use Rattle.std.specs.List.{AllByRecursion, sum_by}
 use Rattle.ubifs_base.specs.Areas.{lpt_first, main_first, main_lebs}
 use Rattle.ubifs_base.specs.declared.raw_geometry.RawGeometry.{RawGeometry}

@@ -1,5 +1,5 @@
 -- A new file system: which nodes are laid into a blank volume, and where.
-use Rattle.std.specs.Prelude.{◌≡◌, ◌≢◌, ℕ, ◌+◌, ◌-◌, ◌*◌, ◌<◌, ◌≤◌, IsTrue, Bool, true, false, List, [], ◌∷◌, replicate}
+use Rattle.std.specs.Prelude.{◌≡◌, ◌≢◌, ℕ, ◌+◌, ◌-◌, ◌*◌, ◌<◌, ◌≤◌, IsTrue, true, false, List, [], ◌∷◌, replicate}
 use Rattle.ubifs_base.specs.Areas.{main_first, main_lebs}
 use Rattle.ubifs_base.specs.declared.key.Key.TheVariants.{Ino}
 use Rattle.ubifs_base.specs.declared.raw_geometry.RawGeometry.{RawGeometry}

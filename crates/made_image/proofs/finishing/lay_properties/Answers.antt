@@ -1,4 +1,4 @@
-use Rattle.std.proofs.Common.{◌≡◌, ◌+◌, ◌<◌, List, refl, ap, sym, ◌∙◌, subst, length, arith}
+use Rattle.std.proofs.Common.{◌≡◌, List, ap, sym, ◌∙◌, subst, arith}
 use Rattle.ubifs_base.specs.RawOf.{raw_of}
 use Rattle.ubi_volume.specs.FrameLaws.{IsSameLeb-works}
 use Rattle.ubi_volume.specs.Volume.{ChangeUnderWay}
@@ -15,7 +15,7 @@ write_tree-requires-clause-props g c =
     let P : List Lprop → Type 0 = λ props. AreProps geo props in
     let room = c.requires.filled.room in
     let e : c.deref-3.result.now ≡ laid_props geo main.leaves.items main.index.items =
-        c.deref-3.ensures.value ∙ c.in_ok-props.ensures.props ∙ ap (λ used. laid_props geo used c.deref-2.result.now) c.deref.ensures.value ∙ ap (λ used. laid_props geo main.leaves.items used) c.deref-2.ensures.value in
+    c.deref-3.ensures.value ∙ c.in_ok-props.ensures.props ∙ ap (λ used. laid_props geo used c.deref-2.result.now) c.deref.ensures.value ∙ ap (λ used. laid_props geo main.leaves.items used) c.deref-2.ensures.value in
     subst P (sym e) (c.laid_lebs_have_their_properties.ensures.possible geo main.leaves.items main.index.items c.args.geometry.now.in_range c.requires.filled.leaves c.requires.filled.index (omega (arith, room)))
 
 pub returns-clause-others : goal.returns-clause-others
