@@ -1,5 +1,5 @@
 -- From a fresh volume to a whole image.
-use Rattle.std.proofs.Common.{◌≡◌, ℕ, ◌+◌, ◌-◌, ◌*◌, ◌<◌, ◌≤◌, List, [], length, ap, arith}
+use Rattle.std.proofs.Common.{◌≡◌, ℕ, ◌+◌, ◌-◌, ◌*◌, ◌^◌, ◌<◌, ◌≤◌, List, [], length, ap, arith}
 use Rattle.ubifs_base.specs.declared.raw_geometry.RawGeometry.{RawGeometry}
 use Rattle.ubifs_base.specs.Areas.{main_first, main_lebs}
 use Rattle.ubifs_base.specs.Geometry.{IsGeometry, leb_reserve}
@@ -9,11 +9,15 @@ use Rattle.fs_model.specs.Cover.{tree_bytes}
 use Rattle.fs_model.specs.Files.{Tree}
 use Rattle.fs_model.specs.Proper.{IsProper}
 use Rattle.image_maker.specs.declared.open_leb.OpenLeb.{OpenLeb}
-use Rattle.image_maker.specs.Image.{IsImage, shape_of}
+use Rattle.image_maker.specs.Image.{shape_of}
+use Rattle.image_maker.specs.Places.{AreLaid, IsWrittenLeaf, numbered_leaves}
+use Rattle.image_maker.specs.declared.laid_leaves.LaidLeaves.{LaidLeaves}
+use Rattle.std.specs.List.{AllByRecursion}
 use Rattle.image_maker.specs.Laying.{IsLaid, IsReady, IsClosed, Lays}
 use Rattle.image_maker.specs.Leaves.{live_leaves}
-use Rattle.image_maker.proofs.LayingLemmas.{IsImage-close}
-use Rattle.image_maker.proofs.Room.{HasRoom, IsLaid-new}
+use Rattle.image_maker.proofs.LayingLemmas.{AreLaid-close}
+use Rattle.image_maker.proofs.Grammar.{all_leaves, are_written}
+use Rattle.image_maker.proofs.Room.{HasRoom, IsLaid-new, length-le-sum_by, small}
 use Rattle.image_maker.proofs.Ready.{done_room}
 use Rattle.image_maker.proofs.TreeNodes.{live_leaves-are, sum_by-live_leaves, some_leaf}
 
@@ -22,9 +26,33 @@ pub record IsNew (raw : RawGeometry) (open_leb : OpenLeb) : Type 0 where
   pub lnum : open_leb.lnum ≡ main_first raw
   pub sqnum : open_leb.sqnum ≡ 1
   pub bytes : open_leb.bytes.items ≡ []
+  pub leaves : open_leb.leaves.items ≡ []
+  pub used : open_leb.used.items ≡ []
 
 fresh_laid : (raw : RawGeometry) (open_leb : OpenLeb) (state : VolumeState) → IsGeometry raw → IsBlank (shape_of raw) state → IsNew raw open_leb → IsLaid raw [] open_leb state.holds
-fresh_laid raw open_leb state geo blank new = IsLaid-new raw open_leb state.holds geo.leb_cnt.0 blank.holds new.lnum new.sqnum new.bytes
+fresh_laid raw open_leb state geo blank new = IsLaid-new raw open_leb state.holds geo.leb_cnt.0 blank.holds new.lnum new.sqnum new.bytes new.leaves new.used
+
+-- a tree that fits takes few bytes
+few_bytes : (raw : RawGeometry) (tree : Tree) → IsGeometry raw → tree_bytes tree ≤ (main_lebs raw - 6) * (raw.leb_size - leb_reserve raw) → tree_bytes tree ≤ 2 ^ 30
+few_bytes raw tree geo fits =
+    let most : (main_lebs raw - 6) * (raw.leb_size - leb_reserve raw) ≤ 2 ^ 30 = small raw (main_lebs raw - 6) (raw.leb_size - leb_reserve raw) geo (omega arith) (omega arith) in
+    omega (arith, fits, most)
+
+-- and its leaves are in the grammar, numbered from 1 on
+nodes_written : (raw : RawGeometry) (tree : Tree) → IsGeometry raw → IsProper tree → tree_bytes tree ≤ (main_lebs raw - 6) * (raw.leb_size - leb_reserve raw) → AllByRecursion IsWrittenLeaf (numbered_leaves 1 (live_leaves tree))
+nodes_written raw tree geo proper fits =
+    let few = few_bytes raw tree geo fits in
+    let sum = sum_by-live_leaves tree proper in
+    let count = length-le-sum_by (live_leaves tree) in
+    are_written 1 (live_leaves tree) (omega (arith, few, sum, count)) (live_leaves-are tree proper few)
+
+-- and few
+few_leaves : (raw : RawGeometry) (tree : Tree) → IsGeometry raw → IsProper tree → tree_bytes tree ≤ (main_lebs raw - 6) * (raw.leb_size - leb_reserve raw) → length (live_leaves tree) ≤ 2 ^ 30
+few_leaves raw tree geo proper fits =
+    let few = few_bytes raw tree geo fits in
+    let sum = sum_by-live_leaves tree proper in
+    let count = length-le-sum_by (live_leaves tree) in
+    omega (arith, few, sum, count)
 
 -- all leaves of a tree that fits can be laid
 pub tree_ready : (raw : RawGeometry) (tree : Tree) (open_leb : OpenLeb) (state : VolumeState) → IsGeometry raw → 24 ≤ main_lebs raw → IsProper tree
@@ -33,7 +61,7 @@ tree_ready raw tree open_leb state geo main proper fits blank new =
     let sum = sum_by-live_leaves tree proper in
     let empty : length open_leb.bytes.items ≡ 0 = ap length new.bytes in
     record {
-      nodes = live_leaves-are tree proper;
+      nodes = all_leaves (live_leaves tree) (live_leaves-are tree proper (few_bytes raw tree geo fits));
       done = [];
       laid = fresh_laid raw open_leb state geo blank new;
       main = main;
@@ -42,20 +70,22 @@ tree_ready raw tree open_leb state geo main proper fits blank new =
       geometry = record { leb_size = blank.leb_size; min_io = blank.min_io; leb_cnt = blank.leb_cnt; sure = blank.sure };
     }
 
--- then the last LEB can be closed
+-- then the last LEB can be closed, and five are left behind it
 pub last_room : (raw : RawGeometry) (tree : Tree) (before after : OpenLeb) (was state : VolumeState) → IsGeometry raw → IsReady raw (live_leaves tree) before was
-    → Lays raw (live_leaves tree) before was after state → after.lnum + 1 ≤ raw.leb_cnt
+    → Lays raw (live_leaves tree) before was after state → after.lnum + 6 ≤ raw.leb_cnt
 last_room raw tree before after was state geo ready l =
     let room : HasRoom raw after = done_room raw (live_leaves tree) before after was state geo ready l in
-    let lnum = room.lnum in
-    omega (arith, lnum)
+    room.lnum
 
 -- it has some bytes
 pub last_some : (raw : RawGeometry) (tree : Tree) (before after : OpenLeb) (was state : VolumeState) → IsProper tree → Lays raw (live_leaves tree) before was after state → 0 < length after.bytes.items
 last_some raw tree before after was state proper l = let some = some_leaf tree proper in l.some (omega (arith, some))
 
--- and the image is whole
-pub last_closed : (raw : RawGeometry) (tree : Tree) (before after closed : OpenLeb) (was state : VolumeState) (new : ℕ → List ℕ) → IsGeometry raw → IsBlank (shape_of raw) was → IsNew raw before
-    → after.lnum + 1 ≤ raw.leb_cnt → Lays raw (live_leaves tree) before was after state → IsClosed raw after closed state.holds new → IsImage raw (live_leaves tree) new
-last_closed raw tree before after closed was state new geo blank first room l closing =
-    IsImage-close raw (live_leaves tree) after closed state.holds new (omega (arith, room)) closing (l.laid [] (fresh_laid raw before was geo blank first))
+-- and all is laid
+pub last_closed : (raw : RawGeometry) (tree : Tree) (before after closed : OpenLeb) (was state : VolumeState) (new : ℕ → List ℕ) (laid : LaidLeaves) → IsGeometry raw → IsProper tree
+    → tree_bytes tree ≤ (main_lebs raw - 6) * (raw.leb_size - leb_reserve raw) → IsBlank (shape_of raw) was → IsNew raw before → after.lnum + 6 ≤ raw.leb_cnt
+    → laid.leaves.items ≡ closed.leaves.items → laid.used.items ≡ closed.used.items → laid.sqnum ≡ closed.sqnum
+    → Lays raw (live_leaves tree) before was after state → IsClosed raw after closed state.holds new → AreLaid raw (live_leaves tree) new laid
+last_closed raw tree before after closed was state new laid geo proper fits blank first room leaves used sqnum l closing =
+    AreLaid-close raw (live_leaves tree) after closed state.holds new laid room (last_some raw tree before after was state proper l) l.fits (nodes_written raw tree geo proper fits) (few_leaves raw tree geo proper fits) leaves used sqnum closing
+    (l.laid [] (fresh_laid raw before was geo blank first))

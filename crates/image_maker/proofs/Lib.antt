@@ -1,7 +1,9 @@
 pub mod Fresh
+pub mod Grammar
 pub mod Units
 pub mod LayingLemmas
 pub mod Ready
 pub mod Room
+pub mod Rows
 pub mod Sums
 pub mod TreeNodes

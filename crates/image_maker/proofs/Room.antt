@@ -18,7 +18,7 @@ leaf_bytes-pos (block node) = omega arith
 leaf_bytes-pos (entry node) = omega arith
 leaf_bytes-pos (truncation node) = omega arith
 
-length-le-sum_by : (leaves : List LeafNode) → length leaves ≤ sum_by leaf_bytes leaves
+pub length-le-sum_by : (leaves : List LeafNode) → length leaves ≤ sum_by leaf_bytes leaves
 length-le-sum_by [] = omega arith
 length-le-sum_by (leaf ∷ leaves) =
     let one = leaf_bytes-pos leaf in
@@ -27,7 +27,7 @@ length-le-sum_by (leaf ∷ leaves) =
     omega (arith, one, more, sum)
 
 -- all LEBs have fewer than 2 ^ 31 bytes
-small : (raw : RawGeometry) (n d : ℕ) → IsGeometry raw → n ≤ raw.leb_cnt → d ≤ raw.leb_size → n * d ≤ 2 ^ 30
+pub small : (raw : RawGeometry) (n d : ℕ) → IsGeometry raw → n ≤ raw.leb_cnt → d ≤ raw.leb_size → n * d ≤ 2 ^ 30
 small raw n d geo few less =
     let cnt : n ≤ raw.max_leb_cnt = let h = geo.leb_cnt.1 in omega (arith, h, few) in
     let a : n * d ≤ raw.max_leb_cnt * d = mul-le-mul_right d cnt in
@@ -51,8 +51,8 @@ room raw leaves open_leb holds geo main fits h =
     let beside = raw.leb_size - leb_reserve raw in
     let some : 0 < beside = let r = geo.leb_size.3 in omega (arith, r) in
     let taken = h.taken in
-    let lebs : length h.parts * beside ≤ (main_lebs raw - 6) * beside = omega (arith, taken, fits) in
-    let few : length h.parts ≤ main_lebs raw - 6 = le_of_mul-le-mul_right lebs some in
+    let lebs : length h.rows * beside ≤ (main_lebs raw - 6) * beside = omega (arith, taken, fits) in
+    let few : length h.rows ≤ main_lebs raw - 6 = le_of_mul-le-mul_right lebs some in
     let place = h.place in
     let number = h.number in
     let count = length-le-sum_by leaves in
@@ -69,13 +69,16 @@ pub IsLaid-new : (raw : RawGeometry) (open_leb : OpenLeb) (holds : ℕ → List 
     → open_leb.lnum ≡ main_first raw
     → open_leb.sqnum ≡ 1
     → open_leb.bytes.items ≡ []
+    → open_leb.leaves.items ≡ []
+    → open_leb.used.items ≡ []
     → IsLaid raw [] open_leb holds
-IsLaid-new raw open_leb holds inside blank lnum sqnum bytes =
+IsLaid-new raw open_leb holds inside blank lnum sqnum bytes leaves used =
     let empty : length open_leb.bytes.items ≡ 0 = ap length bytes in
     record {
-      parts = [];
+      rows = [];
       last = [];
       all = refl;
+      each = tt;
       buffer = bytes;
       place = omega (arith, lnum);
       number = sqnum;
@@ -85,4 +88,6 @@ IsLaid-new raw open_leb holds inside blank lnum sqnum bytes =
         behind = λ n late within. blank n within;
       };
       taken = omega (arith, empty);
+      leaves_are = leaves;
+      used = used;
     }

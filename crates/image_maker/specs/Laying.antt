@@ -1,16 +1,18 @@
 -- An image that is under way: LEBs that are written, and one that still takes nodes.
-use Rattle.std.specs.Prelude.{◌≡◌, ◌≢◌, ℕ, ◌+◌, ◌-◌, ◌*◌, ◌<◌, ◌≤◌, suc, List, [], ◌++◌, length, sum_by}
+use Rattle.std.specs.Prelude.{◌≡◌, ◌≢◌, ℕ, ◌+◌, ◌-◌, ◌*◌, ◌<◌, ◌≤◌, suc, List, [], ◌∷◌, ◌++◌, length, map, sum_by}
 use Rattle.std.specs.List.{concat, flat_map, AllByRecursion}
 use Rattle.ubifs_base.specs.declared.raw_geometry.RawGeometry.{RawGeometry}
 use Rattle.ubifs_base.specs.Areas.{main_first, main_lebs}
 use Rattle.ubifs_base.specs.Geometry.{leb_reserve}
 use Rattle.ubi_volume.specs.Volume.{VolumeState, filled}
 use Rattle.media_leaf.specs.LeafNode.{LeafNode, IsLeaf}
-use Rattle.change_nodes.specs.Texts.{leaf_bytes}
+use Rattle.change_nodes.specs.Texts.{leaf_bytes, leaf_text}
+use Rattle.leaf_map.specs.Kept.{kept_at}
 use Rattle.fs_model.specs.declared.inode.Entry.{Entry}
 use Rattle.fs_model.specs.Directory.{entries_in}
 use Rattle.fs_model.specs.Files.{Tree, Inodes}
-use Rattle.image_maker.specs.Image.{leaf_texts, to_unit, AreHeld}
+use Rattle.image_maker.specs.Image.{to_unit, AreHeld}
+use Rattle.image_maker.specs.Places.{FitsLeb, numbered_leaves, numbered_text, placed_leaf, placed_rows, row_bytes}
 use Rattle.image_maker.specs.declared.open_leb.OpenLeb.{OpenLeb}
 
 -- the volume is of this geometry, and no call of it fails
@@ -20,23 +22,37 @@ pub record HasGeometry (raw : RawGeometry) (state : VolumeState) : Type 0 where
   pub leb_cnt : state.leb_cnt ≡ raw.leb_cnt
   pub sure : state.sure
 
--- These leaves are laid: whole parts stand in LEBs, and the rest in the buffer of the open LEB. Each LEB that is
--- written took more bytes than it has beside its reserve.
+-- These leaves are laid: whole rows stand in LEBs, and the last in the buffer of the open LEB. Each LEB that is
+-- written took more bytes than it has beside its reserve. The open LEB knows all places, the bytes of each row and the next number.
 pub record IsLaid (raw : RawGeometry) (leaves : List LeafNode) (open_leb : OpenLeb) (holds : ℕ → List ℕ) : Type 0 where
-  pub parts : List (List (List ℕ))
-  pub last : List (List ℕ)
-  pub all : flat_map (λ part. part) parts ++ last ≡ leaf_texts 1 leaves
-  pub buffer : open_leb.bytes.items ≡ concat last
-  pub place : open_leb.lnum ≡ main_first raw + length parts
+  pub rows : List (List (ℕ × LeafNode))
+  pub last : List (ℕ × LeafNode)
+  pub all : flat_map (λ row. row) rows ++ last ≡ numbered_leaves 1 leaves
+  pub each : AllByRecursion (FitsLeb raw) rows
+  pub buffer : open_leb.bytes.items ≡ concat (map numbered_text last)
+  pub place : open_leb.lnum ≡ main_first raw + length rows
   pub number : open_leb.sqnum ≡ suc (length leaves)
-  pub held : AreHeld raw parts holds
-  pub taken : length parts * (raw.leb_size - leb_reserve raw) + length open_leb.bytes.items ≤ sum_by leaf_bytes leaves
+  pub held : AreHeld raw (map (map numbered_text) rows) holds
+  pub taken : length rows * (raw.leb_size - leb_reserve raw) + length open_leb.bytes.items ≤ sum_by leaf_bytes leaves
+  pub leaves_are : open_leb.leaves.items ≡ map (λ x. (kept_at x).leaf) (placed_rows (main_first raw) (rows ++ last ∷ []))
+  pub used : open_leb.used.items ≡ map row_bytes rows
 
--- The buffer went into its LEB, with a gap up to the unit, and the next LEB is open.
+-- A node went into the buffer, and its leaf behind the others.
+pub record HasTaken (leaf : LeafNode) (before after : OpenLeb) : Type 0 where
+  pub lnum : after.lnum ≡ before.lnum
+  pub sqnum : after.sqnum ≡ before.sqnum + 1
+  pub bytes : after.bytes.items ≡ before.bytes.items ++ leaf_text before.sqnum 0 leaf
+  pub len : length after.bytes.items ≡ length before.bytes.items + leaf_bytes leaf
+  pub leaves : after.leaves.items ≡ before.leaves.items ++ (kept_at (placed_leaf before.lnum (length before.bytes.items) (before.sqnum, leaf))).leaf ∷ []
+  pub used : after.used.items ≡ before.used.items
+
+-- The buffer went into its LEB, with a gap up to the unit, and the next LEB is open. How many bytes nodes take of it is noted.
 pub record IsClosed (raw : RawGeometry) (before after : OpenLeb) (old new : ℕ → List ℕ) : Type 0 where
   pub lnum : after.lnum ≡ before.lnum + 1
   pub sqnum : after.sqnum ≡ before.sqnum
   pub bytes : after.bytes.items ≡ []
+  pub leaves : after.leaves.items ≡ before.leaves.items
+  pub used : after.used.items ≡ before.used.items ++ length before.bytes.items ∷ []
   pub holds : new before.lnum ≡ filled raw.leb_size (to_unit raw.min_io before.bytes.items)
   pub others : (n : ℕ) → n ≢ before.lnum → new n ≡ old n
 

@@ -1,3 +1,4 @@
 pub mod Leaves
 pub mod Image
+pub mod Places
 pub mod Laying

@@ -1,6 +1,6 @@
 // A tree, laid into the main LEBs of a fresh volume.
 
-ghost use Rattle.std.specs.Prelude.{◌≡◌, ◌-◌, ◌*◌, ◌^◌, ◌<◌, ◌≤◌, ◌==◌, map, filter, OnOk};
+ghost use Rattle.std.specs.Prelude.{◌≡◌, ◌-◌, ◌*◌, ◌^◌, ◌<◌, ◌≤◌, ◌==◌, map, filter, OnOk, IfOk};
 ghost use Rattle.ubifs_base.specs.Areas.{main_lebs};
 ghost use Rattle.ubifs_base.specs.Geometry.{leb_reserve};
 ghost use Rattle.ubifs_base.specs.RawOf.{raw_of};
@@ -10,8 +10,10 @@ ghost use Rattle.fs_model.specs.Cover.{tree_bytes};
 ghost use Rattle.fs_model.specs.Proper.{IsProper};
 ghost use Rattle.image_maker.specs.Leaves.{block_leaf, entry_leaf, leaves_of, live_leaves};
 ghost use Rattle.image_maker.specs.Image.{IsImage, shape_of};
+ghost use Rattle.image_maker.specs.Places.{AreLaid};
 ghost use Rattle.image_maker.specs.Laying.{HasGeometry, IsReady, Lays, HavePlainModes};
 
+use crate::laid_leaves::LaidLeaves;
 use crate::open_leb::OpenLeb;
 use crate::tree_leaves::{block_leaf, entry_leaf, inode_leaf};
 use fs_model::{Inode, Rows};
@@ -24,24 +26,30 @@ use ubifs_base::{Geometry, Memory};
 /// Lays the nodes of a tree into the main LEBs of a fresh volume: inode by inode in order of number, behind each inode's
 /// node those of its blocks in order of number, and then those of the entries in it in order of hash and name (the node
 /// table of ubifs-media.h). A directory's links and size are reckoned. A LEB takes nodes while they fit, and no other LEB
-/// is written. The error is want of memory, and some LEBs may be written then.
+/// is written. Answers where each node stands, how many bytes nodes take of each LEB, and the next sequence number.
+/// The error is want of memory, and some LEBs may be written then.
 pub fn lay_tree(
     alloc: Global,
     volume: &mut MemVolume,
     geometry: &Geometry,
     tree: &Tree,
-) -> Result<(), Memory>
+) -> Result<LaidLeaves, Memory>
     requires volume { IsBlank (shape_of (raw_of geometry.now)) (state_of volume.old) }
     requires main { 24 ≤ main_lebs (raw_of geometry.now) }
     requires proper { IsProper tree.now }
     requires fits { tree_bytes tree.now ≤ (main_lebs (raw_of geometry.now) - 6) * (geometry.now.leb_size - leb_reserve (raw_of geometry.now)) }
     ensures image { OnOk result (IsImage (raw_of geometry.now) (live_leaves tree.now) (state_of volume.new).holds) }
+    ensures laid { IfOk result (λ laid. AreLaid (raw_of geometry.now) (live_leaves tree.now) (state_of volume.new).holds laid) }
     ensures shape { SameShape (state_of volume.old) (state_of volume.new) }
 {
     let mut open_leb = OpenLeb::new(alloc, geometry)?;
     lay_inodes(alloc, volume, geometry, &mut open_leb, tree)?;
     open_leb.close(geometry, volume)?;
-    Ok(())
+    Ok(LaidLeaves {
+        leaves: open_leb.leaves,
+        used: open_leb.used,
+        sqnum: open_leb.sqnum,
+    })
 }
 
 // Lays the nodes of all inodes.

@@ -6,8 +6,10 @@
 //! the closed LEBs are fewer than the bytes of the tree leave room for.
 #![tactic(auto)]
 
+mod laid_leaves;
 mod layout;
 mod open_leb;
 mod tree_leaves;
 
+pub use crate::laid_leaves::LaidLeaves;
 pub use crate::layout::lay_tree;

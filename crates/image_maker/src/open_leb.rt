@@ -8,20 +8,25 @@ ghost use Rattle.media_leaf.specs.LeafNode.{LeafNode, IsLeaf};
 ghost use Rattle.change_nodes.specs.Nodes.{node_of, HasPlainMode};
 ghost use Rattle.change_nodes.specs.Texts.{leaf_bytes, leaf_text};
 ghost use Rattle.image_maker.specs.Image.{to_unit, round_up};
-ghost use Rattle.image_maker.specs.Laying.{HasGeometry, IsLaid, IsReady, Lays, IsClosed};
+ghost use Rattle.image_maker.specs.Laying.{HasGeometry, HasTaken, IsLaid, IsReady, Lays, IsClosed};
 
+use crate::tree_leaves::leaf_at;
 use change_nodes::{text_len, write_text};
 use fs_model::Change;
+use index_tree::Leaf;
 use std::alloc::Global;
 use ubi_volume::{MemVolume, Volume};
 use ubifs_base::{Geometry, Memory, fill_gap};
 
-// The number of the LEB, the sequence number of the next node, and the bytes of the nodes that it took.
+// The number of the LEB, the sequence number of the next node, and the bytes of the nodes that it took. Then all leaves that were laid,
+// and of each LEB before it the bytes that nodes take.
 #[derive(Drop)]
 pub(crate) struct OpenLeb {
     pub(crate) lnum: u32,
     pub(crate) sqnum: u64,
     pub(crate) bytes: Vec<u8>,
+    pub(crate) leaves: Vec<Leaf>,
+    pub(crate) used: Vec<u32>,
 }
 
 impl OpenLeb {
@@ -30,11 +35,15 @@ impl OpenLeb {
         ensures lnum { IfOk result (λ leb. leb.lnum ≡ main_first (raw_of geometry.now)) }
         ensures sqnum { IfOk result (λ leb. leb.sqnum ≡ 1) }
         ensures bytes { IfOk result (λ leb. leb.bytes.items ≡ []) }
+        ensures leaves { IfOk result (λ leb. leb.leaves.items ≡ []) }
+        ensures used { IfOk result (λ leb. leb.used.items ≡ []) }
     {
         Ok(OpenLeb {
             lnum: geometry.main_first(),
             sqnum: 1,
             bytes: Vec::with_capacity(alloc, geometry.leb_size as usize)?,
+            leaves: Vec::new(alloc),
+            used: Vec::new(alloc),
         })
     }
 
@@ -118,6 +127,7 @@ impl OpenLeb {
         ensures closed { OnOk result (IsClosed (raw_of geometry.now) self.old self.new (state_of volume.old).holds (state_of volume.new).holds) }
         ensures geometry { HasGeometry (raw_of geometry.now) (state_of volume.new) }
     {
+        self.used.push(self.bytes.len() as u32)?;
         fill_unit(&mut self.bytes, geometry.min_io as usize)?;
         volume.change(self.lnum, &self.bytes).unwrap();
         self.bytes.clear();
@@ -131,12 +141,11 @@ impl OpenLeb {
         requires mode { HasPlainMode leaf.now }
         requires number { self.old.sqnum < 2 ^ 63 }
         requires fits { length self.old.bytes.items ≤ 2097152 }
-        ensures lnum { OnOk result (self.new.lnum ≡ self.old.lnum) }
-        ensures sqnum { OnOk result (self.new.sqnum ≡ self.old.sqnum + 1) }
-        ensures bytes { OnOk result (self.new.bytes.items ≡ self.old.bytes.items ++ leaf_text self.old.sqnum 0 (node_of leaf.now)) }
-        ensures len { OnOk result (length self.new.bytes.items ≡ length self.old.bytes.items + leaf_bytes (node_of leaf.now)) }
+        ensures { OnOk result (HasTaken (node_of leaf.now) self.old self.new) }
     {
+        let offs = self.bytes.len() as u32;
         append_text(alloc, &mut self.bytes, leaf, self.sqnum)?;
+        self.leaves.push(leaf_at(leaf, self.lnum, offs))?;
         self.sqnum += 1;
         Ok(())
     }

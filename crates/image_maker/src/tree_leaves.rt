@@ -7,10 +7,17 @@ ghost use Rattle.fs_model.specs.Files.{Tree as FilesTree};
 ghost use Rattle.change_nodes.specs.Nodes.{node_of, HasPlainMode};
 ghost use Rattle.image_maker.specs.Leaves.{stored_size, inode_leaf, block_leaf, entry_leaf};
 ghost use Rattle.image_maker.specs.Laying.{AreListed};
+ghost use Rattle.image_maker.specs.Places.{placed_leaf};
+ghost use Rattle.leaf_map.specs.Kept.{kept_at, node_key};
+ghost use Rattle.media_leaf.specs.LeafNode.{IsLeaf};
+ghost use Rattle.ubifs_base.specs.declared.key.Key.TheVariants.{Dent};
+ghost use Rattle.ubifs_base.specs.R5.{r5_of};
 
+use change_nodes::node_len;
 use fs_model::{Change, Entry, Inode, Kind};
+use index_tree::Leaf;
 use op_plans::{dir_links, dir_size};
-use ubifs_base::{Bytes, Memory};
+use ubifs_base::{Bytes, Key, Memory, Name, r5};
 
 // The change that makes an inode's node, in which these entries are.
 pub(crate) fn inode_leaf(ino: u32, inode: &Inode, entries: &[Entry]) -> Result<Change, Memory>
@@ -89,4 +96,43 @@ pub(crate) fn entry_leaf(entry: Entry) -> Change
     ensures node { node_of result ≡ entry_leaf entry }
 {
     Change::SetEntry { entry }
+}
+
+// The leaf that a node becomes at this place of a LEB.
+pub(crate) fn leaf_at(leaf: &Change, lnum: u32, offs: u32) -> Leaf
+    requires node { IsLeaf (node_of leaf.now) }
+    ensures { (sqnum : ℕ) → result ≡ (kept_at (placed_leaf lnum offs (sqnum, node_of leaf.now))).leaf }
+{
+    Leaf {
+        key: key_at(leaf),
+        lnum,
+        offs,
+        len: node_len(leaf) as u32,
+    }
+}
+
+// The key of a node, of a truncation that of its inode.
+fn key_at(leaf: &Change) -> Key
+    ensures { result ≡ node_key (node_of leaf.now) }
+{
+    match leaf {
+        Change::SetInode { ino, .. } | Change::DropInode { ino } | Change::CutBlocks { ino, .. } =>
+            { Key::Ino { ino: *ino } }
+        Change::SetEntry { entry } => name_key(entry.dir, &entry.name),
+        Change::DropEntry { dir, name } => name_key(*dir, name),
+        Change::SetBlock { ino, block, .. } => Key::Block {
+            ino: *ino,
+            block: *block,
+        },
+    }
+}
+
+// The key of a name.
+fn name_key(dir: u32, name: &Name) -> Key
+    ensures { result ≡ Dent dir (r5_of name.now) }
+{
+    Key::Dent {
+        dir,
+        hash: r5(name.as_slice()),
+    }
 }

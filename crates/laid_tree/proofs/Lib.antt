@@ -1,3 +1,7 @@
+pub mod Keys
+pub mod Laid
 pub mod Places
 pub mod Plain
+pub mod Rows
+pub mod Stands
 pub mod Together

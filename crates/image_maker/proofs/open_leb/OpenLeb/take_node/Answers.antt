@@ -6,6 +6,5 @@ use Rattle.image_maker.proofs.open_leb.OpenLeb.take_node.Goals as goal
 
 pub returns-clause-laid : goal.returns-clause-laid
 returns-clause-laid c = λ leaves laid.
-    let taken = c.in_ok-append.ensures in
     IsLaid-append (raw_of c.args.geometry.now) leaves (node_of c.args.leaf.now) c.make_room.new.self c.append.new.self (state_of c.make_room.new.volume).holds
-    taken.lnum taken.sqnum taken.bytes taken.len (c.in_ok-make_room.ensures.laid leaves laid)
+    c.in_ok-append.ensures (c.in_ok-make_room.ensures.laid leaves laid)
