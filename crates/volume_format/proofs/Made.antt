@@ -46,7 +46,8 @@ use Rattle.laid_image.specs.Laid.{AreEndsBlank, IsLaidImage, ShowTree, laid_imag
 use Rattle.small_areas.specs.Addresses.{addresses_of, first_past}
 use Rattle.volume_format.proofs.Addresses.{IsInArea, new_placed}
 use Rattle.sound_image.specs.Superblock.{BeginsWithSuper, HasSuperblock}
-use Rattle.volume_format.specs.Format.{IsNew, index_branch, new_master, new_props, new_super, prop_behind, root_index, root_leaf, root_node, root_placed}
+use Rattle.laid_main.specs.Props.{prop_behind}
+use Rattle.volume_format.specs.Format.{IsNew, index_branch, new_master, new_props, new_super, root_index, root_leaf, root_node, root_placed}
 
 -- a node that stands alone in a LEB stands at its start
 alone_front : (leb node : List ℕ) (n : ℕ) → BeginsAlone leb node → length node ≡ n → take n leb ≡ node

@@ -8,7 +8,8 @@ use Rattle.ubifs_base.specs.GeometryLaws.{leb_size-mod}
 use Rattle.ubifs_base.specs.declared.raw_geometry.RawGeometry.{RawGeometry}
 use Rattle.media_lpt.specs.declared.lprop.Lprop.{Lprop}
 use Rattle.lpt_area.specs.Written.{AreProps, IsLprop}
-use Rattle.volume_format.specs.Format.{new_props, prop_behind}
+use Rattle.laid_main.specs.Props.{prop_behind}
+use Rattle.volume_format.specs.Format.{new_props}
 
 so_many : (n : ℕ) (prop : Lprop) → length (replicate n prop) ≡ n
 so_many zero prop = refl

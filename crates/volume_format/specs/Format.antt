@@ -1,5 +1,5 @@
 -- A new file system: which nodes are laid into a blank volume, and where.
-use Rattle.std.specs.Prelude.{◌≡◌, ◌≢◌, ℕ, ◌+◌, ◌-◌, ◌*◌, ◌<◌, ◌≤◌, IsTrue, Bool, true, false, List, [], ◌∷◌, replicate}
+use Rattle.std.specs.Prelude.{◌≡◌, ◌≢◌, ℕ, ◌+◌, ◌-◌, ◌*◌, ◌<◌, ◌≤◌, IsTrue, true, false, List, [], ◌∷◌, replicate}
 use Rattle.ubifs_base.specs.Areas.{main_first, main_lebs}
 use Rattle.ubifs_base.specs.declared.key.Key.TheVariants.{Ino}
 use Rattle.ubifs_base.specs.declared.raw_geometry.RawGeometry.{RawGeometry}
@@ -15,6 +15,7 @@ use Rattle.media_sys.specs.declared.master.Master.{Master}
 use Rattle.media_sys.specs.declared.super_node.Super.{Super}
 use Rattle.leb_scan.specs.Text.{is_blank}
 use Rattle.index_tree.specs.declared.leaf.Leaf.{Leaf}
+use Rattle.laid_main.specs.Props.{prop_behind}
 use Rattle.lpt_area.specs.Written.{IsWritten, in_units, next_lpt}
 use Rattle.lpt_area.specs.declared.lpt_at.LptAt.{LptAt}
 use Rattle.small_areas.specs.Copies.{IsMasterLeb}
@@ -67,10 +68,6 @@ root_index geo = record { level = 0; branches = record { lnum = main_first geo; 
 
 abbrev pub index_branch : RawGeometry → Branch
 index_branch geo = record { lnum = main_first geo + 1; offs = 0; len = 48; key = Ino 1 }
-
--- what is left of a main LEB behind so many bytes and their units
-abbrev pub prop_behind : RawGeometry → ℕ → Bool → Lprop
-prop_behind geo len is_index = record { free = geo.leb_size - in_units geo.min_io len; dirty = in_units geo.min_io len - len; index = is_index }
 
 -- the properties of the main LEBs: the others are empty
 abbrev pub new_props : RawGeometry → List Lprop

@@ -10,17 +10,16 @@ ghost use Rattle.ubi_volume.specs.Volume.{SameShape};
 ghost use Rattle.small_areas.specs.Copies.{IsMasterLeb};
 ghost use Rattle.small_areas.specs.Masters.{IsLatest};
 ghost use Rattle.small_areas.specs.declared.placed_master.PlacedMaster.{PlacedMaster as APlacedMaster};
-ghost use Rattle.volume_format.specs.Format.{AreAreasLaid, IsMainLaid, IsNew, IsUnwritten, new_master, new_super};
+ghost use Rattle.volume_format.specs.Format.{AreAreasLaid, IsMainLaid, IsNew, IsUnwritten, new_master};
 
 use crate::index::write_index;
 use crate::log_start::start_log;
 use crate::master::first_master;
 use crate::properties::new_properties;
 use crate::root::write_root;
-use crate::superblock::write_superblock;
+use crate::superblock::{new_superblock, write_superblock};
 use laid_image::a_laid_image_is_sound;
 use lpt_area::{LptAt, write_tree};
-use media_sys::Super;
 use small_areas::write_master;
 use sound_image::what_is_written_meets_the_rules;
 use std::alloc::Global;
@@ -117,34 +116,4 @@ fn put_masters<V: Volume>(
     let mut sqnum = 3;
     write_master(volume, geometry, &master, &mut sqnum, &mut leb)?;
     Ok(())
-}
-
-// The superblock of a volume of this geometry.
-fn new_superblock(geometry: &Geometry, uuid: &[u8; 16]) -> Super
-    ensures { result ≡ new_super (raw_of geometry.now) uuid.now }
-{
-    Super {
-        key_hash: 0,
-        key_fmt: 0,
-        flags: 0,
-        min_io_size: geometry.min_io,
-        leb_size: geometry.leb_size,
-        leb_cnt: geometry.leb_cnt,
-        max_leb_cnt: geometry.max_leb_cnt,
-        max_bud_bytes: 8 * geometry.leb_size as u64,
-        log_lebs: geometry.log_lebs,
-        lpt_lebs: geometry.lpt_lebs,
-        orph_lebs: geometry.orph_lebs,
-        jhead_cnt: 1,
-        fanout: geometry.fanout,
-        lsave_cnt: geometry.lsave_cnt,
-        fmt_version: 4,
-        default_compr: 0,
-        rp_uid: 0,
-        rp_gid: 0,
-        rp_size: 0,
-        time_gran: 1_000_000_000,
-        uuid: *uuid,
-        ro_compat_version: 0,
-    }
 }

@@ -5,8 +5,8 @@ ghost use Rattle.std.specs.Prelude.{◌≡◌, ◌+◌, ◌-◌, ◌*◌, ◌/�
 
 use ubifs_base::Geometry;
 
-// So many bytes, rounded up to whole units.
-pub(crate) fn in_units(geometry: &Geometry, len: u32) -> u32
+/// So many bytes of a LEB, rounded up to whole units.
+pub fn in_units(geometry: &Geometry, len: u32) -> u32
     requires { len ≤ geometry.now.leb_size }
     ensures number { result ≡ units geometry.now.min_io len }
     ensures more { len ≤ result }

@@ -15,5 +15,6 @@ mod root;
 mod superblock;
 
 pub use crate::formatting::format;
+pub use crate::laying::in_units;
 pub use crate::log_start::start_log;
-pub use crate::superblock::write_superblock;
+pub use crate::superblock::{new_superblock, write_superblock};

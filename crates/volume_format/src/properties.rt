@@ -4,7 +4,8 @@ ghost use Rattle.std.specs.Prelude.{◌≡◌, ◌≤◌, ◌%◌, IfOk};
 ghost use Rattle.ubifs_base.specs.Areas.{main_lebs};
 ghost use Rattle.ubifs_base.specs.RawOf.{raw_of};
 ghost use Rattle.lpt_area.specs.Written.{AreProps, IsLprop};
-ghost use Rattle.volume_format.specs.Format.{new_props, prop_behind};
+ghost use Rattle.laid_main.specs.Props.{prop_behind};
+ghost use Rattle.volume_format.specs.Format.{new_props};
 
 use crate::laying::in_units;
 use media_lpt::Lprop;

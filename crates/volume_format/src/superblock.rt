@@ -9,6 +9,7 @@ ghost use Rattle.ubi_volume.specs.Volume.{SameShape, WorksOn};
 ghost use Rattle.media_sys.specs.SystemNode.{IsSuper, superblock, written};
 ghost use Rattle.sound_image.specs.Superblock.{BeginsWithSuper};
 ghost use Rattle.volume_format.specs.Alone.{AloneUnderWay, HoldsAlone};
+ghost use Rattle.volume_format.specs.Format.{new_super};
 
 use crate::laying::in_units;
 use media_sys::Super;
@@ -51,4 +52,35 @@ fn lay(node: &Super, sqnum: u64, out: &mut [u8])
     let (front, gap) = out.split_at_mut(node.len() as usize);
     node.encode(sqnum, 0, front);
     fill_gap(gap);
+}
+
+/// The superblock of a new volume of this geometry, with this identifier (`struct ubifs_sb_node` of ubifs-media.h): the small model, one head besides the
+/// collector's, no compression, and times of a second each.
+pub fn new_superblock(geometry: &Geometry, uuid: &[u8; 16]) -> Super
+    ensures { result ≡ new_super (raw_of geometry.now) uuid.now }
+{
+    Super {
+        key_hash: 0,
+        key_fmt: 0,
+        flags: 0,
+        min_io_size: geometry.min_io,
+        leb_size: geometry.leb_size,
+        leb_cnt: geometry.leb_cnt,
+        max_leb_cnt: geometry.max_leb_cnt,
+        max_bud_bytes: 8 * geometry.leb_size as u64,
+        log_lebs: geometry.log_lebs,
+        lpt_lebs: geometry.lpt_lebs,
+        orph_lebs: geometry.orph_lebs,
+        jhead_cnt: 1,
+        fanout: geometry.fanout,
+        lsave_cnt: geometry.lsave_cnt,
+        fmt_version: 4,
+        default_compr: 0,
+        rp_uid: 0,
+        rp_gid: 0,
+        rp_size: 0,
+        time_gran: 1_000_000_000,
+        uuid: *uuid,
+        ro_compat_version: 0,
+    }
 }

@@ -4,7 +4,8 @@ use Rattle.ubifs_base.specs.Areas.{main_lebs}
 use Rattle.ubifs_base.specs.RawOf.{raw_of}
 use Rattle.media_lpt.specs.declared.lprop.Lprop.{Lprop}
 use Rattle.lpt_area.specs.Written.{AreProps, IsLprop}
-use Rattle.volume_format.specs.Format.{new_props, prop_behind}
+use Rattle.laid_main.specs.Props.{prop_behind}
+use Rattle.volume_format.specs.Format.{new_props}
 use Rattle.volume_format.proofs.NewProps.{first_two, new_are_props}
 use Rattle.volume_format.proofs.properties.new_properties.Goals as goal
 
