@@ -52,7 +52,7 @@ leb_bytes size image lnum fits =
     joined_bytes (take size (drop (lnum * size) image)) (replicate (size - length (take size (drop (lnum * size) image))) 255) front
     (erased_bytes (size - length (take size (drop (lnum * size) image))))
 
-contents_bytes : (geo : RawGeometry) (image : List ℕ) → IsBytes image → (lnum : ℕ) → IsBytes (contents_of geo image lnum)
+pub contents_bytes : (geo : RawGeometry) (image : List ℕ) → IsBytes image → (lnum : ℕ) → IsBytes (contents_of geo image lnum)
 contents_bytes geo image fits lnum = by (nat_lt lnum geo.leb_cnt)
   where
     by : (b : Bool) → IsBytes (if b then leb_of geo.leb_size image lnum else [])

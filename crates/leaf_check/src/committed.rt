@@ -47,10 +47,11 @@ pub fn read_committed<R: Threads + Sync, V: Volume>(
 {
     let mut committed = Vec::new(alloc);
     let mut intact = Vec::new(alloc);
+    let mut spare = Vec::new(alloc);
     let mut left = leaves;
     'reading: while !left.is_empty() {
         let (batch, rest) = left.split_at(left.len().min(BATCH));
-        let answers = read_batch(rt, alloc, volume, batch)?;
+        let answers = read_batch(rt, alloc, volume, batch, &mut spare)?;
         keep_answers(&mut committed, &mut intact, answers)?;
         left = rest;
     }
@@ -99,12 +100,13 @@ fn keep_intact(intact: &mut Vec<Leaf>, answer: &LeafAnswer) -> Result<(), Memory
     Ok(())
 }
 
-// What is told of each of these leaves, in their order.
+// What is told of each of these leaves, in their order. The rooms of those before are used again.
 fn read_batch<R: Threads + Sync, V: Volume>(
     rt: &R,
     alloc: Global,
     volume: &mut V,
     leaves: &[Leaf],
+    spare: &mut Vec<Vec<u8>>,
 ) -> Result<Vec<LeafAnswer>, AreaFault>
     ensures read { IfOk result (λ answers. AllZip (IsLeafAnswer (V.state volume.old).holds) leaves.now answers.items) }
     ensures keeps { Keeps (V.state volume.old) (V.state volume.new) }
@@ -112,9 +114,21 @@ fn read_batch<R: Threads + Sync, V: Volume>(
     ensures cause { HasAreaCause (V.state volume.old).faults (V.state volume.new).faults result }
     ensures sure { StaysSureArea (V.state volume.old) (V.state volume.new) result }
 {
-    let reads = read_places(alloc, volume, leaves)?;
+    let reads = read_places(alloc, volume, leaves, spare)?;
     let answers = answers_of(rt, alloc, &reads)?;
+    keep_rooms(spare, reads)?;
     Ok(answers)
+}
+
+// Keeps the rooms of what was read for what is read next.
+fn keep_rooms(spare: &mut Vec<Vec<u8>>, reads: Vec<LeafBytes>) -> Result<(), Memory> {
+    for read in reads {
+        let bytes = read.bytes;
+        if let Some(room) = bytes {
+            spare.push(room)?;
+        }
+    }
+    Ok(())
 }
 
 // The bytes at the place of each of them.
@@ -122,6 +136,7 @@ fn read_places<V: Volume>(
     alloc: Global,
     volume: &mut V,
     leaves: &[Leaf],
+    spare: &mut Vec<Vec<u8>>,
 ) -> Result<Vec<LeafBytes>, AreaFault>
     ensures read { IfOk result (λ reads. AllZip (IsReadFor (V.state volume.old).holds) leaves.now reads.items) }
     ensures keeps { Keeps (V.state volume.old) (V.state volume.new) }
@@ -132,7 +147,7 @@ fn read_places<V: Volume>(
     let mut reads = Vec::new(alloc);
     let mut left = leaves;
     'reading: while let Some((leaf, rest)) = left.split_first() {
-        let read = read_bytes(alloc, volume, leaf)?;
+        let read = read_bytes(alloc, volume, leaf, spare)?;
         reads.push(read)?;
         left = rest;
     }

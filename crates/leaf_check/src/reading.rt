@@ -12,6 +12,7 @@ use index_tree::Leaf;
 use leb_scan::Found;
 use std::alloc::Global;
 use ubi_volume::{AreaFault, VolFault, Volume};
+use ubifs_base::Memory;
 
 /// No leaf node has more bytes: an inode has 160, and at most a page of data.
 pub(crate) const MOST_BYTES: u32 = 160 + 4096;
@@ -40,11 +41,12 @@ pub(crate) fn read_node<V: Volume>(
     Ok(whole_leaf(bytes))
 }
 
-/// The bytes at a leaf's place. Takes memory for them.
+/// The bytes at a leaf's place. They take the last of the spare rooms, or memory of their own.
 pub(crate) fn read_bytes<V: Volume>(
     alloc: Global,
     volume: &mut V,
     leaf: &Leaf,
+    spare: &mut Vec<Vec<u8>>,
 ) -> Result<LeafBytes, AreaFault>
     ensures read { IfOk result (IsReadFor (V.state volume.old).holds leaf.now) }
     ensures keeps { Keeps (V.state volume.old) (V.state volume.new) }
@@ -58,12 +60,24 @@ pub(crate) fn read_bytes<V: Volume>(
             bytes: None,
         });
     }
-    let mut bytes = vec![in alloc; 0; leaf.len as usize]?;
+    let mut bytes = room_of(alloc, leaf.len as usize, spare)?;
     volume.read(leaf.lnum, leaf.offs, &mut bytes)?;
     Ok(LeafBytes {
         leaf: *leaf,
         bytes: Some(bytes),
     })
+}
+
+// Room for so many bytes: the last of the spare ones, or one of its own.
+fn room_of(alloc: Global, len: usize, spare: &mut Vec<Vec<u8>>) -> Result<Vec<u8>, Memory>
+    ensures { IfOk result (λ room. length room.items ≡ len) }
+{
+    let mut room = match spare.pop() {
+        Some(room) => room,
+        None => Vec::new(alloc),
+    };
+    room.resize(len, 0)?;
+    Ok(room)
 }
 
 // Whether a leaf's place lies in the volume, and is no longer than any leaf node.

@@ -1,15 +1,14 @@
 -- A volume that is read by one call after another.
 use Rattle.std.proofs.Common.{◌≡◌, ◌⊎◌, ◌≤◌, ◌∙◌, ℕ, Result, Ok, Err, inl, inr, sym, subst, arith}
-use Rattle.std.specs.Prelude.{IfErr, IfOk}
+use Rattle.std.specs.Prelude.{IfErr}
 use Rattle.std.specs.Result.{IsErrAnd}
 use Rattle.ubifs_base.specs.Faults.{IsCause-before}
 use Rattle.ubi_volume.specs.Volume.{VolumeState, Keeps, SameShape}
 use Rattle.ubi_volume.specs.VolumeLaws.{Keeps-then, SameShape-then}
-use Rattle.sound_image.specs.declared.breach.Breach.{Breach}
-use Rattle.image_check.specs.Told.{HasCheckCause, IsNoVolumeFault, StaysSureCheck, TellsBreach}
+use Rattle.image_check.specs.Told.{HasCheckCause, IsNoVolumeFault, StaysSureCheck}
 use Rattle.image_check.specs.declared.fault.CheckFault.{CheckFault}
 use Rattle.image_check.specs.declared.fault.CheckFault.TheVariants.{Memory, Volume, Unsound}
-use Rattle.sound_check.specs.Calls.{ReadsOnly, unread_of}
+use Rattle.sound_check.specs.Calls.{ReadsOnly}
 
 -- what calls that succeeded kept
 pub record IsKept (old now : VolumeState) : Type 0 where
@@ -104,22 +103,3 @@ exit_reads {T = T} old now fault (Err y) e h = let P : CheckFault → Type 0 = �
 pub exit_broken : {T : Type 0} (P : CheckFault → Type 0) (fault : CheckFault) (r : Result T CheckFault) → IsErrAnd r (λ y. y ≡ fault) → P fault → IfErr r P
 exit_broken P fault (Ok x) e h = tt
 exit_broken P fault (Err y) e h = subst P (sym e) h
-
--- ---- a call that reads no volume
-pub unread_none : {T : Type 0} (r : Result T CheckFault) → IsNoVolumeFault (unread_of r)
-unread_none (Ok x) = tt
-unread_none (Err Memory) = tt
-unread_none (Err (Unsound breach)) = tt
-unread_none (Err (Volume count)) = tt
-
-pub unread_ok : {T : Type 0} (P : T → Type 0) (r : Result T CheckFault) → IfOk r P → IfOk (unread_of r) P
-unread_ok P (Ok x) h = h
-unread_ok P (Err Memory) h = tt
-unread_ok P (Err (Unsound breach)) h = tt
-unread_ok P (Err (Volume count)) h = tt
-
-pub unread_err : {T : Type 0} (P : Breach → Type 0) (r : Result T CheckFault) → IfErr r (TellsBreach P) → IfErr (unread_of r) (TellsBreach P)
-unread_err P (Ok x) h = tt
-unread_err P (Err Memory) h = tt
-unread_err P (Err (Unsound breach)) h = h
-unread_err P (Err (Volume count)) h = tt

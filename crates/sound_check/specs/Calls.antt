@@ -1,9 +1,8 @@
 -- Calls that read a volume.
-use Rattle.std.specs.Prelude.{Result, Ok, Err}
+use Rattle.std.specs.Prelude.{Result}
 use Rattle.ubi_volume.specs.Volume.{VolumeState, Keeps, SameShape}
 use Rattle.image_check.specs.Told.{HasCheckCause, StaysSureCheck}
 use Rattle.image_check.specs.declared.fault.CheckFault.{CheckFault}
-use Rattle.image_check.specs.declared.fault.CheckFault.TheVariants.{Memory, Volume, Unsound}
 
 -- The volume is as it was. It is told to have failed only where its count of faults rose, and one that was sure didn't fail, or is spent.
 pub record ReadsOnly {T : Type 0} (old new : VolumeState) (result : Result T CheckFault) : Type 0 where
@@ -11,10 +10,3 @@ pub record ReadsOnly {T : Type 0} (old new : VolumeState) (result : Result T Che
   pub shape : SameShape old new
   pub cause : HasCheckCause old.faults new.faults result
   pub sure : StaysSureCheck old new result
-
--- what a call answers that reads no volume: it can't tell that one failed
-abbrev pub unread_of : {T : Type 0} → Result T CheckFault → Result T CheckFault
-unread_of (Ok x) = Ok x
-unread_of (Err Memory) = Err Memory
-unread_of (Err (Unsound breach)) = Err (Unsound breach)
-unread_of (Err (Volume count)) = Err Memory

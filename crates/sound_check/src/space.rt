@@ -11,7 +11,7 @@ ghost use Rattle.sound_image.specs.Wrong.{IsFirstWrong};
 ghost use Rattle.sound_image.specs.declared.rule.Rule.TheVariants as rules;
 ghost use Rattle.image_check.specs.Told.{IsBreachOf, IsNoVolumeFault, TellsBreach};
 ghost use Rattle.index_check.specs.FoundIndex.{IsFoundIndex};
-ghost use Rattle.sound_check.specs.Calls.{ReadsOnly, unread_of};
+ghost use Rattle.sound_check.specs.Calls.{ReadsOnly};
 ghost use Rattle.sound_check.specs.Shape.{HasShapeOfImage};
 ghost use Rattle.sound_check.specs.Stages.{HasRecovered};
 
@@ -56,23 +56,11 @@ fn add_up(alloc: Global, areas: &Areas) -> Result<(), CheckFault>
     ensures broken { (placed : PlacedRow) → IsFoundIndex placed areas.now.index → IfErr result (TellsBreach (IsBreachOf rules.Sums (IsFirstWrong (IsWrongSum (raw_of areas.now.begun.geometry) areas.now.props.items placed)))) }
     ensures no_volume { IsNoVolumeFault result }
 {
-    unread(check_sums(
+    check_sums(
         alloc,
         &areas.begun.geometry,
         areas.props.as_slice(),
         areas.index.leaves.as_slice(),
         areas.index.nodes.as_slice(),
-    ))
-}
-
-// What a call answers that reads no volume.
-fn unread(answer: Result<(), CheckFault>) -> Result<(), CheckFault>
-    ensures { result ≡ unread_of answer }
-{
-    match answer {
-        Ok(()) => Ok(()),
-        Err(CheckFault::Unsound { breach }) => Err(CheckFault::Unsound { breach }),
-        Err(CheckFault::Memory) => Err(CheckFault::Memory),
-        Err(CheckFault::Volume { .. }) => Err(CheckFault::Memory),
-    }
+    )
 }

@@ -8,7 +8,7 @@ ghost use Rattle.sound_image.specs.Breaches.{IsWrongSum};
 ghost use Rattle.sound_image.specs.Space.{HasSums};
 ghost use Rattle.sound_image.specs.Wrong.{IsFirstWrong};
 ghost use Rattle.sound_image.specs.declared.rule.Rule.TheVariants as rules;
-ghost use Rattle.image_check.specs.Told.{IsBreachOf, TellsBreach};
+ghost use Rattle.image_check.specs.Told.{IsBreachOf, IsNoVolumeFault, TellsBreach};
 ghost use Rattle.space_check.specs.Sums.{IsFirstOther, ListsIndex};
 
 use crate::adding::sums_of;
@@ -35,6 +35,7 @@ pub fn check_sums(
     ensures met { (placed : PlacedRow) → ListsIndex placed leaves.now nodes.now → IfOk result (λ _. HasSums (raw_of geometry.now) props.now placed) }
     ensures broken { (placed : PlacedRow) → ListsIndex placed leaves.now nodes.now
         → IfErr result (TellsBreach (IsBreachOf rules.Sums (IsFirstWrong (IsWrongSum (raw_of geometry.now) props.now placed)))) }
+    ensures no_volume { IsNoVolumeFault result }
 {
     let first = geometry.main_first();
     let Ok(sums) = sums_of(alloc, first, props, leaves, nodes) else {

@@ -1,4 +1,4 @@
-use Rattle.std.proofs.Common.{◌∙◌, List, Result, length, ap, sym, subst}
+use Rattle.std.proofs.Common.{◌∙◌, List, length, ap, subst}
 use Rattle.std.specs.Prelude.{IfErr, IfOk}
 use Rattle.ubifs_base.specs.RawOf.{raw_of}
 use Rattle.media_lpt.specs.declared.lprop.Lprop.{Lprop}
@@ -6,9 +6,7 @@ use Rattle.sound_image.specs.Breaches.{IsWrongSum}
 use Rattle.sound_image.specs.Space.{HasSums}
 use Rattle.sound_image.specs.Wrong.{IsFirstWrong}
 use Rattle.sound_image.specs.declared.rule.Rule.TheVariants as rules
-use Rattle.image_check.specs.Told.{IsBreachOf, IsNoVolumeFault, TellsBreach}
-use Rattle.image_check.specs.declared.fault.CheckFault.{CheckFault}
-use Rattle.sound_check.proofs.Kept.{unread_err, unread_none, unread_ok}
+use Rattle.image_check.specs.Told.{IsBreachOf, TellsBreach}
 use Rattle.sound_check.proofs.Spaces.{lists_found}
 use Rattle.sound_check.proofs.space.add_up.Goals as goal
 
@@ -19,19 +17,12 @@ pub returns-clause-met : goal.returns-clause-met
 returns-clause-met c placed found =
     let geo = raw_of c.args.areas.now.begun.geometry in
     let lists = lists_found placed c.args.areas.now.index c.as_slice-2.result.now c.as_slice-3.result.now found c.as_slice-2.ensures.value c.as_slice-3.ensures.value in
-    let P : List Lprop → Type 0 = λ props. IfOk c.unread.result (λ x. HasSums geo props placed) in
-    let R : Result (Unit {0}) CheckFault → Type 0 = λ r. IfOk r (λ x. HasSums geo c.as_slice.result.now placed) in
-    subst P c.as_slice.ensures.value (subst R (sym c.unread.ensures) (unread_ok (λ x. HasSums geo c.as_slice.result.now placed) c.check_sums.result (c.check_sums.ensures.met placed lists)))
+    let P : List Lprop → Type 0 = λ props. IfOk c.check_sums.result (λ x. HasSums geo props placed) in
+    subst P c.as_slice.ensures.value (c.check_sums.ensures.met placed lists)
 
 pub returns-clause-broken : goal.returns-clause-broken
 returns-clause-broken c placed found =
     let geo = raw_of c.args.areas.now.begun.geometry in
     let lists = lists_found placed c.args.areas.now.index c.as_slice-2.result.now c.as_slice-3.result.now found c.as_slice-2.ensures.value c.as_slice-3.ensures.value in
-    let P : List Lprop → Type 0 = λ props. IfErr c.unread.result (TellsBreach (IsBreachOf rules.Sums (IsFirstWrong (IsWrongSum geo props placed)))) in
-    let R : Result (Unit {0}) CheckFault → Type 0 = λ r. IfErr r (TellsBreach (IsBreachOf rules.Sums (IsFirstWrong (IsWrongSum geo c.as_slice.result.now placed)))) in
-    subst P c.as_slice.ensures.value (subst R (sym c.unread.ensures) (unread_err (IsBreachOf rules.Sums (IsFirstWrong (IsWrongSum geo c.as_slice.result.now placed))) c.check_sums.result (c.check_sums.ensures.broken placed lists)))
-
-pub returns-clause-no_volume : goal.returns-clause-no_volume
-returns-clause-no_volume c =
-    let P : Result (Unit {0}) CheckFault → Type 0 = λ r. IsNoVolumeFault r in
-    subst P (sym c.unread.ensures) (unread_none c.check_sums.result)
+    let P : List Lprop → Type 0 = λ props. IfErr c.check_sums.result (TellsBreach (IsBreachOf rules.Sums (IsFirstWrong (IsWrongSum geo props placed)))) in
+    subst P c.as_slice.ensures.value (c.check_sums.ensures.broken placed lists)
