@@ -1,0 +1,11 @@
+mod Takes
+mod Packs
+mod Opening
+mod Growing
+mod Answering
+mod Crowning
+mod Making
+mod Levels
+mod Counting
+mod Rising
+mod Indexing

@@ -1,0 +1,215 @@
+use Rattle.std.proofs.Common.{rules, ◌≡◌, ◌≢◌, ℕ, ◌+◌, ◌*◌, ◌^◌, ◌<◌, ◌≤◌, List, [], ◌∷◌, ◌++◌, length, Ok, Err, ap, sym, ◌∙◌, subst, refl, arith, inl, inr, length-append}
+use Rattle.std.specs.Prelude.{map}
+use Rattle.std.proofs.lemmas.Bool.{cases_order}
+use Rattle.std.proofs.lemmas.List.{length-map, length_push}
+use Rattle.ubifs_base.specs.RawOf.{raw_of}
+use Rattle.ubi_volume.specs.declared.fault.AreaFault.TheVariants.{Memory}
+use Rattle.media_sys.specs.declared.branch.Branch.{Branch}
+use Rattle.index_media.specs.PlacedRow.{branch_to}
+use Rattle.laid_index.specs.Answered.{IsLayingAnswered}
+use Rattle.laid_index.specs.Crowned.{IsCrowned}
+use Rattle.laid_index.specs.Opened.{IsReady, open_lnum, taken_after}
+use Rattle.laid_index.specs.Packing.{index_lens, index_used, lens_above, packed}
+use Rattle.laid_index.specs.Rows.{AreInOrder}
+use Rattle.laid_index.proofs.Answering.{answered_err, answered_memory, answered_none, answered_ok, answered_then, answered_wider, exit_answered, geometry_kept}
+use Rattle.laid_index.proofs.Indexing.{IsFresh, fresh_ready, fresh_taken, index_laid, leaves_in_order}
+use Rattle.laid_index.proofs.laying.lay_leaves.Goals as goal
+
+pub returns-in_err-branches-clause-answer : goal.returns-in_err-branches-clause-answer
+returns-in_err-branches-clause-answer g c =
+    let a = g.V.Volume.state c.args.volume.now in
+    let last = c.args.first + length (index_used (raw_of c.args.geometry.now) (length c.args.leaves.now)) in
+    exit_answered c.args.first last a a Memory c.from_residual.result c.from_residual.ensures.1 (let z : ℕ = 0 in answered_memory c.args.first last a a z (answered_none c.args.first last a z))
+
+pub returns-in_err-leb-clause-answer : goal.returns-in_err-leb-clause-answer
+returns-in_err-leb-clause-answer g c =
+    let a = g.V.Volume.state c.args.volume.now in
+    let last = c.args.first + length (index_used (raw_of c.args.geometry.now) (length c.args.leaves.now)) in
+    exit_answered c.args.first last a a Memory c.from_residual-in_err-leb.result c.from_residual-in_err-leb.ensures.1 (let z : ℕ = 0 in answered_memory c.args.first last a a z (answered_none c.args.first last a z))
+
+pub lay_levels-requires-clause-some : goal.lay_levels-requires-clause-some
+lay_levels-requires-clause-some g c =
+    let s : c.as_slice.result.now ≡ map branch_to c.args.leaves.now = c.as_slice.ensures.value ∙ c.in_ok-branches.ensures in
+    let e = ap length s in
+    let m = length-map c.args.leaves.now branch_to in
+    let some = c.requires.some in
+    omega (arith, e, m, some)
+
+pub lay_levels-requires-clause-order : goal.lay_levels-requires-clause-order
+lay_levels-requires-clause-order g c =
+    let s : c.as_slice.result.now ≡ map branch_to c.args.leaves.now = c.as_slice.ensures.value ∙ c.in_ok-branches.ensures in
+    let P : List Branch → Type 0 = λ l. AreInOrder l in
+    subst P (sym s) (leaves_in_order c.args.leaves.now c.requires.keys c.requires.order)
+
+pub lay_levels-requires-clause-ready : goal.lay_levels-requires-clause-ready
+lay_levels-requires-clause-ready g c =
+    let geo = raw_of c.args.geometry.now in
+    let leb = c.in_ok-leb.leb in
+    let was = (g.V.Volume.state c.args.volume.now).holds in
+    let s : c.as_slice.result.now ≡ map branch_to c.args.leaves.now = c.as_slice.ensures.value ∙ c.in_ok-branches.ensures in
+    let e : length c.as_slice.result.now ≡ length c.args.leaves.now = ap length s ∙ length-map c.args.leaves.now branch_to in
+    let made = c.in_ok-leb.ensures in
+    let fresh : IsFresh c.args.first c.args.sqnum leb = record { begins = made.first; used = made.used; bytes = made.bytes; number = made.sqnum } in
+    let P : ℕ → Type 0 = λ n. IsReady geo (lens_above n geo.fanout n) leb was in
+    subst P (sym e) (fresh_ready geo c.args.first c.args.sqnum (length c.args.leaves.now) leb was c.args.geometry.now.in_range fresh c.requires.some c.requires.room c.requires.number)
+
+pub lay_levels-requires-clause-high : goal.lay_levels-requires-clause-high
+lay_levels-requires-clause-high g c =
+    let s : c.as_slice.result.now ≡ map branch_to c.args.leaves.now = c.as_slice.ensures.value ∙ c.in_ok-branches.ensures in
+    let e : length c.as_slice.result.now ≡ length c.args.leaves.now = ap length s ∙ length-map c.args.leaves.now branch_to in
+    let number = c.requires.number in
+    omega (arith, e, number)
+
+pub returns-in_err-root-clause-answer : goal.returns-in_err-root-clause-answer
+returns-in_err-root-clause-answer g c =
+    let geo = raw_of c.args.geometry.now in
+    let f = geo.fanout in
+    let xs = c.args.leaves.now in
+    let n = length xs in
+    let start = c.in_ok-leb.leb in
+    let made = c.in_ok-leb.ensures in
+    let fresh : IsFresh c.args.first c.args.sqnum start = record { begins = made.first; used = made.used; bytes = made.bytes; number = made.sqnum } in
+    let a = g.V.Volume.state c.args.volume.now in
+    let b = g.V.Volume.state c.lay_levels.new.volume in
+    let s = c.as_slice.result.now in
+    let s_is : s ≡ map branch_to xs = c.as_slice.ensures.value ∙ c.in_ok-branches.ensures in
+    let e : length s ≡ n = ap length s_is ∙ length-map xs branch_to in
+    let lens = lens_above (length s) f (length s) in
+    let taken : length (taken_after geo start lens) ≡ length (index_used geo n) =
+    ap length (fresh_taken geo c.args.first c.args.sqnum start lens fresh) ∙ ap (λ (m : ℕ). length (packed geo.leb_size 0 (lens_above m f m))) e in
+    let end = start.first + length (taken_after geo start lens) in
+    let last = c.args.first + length (index_used geo n) in
+    let from = made.first in
+    exit_answered c.args.first last a b c.in_err-root.field-0.0 c.from_residual-in_err-root.result c.from_residual-in_err-root.ensures.1
+    (answered_err c.args.first last a b c.in_err-root.field-0.0
+    (answered_wider start.first end c.args.first last a b (Err c.in_err-root.field-0.0) (omega (arith, from)) (omega (arith, from, taken)) c.in_err-root.ensures.answer))
+
+pub close-requires-clause-geometry : goal.close-requires-clause-geometry
+close-requires-clause-geometry g c = geometry_kept (raw_of c.args.geometry.now) (g.V.Volume.state c.args.volume.now) (g.V.Volume.state c.lay_levels.new.volume) c.requires.geometry c.in_ok-root.ensures.answer.shape
+
+pub close-requires-clause-fits : goal.close-requires-clause-fits
+close-requires-clause-fits g c = c.in_ok-root.ensures.crowned.is_open.fits
+
+pub close-requires-clause-lnum : goal.close-requires-clause-lnum
+close-requires-clause-lnum g c =
+    let geo = raw_of c.args.geometry.now in
+    let f = geo.fanout in
+    let xs = c.args.leaves.now in
+    let n = length xs in
+    let start = c.in_ok-leb.leb in
+    let made = c.in_ok-leb.ensures in
+    let fresh : IsFresh c.args.first c.args.sqnum start = record { begins = made.first; used = made.used; bytes = made.bytes; number = made.sqnum } in
+    let a = g.V.Volume.state c.args.volume.now in
+    let b = g.V.Volume.state c.lay_levels.new.volume in
+    let s = c.as_slice.result.now in
+    let s_is : s ≡ map branch_to xs = c.as_slice.ensures.value ∙ c.in_ok-branches.ensures in
+    let e : length s ≡ n = ap length s_is ∙ length-map xs branch_to in
+    let lens = lens_above (length s) f (length s) in
+    let taken : length (taken_after geo start lens) ≡ length (index_used geo n) =
+    ap length (fresh_taken geo c.args.first c.args.sqnum start lens fresh) ∙ ap (λ (m : ℕ). length (packed geo.leb_size 0 (lens_above m f m))) e in
+    let end = start.first + length (taken_after geo start lens) in
+    let last = c.args.first + length (index_used geo n) in
+    let from = made.first in
+    let leb = c.lay_levels.new.leb in
+    let crowned = c.in_ok-root.ensures.crowned in
+    let first = crowned.first in
+    let all = ap length crowned.after in
+    let size = length_push leb.used.items (length leb.bytes.items) in
+    let room = c.requires.room in
+    omega (arith, first, all, size, room, taken, from)
+
+pub returns-in_err-close-clause-answer : goal.returns-in_err-close-clause-answer
+returns-in_err-close-clause-answer g c =
+    let geo = raw_of c.args.geometry.now in
+    let f = geo.fanout in
+    let xs = c.args.leaves.now in
+    let n = length xs in
+    let start = c.in_ok-leb.leb in
+    let made = c.in_ok-leb.ensures in
+    let fresh : IsFresh c.args.first c.args.sqnum start = record { begins = made.first; used = made.used; bytes = made.bytes; number = made.sqnum } in
+    let a = g.V.Volume.state c.args.volume.now in
+    let b = g.V.Volume.state c.lay_levels.new.volume in
+    let s = c.as_slice.result.now in
+    let s_is : s ≡ map branch_to xs = c.as_slice.ensures.value ∙ c.in_ok-branches.ensures in
+    let e : length s ≡ n = ap length s_is ∙ length-map xs branch_to in
+    let lens = lens_above (length s) f (length s) in
+    let taken : length (taken_after geo start lens) ≡ length (index_used geo n) =
+    ap length (fresh_taken geo c.args.first c.args.sqnum start lens fresh) ∙ ap (λ (m : ℕ). length (packed geo.leb_size 0 (lens_above m f m))) e in
+    let end = start.first + length (taken_after geo start lens) in
+    let last = c.args.first + length (index_used geo n) in
+    let from = made.first in
+    let leb = c.lay_levels.new.leb in
+    let d = g.V.Volume.state c.close.new.volume in
+    let crowned = c.in_ok-root.ensures.crowned in
+    let first = crowned.first in
+    let all = ap length crowned.after in
+    let size = length_push leb.used.items (length leb.bytes.items) in
+    let well = answered_wider start.first end c.args.first last a b (Ok c.in_ok-root.root) (omega (arith, from)) (omega (arith, from, taken)) c.in_ok-root.ensures.answer in
+    exit_answered c.args.first last a d c.in_err-close.field-0.0 c.from_residual-in_err-close.result c.from_residual-in_err-close.ensures.1
+    (answered_then c.args.first last a b d c.in_ok-root.root (Err c.in_err-close.field-0.0) well
+    (answered_err c.args.first last b d c.in_err-close.field-0.0
+    (answered_wider (open_lnum leb) (open_lnum leb + 1) c.args.first last b d (Err c.in_err-close.field-0.0) (omega (arith, first, from)) (omega (arith, first, all, size, taken, from)) c.in_err-close.ensures.answer)))
+
+pub returns-clause-laid : goal.returns-clause-laid
+returns-clause-laid g c =
+    let geo = raw_of c.args.geometry.now in
+    let f = geo.fanout in
+    let xs = c.args.leaves.now in
+    let n = length xs in
+    let start = c.in_ok-leb.leb in
+    let made = c.in_ok-leb.ensures in
+    let fresh : IsFresh c.args.first c.args.sqnum start = record { begins = made.first; used = made.used; bytes = made.bytes; number = made.sqnum } in
+    let a = g.V.Volume.state c.args.volume.now in
+    let b = g.V.Volume.state c.lay_levels.new.volume in
+    let s = c.as_slice.result.now in
+    let s_is : s ≡ map branch_to xs = c.as_slice.ensures.value ∙ c.in_ok-branches.ensures in
+    let e : length s ≡ n = ap length s_is ∙ length-map xs branch_to in
+    let lens = lens_above (length s) f (length s) in
+    let taken : length (taken_after geo start lens) ≡ length (index_used geo n) =
+    ap length (fresh_taken geo c.args.first c.args.sqnum start lens fresh) ∙ ap (λ (m : ℕ). length (packed geo.leb_size 0 (lens_above m f m))) e in
+    let end = start.first + length (taken_after geo start lens) in
+    let last = c.args.first + length (index_used geo n) in
+    let from = made.first in
+    let leb = c.lay_levels.new.leb in
+    let shut = c.close.new.self in
+    let d = g.V.Volume.state c.close.new.volume in
+    let P : List Branch → Type 0 = λ l. IsCrowned geo 0 l (lens_above (length l) f (length l)) start a.holds c.in_ok-root.root leb b.holds in
+    let Q : ℕ → Type 0 = λ m. IsCrowned geo 0 (map branch_to xs) (lens_above m f m) start a.holds c.in_ok-root.root leb b.holds in
+    index_laid geo xs c.args.first c.args.sqnum c.in_ok-root.root _ start leb shut a.holds b.holds d.holds c.requires.keys c.requires.order fresh
+    (subst Q (length-map xs branch_to) (subst P s_is c.in_ok-root.ensures.crowned)) c.in_ok-root.ensures.some c.in_ok-close.ensures.closed
+    (λ k ne. (c.close.ensures.answer.others k (elim (cases_order k (open_lnum leb)) [
+      | inl same ↦ absurd (ne same)
+      | inr apart ↦ elim apart [ inl lt ↦ inl lt | inr gt ↦ inr (omega (arith, gt)) ]
+    ])).holds)
+    refl refl refl
+
+pub returns-clause-answer : goal.returns-clause-answer
+returns-clause-answer g c =
+    let geo = raw_of c.args.geometry.now in
+    let f = geo.fanout in
+    let xs = c.args.leaves.now in
+    let n = length xs in
+    let start = c.in_ok-leb.leb in
+    let made = c.in_ok-leb.ensures in
+    let fresh : IsFresh c.args.first c.args.sqnum start = record { begins = made.first; used = made.used; bytes = made.bytes; number = made.sqnum } in
+    let a = g.V.Volume.state c.args.volume.now in
+    let b = g.V.Volume.state c.lay_levels.new.volume in
+    let s = c.as_slice.result.now in
+    let s_is : s ≡ map branch_to xs = c.as_slice.ensures.value ∙ c.in_ok-branches.ensures in
+    let e : length s ≡ n = ap length s_is ∙ length-map xs branch_to in
+    let lens = lens_above (length s) f (length s) in
+    let taken : length (taken_after geo start lens) ≡ length (index_used geo n) =
+    ap length (fresh_taken geo c.args.first c.args.sqnum start lens fresh) ∙ ap (λ (m : ℕ). length (packed geo.leb_size 0 (lens_above m f m))) e in
+    let end = start.first + length (taken_after geo start lens) in
+    let last = c.args.first + length (index_used geo n) in
+    let from = made.first in
+    let leb = c.lay_levels.new.leb in
+    let d = g.V.Volume.state c.close.new.volume in
+    let crowned = c.in_ok-root.ensures.crowned in
+    let first = crowned.first in
+    let all = ap length crowned.after in
+    let size = length_push leb.used.items (length leb.bytes.items) in
+    let well = answered_wider start.first end c.args.first last a b (Ok c.in_ok-root.root) (omega (arith, from)) (omega (arith, from, taken)) c.in_ok-root.ensures.answer in
+    answered_then c.args.first last a b d c.in_ok-root.root (Ok _) well
+    (answered_ok c.args.first last b d c.in_ok-close.field-0 _
+    (answered_wider (open_lnum leb) (open_lnum leb + 1) c.args.first last b d (Ok c.in_ok-close.field-0) (omega (arith, first, from)) (omega (arith, first, all, size, taken, from)) c.in_ok-close.ensures.answer))
