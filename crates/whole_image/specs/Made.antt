@@ -1,0 +1,76 @@
+-- A whole image of a tree of files.
+use Rattle.std.specs.Prelude.{◌≡◌, ⊤, ℕ, ◌+◌, ◌-◌, ◌*◌, ◌<◌, ◌≤◌, false, IsTrue, List, [], length}
+use Rattle.std.specs.List.{list_all}
+use Rattle.ubifs_base.specs.Areas.{main_first, main_lebs}
+use Rattle.ubifs_base.specs.Geometry.{leb_reserve}
+use Rattle.ubifs_base.specs.declared.raw_geometry.RawGeometry.{RawGeometry}
+use Rattle.ubi_volume.specs.Volume.{VolumeState, filled}
+use Rattle.small_areas.specs.Copies.{IsMasterLeb}
+use Rattle.index_media.specs.PlacedRow.{PlacedRow}
+use Rattle.fs_model.specs.Files.{Tree}
+use Rattle.fs_model.specs.Orphan.{nameless}
+use Rattle.fs_model.specs.Cover.{tree_bytes}
+use Rattle.leaf_map.specs.Kept.{Placed}
+use Rattle.sound_image.specs.Image.{Image}
+use Rattle.sound_image.specs.Sound.{SoundImage}
+use Rattle.sound_image.specs.Summary.{is_clean, tree_of_image}
+use Rattle.sound_image.specs.Superblock.{BeginsWithSuper}
+use Rattle.tree_nodes.specs.Stored.{AreNodesOf, stored_tree}
+use Rattle.laid_tree.specs.Leaves.{AreLeavesLaid}
+use Rattle.laid_tree.specs.Standing.{is_plain}
+use Rattle.laid_index.specs.Packing.{index_used}
+use Rattle.made_image.specs.Around.{AreMainFilled, HoldsIndexed}
+use Rattle.made_image.specs.declared.filled_main.FilledMain.{FilledMain}
+use Rattle.volume_format.specs.Format.{new_super}
+use Rattle.whole_image.specs.declared.make_fault.MakeFault.{MakeFault}
+use Rattle.whole_image.specs.declared.make_fault.MakeFault.TheVariants.{Memory, Unreserved, Nameless, Attribute, Full, Crowded}
+
+-- The contents are a sound image of this geometry, whose superblock has this identifier. No bud holds a node, and the tree is the one that is stored of this one.
+pub record IsMadeImage (contents : ℕ → List ℕ) (geo : RawGeometry) (uuid : List ℕ) (tree : Tree) : Type 0 where
+  pub superblock : BeginsWithSuper (contents 0) (new_super geo uuid)
+  pub image : Image
+  pub sound : SoundImage contents image
+  pub geometry : image.geo ≡ geo
+  pub clean : IsTrue (is_clean image)
+  pub files : tree_of_image image ≡ stored_tree tree
+
+-- the bytes of main LEBs that are for leaves: of all but six, what is behind a reserve
+abbrev pub most_leaf_bytes : RawGeometry → ℕ
+most_leaf_bytes geo = (main_lebs geo - 6) * (geo.leb_size - leb_reserve geo)
+
+-- numbers up to 64 are used, each inode has a name, none is an attribute's, and the leaves have room
+pub record CanBeLaid (geo : RawGeometry) (tree : Tree) : Type 0 where
+  pub reserved : 64 ≤ tree.highest
+  pub named : nameless tree ≡ []
+  pub plain : IsTrue (list_all is_plain tree.inodes)
+  pub fits : tree_bytes tree ≤ most_leaf_bytes geo
+
+-- An index of the tree's leaves takes so many LEBs. That is more than the main LEBs that are left behind the leaves, but for one that stays empty.
+pub record IsCrowded (geo : RawGeometry) (tree : Tree) (need room : ℕ) : Type 0 where
+  pub contents : ℕ → List ℕ
+  pub nodes : List Placed
+  pub used : List ℕ
+  pub laid : AreLeavesLaid geo contents tree nodes used
+  pub need_is : need ≡ length (index_used geo (length nodes))
+  pub room_is : room + 1 + length used ≡ main_lebs geo
+  pub more : room < need
+
+-- why no image of a tree is made; want of memory is free
+abbrev pub IsRefused : RawGeometry → Tree → MakeFault → Type 0
+IsRefused geo tree Memory = ⊤
+IsRefused geo tree (Unreserved highest) = (highest ≡ tree.highest) × (highest < 64)
+IsRefused geo tree (Nameless count) = (count ≡ length (nameless tree)) × (0 < count)
+IsRefused geo tree Attribute = list_all is_plain tree.inodes ≡ false
+IsRefused geo tree (Full need room) = (need ≡ tree_bytes tree) × (room ≡ most_leaf_bytes geo) × (room < need)
+IsRefused geo tree (Crowded need room) = IsCrowded geo tree need room
+
+-- The leaves of the tree and an index of them stand in the main LEBs, as this tells, and in front of these nothing is written.
+pub record HoldsTree (geo : RawGeometry) (state : VolumeState) (tree : Tree) (main : FilledMain) : Type 0 where
+  pub placed : PlacedRow
+  pub nodes : List Placed
+  pub indexed : HoldsIndexed geo state.holds main placed nodes
+  pub taken : AreMainFilled geo main
+  pub are : AreNodesOf tree nodes
+  pub highest : main.highest ≡ tree.highest
+  pub blank : (lnum : ℕ) → lnum < main_first geo → state.holds lnum ≡ filled state.leb_size []
+  pub open_there : (lnum : ℕ) → IsMasterLeb lnum → state.written lnum ≡ 0

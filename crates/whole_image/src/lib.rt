@@ -1,0 +1,13 @@
+//! Which whole image holds a tree of files?
+//!
+//! [`make_image`] lays the nodes of a tree, their index and the areas around them into a blank volume. The volume holds a sound image of
+//! that tree then.
+#![tactic(auto)]
+
+mod filling;
+mod make_fault;
+mod making;
+mod tests_of_trees;
+
+pub use crate::make_fault::MakeFault;
+pub use crate::making::make_image;
