@@ -19,11 +19,17 @@ pub mod MakingRoom
 pub mod Nodes
 pub mod Overlays
 pub mod PagePuts
+pub mod PartsLeft
 pub mod PlaceValues
 pub mod Putting
 pub mod Reading
+pub mod Resizing
+pub mod SizePut
+pub mod SizeValues
+pub mod SizesAlike
 pub mod Throughs
 pub mod TicketCut
+pub mod Trimmed
 pub mod WholePage
 pub mod Written
 pub mod WrittenAlike
