@@ -24,6 +24,7 @@ pub mod PlaceValues
 pub mod Putting
 pub mod Reading
 pub mod Resizing
+pub mod SizeAdmitted
 pub mod SizePut
 pub mod SizeValues
 pub mod SizesAlike

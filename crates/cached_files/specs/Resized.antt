@@ -1,17 +1,22 @@
 -- What is kept once the size of a file was set.
-use Rattle.std.specs.Prelude.{◌≡◌, ℕ, ◌+◌, ◌/◌, ◌≤◌, Some, List, [], ◌∷◌}
+use Rattle.std.specs.Prelude.{◌≡◌, ℕ, ◌+◌, ◌/◌, ◌≤◌, Some, List, [], ◌∷◌, Bool, true, false}
 use Rattle.fs_model.specs.declared.change.Change.{Change}
 use Rattle.fs_model.specs.declared.change.Change.TheVariants.{CutBlocks}
 use Rattle.fs_model.specs.declared.inode.Inode.{Inode}
 use Rattle.fs_model.specs.declared.inode.Kind.TheVariants.{File}
-use Rattle.fs_model.specs.Files.{Tree, inode_at}
+use Rattle.fs_model.specs.Files.{Files, Tree, inode_at}
 use Rattle.fs_model.specs.Handles.{size_limit}
 use Rattle.fs_model.specs.Truncation.{truncating}
 use Rattle.page_cache.specs.Pages.{Pages, without_cut}
+use Rattle.fs_model.specs.declared.space.Class.TheVariants.{Ordinary, Removal}
 use Rattle.fs_model.specs.declared.space.Need.{Need}
+use Rattle.fs_model.specs.Backing.{BackingState}
 use Rattle.fs_model.specs.Need.{truncation_need}
 use Rattle.cached_files.specs.declared.kept.Kept.{Kept}
+use Rattle.cached_files.specs.Alike.{IsAlike}
+use Rattle.cached_files.specs.Cuts.{GroupFate, PutsSeenWith}
 use Rattle.cached_files.specs.Follow.{followed}
+use Rattle.cached_files.specs.Present.{present}
 
 -- the first page of a file that goes with a smaller size: that of the block which is put shortened, or the first one that begins at the new size or past it
 abbrev pub first_gone : ℕ → List Change → ℕ
@@ -46,3 +51,12 @@ pub record IsResizing (tree : Tree) (group : List Change) : Type 0 where
 -- what a new size asks for
 abbrev pub size_need : Tree → ℕ → Inode → ℕ → ℕ → Need
 size_need tree ino inode size now = truncation_need (truncating tree ino inode size now)
+
+-- the same, by whether it is smaller
+abbrev pub need_by : Bool → Need
+need_by true = record { credits = 0; bytes = 160 + 56 + 4144; nodes = 3; class = Removal }
+need_by false = record { credits = 0; bytes = 160; nodes = 1; class = Ordinary }
+
+-- What a cut leaves of a new size: pages with the values of the files before, and then its group as a whole. It was reckoned on files that are alike, in which the last block may have other zeros at its end.
+abbrev pub PutsSize : BackingState → BackingState → Kept → ℕ → Inode → ℕ → ℕ → GroupFate → Type 0
+PutsSize old new kept ino inode size now fate = (seen : Files) × IsAlike (present old.tree kept) seen × PutsSeenWith old new kept (truncating seen.tree ino inode size now) fate

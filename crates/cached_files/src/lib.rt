@@ -17,6 +17,7 @@ mod law;
 mod orphans;
 mod put;
 mod reads;
+mod sizes;
 mod truncations;
 mod writes;
 mod written_pages;
@@ -36,6 +37,6 @@ pub use crate::law::{
 pub use crate::orphans::drop_orphan;
 pub use crate::put::{put_oldest, put_ticket, write_back, write_back_file};
 pub use crate::reads::{bytes, inode, size};
-pub use crate::truncations::put_size;
+pub use crate::sizes::set_size;
 pub use crate::writes::{newly, write};
 pub use page_cache::Ticket;

@@ -23,10 +23,8 @@ use op_plans::truncating;
 use std::alloc::Global;
 use ubifs_base::Bytes;
 
-/// Sets the size of a regular file, of which this is the inode and the present size, at this moment (ftruncate(2)). What its
-/// group asks for was admitted. A smaller size takes the pages past it, clean and dirty ones, and shortens the last block; the
-/// credits of dirty pages are given back. After a fault all is as it was.
-pub fn put_size<B: Backing>(
+/// Puts the group of a new size, which was admitted (`set_size`). After a fault all is as it was.
+pub(crate) fn put_size<B: Backing>(
     alloc: Global,
     backing: &mut B,
     kept: &mut Kept,
