@@ -24,7 +24,7 @@ use Rattle.fs_laws.specs.Orders.{numbers, pairs}
 use Rattle.cached_files.proofs.Putting.{numbered, le_from}
 
 -- an inode that tells what the one in its place told changes nothing of that
-told_same : {X : Type 0} (what : Inode → X) (es : Inodes) (k : ℕ) (w v : Inode) → ascends nat_cmp (keys_of es) ≡ true → lookup (is_at (nat_cmp k)) es ≡ Some w → what w ≡ what v → told_by what (insert_entry nat_cmp es k v) ≡ told_by what es
+pub told_same : {X : Type 0} (what : Inode → X) (es : Inodes) (k : ℕ) (w v : Inode) → ascends nat_cmp (keys_of es) ≡ true → lookup (is_at (nat_cmp k)) es ≡ Some w → what w ≡ what v → told_by what (insert_entry nat_cmp es k v) ≡ told_by what es
 told_same what [] k w v h found same = absurd cc
 told_same {X} what (e ∷ es) k w v h found same = by (told_same what es k w v (tail_ascends nat_cmp es e h)) (nat_cmp k e.0) refl found
   where

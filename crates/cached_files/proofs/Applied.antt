@@ -1,18 +1,18 @@
 -- Files that are alike stay alike over a group.
 use Rattle.std.proofs.Common.{◌≡◌, ℕ, ◌+◌, ◌*◌, ◌<◌, ◌≤◌, ◌⊎◌, inl, inr, Bool, true, false, cond, not, ◌&&◌, max, List, [], ◌∷◌, length, Some, refl, sym, ap, subst, ◌∙◌, arith}
-use Rattle.std.specs.Prelude.{◌==◌, filter, nat_le}
+use Rattle.std.specs.Prelude.{◌==◌, filter, nat_le, is_some}
 use Rattle.std.specs.List.{list_all}
 use Rattle.std.specs.Map.{lookup, remove_entry, keys_of}
 use Rattle.std.specs.BTreeMap.{insert_entry, is_at}
 use Rattle.std.specs.Ordering.{nat_cmp}
-use Rattle.std.proofs.lemmas.Bool.{and_parts}
+use Rattle.std.proofs.lemmas.Bool.{and_parts, false≢true}
 use Rattle.std.proofs.lemmas.Bool.Decides.{eqb_tells, nat_tests}
 use Rattle.fs_model.specs.declared.change.Change.{Change}
 use Rattle.fs_model.specs.declared.change.Change.TheVariants.{SetInode, SetEntry, DropEntry, SetBlock, CutBlocks, DropInode}
 use Rattle.fs_model.specs.declared.inode.Inode.{Inode}
-use Rattle.fs_model.specs.Change.{applied, apply, without_blocks}
+use Rattle.fs_model.specs.Change.{applied, apply, cut_blocks, without_blocks}
 use Rattle.fs_model.specs.Cover.{inode_bytes}
-use Rattle.fs_model.specs.Files.{Tree, Files, Blocks, inode_at, name_cmp, blocks_end, size_of}
+use Rattle.fs_model.specs.Files.{Tree, Files, Inodes, Blocks, inode_at, name_cmp, pair_cmp, blocks_end, size_of, with_block}
 use Rattle.fs_model.specs.Path.{is_dir}
 use Rattle.fs_model.specs.Proper.{IsProper, ascends}
 use Rattle.fs_model.specs.Same.{trimmed, trimmed_blocks}
@@ -21,6 +21,7 @@ use Rattle.fs_laws.specs.Maps.{key_cases, set_here, set_other, removed_here, rem
 use Rattle.fs_laws.specs.Orders.{numbers}
 use Rattle.cached_files.specs.Alike.{IsAlike}
 use Rattle.cached_files.specs.Follow.{KeepsSize, IsOfNames, AreOfNames}
+use Rattle.cached_files.proofs.Trimmed.{trimmed-insert}
 
 pub built_alike : (a b : Files) → IsAlike a b → IsBuiltAlike a.tree b.tree
 built_alike a b h = record { inodes = ap (λ inodes. told_by kind_and_links inodes) h.inodes; entries = h.entries; highest = h.highest }
@@ -50,14 +51,14 @@ pub names_alike : (a b : Files) (group : List Change) → IsAlike a b → AreOfN
 names_alike a b group h all = all_names_on a.tree b.tree group h.inodes h.highest all
 
 -- what is alike but for sizes
-record Agrees (a b : Files) : Type 0 where
+pub record Agrees (a b : Files) : Type 0 where
   pub inodes : a.tree.inodes ≡ b.tree.inodes
   pub blocks : trimmed_blocks a.tree.blocks ≡ trimmed_blocks b.tree.blocks
   pub entries : a.tree.entries ≡ b.tree.entries
   pub highest : a.tree.highest ≡ b.tree.highest
   pub handles : a.handles ≡ b.handles
 
-trimmed_filter : (test : ℕ × ℕ → Bool) (blocks : Blocks) → trimmed_blocks (filter (λ b. test b.0) blocks) ≡ filter (λ b. test b.0) (trimmed_blocks blocks)
+pub trimmed_filter : (test : ℕ × ℕ → Bool) (blocks : Blocks) → trimmed_blocks (filter (λ b. test b.0) blocks) ≡ filter (λ b. test b.0) (trimmed_blocks blocks)
 trimmed_filter test [] = refl
 trimmed_filter test (e ∷ blocks) = by (trimmed_filter test blocks) (test e.0)
   where
@@ -66,31 +67,52 @@ trimmed_filter test (e ∷ blocks) = by (trimmed_filter test blocks) (test e.0)
     by more true = ap (λ z. (e.0, trimmed e.1) ∷ z) more
     by more false = more
 
-change_agrees : (t : Tree) (change : Change) (a b : Files) → IsOfNames t change → Agrees a b → Agrees (record a { tree = applied a.tree change }) (record b { tree = applied b.tree change })
-change_agrees t (SetInode ino inode) a b names h = record {
+pub agrees_of : (a b : Files) → IsAlike a b → Agrees a b
+agrees_of a b h = record { inodes = h.inodes; blocks = h.blocks; entries = h.entries; highest = h.highest; handles = h.handles }
+
+change_agrees : (change : Change) (a b : Files) → Agrees a b → Agrees (record a { tree = applied a.tree change }) (record b { tree = applied b.tree change })
+change_agrees (SetInode ino inode) a b h = record {
   inodes = ap (λ inodes. insert_entry nat_cmp inodes ino inode) h.inodes;
   blocks = h.blocks;
   entries = h.entries;
   highest = ap (λ n. max n ino) h.highest;
   handles = h.handles;
 }
-change_agrees t (SetEntry entry) a b names h = record {
+change_agrees (SetEntry entry) a b h = record {
   inodes = h.inodes;
   blocks = h.blocks;
   entries = ap (λ entries. insert_entry name_cmp entries (entry.dir, entry.name) entry) h.entries;
   highest = ap (λ n. max n entry.dir) h.highest;
   handles = h.handles;
 }
-change_agrees t (DropEntry dir name) a b names h = record {
+change_agrees (DropEntry dir name) a b h = record {
   inodes = h.inodes;
   blocks = h.blocks;
   entries = ap (λ entries. remove_entry (is_at (name_cmp (dir, name))) entries) h.entries;
   highest = ap (λ n. max n dir) h.highest;
   handles = h.handles;
 }
-change_agrees t (SetBlock ino block bytes) a b names h = absurd names
-change_agrees t (CutBlocks ino old_size new_size) a b names h = absurd names
-change_agrees t (DropInode ino) a b names h = record {
+change_agrees (SetBlock ino block bytes) a b h = by (is_some (inode_at a.tree ino)) (is_some (inode_at b.tree ino)) (ap (λ (inodes : Inodes). is_some (lookup (is_at (nat_cmp ino)) inodes)) h.inodes)
+  where
+    made : Files → Bool → Files
+    made x there = record x { tree = record (cond there (record x.tree { blocks = with_block x.tree.blocks ino block bytes }) x.tree) { highest = max x.tree.highest ino } }
+
+    set : trimmed_blocks (with_block a.tree.blocks ino block bytes) ≡ trimmed_blocks (with_block b.tree.blocks ino block bytes)
+    set = trimmed-insert a.tree.blocks (ino, block) bytes ∙ ap (λ blocks. insert_entry pair_cmp blocks (ino, block) (trimmed bytes)) h.blocks ∙ sym (trimmed-insert b.tree.blocks (ino, block) bytes)
+
+    by : (s t : Bool) → s ≡ t → Agrees (made a s) (made b t)
+    by true true same = record { inodes = h.inodes; blocks = set; entries = h.entries; highest = ap (λ n. max n ino) h.highest; handles = h.handles }
+    by false false same = record { inodes = h.inodes; blocks = h.blocks; entries = h.entries; highest = ap (λ n. max n ino) h.highest; handles = h.handles }
+    by true false same = absurd (false≢true (sym same))
+    by false true same = absurd (false≢true same)
+change_agrees (CutBlocks ino old_size new_size) a b h = record {
+  inodes = h.inodes;
+  blocks = trimmed_filter (λ k. not ((k.0 == ino) && nat_le new_size (4096 * k.1))) a.tree.blocks ∙ ap (λ blocks. cut_blocks blocks ino new_size) h.blocks ∙ sym (trimmed_filter (λ k. not ((k.0 == ino) && nat_le new_size (4096 * k.1))) b.tree.blocks);
+  entries = h.entries;
+  highest = ap (λ n. max n ino) h.highest;
+  handles = h.handles;
+}
+change_agrees (DropInode ino) a b h = record {
   inodes = ap (λ inodes. remove_entry (is_at (nat_cmp ino)) inodes) h.inodes;
   blocks = trimmed_filter (λ k. not (k.0 == ino)) a.tree.blocks ∙ ap (λ blocks. filter (λ b. not (b.0.0 == ino)) blocks) h.blocks ∙ sym (trimmed_filter (λ k. not (k.0 == ino)) b.tree.blocks);
   entries = h.entries;
@@ -98,10 +120,9 @@ change_agrees t (DropInode ino) a b names h = record {
   handles = h.handles;
 }
 
-group_agrees : (t : Tree) (group : List Change) (a b : Files) → AreOfNames t group → Agrees a b → Agrees (record a { tree = apply a.tree group }) (record b { tree = apply b.tree group })
-group_agrees t [] a b names h = h
-group_agrees t (change ∷ group) a b names h =
-    group_agrees t group (record a { tree = applied a.tree change }) (record b { tree = applied b.tree change }) names.1 (change_agrees t change a b names.0 h)
+pub group_agrees : (group : List Change) (a b : Files) → Agrees a b → Agrees (record a { tree = apply a.tree group }) (record b { tree = apply b.tree group })
+group_agrees [] a b h = h
+group_agrees (change ∷ group) a b h = group_agrees group (record a { tree = applied a.tree change }) (record b { tree = applied b.tree change }) (change_agrees change a b h)
 
 ends_gone : (blocks : Blocks) (ino : ℕ) → blocks_end (without_blocks blocks ino) ino ≡ 0
 ends_gone [] ino = refl
@@ -217,7 +238,7 @@ sizes_alike a b now later pa pb h s ino inode found plain = by (s.ends ino) (s.i
 
 pub group_alike : (group : List Change) (a b : Files) → IsProper a.tree → IsProper b.tree → AreOfNames a.tree group → IsAlike a b → IsAlike (record a { tree = apply a.tree group }) (record b { tree = apply b.tree group })
 group_alike group a b pa pb names h =
-    let same = group_agrees a.tree group a b names (record { inodes = h.inodes; blocks = h.blocks; entries = h.entries; highest = h.highest; handles = h.handles }) in
+    let same = group_agrees group a b (agrees_of a b h) in
     let begin : Sized a.tree b.tree a.tree b.tree = record { up = pa.inodes_ascend; inodes = λ ino inode found. inl (inode, found, record { kind = refl; size = λ d. refl }); ends = λ ino. inr (refl, refl) } in
     record {
       inodes = same.inodes;

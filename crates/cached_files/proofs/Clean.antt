@@ -95,7 +95,7 @@ clean_put blocks k bytes (e ∷ clean) none all = by (λ absent. clean_put block
     )
 
 -- a block that stays is found as before
-stays_found : (test : ℕ × ℕ → Bool) (blocks : Blocks) (k : ℕ × ℕ) → test k ≡ true → lookup (is_at (pair_cmp k)) (filter (λ b. test b.0) blocks) ≡ lookup (is_at (pair_cmp k)) blocks
+pub stays_found : (test : ℕ × ℕ → Bool) (blocks : Blocks) (k : ℕ × ℕ) → test k ≡ true → lookup (is_at (pair_cmp k)) (filter (λ b. test b.0) blocks) ≡ lookup (is_at (pair_cmp k)) blocks
 stays_found test [] k stays = refl
 stays_found test (b ∷ blocks) k stays = by (stays_found test blocks k stays) (key_cases pair_cmp pairs k b.0)
   where
@@ -130,7 +130,7 @@ clean_cut blocks ino (e ∷ clean) all = by (clean_cut blocks ino clean all.1) (
 
 -- what is kept with other clean pages
 pub with_clean_pages : (tree : Tree) (kept : Kept) (clean : CleanPages) → IsKept tree kept → AllByRecursion (FitsClean tree.blocks) clean → IsKept tree (record kept { pages = record kept.pages { clean = clean } })
-with_clean_pages tree kept clean is all = record { proper = is.proper; ascends = is.ascends; inodes = is.inodes; ends = is.ends; pages = is.pages; settled = is.settled; clean = all }
+with_clean_pages tree kept clean is all = record { proper = is.proper; ascends = is.ascends; inodes = is.inodes; ends = is.ends; pages = is.pages; settled = is.settled; clean = all; covers = is.covers }
 
 -- a page was used
 pub used_fits : (tree : Tree) (kept : Kept) (ino block : ℕ) → IsKept tree kept → IsKept tree (record kept { pages = with_used kept.pages ino block })

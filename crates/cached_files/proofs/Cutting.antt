@@ -8,11 +8,9 @@ use Rattle.cached_files.specs.declared.kept.Kept.{Kept}
 use Rattle.cached_files.specs.Alike.{IsAlike}
 use Rattle.cached_files.specs.CutLaws.{Puts-among, Puts-last, Puts-nothing, Puts-then}
 use Rattle.cached_files.specs.Cuts.{GroupFate, PutsSeen, PutsSeenWith, ValuesOf}
-use Rattle.cached_files.specs.Follow.{AreOfNames}
 use Rattle.cached_files.specs.Present.{IsKept, present}
-use Rattle.cached_files.proofs.Applied.{group_alike}
+use Rattle.cached_files.proofs.Applied.{agrees_of}
 use Rattle.cached_files.proofs.PlaceValues.{alike_among, alike_with, present_ordered}
-use Rattle.fs_model.specs.Proper.{IsProper}
 
 -- pages were put after others, and callers saw the same files
 pub seen_then : (old now new : BackingState) (kept still : Kept) → IsKept old.tree kept → IsKept now.tree still → IsAlike (present old.tree kept) (present now.tree still) → PutsSeen old now kept → PutsSeen now new still → PutsSeen old new kept
@@ -20,7 +18,7 @@ seen_then old now new kept still is fits same first second =
     let files = present old.tree kept in
     let more = present now.tree still in
     Puts-then (ValuesOf files.tree) old.journal now.journal new.journal first
-    (Puts-among (ValuesOf more.tree) (ValuesOf files.tree) now.journal new.journal (alike_among files more same (present_ordered old.tree kept is) (present_ordered now.tree still fits)) second)
+    (Puts-among (ValuesOf more.tree) (ValuesOf files.tree) now.journal new.journal (alike_among files more (agrees_of files more same) (present_ordered old.tree kept is) (present_ordered now.tree still fits)) second)
 
 -- nothing more was put
 pub nothing_then : (old now new : BackingState) (kept : Kept) → PutsSeen old now kept → Leaves now.journal new.journal [] → PutsSeen old new kept
@@ -35,11 +33,11 @@ pub with_given : (old now new : BackingState) (kept : Kept) (group : List Change
 with_given old now new kept group fate credits first same = subst (λ (s : BackingState). PutsSeenWith old s kept group fate) (sym same) first
 
 -- a group was put after pages
-pub group_then : (old now new : BackingState) (kept still : Kept) (group : List Change) (fate : GroupFate) → IsKept old.tree kept → IsKept now.tree still → IsProper (present old.tree kept).tree → IsProper (present now.tree still).tree → AreOfNames (present old.tree kept).tree group
+pub group_then : (old now new : BackingState) (kept still : Kept) (group : List Change) (fate : GroupFate) → IsKept old.tree kept → IsKept now.tree still
     → IsAlike (present old.tree kept) (present now.tree still) → PutsSeen old now kept → PutsSeenWith now new still group fate → PutsSeenWith old new kept group fate
-group_then old now new kept still group fate is fits proper more names same first second =
+group_then old now new kept still group fate is fits same first second =
     let files = present old.tree kept in
     let seen = present now.tree still in
     let order = present_ordered old.tree kept is in
     let later = present_ordered now.tree still fits in
-    Puts-last files.tree seen.tree group fate old.journal now.journal new.journal (alike_among files seen same order later) (alike_with files seen group same order later (group_alike group files seen proper more names same)) first second
+    Puts-last files.tree seen.tree group fate old.journal now.journal new.journal (alike_among files seen (agrees_of files seen same) order later) (alike_with files seen group (agrees_of files seen same) order later) first second

@@ -1,6 +1,6 @@
 -- What is kept follows a group: callers see the group's changes, and what is kept fits the tree.
 use Rattle.std.proofs.Common.{◌≡◌, ℕ, ◌*◌, ◌+◌, ◌≤◌, ◌⊎◌, inl, inr, Bool, true, false, cond, max, not, ◌||◌, List, [], ◌∷◌, length, Some, refl, sym, ap, subst, ◌∙◌, arith}
-use Rattle.std.specs.Prelude.{◌==◌, IsTrue, filter, fold}
+use Rattle.std.specs.Prelude.{◌==◌, IsTrue, filter, fold, unwrap_or}
 use Rattle.std.specs.List.{list_all, AllByRecursion}
 use Rattle.std.specs.Map.{lookup, set_value, remove_entry, keys_of}
 use Rattle.std.specs.BTreeMap.{is_at}
@@ -20,10 +20,10 @@ use Rattle.page_cache.specs.Pages.{is_cut, cut_list}
 use Rattle.page_cache.specs.declared.dirty_page.DirtyPage.{DirtyPage}
 use Rattle.cached_files.specs.declared.kept.Kept.{Kept}
 use Rattle.cached_files.specs.Follow.{follow, followed, is_of_inode}
-use Rattle.cached_files.specs.Present.{DirtyPages, with_page, covered, has_dirty, IsKept, FitsClean, FitsFile, FitsPages}
+use Rattle.cached_files.specs.Present.{DirtyPages, with_page, covered, has_dirty, IsKept, FitsClean, FitsFile, FitsOver, FitsPages}
 use Rattle.fs_laws.specs.Maps.{key_cases, set_here, set_other, removed_here, removed_other, insert_ascends, remove_ascends, filter_ascends}
 use Rattle.fs_laws.specs.Orders.{numbers, pairs}
-use Rattle.cached_files.proofs.Clean.{clean_cut}
+use Rattle.cached_files.proofs.Clean.{clean_cut, stays_found}
 use Rattle.cached_files.proofs.Throughs.{set_through, remove_through, filter_insert, filter_insert_gone, set_value_here, set_value_other, WasSet, was_set}
 
 -- an inode of the same kind and size
@@ -52,7 +52,7 @@ followed_inodes (SetBlock ino block bytes ∷ group) kept = followed_inodes grou
 followed_inodes (CutBlocks ino old_size new_size ∷ group) kept = followed_inodes group kept
 followed_inodes (DropInode ino ∷ group) kept = followed_inodes group (follow kept (DropInode ino))
 
-filter_few : {X : Type 0} (test : X → Bool) (xs : List X) → length (filter test xs) ≤ length xs
+pub filter_few : {X : Type 0} (test : X → Bool) (xs : List X) → length (filter test xs) ≤ length xs
 filter_few test [] = omega arith
 filter_few test (x ∷ xs) = by (filter_few test xs) (test x)
   where
@@ -83,8 +83,20 @@ cut_all (e ∷ dirty) ino =
     ap (λ b. cond (not b) (e ∷ cut_list dirty ino 0) (cut_list dirty ino 0)) (from_zero ino e.0)
     ∙ ap (λ rest. cond (not (e.0.0 == ino)) (e ∷ rest) rest) (cut_all dirty ino)
 
+-- dirty pages that are left are no shorter than the blocks that are left
+pub over_filter : (test : ℕ × ℕ → Bool) (blocks : Blocks) (dirty : DirtyPages) → AllByRecursion (FitsOver blocks) dirty → AllByRecursion (FitsOver (filter (λ b. test b.0) blocks)) (filter (λ e. test e.0) dirty)
+over_filter test blocks [] all = tt
+over_filter test blocks (e ∷ dirty) all = by (over_filter test blocks dirty all.1) (test e.0) refl
+  where
+    Rest : DirtyPages → Type 0
+    Rest es = AllByRecursion (FitsOver (filter (λ b. test b.0) blocks)) es
+
+    by : Rest (filter (λ f. test f.0) dirty) → (b : Bool) → test e.0 ≡ b → Rest (cond b (e ∷ filter (λ f. test f.0) dirty) (filter (λ f. test f.0) dirty))
+    by more true t = (subst (λ o. length (unwrap_or o []) ≤ length e.1.bytes) (sym (stays_found test blocks e.0 t)) all.0, more)
+    by more false t = more
+
 -- pages over blocks, of which those whose key passes are left
-filter_pages : (test : ℕ × ℕ → Bool) (dirty : DirtyPages) (blocks : Blocks) → ascends pair_cmp (keys_of blocks) ≡ true
+pub filter_pages : (test : ℕ × ℕ → Bool) (dirty : DirtyPages) (blocks : Blocks) → ascends pair_cmp (keys_of blocks) ≡ true
     → fold with_page (filter (λ b. test b.0) blocks) (filter (λ e. test e.0) dirty) ≡ filter (λ b. test b.0) (fold with_page blocks dirty)
 filter_pages test [] blocks h = refl
 filter_pages test (e ∷ dirty) blocks h = by (filter_pages test dirty (with_page blocks e) (insert_ascends pair_cmp pairs blocks e.0 e.1.bytes h)) (test e.0) refl
@@ -107,6 +119,7 @@ pub record Fits (tree : Tree) (kept : Kept) : Type 0 where
   pub pages : AllByRecursion (FitsPages kept.inodes) kept.pages.dirty
   pub settled : (ino : ℕ) (inode : Inode) → lookup (is_at (nat_cmp ino)) kept.inodes ≡ Some inode → has_dirty kept.pages.dirty ino ≡ false → inode_at tree ino ≡ Some inode
   pub clean : AllByRecursion (FitsClean tree.blocks) kept.pages.clean
+  pub covers : AllByRecursion (FitsOver tree.blocks) kept.pages.dirty
 
 pub fits_of : (tree : Tree) (kept : Kept) → IsKept tree kept → Fits tree kept
 fits_of tree kept is = record {
@@ -118,6 +131,7 @@ fits_of tree kept is = record {
   pages = is.pages;
   settled = is.settled;
   clean = is.clean;
+  covers = is.covers;
 }
 
 -- callers see a change that is followed
@@ -189,7 +203,7 @@ dirty_cut ino other two (e ∷ dirty) = by (dirty_cut ino other two dirty) (e.0.
     by more false t = ap (λ z. (e.0.0 == other) || z) more
 
 -- fewer blocks end no later
-fewer_ends : (stays : (ℕ × ℕ) × List ℕ → Bool) (ino most : ℕ) (blocks : Blocks) → blocks_end blocks ino ≤ most → blocks_end (filter stays blocks) ino ≤ most
+pub fewer_ends : (stays : (ℕ × ℕ) × List ℕ → Bool) (ino most : ℕ) (blocks : Blocks) → blocks_end blocks ino ≤ most → blocks_end (filter stays blocks) ino ≤ most
 fewer_ends stays ino most [] h = h
 fewer_ends stays ino most (e ∷ blocks) h = by (fewer_ends stays ino most blocks (here (e.0.0 == ino) h)) (e.0.0 == ino) refl (stays e)
   where
@@ -215,6 +229,7 @@ fits_follow tree kept (SetInode ino inode) fits node names = record {
   pages = pages_set kept.inodes ino inode names kept.pages.dirty fits.pages;
   settled = λ q x found none. at q x none (was_set nat_cmp numbers kept.inodes ino inode q x found);
   clean = fits.clean;
+  covers = fits.covers;
 }
   where
     after : Tree
@@ -250,11 +265,11 @@ fits_follow tree kept (SetInode ino inode) fits node names = record {
     at : (q : ℕ) (x : Inode) → has_dirty kept.pages.dirty q ≡ false → WasSet nat_cmp kept.inodes ino inode q x ⊎ ((q ≡ ino → ⊥) × (lookup (is_at (nat_cmp q)) kept.inodes ≡ Some x)) → inode_at after q ≡ Some x
     at q x none (inl was) = here q x was.same was.value
     at q x none (inr other) = there q other.0 ∙ fits.settled q x other.1 none
-fits_follow tree kept (SetEntry entry) fits node names = record { tree_inodes = fits.tree_inodes; tree_blocks = fits.tree_blocks; ascends = fits.ascends; inodes = λ q x found. moved q x (fits.inodes q x found); ends = fits.ends; pages = fits.pages; settled = fits.settled; clean = fits.clean }
+fits_follow tree kept (SetEntry entry) fits node names = record { tree_inodes = fits.tree_inodes; tree_blocks = fits.tree_blocks; ascends = fits.ascends; inodes = λ q x found. moved q x (fits.inodes q x found); ends = fits.ends; pages = fits.pages; settled = fits.settled; clean = fits.clean; covers = fits.covers }
   where
     moved : (q : ℕ) (x : Inode) → FitsFile tree q x → FitsFile (applied tree (SetEntry entry)) q x
     moved q x it = record { node = it.node; kind = it.kind; below = it.below }
-fits_follow tree kept (DropEntry dir name) fits node names = record { tree_inodes = fits.tree_inodes; tree_blocks = fits.tree_blocks; ascends = fits.ascends; inodes = λ q x found. moved q x (fits.inodes q x found); ends = fits.ends; pages = fits.pages; settled = fits.settled; clean = fits.clean }
+fits_follow tree kept (DropEntry dir name) fits node names = record { tree_inodes = fits.tree_inodes; tree_blocks = fits.tree_blocks; ascends = fits.ascends; inodes = λ q x found. moved q x (fits.inodes q x found); ends = fits.ends; pages = fits.pages; settled = fits.settled; clean = fits.clean; covers = fits.covers }
   where
     moved : (q : ℕ) (x : Inode) → FitsFile tree q x → FitsFile (applied tree (DropEntry dir name)) q x
     moved q x it = record { node = it.node; kind = it.kind; below = it.below }
@@ -269,6 +284,7 @@ fits_follow tree kept (DropInode ino) fits node names = record {
   pages = subst (λ dirty. AllByRecursion (FitsPages (remove_entry (is_at (nat_cmp ino)) kept.inodes)) dirty) (sym (cut_all kept.pages.dirty ino)) (pages_cut kept.inodes ino kept.pages.dirty fits.pages);
   settled = λ q x found none. at q x (left q x found) none;
   clean = clean_cut tree.blocks ino kept.pages.clean fits.clean;
+  covers = subst (λ dirty. AllByRecursion (FitsOver (without_blocks tree.blocks ino)) dirty) (sym (cut_all kept.pages.dirty ino)) (over_filter (λ k. not (k.0 == ino)) tree.blocks kept.pages.dirty fits.covers);
 }
   where
     after : Tree
@@ -357,4 +373,4 @@ followed_is (change ∷ group) tree kept fits nodes names =
     }
 
 pub kept_of : (tree : Tree) (kept : Kept) → IsProper tree → Fits tree kept → IsKept tree kept
-kept_of tree kept proper fits = record { proper = proper; ascends = fits.ascends; inodes = fits.inodes; ends = fits.ends; pages = fits.pages; settled = fits.settled; clean = fits.clean }
+kept_of tree kept proper fits = record { proper = proper; ascends = fits.ascends; inodes = fits.inodes; ends = fits.ends; pages = fits.pages; settled = fits.settled; clean = fits.clean; covers = fits.covers }

@@ -114,6 +114,12 @@ written_ends blocks ino place n byte page size rest all starts ends =
     let before = stored_ends blocks ino page size rest (omega (arith, starts, all)) in
     omega (arith, len, before, all, starts)
 
+-- and is no shorter than the block was
+pub written_over : (blocks : Blocks) (ino place n byte page : ℕ) → 4096 * page < place + n → place < 4096 * (page + 1) → length (block_at blocks ino page) ≤ length (page_written blocks ino place n byte page)
+written_over blocks ino place n byte page starts ends =
+    let len = overlaid_length (block_at blocks ino page) (place - 4096 * page) (min (place + n - 4096 * page) 4096) byte (omega (arith, starts, ends)) in
+    omega (arith, len)
+
 -- an inode of another size that was changed is a node
 pub node_touched : (ino now size : ℕ) (inode : Inode) → is_inode_node (ino, inode) ≡ true → now < 18446744073709551616 → size < 18446744073709551616 → is_inode_node (ino, touched now (record inode { size = size })) ≡ true
 node_touched ino now size inode node low small = by (lt_from now 18446744073709551616 low) (lt_from size 18446744073709551616 small)

@@ -32,7 +32,7 @@ same_page a = by (page_cases a a)
     by (inr o) = absurd (o.0 refl)
 
 -- a page of another name can be set before or after
-insert_late : (dirty : DirtyPages) (blocks : Blocks) (k : ℕ × ℕ) (bytes : List ℕ) → AllByRecursion (λ y. is_page k y ≡ false) (keys_of dirty) → fold with_page (insert_entry pair_cmp blocks k bytes) dirty ≡ insert_entry pair_cmp (fold with_page blocks dirty) k bytes
+pub insert_late : (dirty : DirtyPages) (blocks : Blocks) (k : ℕ × ℕ) (bytes : List ℕ) → AllByRecursion (λ y. is_page k y ≡ false) (keys_of dirty) → fold with_page (insert_entry pair_cmp blocks k bytes) dirty ≡ insert_entry pair_cmp (fold with_page blocks dirty) k bytes
 insert_late [] blocks k bytes all = refl
 insert_late (e ∷ dirty) blocks k bytes all =
     ap (λ b. fold with_page b dirty) (insert_swap pair_cmp pairs blocks k e.0 bytes e.1.bytes (other_page k e.0 all.0)) ∙ insert_late dirty (with_page blocks e) k bytes all.1

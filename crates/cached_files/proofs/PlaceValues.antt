@@ -26,7 +26,6 @@ use Rattle.fs_laws.specs.Forgotten.{applied_in_order, apply_in_order, found_inod
 use Rattle.fs_laws.specs.Maps.{apart, set_here, set_other, removed_here, removed_other, insert_ascends, key_cases}
 use Rattle.fs_laws.specs.Orders.{numbers, pairs, named}
 use Rattle.cached_files.specs.declared.kept.Kept.{Kept}
-use Rattle.cached_files.specs.Alike.{IsAlike}
 use Rattle.cached_files.specs.CutLaws.{AreAmong, Puts-nothing}
 use Rattle.cached_files.specs.Cuts.{TreePlace, Value, value_at, ValuesOf, ValuesWith, replayed_on, GivesOnly, PutsOnly, PutsWith, put_fate}
 use Rattle.cached_files.specs.Cuts.TreePlace.{InodeAt, EntryAt, BlockAt}
@@ -34,6 +33,7 @@ use Rattle.cached_files.specs.Cuts.GroupFate.{WasPut}
 use Rattle.cached_files.specs.Cuts.Value.{AnInode, AnEntry, ABlock}
 use Rattle.cached_files.specs.Follow.{IsOfNames, AreOfNames}
 use Rattle.cached_files.specs.Present.{DirtyPages, IsKept, present, with_page}
+use Rattle.cached_files.proofs.Applied.{Agrees, group_agrees}
 
 -- the key of an entry, and that of a block
 abbrev key : ℕ → List ℕ → ℕ × List ℕ
@@ -74,10 +74,10 @@ forgotten_entries [] tree = refl
 forgotten_entries (ino ∷ gone) tree = forgotten_entries gone (without_inode tree ino)
 
 -- At a place two trees stay as they are, or get the same value.
-abbrev Steady : TreePlace → Tree → Tree → Tree → Tree → Type 0
+abbrev pub Steady : TreePlace → Tree → Tree → Tree → Tree → Type 0
 Steady place t after u later = ((value_at after place ≡ value_at t place) × (value_at later place ≡ value_at u place)) ⊎ (value_at after place ≡ value_at later place)
 
-steady_drop : (ino : ℕ) (t u : Tree) → IsInOrder t → IsInOrder u → (place : TreePlace) → Steady place t (applied t (DropInode ino)) u (applied u (DropInode ino))
+pub steady_drop : (ino : ℕ) (t u : Tree) → IsInOrder t → IsInOrder u → (place : TreePlace) → Steady place t (applied t (DropInode ino)) u (applied u (DropInode ino))
 steady_drop ino t u h i (InodeAt q) = by (key_cases nat_cmp numbers q ino)
   where
     gone : (x : Tree) → IsInOrder x → q ≡ ino → inode_at (applied x (DropInode ino)) q ≡ None
@@ -96,7 +96,7 @@ steady_drop ino t u h i (BlockAt q block) = by (q == ino) refl
     by true z = inr (told t true z ∙ sym (told u true z))
     by false z = inl (told t false z, told u false z)
 
-steady_inode : (ino : ℕ) (inode : Inode) (t u : Tree) (place : TreePlace) → Steady place t (applied t (SetInode ino inode)) u (applied u (SetInode ino inode))
+pub steady_inode : (ino : ℕ) (inode : Inode) (t u : Tree) (place : TreePlace) → Steady place t (applied t (SetInode ino inode)) u (applied u (SetInode ino inode))
 steady_inode ino inode t u (InodeAt q) = by (key_cases nat_cmp numbers q ino)
   where
     here : (x : Tree) → q ≡ ino → inode_at (applied x (SetInode ino inode)) q ≡ Some inode
@@ -144,25 +144,30 @@ steady_one tree (SetBlock ino block bytes) is t u h i place = absurd is
 steady_one tree (CutBlocks ino old_size new_size) is t u h i place = absurd is
 steady_one tree (DropInode ino) is t u h i place = steady_drop ino t u h i place
 
+-- one change after another
+pub steady_then : (place : TreePlace) (t mid after u other later : Tree) → Steady place t mid u other → Steady place mid after other later → Steady place t after u later
+steady_then place t mid after u other later (inl first) (inl more) = inl (more.0 ∙ first.0, more.1 ∙ first.1)
+steady_then place t mid after u other later (inr same) (inl more) = inr (more.0 ∙ same ∙ sym more.1)
+steady_then place t mid after u other later first (inr same) = inr same
+
 -- A group of names leaves a place of every tree as it is, or gives every tree the same value there.
 steady_all : (tree : Tree) (group : List Change) → AreOfNames tree group → (t u : Tree) → IsInOrder t → IsInOrder u → (place : TreePlace) → Steady place t (replayed_on t group) u (replayed_on u group)
 steady_all tree [] names t u h i place = inl (refl, refl)
 steady_all tree (change ∷ group) names t u h i place =
     let c = as_replayed change in
-    by (applied t c) (applied u c) (steady_one tree change names.0 t u h i place) (steady_all tree group names.1 (applied t c) (applied u c) (applied_in_order t c h) (applied_in_order u c i) place)
-  where
-    by : (mid other : Tree) → Steady place t mid u other → Steady place mid (replayed_on mid group) other (replayed_on other group) → Steady place t (replayed_on mid group) u (replayed_on other group)
-    by mid other (inl first) (inl more) = inl (more.0 ∙ first.0, more.1 ∙ first.1)
-    by mid other (inr same) (inl more) = inr (more.0 ∙ same ∙ sym more.1)
-    by mid other first (inr same) = inr same
+    steady_then place t (applied t c) (replayed_on (applied t c) group) u (applied u c) (replayed_on (applied u c) group)
+    (steady_one tree change names.0 t u h i place) (steady_all tree group names.1 (applied t c) (applied u c) (applied_in_order t c h) (applied_in_order u c i) place)
 
--- a group of names that was reckoned on a tree gives no values but those of what it makes of that tree
-pub group_gives : (tree : Tree) (group : List Change) → IsInOrder tree → AreOfNames tree group → all_revive_none tree group ≡ true → GivesOnly (ValuesWith tree group) group
-group_gives tree group order names revives on place at = by (steady_all tree group names on (without_nameless tree) at (forgotten_in_order tree order) place)
+-- a group that was reckoned on a tree, and does so, gives no values but those of what it makes of that tree
+pub gives_by : (tree : Tree) (group : List Change) → IsInOrder tree → all_revive_none tree group ≡ true → ((t u : Tree) → IsInOrder t → IsInOrder u → (place : TreePlace) → Steady place t (replayed_on t group) u (replayed_on u group)) → GivesOnly (ValuesWith tree group) group
+gives_by tree group order revives steady on place at = by (steady on (without_nameless tree) at (forgotten_in_order tree order) place)
   where
     by : Steady place on (replayed_on on group) (without_nameless tree) (replayed_on (without_nameless tree) group) → (value_at (replayed_on on group) place ≡ value_at on place) ⊎ ValuesWith tree group place (value_at (replayed_on on group) place)
     by (inl kept) = inl kept.0
     by (inr same) = inr (inr (inr (same ∙ ap (λ t. value_at t place) (sym (group_forgotten group tree order revives)))))
+
+pub group_gives : (tree : Tree) (group : List Change) → IsInOrder tree → AreOfNames tree group → all_revive_none tree group ≡ true → GivesOnly (ValuesWith tree group) group
+group_gives tree group order names revives = gives_by tree group order revives (λ t u h i place. steady_all tree group names t u h i place)
 
 -- an inode that a tree has gives no values but those of the tree
 inode_gives : (tree : Tree) (ino : ℕ) (inode : Inode) → IsInOrder tree → inode_at tree ino ≡ Some inode → GivesOnly (ValuesOf tree) (SetInode ino inode ∷ [])
@@ -253,19 +258,24 @@ page_cut {T} tree page a b result order inode block = by result
     by (Err (Volume count)) cut = all cut
     by (Err (IsReadOnly cause)) cut = Puts-nothing (ValuesOf tree) a b cut
 
--- and a group of names is put as the answer tells
-pub group_cut : {T : Type 0} (tree : Tree) (group : List Change) (a b : Journal) (result : Result T StoreFault) → IsInOrder tree → AreOfNames tree group → all_revive_none tree group ≡ true
+-- and a group is put as the answer tells
+pub put_as_told : {T : Type 0} (tree : Tree) (group : List Change) (a b : Journal) (result : Result T StoreFault) → GivesOnly (ValuesWith tree group) group
     → Leaves a b (put_by result ((base_head, group) ∷ [])) → PutsWith tree group (put_fate result) a b
-group_cut {T} tree group a b result order names revives = by result
+put_as_told {T} tree group a b result gives = by result
   where
     makes : AllByRecursion (λ (put : ℕ × List Change). GivesOnly (ValuesWith tree group) put.1) ((base_head, group) ∷ [])
-    makes = (group_gives tree group order names revives, tt)
+    makes = (gives, tt)
 
     by : (result : Result T StoreFault) → Leaves a b (put_by result ((base_head, group) ∷ [])) → PutsWith tree group (put_fate result) a b
     by (Ok x) cut = record { pages = []; gives = tt; last = (base_head, group) ∷ []; whole = inl refl; makes = makes; cut = cut }
     by (Err Memory) cut = record { pages = []; gives = tt; last = []; whole = refl; makes = tt; cut = cut }
     by (Err (Volume count)) cut = record { pages = []; gives = tt; last = (base_head, group) ∷ []; whole = inr refl; makes = makes; cut = cut }
     by (Err (IsReadOnly cause)) cut = record { pages = []; gives = tt; last = []; whole = refl; makes = tt; cut = cut }
+
+-- one of names
+pub group_cut : {T : Type 0} (tree : Tree) (group : List Change) (a b : Journal) (result : Result T StoreFault) → IsInOrder tree → AreOfNames tree group → all_revive_none tree group ≡ true
+    → Leaves a b (put_by result ((base_head, group) ∷ [])) → PutsWith tree group (put_fate result) a b
+group_cut {T} tree group a b result order names revives = put_as_told {T = T} tree group a b result (group_gives tree group order names revives)
 
 -- done, it was put
 pub group_done_cut : (T : Type 0) (tree : Tree) (group : List Change) (a b : Journal) → IsInOrder tree → AreOfNames tree group → all_revive_none tree group ≡ true → Leaves a b ((base_head, group) ∷ []) → PutsWith tree group WasPut a b
@@ -300,16 +310,16 @@ trimmed_at (e ∷ blocks) q = by (trimmed_at blocks q) (is_at (pair_cmp q) e.0)
     by more true = refl
     by more false = more
 
-alike_block : (a b : Files) → IsAlike a b → (q : ℕ × ℕ) → trimmed (unwrap_or (lookup (is_at (pair_cmp q)) b.tree.blocks) []) ≡ trimmed (unwrap_or (lookup (is_at (pair_cmp q)) a.tree.blocks) [])
+alike_block : (a b : Files) → Agrees a b → (q : ℕ × ℕ) → trimmed (unwrap_or (lookup (is_at (pair_cmp q)) b.tree.blocks) []) ≡ trimmed (unwrap_or (lookup (is_at (pair_cmp q)) a.tree.blocks) [])
 alike_block a b h q = trimmed_at b.tree.blocks q ∙ ap (λ (bs : Blocks). unwrap_or (lookup (is_at (pair_cmp q)) bs) []) (sym h.blocks) ∙ sym (trimmed_at a.tree.blocks q)
 
 -- files that are alike have the same values
-alike_at : (a b : Files) → IsAlike a b → (place : TreePlace) → value_at b.tree place ≡ value_at a.tree place
+alike_at : (a b : Files) → Agrees a b → (place : TreePlace) → value_at b.tree place ≡ value_at a.tree place
 alike_at a b h (InodeAt q) = ap (λ (es : Inodes). AnInode (lookup (is_at (nat_cmp q)) es)) (sym h.inodes)
 alike_at a b h (EntryAt dir name) = ap (λ (es : List ((ℕ × List ℕ) × Entry)). AnEntry (lookup (is_at (name_cmp (dir, name))) es)) (sym h.entries)
 alike_at a b h (BlockAt q block) = ap ABlock (alike_block a b h (q, block))
 
-alike_named : (a b : Files) → IsAlike a b → IsInOrder a.tree → IsInOrder b.tree → (place : TreePlace) → value_at (without_nameless b.tree) place ≡ value_at (without_nameless a.tree) place
+alike_named : (a b : Files) → Agrees a b → IsInOrder a.tree → IsInOrder b.tree → (place : TreePlace) → value_at (without_nameless b.tree) place ≡ value_at (without_nameless a.tree) place
 alike_named a b h o p (InodeAt q) =
     ap AnInode (found_inode b.tree q p ∙ ap (λ (es : Inodes). named_in (lookup (is_at (nat_cmp q)) es)) (sym h.inodes) ∙ sym (found_inode a.tree q o))
   where
@@ -329,12 +339,12 @@ alike_named a b h o p (BlockAt q block) =
     by true = refl
     by false = ap ABlock (alike_block a b h (q, block))
 
-pub alike_among : (a b : Files) → IsAlike a b → IsInOrder a.tree → IsInOrder b.tree → AreAmong (ValuesOf b.tree) (ValuesOf a.tree)
+pub alike_among : (a b : Files) → Agrees a b → IsInOrder a.tree → IsInOrder b.tree → AreAmong (ValuesOf b.tree) (ValuesOf a.tree)
 alike_among a b h o p place value (inl is) = inl (is ∙ alike_at a b h place)
 alike_among a b h o p place value (inr is) = inr (is ∙ alike_named a b h o p place)
 
--- also with a group that leaves them alike
-pub alike_with : (a b : Files) (group : List Change) → IsAlike a b → IsInOrder a.tree → IsInOrder b.tree → IsAlike (record a { tree = apply a.tree group }) (record b { tree = apply b.tree group }) → AreAmong (ValuesWith b.tree group) (ValuesWith a.tree group)
-alike_with a b group h o p more place value (inl is) = inl (alike_among a b h o p place value is)
-alike_with a b group h o p more place value (inr is) =
-    inr (alike_among (record a { tree = apply a.tree group }) (record b { tree = apply b.tree group }) more (apply_in_order group a.tree o) (apply_in_order group b.tree p) place value is)
+-- also with a group
+pub alike_with : (a b : Files) (group : List Change) → Agrees a b → IsInOrder a.tree → IsInOrder b.tree → AreAmong (ValuesWith b.tree group) (ValuesWith a.tree group)
+alike_with a b group h o p place value (inl is) = inl (alike_among a b h o p place value is)
+alike_with a b group h o p place value (inr is) =
+    inr (alike_among (record a { tree = apply a.tree group }) (record b { tree = apply b.tree group }) (group_agrees group a b h) (apply_in_order group a.tree o) (apply_in_order group b.tree p) place value is)

@@ -1,14 +1,13 @@
 -- What a put leaves of what callers see.
 use Rattle.std.proofs.Common.{◌≡◌, ℕ, ◌+◌, ◌-◌, ◌*◌, ◌≤◌, ◌⊎◌, inl, inr, length-append, length-drop, Bool, true, false, cond, max, ◌&&◌, List, [], ◌∷◌, ◌++◌, length, Some, refl, sym, ap, subst, ◌∙◌, arith}
-use Rattle.std.specs.Prelude.{◌==◌, ◌||◌, IsTrue, IsNone, is_some, nat_le, Result, Ok, Err, IfOk, OnOk, Option, None, fold, replicate, slice_get, drop, not, nat_lt, zero, suc}
-use Rattle.std.specs.List.{list_all, AllByRecursion}
+use Rattle.std.specs.Prelude.{◌==◌, ◌||◌, IsTrue, IsNone, is_some, nat_le, Result, Ok, Err, IfOk, OnOk, Option, None, fold, replicate, slice_get, drop, not, nat_lt, zero, suc, unwrap_or}
+use Rattle.std.specs.List.{list_all, AllByRecursion, IsDistinct}
 use Rattle.std.specs.Option.{option_map, option_map_or}
-use Rattle.std.specs.Map.{lookup, remove_entry}
+use Rattle.std.specs.Map.{lookup, remove_entry, keys_of}
 use Rattle.std.specs.BTreeMap.{insert_entry, is_at}
-use Rattle.std.specs.Ordering.{nat_cmp, match_ordering}
-use Rattle.std.specs.declared.cmp.Ordering.{Ordering}
-use Rattle.std.specs.declared.cmp.Ordering.TheVariants.{Less, Equal, Greater}
-use Rattle.std.proofs.lemmas.Bool.{and_parts, and_from}
+use Rattle.std.specs.Ordering.{nat_cmp}
+use Rattle.std.proofs.lemmas.Bool.{and_parts, and_from, false≢true}
+use Rattle.std.proofs.lemmas.Map.Keys.{IsDistinct-head, IsDistinct-tail}
 use Rattle.std.proofs.lemmas.List.{length-replicate}
 use Rattle.std.proofs.lemmas.List.Folds.{list_all-append}
 use Rattle.std.proofs.lemmas.Bool.Decides.{nat_tests}
@@ -28,7 +27,7 @@ use Rattle.page_cache.specs.Pages.{Pages, AreApart, is_page, dirty_at, oldest_of
 use Rattle.page_cache.specs.declared.dirty_page.DirtyPage.{DirtyPage}
 use Rattle.page_cache.specs.declared.ticket.Ticket.{Ticket}
 use Rattle.cached_files.specs.declared.kept.Kept.{Kept}
-use Rattle.cached_files.specs.Present.{DirtyPages, with_page, present, has_dirty, IsKept, FitsClean, FitsFile, FitsPages, page_of, filled, bytes_before_end}
+use Rattle.cached_files.specs.Present.{DirtyPages, with_page, present, has_dirty, IsKept, FitsClean, FitsFile, FitsOver, FitsPages, page_of, filled, bytes_before_end}
 use Rattle.cached_files.specs.CallLaws.{Goes-none, Goes-then, Sure-none, Sure-then}
 use Rattle.cached_files.specs.CutLaws.{Puts-none}
 use Rattle.cached_files.specs.Cuts.{PutsSeen, ValuesOf}
@@ -38,6 +37,7 @@ use Rattle.cached_files.proofs.Covers.{other_ends, page_cases}
 use Rattle.cached_files.proofs.Ends.{insert_ends, insert_other_ends, filled_ends}
 use Rattle.cached_files.proofs.Inserts.{insert_swap, set_later, set_same}
 use Rattle.cached_files.proofs.Reading.{kept_size}
+use Rattle.cached_files.proofs.Trimmed.{trimmed-insert}
 use Rattle.fs_laws.specs.Maps.{all_at, set_here, set_other, key_cases}
 use Rattle.fs_laws.specs.Orders.{numbers, pairs}
 
@@ -49,17 +49,6 @@ trimmed-zeros (suc n) = rw (trimmed-zeros n) refl
 pub trimmed-filled : (bytes : List ℕ) (n : ℕ) → trimmed (bytes ++ replicate n 0) ≡ trimmed bytes
 trimmed-filled [] n = trimmed-zeros n
 trimmed-filled (byte ∷ bytes) n = ap (λ z. before_zeros byte z) (trimmed-filled bytes n)
-
-pub trimmed-insert : (blocks : Blocks) (k : ℕ × ℕ) (v : List ℕ) → trimmed_blocks (insert_entry pair_cmp blocks k v) ≡ insert_entry pair_cmp (trimmed_blocks blocks) k (trimmed v)
-trimmed-insert [] k v = refl
-trimmed-insert (e ∷ blocks) k v = by (trimmed-insert blocks k v) (pair_cmp k e.0)
-  where
-    by : trimmed_blocks (insert_entry pair_cmp blocks k v) ≡ insert_entry pair_cmp (trimmed_blocks blocks) k (trimmed v) → (o : Ordering)
-        → trimmed_blocks (match_ordering o ((k, v) ∷ e ∷ blocks) ((e.0, v) ∷ blocks) (e ∷ insert_entry pair_cmp blocks k v))
-        ≡ match_ordering o ((k, trimmed v) ∷ (e.0, trimmed e.1) ∷ trimmed_blocks blocks) ((e.0, trimmed v) ∷ trimmed_blocks blocks) ((e.0, trimmed e.1) ∷ insert_entry pair_cmp (trimmed_blocks blocks) k (trimmed v))
-    by more Less = refl
-    by more Equal = refl
-    by more Greater = ap (λ z. (e.0, trimmed e.1) ∷ z) more
 
 -- pages cover blocks that are the same alike
 covered_alike : (dirty : DirtyPages) (a b : Blocks) → trimmed_blocks a ≡ trimmed_blocks b → trimmed_blocks (fold with_page a dirty) ≡ trimmed_blocks (fold with_page b dirty)
@@ -175,11 +164,33 @@ putting_of tree kept ticket o is =
       others = all_removed (FitsPages kept.inodes) (is_page (ticket.ino, ticket.block)) kept.pages.dirty is.pages;
     }
 
+-- a page that stands once stands nowhere once it is gone
+gone_named : (dirty : DirtyPages) (k : ℕ × ℕ) (page : DirtyPage) → IsDistinct is_page (keys_of dirty) → lookup (is_page k) dirty ≡ Some page → AllByRecursion (λ y. is_page k y ≡ false) (keys_of (remove_entry (is_page k) dirty))
+gone_named [] k page once found = absurd cc
+gone_named (e ∷ dirty) k page once found = by (λ there. gone_named dirty k page (IsDistinct-tail is_page e.0 (keys_of dirty) once) there) (page_cases k e.0)
+  where
+    by : (lookup (is_page k) dirty ≡ Some page → AllByRecursion (λ y. is_page k y ≡ false) (keys_of (remove_entry (is_page k) dirty))) → ((k ≡ e.0) × (is_page k e.0 ≡ true)) ⊎ ((k ≡ e.0 → ⊥) × (is_page k e.0 ≡ false))
+        → AllByRecursion (λ y. is_page k y ≡ false) (keys_of (remove_entry (is_page k) (e ∷ dirty)))
+    by more (inl same) = rw same.1 (subst (λ q. AllByRecursion (λ y. is_page q y ≡ false) (keys_of dirty)) (sym same.0) (IsDistinct-head is_page e.0 (keys_of dirty) once))
+    by more (inr other) = rw other.1 (other.1, more (rw other.1 at found))
+
+-- dirty pages are no shorter than their blocks where another block is set
+pub over_put : (blocks : Blocks) (k : ℕ × ℕ) (bytes : List ℕ) (dirty : DirtyPages) → AllByRecursion (FitsOver blocks) dirty → AllByRecursion (λ y. is_page k y ≡ false) (keys_of dirty) → AllByRecursion (FitsOver (insert_entry pair_cmp blocks k bytes)) dirty
+over_put blocks k bytes [] all apart = tt
+over_put blocks k bytes (e ∷ dirty) all apart = (
+  subst (λ o. length (unwrap_or o []) ≤ length e.1.bytes) (sym (set_other pair_cmp pairs blocks k bytes e.0 (other (page_cases k e.0)))) all.0,
+  over_put blocks k bytes dirty all.1 apart.1,
+)
+  where
+    other : ((k ≡ e.0) × (is_page k e.0 ≡ true)) ⊎ ((k ≡ e.0 → ⊥) × (is_page k e.0 ≡ false)) → e.0 ≡ k → ⊥
+    other (inl same) = absurd (false≢true (sym apart.0 ∙ same.1))
+    other (inr two) = λ same. two.0 (sym same)
+
 -- what is kept fits the tree after the put
-pub kept_still : (tree : Tree) (kept : Kept) (ticket : Ticket) (o : IsAt kept.pages ticket) (p : Putting tree kept ticket o) → IsKept tree kept → AreApart kept.pages.dirty kept.pages.clean
+pub kept_still : (tree : Tree) (kept : Kept) (ticket : Ticket) (o : IsAt kept.pages ticket) (p : Putting tree kept ticket o) → IsKept tree kept → AreApart kept.pages.dirty kept.pages.clean → IsDistinct is_page (keys_of kept.pages.dirty)
     → IsProper (apply tree (page_group (page_of ((ticket.ino, ticket.block), o.page) p.inode)))
     → IsKept (apply tree (page_group (page_of ((ticket.ino, ticket.block), o.page) p.inode))) (kept_after kept (left_of kept.pages ticket))
-kept_still tree kept ticket o p is apart proper = record {
+kept_still tree kept ticket o p is apart once proper = record {
   proper = proper;
   ascends = is.ascends;
   inodes = λ ino inode found. fits_still ino inode found (key_cases nat_cmp numbers ino ticket.ino);
@@ -187,6 +198,7 @@ kept_still tree kept ticket o p is apart proper = record {
   pages = p.others;
   settled = λ ino inode found none. settled_still ino inode found none (key_cases nat_cmp numbers ino ticket.ino);
   clean = clean_still;
+  covers = covers_still;
 }
   where
     after : Tree
@@ -228,6 +240,14 @@ kept_still tree kept ticket o p is apart proper = record {
         absent : (found : Option (List ℕ)) → IsNone found → found ≡ None
         absent None none = refl
         absent (Some bytes) none = absurd cc
+
+    covers_still : AllByRecursion (FitsOver after.blocks) (left_of kept.pages ticket)
+    covers_still =
+        let page = page_of ((ticket.ino, ticket.block), o.page) p.inode in
+        let t = ap (λ q. q.blocks) (put_tree tree page p.fits.below.0 is.proper p.fits.below.1) in
+        let P : Blocks → Type 0 = λ blocks. AllByRecursion (FitsOver blocks) (left_of kept.pages ticket) in
+        let left = all_removed (FitsOver tree.blocks) (is_page (ticket.ino, ticket.block)) kept.pages.dirty is.covers in
+        subst P (sym t) (over_put tree.blocks (ticket.ino, ticket.block) page.bytes (left_of kept.pages ticket) left (gone_named kept.pages.dirty (ticket.ino, ticket.block) o.page once o.found))
 
     fits_still : (ino : ℕ) (inode : Inode) → lookup (is_at (nat_cmp ino)) kept.inodes ≡ Some inode → (ino ≡ ticket.ino) ⊎ (ino ≡ ticket.ino → ⊥) → FitsFile after ino inode
     fits_still ino inode found (inl same) =
@@ -337,15 +357,15 @@ pub record AfterPut (old new : BackingState) (kept after : Kept) : Type 0 where
   pub paid : length kept.pages.dirty ≤ old.space.credits → length after.pages.dirty ≤ new.space.credits
   pub issued : new.space.credits + length kept.pages.dirty ≡ old.space.credits + length after.pages.dirty
 
-pub after_put : (old new : BackingState) (kept : Kept) (pages : Pages) (ticket : Ticket) (page : PageNode) (o : IsAt kept.pages ticket) (p : Putting old.tree kept ticket o) → IsKept old.tree kept → AreApart kept.pages.dirty kept.pages.clean
+pub after_put : (old new : BackingState) (kept : Kept) (pages : Pages) (ticket : Ticket) (page : PageNode) (o : IsAt kept.pages ticket) (p : Putting old.tree kept ticket o) → IsKept old.tree kept → AreApart kept.pages.dirty kept.pages.clean → IsDistinct is_page (keys_of kept.pages.dirty)
     → page ≡ page_of ((ticket.ino, ticket.block), o.page) p.inode → IsPagePut old new page → IsProper (apply old.tree (page_group page)) → pages ≡ without_dirty kept.pages ticket.ino ticket.block
     → AfterPut old new kept (record kept { pages = pages })
-after_put old new kept pages ticket page o p is apart shown put proper left =
+after_put old new kept pages ticket page o p is apart once shown put proper left =
     let made = page_of ((ticket.ino, ticket.block), o.page) p.inode in
     let t : new.tree ≡ apply old.tree (page_group made) = put.tree ∙ ap (λ q. apply old.tree (page_group q)) shown in
     let whole : IsProper (apply old.tree (page_group made)) = subst (λ q. IsProper (apply old.tree (page_group q))) shown proper in
-    let k : IsKept new.tree (kept_after kept (left_of kept.pages ticket)) = subst (λ tree. IsKept tree (kept_after kept (left_of kept.pages ticket))) (sym t) (kept_still old.tree kept ticket o p is apart whole) in
-    let s : IsAlike (present old.tree kept) (present new.tree (kept_after kept (left_of kept.pages ticket))) = subst (λ tree. IsAlike (present old.tree kept) (present tree (kept_after kept (left_of kept.pages ticket)))) (sym t) (same_after old.tree kept ticket o p is (kept_still old.tree kept ticket o p is apart whole)) in
+    let k : IsKept new.tree (kept_after kept (left_of kept.pages ticket)) = subst (λ tree. IsKept tree (kept_after kept (left_of kept.pages ticket))) (sym t) (kept_still old.tree kept ticket o p is apart once whole) in
+    let s : IsAlike (present old.tree kept) (present new.tree (kept_after kept (left_of kept.pages ticket))) = subst (λ tree. IsAlike (present old.tree kept) (present tree (kept_after kept (left_of kept.pages ticket)))) (sym t) (same_after old.tree kept ticket o p is (kept_still old.tree kept ticket o p is apart once whole)) in
     let n : length kept.pages.dirty ≡ suc (length (left_of kept.pages ticket)) = one_fewer kept.pages.dirty (ticket.ino, ticket.block) o.page o.found in
     let spent = put.credits in
     let whole_after : AfterPut old new kept (kept_after kept (left_of kept.pages ticket)) = record { fits = k; same = s; paid = λ le. omega (arith, le, n, spent); issued = omega (arith, n, spent) } in
@@ -404,6 +424,7 @@ let_go_still tree kept is none = record {
   pages = rw none tt;
   settled = λ ino inode found no. absurd cc;
   clean = is.clean;
+  covers = rw none tt;
 }
 
 pub same-then : (a b c : Files) → IsAlike a b → IsAlike b c → IsAlike a c

@@ -18,7 +18,7 @@ use Rattle.page_cache.specs.declared.dirty_page.DirtyPage.{DirtyPage}
 use Rattle.page_cache.specs.Pages.{is_page, bytes_at, clean_at, dirty_at}
 use Rattle.cached_files.specs.declared.kept.Kept.{Kept}
 use Rattle.cached_files.specs.Calls.{SureGoes}
-use Rattle.cached_files.specs.Present.{present, filled, IsKept, IsSameButClean, FitsClean}
+use Rattle.cached_files.specs.Present.{present, filled, IsKept, IsSameButClean, FitsClean, FitsOver}
 use Rattle.cached_files.proofs.Clean.{all_found, Same-then}
 use Rattle.cached_files.proofs.Covers.{present_inode, found_covered, covered_nodes, covered_ends, other_ends}
 use Rattle.cached_files.proofs.Ends.{stored_short, low_block}
@@ -80,6 +80,17 @@ seen_block tree kept ino block once none =
     let all = found_covered kept.pages.dirty tree.blocks (ino, block) once in
     let is : lookup (is_at (pair_cmp (ino, block))) (seen tree kept) ≡ lookup (is_at (pair_cmp (ino, block))) tree.blocks = rw none at all in
     ap (λ o. unwrap_or o []) is
+
+-- the block that is seen is no shorter than the tree's
+pub seen_over : (tree : Tree) (kept : Kept) (ino block : ℕ) → IsKept tree kept → IsDistinct is_page (keys_of kept.pages.dirty) → length (block_at tree.blocks ino block) ≤ length (block_at (seen tree kept) ino block)
+seen_over tree kept ino block is once = by (dirty_at kept.pages ino block) refl
+  where
+    by : (o : Option DirtyPage) → dirty_at kept.pages ino block ≡ o → length (block_at tree.blocks ino block) ≤ length (block_at (seen tree kept) ino block)
+    by None h = let n = ap (λ bytes. length bytes) (seen_block tree kept ino block once h) in omega (arith, n)
+    by (Some page) h =
+        let n = ap (λ bytes. length bytes) (seen_page tree kept ino block page once h) in
+        let over : length (block_at tree.blocks ino block) ≤ length page.bytes = all_found (FitsOver tree.blocks) (ino, block) page kept.pages.dirty is.covers h in
+        omega (arith, n, over)
 
 -- what a backing's block tells of the one that is seen
 pub block_stored : {E : Type 0} (r : Result ℕ E) (below above new : List ℕ) → above ≡ below → length above ≤ 4096 → IfOk r (λ stored. (stored ≡ min (length below) 4096) × (new ≡ take 4096 below ++ replicate (4096 - stored) 0)) → IfOk r (λ stored. stored ≡ length above)

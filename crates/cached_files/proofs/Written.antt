@@ -9,14 +9,14 @@ use Rattle.std.proofs.lemmas.Bool.Decides.{nat_tests}
 use Rattle.fs_model.specs.declared.inode.Inode.{Inode}
 use Rattle.fs_model.specs.declared.inode.Kind.TheVariants.{File}
 use Rattle.fs_model.specs.Backing.{BackingState, Outlook, Goes, Reads}
-use Rattle.fs_model.specs.Files.{Tree, Files, Blocks, Inodes, inode_at, blocks_end, size_of, pages_of, page_written, blocks_written, with_page as write_page}
+use Rattle.fs_model.specs.Files.{Tree, Files, Blocks, Inodes, inode_at, block_at, blocks_end, size_of, pages_of, page_written, blocks_written, with_page as write_page}
 use Rattle.fs_model.specs.Handles.{tree_written}
 use Rattle.fs_model.specs.Making.{touched}
 use Rattle.fs_model.specs.Proper.{is_inode_node}
 use Rattle.page_cache.specs.declared.dirty_page.DirtyPage.{DirtyPage}
 use Rattle.page_cache.specs.Pages.{Pages, is_page, dirty_at, put_last, with_dirty, with_all_dirty, new_pages, old_pages, IsTakenBack}
 use Rattle.cached_files.specs.declared.kept.Kept.{Kept}
-use Rattle.cached_files.specs.Present.{DirtyPages, with_page, with_inode, covered, present, has_dirty, IsKept, FitsClean, FitsFile, FitsPages, newly_dirty}
+use Rattle.cached_files.specs.Present.{DirtyPages, with_page, with_inode, covered, present, has_dirty, IsKept, FitsClean, FitsFile, FitsOver, FitsPages, newly_dirty}
 use Rattle.cached_files.proofs.Clean.{all_dirtied}
 use Rattle.cached_files.proofs.Counts.{parts_count, all_none, some_put}
 use Rattle.cached_files.proofs.Covers.{page_cases, other_ends}
@@ -24,10 +24,10 @@ use Rattle.cached_files.specs.Calls.{SureGoes}
 use Rattle.cached_files.specs.CallLaws.{Goes-none, Goes-then, Sure-none, Sure-then}
 use Rattle.cached_files.proofs.Inserts.{insert_under}
 use Rattle.fs_laws.specs.Maps.{all_at, insert_ascends, set_here, set_other, key_cases}
-use Rattle.cached_files.proofs.Nodes.{written_block, written_ends, node_touched}
+use Rattle.cached_files.proofs.Nodes.{written_block, written_ends, written_over, node_touched}
 use Rattle.fs_laws.specs.Orders.{numbers}
 use Rattle.cached_files.proofs.Overlays.{numbered, step, parts_cover, same_steps}
-use Rattle.cached_files.proofs.Reading.{Reads-tree, Reads-then, seen, seen_kept, seen_below, seen_nodes}
+use Rattle.cached_files.proofs.Reading.{Reads-tree, Reads-then, seen, seen_kept, seen_below, seen_nodes, seen_over}
 
 -- what holds of each page holds after one more
 fits_put : (P : (ℕ × ℕ) × DirtyPage → Type 0) (dirty : DirtyPages) (k : ℕ × ℕ) (page : DirtyPage) → AllByRecursion P dirty → P (k, page) → AllByRecursion P (put_last dirty k page)
@@ -172,6 +172,7 @@ module _ (tree : Tree) (kept : Kept) (ino : ℕ) (inode : Inode) (size place n b
         pages = fits_all P old (with_all_dirty kept.pages ino new) ino (fits_all P new kept.pages ino (fits_grown kept.inodes ino grown kept.pages.dirty (λ was found. grows known.3 was found) w.fits.pages) (some_of Q (λ page. not (is_some (dirty_at kept.pages ino page.0))) put (each known.2))) (some_of Q (λ page. is_some (dirty_at kept.pages ino page.0)) put (each known.2));
         settled = λ i found there none. settle i found there none (key_cases nat_cmp numbers i ino);
         clean = all_dirtied (FitsClean tree.blocks) old (with_all_dirty kept.pages ino new) ino (all_dirtied (FitsClean tree.blocks) new kept.pages ino w.fits.clean);
+        covers = fits_all (FitsOver tree.blocks) old (with_all_dirty kept.pages ino new) ino (fits_all (FitsOver tree.blocks) new kept.pages ino w.fits.covers (some_of O (λ page. not (is_some (dirty_at kept.pages ino page.0))) put over)) (some_of O (λ page. is_some (dirty_at kept.pages ino page.0)) put over);
       }
     where
       put : List (ℕ × List ℕ)
@@ -188,6 +189,18 @@ module _ (tree : Tree) (kept : Kept) (ino : ℕ) (inode : Inode) (size place n b
 
       Q : ℕ × List ℕ → Type 0
       Q p = (version : ℕ) → P ((ino, p.0), record { bytes = p.1; version = version })
+
+      O : ℕ × List ℕ → Type 0
+      O p = ℕ → length (block_at tree.blocks ino p.0) ≤ length p.1
+
+      over : AllByRecursion O put
+      over =
+          let one : (p : ℕ) → place / 4096 ≤ p → p < place / 4096 + suc ((place + n - 1) / 4096 - place / 4096) → O (p, f p) = λ p low high version.
+          let below = seen_over tree kept ino p w.fits w.once in
+          let some = w.some in
+          let more = written_over (seen tree kept) ino place n byte p (omega (arith, low, high, some)) (omega (arith, low)) in
+          omega (arith, below, more) in
+          subst (λ ps. AllByRecursion O (map (numbered ino f) ps)) (sym pages_are) (range_all O ino f (place / 4096) (suc ((place + n - 1) / 4096 - place / 4096)) one)
 
       grows : inode.size ≤ size → (was : Inode) → lookup (is_at (nat_cmp ino)) kept.inodes ≡ Some was → was.size ≤ grown.size
       grows less was found =
@@ -255,6 +268,7 @@ same_kept tree kept after is i d clean = record {
   pages = rw (i, d) is.pages;
   settled = λ ino inode found none. is.settled ino inode (rw i at found) (rw d at none);
   clean = clean;
+  covers = rw d is.covers;
 }
 
 -- what holds after a write

@@ -17,14 +17,14 @@ use Rattle.fs_laws.specs.Orders.{numbers}
 use Rattle.cached_files.specs.Alike.{IsAlike}
 use Rattle.cached_files.proofs.Ends.{insert_ends, insert_other_ends}
 use Rattle.cached_files.proofs.Nodes.{written_ends}
-use Rattle.cached_files.proofs.Putting.{trimmed-insert}
+use Rattle.cached_files.proofs.Trimmed.{trimmed-insert}
 
 trimmed-join : (front a b : List ℕ) → trimmed a ≡ trimmed b → trimmed (front ++ a) ≡ trimmed (front ++ b)
 trimmed-join [] a b h = h
 trimmed-join (x ∷ front) a b h = ap (λ z. before_zeros x z) (trimmed-join front a b h)
 
 -- what follows the first byte is told by what is told of both
-tail_told : (x y : ℕ) (a b : List ℕ) → before_zeros x a ≡ before_zeros y b → a ≡ b
+pub tail_told : (x y : ℕ) (a b : List ℕ) → before_zeros x a ≡ before_zeros y b → a ≡ b
 tail_told x y [] [] h = refl
 tail_told x y [] (n ∷ b) h = by (x == 0) h
   where
@@ -39,7 +39,7 @@ tail_told x y (m ∷ a) [] h = by (y == 0) h
 tail_told x y (m ∷ a) (n ∷ b) h = cc h
 
 -- and so is the first
-head_told : (x y : ℕ) (a b : List ℕ) → before_zeros x a ≡ before_zeros y b → x ≡ y
+pub head_told : (x y : ℕ) (a b : List ℕ) → before_zeros x a ≡ before_zeros y b → x ≡ y
 head_told x y [] [] h = by (x == 0) refl (y == 0) refl h
   where
     by : (s : Bool) → (x == 0) ≡ s → (t : Bool) → (y == 0) ≡ t → cond s [] (x ∷ []) ≡ cond t [] (y ∷ []) → x ≡ y
@@ -60,7 +60,7 @@ head_told x y (m ∷ a) [] h = by (y == 0) h
 head_told x y (m ∷ a) (n ∷ b) h = cc h
 
 -- where nothing is told of bytes, each is zero
-zero_told : (y : ℕ) (b : List ℕ) → [] ≡ before_zeros y b → (y ≡ 0) × ([] ≡ b)
+pub zero_told : (y : ℕ) (b : List ℕ) → [] ≡ before_zeros y b → (y ≡ 0) × ([] ≡ b)
 zero_told y [] h = by (y == 0) refl h
   where
     empty : List ℕ

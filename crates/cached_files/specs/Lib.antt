@@ -1,8 +1,9 @@
 pub mod Alike
+pub mod CallLaws
 pub mod Calls
+pub mod CutLaws
+pub mod Cuts
 pub mod Follow
 pub mod PagePut
 pub mod Present
-pub mod CallLaws
-pub mod Cuts
-pub mod CutLaws
+pub mod Resized

@@ -47,6 +47,10 @@ FitsPages inodes e =
 abbrev pub FitsClean : Blocks → (ℕ × ℕ) × List ℕ → Type 0
 FitsClean blocks e = e.1 ≡ block_at blocks e.0.0 e.0.1
 
+-- a dirty page: no shorter than that block of a tree below it
+abbrev pub FitsOver : Blocks → (ℕ × ℕ) × DirtyPage → Type 0
+FitsOver blocks e = length (block_at blocks e.0.0 e.0.1) ≤ length e.1.bytes
+
 -- whether a page of an inode is dirty
 abbrev pub has_dirty : DirtyPages → ℕ → Bool
 has_dirty dirty ino = list_any (λ e. e.0.0 == ino) dirty
@@ -55,7 +59,7 @@ has_dirty dirty ino = list_any (λ e. e.0.0 == ino) dirty
 abbrev pub dirty_of_others : DirtyPages → ℕ → DirtyPages
 dirty_of_others dirty ino = filter (λ e. not (e.0.0 == ino)) dirty
 
--- what is kept fits a tree: each dirty page and its file's inode do, no block of the tree ends behind a size that is kept, an inode without a dirty page is that of the tree, and each clean page has the bytes of its block
+-- what is kept fits a tree: each dirty page and its file's inode do, no block of the tree ends behind a size that is kept, an inode without a dirty page is that of the tree, each clean page has the bytes of its block, and a dirty page is no shorter than its block
 pub record IsKept (tree : Tree) (kept : Kept) : Type 0 where
   pub proper : IsProper tree
   pub ascends : IsTrue (ascends nat_cmp (keys_of kept.inodes))
@@ -64,6 +68,7 @@ pub record IsKept (tree : Tree) (kept : Kept) : Type 0 where
   pub pages : AllByRecursion (FitsPages kept.inodes) kept.pages.dirty
   pub settled : (ino : ℕ) (inode : Inode) → lookup (is_at (nat_cmp ino)) kept.inodes ≡ Some inode → has_dirty kept.pages.dirty ino ≡ false → inode_at tree ino ≡ Some inode
   pub clean : AllByRecursion (FitsClean tree.blocks) kept.pages.clean
+  pub covers : AllByRecursion (FitsOver tree.blocks) kept.pages.dirty
 
 -- the same is kept, but for clean pages
 abbrev pub IsSameButClean : Kept → Kept → Type 0

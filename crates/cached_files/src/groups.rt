@@ -96,7 +96,7 @@ pub fn apply_group<B: Backing>(
 }
 
 // Copies of the changes of inodes, in order.
-fn inode_changes(alloc: Global, changes: &[Change]) -> Result<Vec<Change>, Memory>
+pub(crate) fn inode_changes(alloc: Global, changes: &[Change]) -> Result<Vec<Change>, Memory>
     ensures { IfOk result (λ copies. copies.items ≡ filter is_of_inode changes.now) }
 {
     let mut copies = Vec::new(alloc);
@@ -126,7 +126,7 @@ fn copied(change: &Change) -> Result<Change, Memory>
 }
 
 // Follows changes, and answers how many dirty pages went. Takes no memory.
-fn follow_all(kept: &mut Kept, changes: Vec<Change>) -> u64
+pub(crate) fn follow_all(kept: &mut Kept, changes: Vec<Change>) -> u64
     ensures kept { kept.new ≡ followed kept.old changes.items }
     ensures gone { result + length kept.new.pages.dirty ≡ length kept.old.pages.dirty }
 {

@@ -12,6 +12,7 @@ ghost use Rattle.fs_model.specs.Orphan.{nameless};
 ghost use Rattle.fs_model.specs.Path.{is_dir};
 ghost use Rattle.fs_model.specs.Proper.{IsProper};
 ghost use Rattle.fs_model.specs.Same.{IsSame};
+ghost use Rattle.fs_model.specs.Truncation.{truncating};
 ghost use Rattle.cached_files.specs.declared.kept.Kept.{Kept as AnyKept};
 ghost use Rattle.cached_files.specs.Alike.{IsAlike};
 ghost use Rattle.cached_files.specs.Cuts.{GroupFate, HasValues, PutsWith, ValuesOf, ValuesWith};
@@ -29,6 +30,12 @@ pub fn alike_files_are_the_same()
 /// A write to what is no directory leaves files alike that were alike.
 pub fn written_files_stay_alike()
     ensures { (a b : Files) (ino : ℕ) (inode : Inode) (now offs n byte : ℕ) → 0 < n → inode_at a.tree ino ≡ Some inode → is_dir inode.kind ≡ false → IsAlike a b → IsAlike (record a { tree = tree_written a.tree ino inode now offs n byte }) (record b { tree = tree_written b.tree ino inode now offs n byte }) }
+{}
+
+/// A new size of what is no directory leaves files alike that were alike.
+pub fn resized_files_stay_alike()
+    ensures { (a b : Files) (ino : ℕ) (inode : Inode) (size now : ℕ) → IsProper a.tree → IsProper b.tree → inode_at a.tree ino ≡ Some inode → is_dir inode.kind ≡ false → IsAlike a b
+        → IsAlike (record a { tree = apply a.tree (truncating a.tree ino inode size now) }) (record b { tree = apply b.tree (truncating b.tree ino inode size now) }) }
 {}
 
 /// A group of changes of inodes and names leaves files alike that were alike.

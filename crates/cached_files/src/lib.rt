@@ -17,6 +17,8 @@ mod law;
 mod orphans;
 mod put;
 mod reads;
+mod sizes;
+mod truncations;
 mod writes;
 mod written_pages;
 
@@ -29,10 +31,12 @@ pub use crate::handles::Handles;
 pub use crate::kept::Kept;
 pub use crate::law::{
     a_cut_leaves_what_was_put, alike_files_are_the_same, clean_files_are_those_of_the_backing,
-    groups_leave_files_alike, present_files_are_sound, written_files_stay_alike,
+    groups_leave_files_alike, present_files_are_sound, resized_files_stay_alike,
+    written_files_stay_alike,
 };
 pub use crate::orphans::drop_orphan;
 pub use crate::put::{put_oldest, put_ticket, write_back, write_back_file};
 pub use crate::reads::{bytes, inode, size};
+pub use crate::sizes::set_size;
 pub use crate::writes::{newly, write};
 pub use page_cache::Ticket;

@@ -33,7 +33,7 @@ lost_sound files caller slot ino bad found lost law =
 -- what is kept fits the same tree with any handles
 pub handles_kept : (t tree : Tree) (kept : Kept) (handles : Handles) → t ≡ tree → IsKept tree kept → IsKept t (record kept { handles = handles })
 handles_kept t tree kept handles same is =
-    subst (λ s. IsKept s (record kept { handles = handles })) (sym same) (record { proper = is.proper; ascends = is.ascends; inodes = is.inodes; ends = is.ends; pages = is.pages; settled = is.settled; clean = is.clean })
+    subst (λ s. IsKept s (record kept { handles = handles })) (sym same) (record { proper = is.proper; ascends = is.ascends; inodes = is.inodes; ends = is.ends; pages = is.pages; settled = is.settled; clean = is.clean; covers = is.covers })
 
 -- files over the same tree are sound still
 pub handles_sound : (t tree : Tree) (kept : Kept) (handles left : Handles) → t ≡ tree → handles ≡ left → IsSound (record (present tree kept) { handles = left }) → IsSound (present t (record kept { handles = handles }))

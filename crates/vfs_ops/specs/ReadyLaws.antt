@@ -16,8 +16,9 @@ use Rattle.fs_model.specs.Backing.{BackingState}
 use Rattle.fs_model.specs.Files.{Blocks, Files, Inodes, Tree, inode_at}
 use Rattle.fs_model.specs.Proper.{IsProper, is_block_node}
 use Rattle.fs_laws.specs.Sound.{IsSound}
+use Rattle.page_cache.specs.declared.dirty_page.DirtyPage.{DirtyPage}
 use Rattle.cached_files.specs.declared.kept.Kept.{Kept}
-use Rattle.cached_files.specs.Present.{DirtyPages, FitsClean, FitsFile, FitsPages, IsKept, present}
+use Rattle.cached_files.specs.Present.{DirtyPages, FitsClean, FitsFile, FitsOver, FitsPages, IsKept, present}
 use Rattle.vfs_ops.specs.Steps.{IsReady}
 use base.Stored.{Coded-set}
 use mathlib.Core.HLevel.{Σ_prop_path}
@@ -58,6 +59,9 @@ pages_prop inodes (e ∷ dirty) =
 clean_prop : (blocks : Blocks) (e : (ℕ × ℕ) × List ℕ) → IsProp (FitsClean blocks e)
 clean_prop blocks e = hlevel props
 
+over_prop : (blocks : Blocks) (e : (ℕ × ℕ) × DirtyPage) → IsProp (FitsOver blocks e)
+over_prop blocks e = hlevel props
+
 proper_prop : (tree : Tree) → IsProp (IsProper tree)
 proper_prop tree = hlevel props
 
@@ -67,7 +71,8 @@ kept_prop tree kept =
     let file = file_prop tree in
     let pages = pages_prop kept.inodes kept.pages.dirty in
     let clean = AllByRecursion-prop (FitsClean tree.blocks) (clean_prop tree.blocks) kept.pages.clean in
-    hlevel (props, inode_set, proper, file, pages, clean)
+    let covers = AllByRecursion-prop (FitsOver tree.blocks) (over_prop tree.blocks) kept.pages.dirty in
+    hlevel (props, inode_set, proper, file, pages, clean, covers)
 
 sound_prop : (files : Files) → IsProp (IsSound files)
 sound_prop files = let proper = proper_prop files.tree in hlevel (props, proper)

@@ -98,16 +98,12 @@ pub returns-in-Ok-clause-cut : goal.returns-in-Ok-clause-cut
 returns-in-Ok-clause-cut g c =
     let old = g.B.Backing.state c.args.backing.now in
     let now = g.B.Backing.state c.admit.new.backing in
-    let proper = c.present_files_are_sound.ensures.proper old.tree c.args.kept.now c.requires.kept in
-    let later = c.present_files_are_sound.ensures.proper now.tree c.admit.new.kept c.admit.ensures.kept in
-    group_then old now (g.B.Backing.state c.put_group.new.backing) c.args.kept.now c.admit.new.kept c.args.group.now WasPut c.requires.kept c.admit.ensures.kept proper later c.requires.names c.admit.ensures.same c.admit.ensures.cut c.in-Ok.ensures.cut
+    group_then old now (g.B.Backing.state c.put_group.new.backing) c.args.kept.now c.admit.new.kept c.args.group.now WasPut c.requires.kept c.admit.ensures.kept c.admit.ensures.same c.admit.ensures.cut c.in-Ok.ensures.cut
 
 pub returns-in-Err-clause-cut : goal.returns-in-Err-clause-cut
 returns-in-Err-clause-cut g c =
     let old = g.B.Backing.state c.args.backing.now in
     let now = g.B.Backing.state c.admit.new.backing in
     let new = g.B.Backing.state c.put_group.new.backing in
-    let proper = c.present_files_are_sound.ensures.proper old.tree c.args.kept.now c.requires.kept in
-    let later = c.present_files_are_sound.ensures.proper now.tree c.admit.new.kept c.admit.ensures.kept in
-    let f = group_then old now new c.args.kept.now c.admit.new.kept c.args.group.now (refused_fate (refusal_of c.in-Err.fault)) c.requires.kept c.admit.ensures.kept proper later c.requires.names c.admit.ensures.same c.admit.ensures.cut c.in-Err.ensures.cut in
+    let f = group_then old now new c.args.kept.now c.admit.new.kept c.args.group.now (refused_fate (refusal_of c.in-Err.fault)) c.requires.kept c.admit.ensures.kept c.admit.ensures.same c.admit.ensures.cut c.in-Err.ensures.cut in
     search (rules, f)

@@ -42,7 +42,7 @@ made g c =
     let p = putting_of old.tree c.args.kept.now c.args.ticket.now o c.requires.kept in
     let shown = c.in_ok-page.ensures p.inode o.page p.found o.found in
     let whole = c.a_page_keeps_trees_proper.ensures old.tree c.in_ok-page.page c.requires.kept.proper (is_file_page old.tree c.args.kept.now c.args.ticket.now c.in_ok-page.page o p shown) in
-    after_put old (g.B.Backing.state c.put_page.new.self) c.args.kept.now c.mark_clean.new.self c.args.ticket.now c.in_ok-page.page o p c.requires.kept c.dirty-dirty.ensures.cache.apart
+    after_put old (g.B.Backing.state c.put_page.new.self) c.args.kept.now c.mark_clean.new.self c.args.ticket.now c.in_ok-page.page o p c.requires.kept c.dirty-dirty.ensures.cache.apart c.dirty-dirty.ensures.cache.dirty_once
     shown c.in_ok-put_page.ensures.ok whole.proper (cleaned c.args.kept.now.pages c.mark_clean.new.self c.args.ticket.now c.mark_clean.result current c.mark_clean.ensures.current c.mark_clean.ensures.pages)
 
 pub returns-clause-kept : goal.returns-clause-kept
