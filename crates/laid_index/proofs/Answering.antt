@@ -1,13 +1,10 @@
 -- Answers of calls that lay nodes, one after another.
-use Rattle.std.proofs.Common.{◌≡◌, ◌≢◌, ℕ, ◌+◌, ◌<◌, ◌≤◌, List, refl, sym, subst, ◌∙◌, arith, inl, inr}
-use Rattle.std.specs.Prelude.{◌⊎◌, Result, Ok, Err}
+use Rattle.std.proofs.Common.{◌≡◌, ℕ, ◌+◌, ◌≤◌, List, refl, sym, subst, ◌∙◌, arith, inl, inr}
+use Rattle.std.specs.Prelude.{Result, Ok, Err}
 use Rattle.std.specs.Result.{IsErrAnd}
 use Rattle.ubi_volume.specs.Geometry.{IsGeometryOf}
 use Rattle.ubifs_base.specs.declared.raw_geometry.RawGeometry.{RawGeometry}
-use Rattle.std.proofs.lemmas.Bool.{cases_lt}
 use Rattle.ubi_volume.specs.FaultLaws.{HasAreaCause-before}
-use Rattle.ubi_volume.specs.Faults.{HasAreaCause, StaysSureArea, IsNotVolume}
-use Rattle.ubi_volume.specs.Frame.{IsSameLeb}
 use Rattle.ubi_volume.specs.FrameLaws.{IsSameLeb-none, IsSameLeb-then, IsSameLeb-works}
 use Rattle.ubi_volume.specs.Volume.{SameShape, VolumeState, WorksOn}
 use Rattle.ubi_volume.specs.VolumeLaws.{SameShape-then}

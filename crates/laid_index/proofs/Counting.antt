@@ -1,5 +1,5 @@
 -- LEBs are counted.
-use Rattle.std.proofs.Common.{◌≡◌, ℕ, ◌+◌, ◌-◌, ◌*◌, ◌^◌, ◌<◌, ◌≤◌, List, [], ◌∷◌, ◌++◌, length, ap, sym, ◌∙◌, refl, arith, append_assoc, append-nil, inl, inr}
+use Rattle.std.proofs.Common.{◌≡◌, ℕ, ◌-◌, ◌^◌, ◌<◌, ◌≤◌, List, [], ◌∷◌, ◌++◌, length, ap, sym, ◌∙◌, refl, arith, append-nil, inl, inr}
 use Rattle.std.specs.Prelude.{min}
 use Rattle.std.specs.Int.{div_ceil}
 use Rattle.std.proofs.lemmas.Bool.{cases_lt}
@@ -8,7 +8,7 @@ use Rattle.ubifs_base.specs.declared.raw_geometry.RawGeometry.{RawGeometry}
 use Rattle.laid_index.specs.Counted.{lebs_after}
 use Rattle.laid_index.specs.Packing.{index_used, len_over, lens_above, level_lens, packed}
 use Rattle.laid_index.specs.declared.packing.LebCount.{LebCount}
-use Rattle.laid_index.proofs.Packs.{ceil_some, lens_count, lens_level, lens_root, level_last, level_step, packed_first, packed_grows}
+use Rattle.laid_index.proofs.Packs.{lens_count, lens_level, lens_root, level_last, level_step, packed_first, packed_grows}
 
 -- fewer nodes take no more LEBs
 pub counted_front : (geo : RawGeometry) (count : LebCount) (xs ys : List ℕ) → lebs_after geo count xs ≤ lebs_after geo count (xs ++ ys)

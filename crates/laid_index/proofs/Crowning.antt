@@ -1,5 +1,5 @@
 -- From a row to the row above it, and to the root.
-use Rattle.std.proofs.Common.{◌≡◌, ℕ, suc, zero, ◌+◌, ◌-◌, ◌*◌, ◌^◌, ◌<◌, ◌≤◌, Bool, true, false, List, [], ◌∷◌, ◌++◌, length, take, drop, refl, ap, sym, ◌∙◌, subst, arith, inl, inr}
+use Rattle.std.proofs.Common.{◌≡◌, ℕ, ◌+◌, ◌-◌, ◌*◌, ◌^◌, ◌<◌, ◌≤◌, Bool, true, List, [], ◌∷◌, ◌++◌, length, refl, ap, sym, ◌∙◌, subst, arith, inl, inr}
 use Rattle.std.specs.Prelude.{map, Option, Some, None, nat_lt, nat_le, ◌==◌, ◌&&◌, ◌||◌, ⊤}
 use Rattle.std.specs.List.{AllByRecursion}
 use Rattle.std.proofs.lemmas.Bool.{and_parts, and_from, lt-ltb, le-leb, ltb-true, eqb-true, or_cases}
@@ -15,11 +15,10 @@ use Rattle.index_tree.specs.Shape.{contents as leaves_in, count, fits}
 use Rattle.index_tree.specs.declared.leaf.Leaf.{Leaf}
 use Rattle.index_media.specs.KeyedBounds.{AreAtMost}
 use Rattle.index_media.specs.Keys.{AreBounded, IsAtMost, bound_before, branch_rank}
-use Rattle.index_media.specs.PlacedRow.{PlacedRow, ended, leaf_at, node_at, all_nodes, branch_to, branches_of, bytes_taken, plain}
+use Rattle.index_media.specs.PlacedRow.{PlacedRow, ended, leaf_at, node_at, all_nodes, branch_to, branches_of, plain}
 use Rattle.index_media.specs.Stored.{AreStored, IsIndexNodeAt, IsStoredIndex}
 use Rattle.laid_index.specs.Crowned.{IsCrowned, IsRowLaid}
 use Rattle.laid_index.specs.Opened.{GoesOn, Lays, taken_after, taken_of}
-use Rattle.laid_index.specs.Packing.{len_over}
 use Rattle.laid_index.specs.Rows.{AreOver, HasFirstKey, IsGrown, StandOver, parents, row_front}
 use Rattle.laid_index.specs.declared.open_leb.OpenLeb.{OpenLeb}
 use Rattle.laid_index.proofs.Growing.{parents_all, parents_branches, parents_count, parents_grown, parents_leaves, parents_nodes}

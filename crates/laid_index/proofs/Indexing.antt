@@ -1,14 +1,11 @@
 -- From no node to the whole index.
-use Rattle.std.proofs.Common.{◌≡◌, ◌≢◌, ℕ, ◌+◌, ◌*◌, ◌^◌, ◌%◌, ◌<◌, ◌≤◌, true, List, [], ◌∷◌, ◌++◌, length, take, Ok, ap, sym, ◌∙◌, subst, refl, arith, inl, inr}
-use Rattle.std.specs.Prelude.{map, All, None, ◌⊎◌}
+use Rattle.std.proofs.Common.{◌≡◌, ◌≢◌, ℕ, ◌+◌, ◌^◌, ◌%◌, ◌<◌, ◌≤◌, true, List, [], ◌∷◌, ◌++◌, length, take, ap, sym, ◌∙◌, subst, refl, arith}
+use Rattle.std.specs.Prelude.{map, None}
 use Rattle.std.specs.List.{AllByRecursion}
-use Rattle.std.proofs.lemmas.Bool.{cases_order}
-use Rattle.std.proofs.lemmas.List.{length_push}
 use Rattle.std.proofs.lemmas.List.Elements.{All-nil, recursion_from_All}
 use Rattle.ubifs_base.specs.Geometry.{IsGeometry}
 use Rattle.ubifs_base.specs.Key.{IsKey}
 use Rattle.ubifs_base.specs.declared.raw_geometry.RawGeometry.{RawGeometry}
-use Rattle.ubi_volume.specs.Volume.{VolumeState}
 use Rattle.media_sys.specs.Index.{in_order}
 use Rattle.media_sys.specs.declared.branch.Branch.{Branch}
 use Rattle.index_tree.specs.Keyed.{HaveKeys}
@@ -18,7 +15,7 @@ use Rattle.index_media.specs.PlacedRow.{PlacedRow, ended, leaf_at, node_at, all_
 use Rattle.laid_main.specs.Filling.{AreFilled, Takes}
 use Rattle.laid_index.specs.Crowned.{IsCrowned, IsRowLaid}
 use Rattle.laid_index.specs.Indexed.{IsLaidIndex}
-use Rattle.laid_index.specs.Opened.{GoesOn, IsClosed, IsOpen, IsReady, open_lnum, taken_after, taken_of}
+use Rattle.laid_index.specs.Opened.{GoesOn, IsClosed, IsReady, open_lnum, taken_after, taken_of}
 use Rattle.laid_index.specs.Packing.{index_lens, index_used, lens_above, packed}
 use Rattle.laid_index.specs.Rows.{AreInOrder, IsGrown}
 use Rattle.laid_index.specs.declared.laid_index.LaidIndex.{LaidIndex}

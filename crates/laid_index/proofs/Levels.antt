@@ -1,6 +1,6 @@
 -- One level, node by node.
-use Rattle.std.proofs.Common.{◌≡◌, ℕ, suc, zero, ◌+◌, ◌-◌, ◌*◌, ◌^◌, ◌<◌, ◌≤◌, Bool, true, false, List, [], ◌∷◌, ◌++◌, length, take, drop, refl, ap, sym, ◌∙◌, subst, arith, append-nil, append_assoc, length-append, length-drop, inl, inr}
-use Rattle.std.specs.Prelude.{Option, Some, None, map, min, ◌&&◌, ◌||◌, ◌==◌, nat_lt, ◌⊎◌}
+use Rattle.std.proofs.Common.{◌≡◌, ℕ, suc, zero, ◌+◌, ◌-◌, ◌<◌, ◌≤◌, Bool, true, List, [], ◌∷◌, ◌++◌, length, take, drop, refl, ap, sym, ◌∙◌, subst, arith, append-nil, append_assoc, length-append, length-drop, inl, inr}
+use Rattle.std.specs.Prelude.{Option, Some, None, min, ◌&&◌, ◌||◌, ◌==◌, nat_lt, ◌⊎◌}
 use Rattle.std.specs.List.{AllByRecursion}
 use Rattle.std.proofs.lemmas.Bool.{and_parts, and_from, eq-eqb, eqb-true, lt-ltb, ltb-true, or_cases, or_left, or_right}
 use Rattle.std.proofs.lemmas.List.{length-take, take_min, drop_min}
@@ -8,11 +8,11 @@ use Rattle.ubifs_base.specs.Geometry.{IsGeometry}
 use Rattle.ubifs_base.specs.Key.{IsKey, key_words}
 use Rattle.ubifs_base.specs.declared.key.Key.{Key}
 use Rattle.ubifs_base.specs.declared.raw_geometry.RawGeometry.{RawGeometry}
-use Rattle.media_sys.specs.Index.{Index, IsIdxNode, in_order, is_entry, may_follow}
+use Rattle.media_sys.specs.Index.{IsIdxNode, in_order, is_entry, may_follow}
 use Rattle.media_sys.specs.declared.branch.Branch.{Branch}
 use Rattle.index_media.specs.Stored.{IsIndexNodeAt}
 use Rattle.laid_main.specs.Filling.{Takes}
-use Rattle.laid_index.specs.Opened.{GoesOn, IsOpen, IsReady, Lays, open_lnum, taken_after, taken_of}
+use Rattle.laid_index.specs.Opened.{GoesOn, IsOpen, IsReady, Lays, taken_after, taken_of}
 use Rattle.laid_index.specs.Packing.{len_over, level_lens}
 use Rattle.laid_index.specs.Rows.{AreInOrder, AreOver, HasFirstKey, StandOver}
 use Rattle.laid_index.specs.declared.open_leb.OpenLeb.{OpenLeb}

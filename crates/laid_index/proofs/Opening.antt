@@ -1,8 +1,7 @@
 -- The open LEB: a node is put into it, and it is closed.
-use Rattle.std.proofs.Common.{◌≡◌, ◌≢◌, ℕ, suc, ◌+◌, ◌-◌, ◌*◌, ◌/◌, ◌%◌, ◌<◌, ◌≤◌, Bool, true, false, List, [], ◌∷◌, ◌++◌, length, get_or, take, drop, replicate, refl, ap, sym, ◌∙◌, subst, arith, append-nil, append_assoc, length-append, inl, inr}
-use Rattle.std.specs.Prelude.{All, nat_le}
+use Rattle.std.proofs.Common.{◌≡◌, ◌≢◌, ℕ, ◌+◌, ◌-◌, ◌%◌, ◌<◌, ◌≤◌, true, List, [], ◌∷◌, ◌++◌, length, get_or, take, drop, replicate, refl, ap, sym, ◌∙◌, subst, arith, append_assoc, length-append, inl, inr}
 use Rattle.std.proofs.lemmas.Bool.{cases_lt}
-use Rattle.std.proofs.lemmas.List.{get_or_append_left, get_or_push, length_push, take_at, drop_at, take-append-le, drop-append-le, take-take, length-take, take-append-drop}
+use Rattle.std.proofs.lemmas.List.{get_or_append_left, get_or_push, length_push, take_at, drop_at, take-take, length-take, take-append-drop}
 use Rattle.std.proofs.lemmas.List.Elements.{All-push}
 use Rattle.std.proofs.lemmas.Nat.Gcd.{dvd_of_mod-eq-zero, dvd_trans, mod-eq-zero_of_dvd}
 use Rattle.ubifs_base.specs.Gap.{gap_of}
@@ -16,10 +15,10 @@ use Rattle.lpt_area.specs.Written.{in_units}
 use Rattle.media_sys.specs.Index.{Index}
 use Rattle.media_sys.specs.SystemNode.{index, IsSystemNode, written}
 use Rattle.media_sys.specs.declared.branch.Branch.{Branch}
-use Rattle.index_media.specs.PlacedRow.{bytes_taken, node_end}
+use Rattle.index_media.specs.PlacedRow.{node_end}
 use Rattle.index_media.specs.Stored.{IsIndexNodeAt}
 use Rattle.laid_main.specs.Filling.{AreFilled, Takes}
-use Rattle.laid_index.specs.Opened.{GoesOn, IsAppended, IsClosed, IsOpen, Lays, MakesRoom, node_text, open_lnum, taken_after, taken_of}
+use Rattle.laid_index.specs.Opened.{GoesOn, IsAppended, IsClosed, IsOpen, Lays, MakesRoom, node_text, open_lnum, taken_of}
 use Rattle.laid_index.specs.Packing.{len_over, packed}
 use Rattle.laid_index.specs.declared.open_leb.OpenLeb.{OpenLeb}
 use Rattle.laid_index.proofs.Packs.{packed_fits, packed_next}

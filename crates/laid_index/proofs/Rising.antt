@@ -1,18 +1,17 @@
 -- A level and those above it.
-use Rattle.std.proofs.Common.{◌≡◌, ℕ, suc, zero, ◌+◌, ◌-◌, ◌*◌, ◌^◌, ◌<◌, ◌≤◌, List, [], ◌∷◌, ◌++◌, length, ap, sym, ◌∙◌, subst, refl, arith, append-nil, length-append, inl, inr}
+use Rattle.std.proofs.Common.{◌≡◌, ℕ, ◌+◌, ◌*◌, ◌^◌, ◌<◌, ◌≤◌, List, [], ◌∷◌, ◌++◌, length, ap, sym, ◌∙◌, subst, arith, append-nil, length-append, inl, inr}
 use Rattle.std.specs.Int.{div_ceil}
-use Rattle.std.proofs.Math.Nat.{mul-le-mul_right, mul-le-mul_left, mul_assoc}
+use Rattle.std.proofs.Math.Nat.{mul-le-mul_right}
 use Rattle.std.proofs.lemmas.Bool.{cases_lt}
 use Rattle.std.proofs.lemmas.Grind.{pow_more}
-use Rattle.std.proofs.lemmas.Nat.{pow_below, pow_pos}
-use Rattle.ubifs_base.specs.Geometry.{IsGeometry}
+use Rattle.std.proofs.lemmas.Nat.{pow_below}
 use Rattle.ubifs_base.specs.declared.raw_geometry.RawGeometry.{RawGeometry}
 use Rattle.media_sys.specs.declared.branch.Branch.{Branch}
 use Rattle.laid_index.specs.Opened.{IsReady, Lays, taken_after, taken_of}
-use Rattle.laid_index.specs.Packing.{len_over, lens_above, level_lens, packed}
+use Rattle.laid_index.specs.Packing.{len_over, lens_above, level_lens}
 use Rattle.laid_index.specs.declared.open_leb.OpenLeb.{OpenLeb}
 use Rattle.laid_index.proofs.Making.{more_taken}
-use Rattle.laid_index.proofs.Packs.{ceil_half, ceil_some, lens_level, lens_root, level_count, packed_nil}
+use Rattle.laid_index.proofs.Packs.{lens_level, lens_root, level_count, packed_nil}
 
 -- an index of so few siblings has few levels
 pub level_low : (n level : ℕ) → 0 < n → n * 2 ^ level < 2 ^ 64 → level < 64

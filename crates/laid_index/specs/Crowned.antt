@@ -1,5 +1,5 @@
 -- Rows that are laid, up to the root.
-use Rattle.std.specs.Prelude.{◌≡◌, ℕ, ◌+◌, ◌≤◌, List, [], ◌∷◌, length}
+use Rattle.std.specs.Prelude.{◌≡◌, ℕ, ◌+◌, List, length}
 use Rattle.ubifs_base.specs.declared.raw_geometry.RawGeometry.{RawGeometry}
 use Rattle.media_sys.specs.declared.branch.Branch.{Branch}
 use Rattle.index_tree.specs.Shape.{contents as leaves_in}

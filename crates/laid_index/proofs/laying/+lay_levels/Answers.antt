@@ -1,13 +1,10 @@
-use Rattle.std.proofs.Common.{rules, ◌≡◌, ℕ, ◌+◌, ◌-◌, ◌*◌, ◌^◌, ◌<◌, ◌≤◌, List, [], ◌∷◌, ◌++◌, length, take, Ok, Err, Result, ap, sym, ◌∙◌, subst, refl, arith}
-use Rattle.std.specs.Prelude.{OnOk, IfOk}
-use Rattle.std.specs.Int.{div_ceil}
+use Rattle.std.proofs.Common.{rules, ℕ, ◌+◌, ◌*◌, ◌<◌, ◌≤◌, List, [], ◌∷◌, length, Ok, Err, sym, subst, arith}
 use Rattle.ubifs_base.specs.RawOf.{raw_of}
-use Rattle.ubi_volume.specs.declared.fault.AreaFault.{AreaFault}
 use Rattle.media_sys.specs.declared.branch.Branch.{Branch}
 use Rattle.index_media.specs.Stored.{IsIndexNodeAt}
 use Rattle.laid_index.specs.Answered.{IsLayingAnswered}
 use Rattle.laid_index.specs.Crowned.{IsCrowned}
-use Rattle.laid_index.specs.Opened.{GoesOn, IsReady, Lays, taken_after}
+use Rattle.laid_index.specs.Opened.{GoesOn, Lays, taken_after}
 use Rattle.laid_index.specs.Packing.{len_over, lens_above, level_lens}
 use Rattle.laid_index.specs.Rows.{AreOver, HasFirstKey, StandOver}
 use Rattle.laid_index.proofs.Answering.{answered_err, answered_then, answered_wider, exit_answered, geometry_kept}

@@ -1,4 +1,4 @@
-use Rattle.std.proofs.Common.{rules, ◌≡◌, ◌≢◌, ℕ, ◌+◌, ◌*◌, ◌^◌, ◌<◌, ◌≤◌, List, [], ◌∷◌, ◌++◌, length, Ok, Err, ap, sym, ◌∙◌, subst, refl, arith, inl, inr, length-append}
+use Rattle.std.proofs.Common.{◌≡◌, ℕ, ◌+◌, List, length, Ok, Err, ap, sym, ◌∙◌, subst, refl, arith, inl, inr}
 use Rattle.std.specs.Prelude.{map}
 use Rattle.std.proofs.lemmas.Bool.{cases_order}
 use Rattle.std.proofs.lemmas.List.{length-map, length_push}
@@ -6,10 +6,9 @@ use Rattle.ubifs_base.specs.RawOf.{raw_of}
 use Rattle.ubi_volume.specs.declared.fault.AreaFault.TheVariants.{Memory}
 use Rattle.media_sys.specs.declared.branch.Branch.{Branch}
 use Rattle.index_media.specs.PlacedRow.{branch_to}
-use Rattle.laid_index.specs.Answered.{IsLayingAnswered}
 use Rattle.laid_index.specs.Crowned.{IsCrowned}
 use Rattle.laid_index.specs.Opened.{IsReady, open_lnum, taken_after}
-use Rattle.laid_index.specs.Packing.{index_lens, index_used, lens_above, packed}
+use Rattle.laid_index.specs.Packing.{index_used, lens_above, packed}
 use Rattle.laid_index.specs.Rows.{AreInOrder}
 use Rattle.laid_index.proofs.Answering.{answered_err, answered_memory, answered_none, answered_ok, answered_then, answered_wider, exit_answered, geometry_kept}
 use Rattle.laid_index.proofs.Indexing.{IsFresh, fresh_ready, fresh_taken, index_laid, leaves_in_order}

@@ -1,14 +1,11 @@
-use Rattle.std.proofs.Common.{rules, ◌≡◌, ℕ, ◌+◌, ◌-◌, ◌*◌, ◌<◌, ◌≤◌, List, [], ◌∷◌, ◌++◌, length, take, Ok, Err, Result, ap, sym, ◌∙◌, subst, refl, arith}
+use Rattle.std.proofs.Common.{rules, ◌≡◌, ℕ, ◌+◌, ◌<◌, List, [], ◌∷◌, length, Ok, Err, ap, sym, ◌∙◌, subst, arith}
 use Rattle.std.specs.Prelude.{min}
 use Rattle.std.proofs.lemmas.Bool.{eqb-true}
 use Rattle.std.proofs.lemmas.List.{nil_from_length}
 use Rattle.ubifs_base.specs.RawOf.{raw_of}
-use Rattle.ubi_volume.specs.Geometry.{IsGeometryOf}
-use Rattle.ubi_volume.specs.declared.fault.AreaFault.{AreaFault}
 use Rattle.ubi_volume.specs.declared.fault.AreaFault.TheVariants.{Memory}
 use Rattle.media_sys.specs.Index.{IsIdxNode}
 use Rattle.media_sys.specs.declared.branch.Branch.{Branch}
-use Rattle.laid_index.specs.Answered.{IsLayingAnswered}
 use Rattle.laid_index.specs.Opened.{IsReady, taken_after}
 use Rattle.laid_index.specs.Packing.{len_over, level_lens}
 use Rattle.laid_index.proofs.Answering.{answered_err, answered_memory, answered_none, answered_ok, answered_then, answered_wider, exit_answered}

@@ -1,4 +1,4 @@
-use Rattle.std.proofs.Common.{ℕ, ◌+◌, length}
+use Rattle.std.proofs.Common.{◌+◌, length}
 use Rattle.ubifs_base.specs.RawOf.{raw_of}
 use Rattle.laid_index.specs.Opened.{taken_after}
 use Rattle.laid_index.specs.Packing.{level_lens}

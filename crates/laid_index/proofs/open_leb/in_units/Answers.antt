@@ -1,4 +1,4 @@
-use Rattle.std.proofs.Common.{◌+◌, ◌-◌, ◌*◌, ◌/◌}
+use Rattle.std.proofs.Common.{◌+◌, ◌-◌, ◌/◌}
 use Rattle.std.proofs.Math.Nat.{mul-mod_left}
 use Rattle.laid_index.proofs.open_leb.in_units.Goals as goal
 

@@ -1,4 +1,4 @@
-use Rattle.std.proofs.Common.{rules, ◌+◌, inr, inl}
+use Rattle.std.proofs.Common.{rules}
 use Rattle.laid_index.proofs.Answering.{others_works}
 use Rattle.laid_index.proofs.open_leb.write_leb.Goals as goal
 

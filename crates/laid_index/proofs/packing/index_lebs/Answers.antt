@@ -1,6 +1,6 @@
-use Rattle.std.proofs.Common.{◌≡◌, ◌+◌, ◌≤◌, ℕ, List, [], ◌++◌, length, ap, sym, ◌∙◌, arith, append-nil}
+use Rattle.std.proofs.Common.{ℕ, List, [], length, ap, arith, append-nil}
 use Rattle.ubifs_base.specs.RawOf.{raw_of}
-use Rattle.laid_index.specs.Packing.{index_lens, index_used, packed}
+use Rattle.laid_index.specs.Packing.{index_lens, packed}
 use Rattle.laid_index.proofs.Counting.{index_few}
 use Rattle.laid_index.proofs.Packs.{packed_nil}
 use Rattle.laid_index.proofs.packing.index_lebs.Goals as goal

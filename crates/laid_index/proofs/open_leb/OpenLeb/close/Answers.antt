@@ -1,4 +1,4 @@
-use Rattle.std.proofs.Common.{Ok, rules, ◌+◌, ℕ, length, arith, ap, sym, ◌∙◌, subst, ◌<◌, ◌≤◌, ◌%◌, ◌≡◌}
+use Rattle.std.proofs.Common.{Ok, rules, ◌+◌, ℕ, length, arith, ap, sym, ◌∙◌, subst, ◌%◌, ◌≡◌}
 use Rattle.ubi_volume.specs.Volume.{AreUnits}
 use Rattle.laid_index.specs.Answered.{IsLayingAnswered}
 use Rattle.laid_index.specs.Opened.{open_lnum}

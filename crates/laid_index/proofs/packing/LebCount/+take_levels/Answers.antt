@@ -1,5 +1,4 @@
-use Rattle.std.proofs.Common.{rules, ◌≡◌, ◌+◌, ◌-◌, ◌*◌, ◌^◌, ◌<◌, ◌≤◌, ℕ, List, [], ◌∷◌, ◌++◌, ap, sym, ◌∙◌, subst, arith, append_assoc}
-use Rattle.std.specs.Int.{div_ceil}
+use Rattle.std.proofs.Common.{rules, ◌≡◌, ◌<◌, ◌≤◌, ℕ, List, ◌++◌, ap, sym, ◌∙◌, arith, append_assoc}
 use Rattle.ubifs_base.specs.RawOf.{raw_of}
 use Rattle.laid_index.specs.Counted.{lebs_after}
 use Rattle.laid_index.specs.Packing.{lens_above, level_lens}

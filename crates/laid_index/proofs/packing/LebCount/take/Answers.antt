@@ -1,7 +1,5 @@
-use Rattle.std.proofs.Common.{◌+◌, ◌<◌, ℕ, List, [], ◌∷◌, length, ap, sym, arith}
-use Rattle.laid_index.specs.Packing.{packed}
-use Rattle.laid_index.proofs.Packs.{packed_fits, packed_over, packed_some}
-use Rattle.index_media.specs.PlacedRow.{node_end}
+use Rattle.std.proofs.Common.{◌+◌, ◌<◌, ℕ, List, [], length, ap, sym, arith}
+use Rattle.laid_index.proofs.Packs.{packed_fits, packed_over}
 use Rattle.laid_index.proofs.packing.LebCount.take.Goals as goal
 
 pub overflow_add-self-else-self-len : goal.overflow_add-self-else-self-len

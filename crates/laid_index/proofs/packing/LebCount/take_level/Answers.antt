@@ -1,4 +1,4 @@
-use Rattle.std.proofs.Common.{◌≡◌, ◌+◌, ◌-◌, ◌*◌, ℕ, List, [], ◌∷◌, ◌++◌, ap, sym, ◌∙◌, arith}
+use Rattle.std.proofs.Common.{◌≡◌, ◌-◌, ℕ, List, [], ◌∷◌, ◌++◌, ap, sym, ◌∙◌, arith}
 use Rattle.ubifs_base.specs.RawOf.{raw_of}
 use Rattle.laid_index.specs.Counted.{lebs_after}
 use Rattle.laid_index.specs.Packing.{len_over, level_lens}
