@@ -36,7 +36,7 @@ use Rattle.image_maker.specs.declared.laid_leaves.LaidLeaves.{LaidLeaves}
 use Rattle.laid_index.specs.Indexed.{IsLaidIndex}
 use Rattle.laid_index.specs.Packing.{index_used}
 use Rattle.laid_index.specs.declared.laid_index.LaidIndex.{LaidIndex}
-use Rattle.made_image.specs.Around.{AreMainFilled, HoldsIndexed, IsBlankLeb, StandsPlain, made_master}
+use Rattle.made_image.specs.Around.{IsBlankLeb, StandsPlain, made_master}
 use Rattle.made_image.specs.declared.filled_main.FilledMain.{FilledMain}
 use Rattle.whole_image.specs.Made.{CanBeLaid, HoldsTree}
 

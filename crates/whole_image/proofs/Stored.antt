@@ -1,5 +1,5 @@
 -- A mount reads the stored tree as it is.
-use Rattle.std.proofs.Common.{◌≡◌, ℕ, ◌+◌, ◌≤◌, Bool, true, false, List, [], ◌∷◌, refl, ap, ◌∙◌, arith}
+use Rattle.std.proofs.Common.{◌≡◌, ℕ, ◌≤◌, Bool, true, false, [], ◌∷◌, refl, ap, ◌∙◌, arith}
 use Rattle.std.specs.Prelude.{cond, map, max}
 use Rattle.fs_model.specs.Directory.{dir_links}
 use Rattle.fs_model.specs.Files.{Inodes, Tree}

@@ -1,6 +1,5 @@
 -- What was laid around the leaves of a tree is a whole image of it.
 use Rattle.std.proofs.Common.{◌≡◌, ℕ, List, [], refl, ap, ◌∙◌}
-use Rattle.std.specs.Prelude.{IsTrue}
 use Rattle.ubifs_base.specs.declared.raw_geometry.RawGeometry.{RawGeometry}
 use Rattle.ubi_volume.specs.Volume.{VolumeState}
 use Rattle.media_lpt.specs.declared.lprop.Lprop.{Lprop}

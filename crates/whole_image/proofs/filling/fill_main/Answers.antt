@@ -1,6 +1,5 @@
-use Rattle.std.proofs.Common.{rules, ◌≡◌, ◌+◌, ◌-◌, ◌<◌, ◌≤◌, List, length, ap, sym, ◌∙◌, subst, None, arith}
+use Rattle.std.proofs.Common.{rules, ◌≡◌, ◌+◌, List, length, ap, sym, ◌∙◌, subst, None, arith}
 use Rattle.std.specs.Prelude.{IsTrue, map}
-use Rattle.ubifs_base.specs.Areas.{main_first, main_lebs}
 use Rattle.ubifs_base.specs.RawOf.{raw_of}
 use Rattle.ubi_volume.specs.MemVolume.{state_of}
 use Rattle.media_sys.specs.Index.{in_order}
