@@ -109,6 +109,7 @@ module _ (geo : RawGeometry) (g : IsGeometry geo) (s0 s1 s2 s3 : VolumeState) (f
         record {
           superblock = super;
           at = treed.at;
+          props = tree;
           areas = now;
           laid = is_laid geo g small main filled_main s3.holds bytes full placed nodes indexed treed.at uuid sqnum few super now tree blank none_written meets laws;
         }

@@ -143,10 +143,11 @@ pub record HoldsIndexed (geo : RawGeometry) (contents : ℕ → List ℕ) (main 
   pub disjoint : IsTrue (are_disjoint (map branch_to (map leaf_of nodes)))
   pub tree : ShowTree (map kept_at nodes) (tree_of (map kept_at nodes) (highest_key main.highest (map (λ x. (leaf_of x).key) nodes)))
 
--- The contents are an image that was laid around these leaves and this index: its superblock is that of a new volume with this identifier, and LEBs 1 and 2 have
--- the same master, the first one over these main LEBs.
+-- The contents are an image that was laid around these leaves and this index. Its superblock is that of a new volume with this identifier. LEBs 1 and 2 have
+-- the same master, the first one over these main LEBs and over the tree of their properties.
 pub record IsMadeAround (contents : ℕ → List ℕ) (geo : RawGeometry) (uuid : List ℕ) (sqnum : ℕ) (main : FilledMain) (placed : PlacedRow) (nodes : List Placed) : Type 0 where
   pub superblock : BeginsWithSuper (contents 0) (new_super geo uuid)
   pub at : LptAt
+  pub props : IsTreeLeb geo (lpt_first geo) (props_over geo main) (contents (lpt_first geo)) at
   pub areas : AreLogAndMasters geo sqnum (made_master geo main at) contents
   pub laid : IsLaidImage contents geo areas.latest (props_over geo main) placed nodes

@@ -39,7 +39,12 @@ module _ (laws : ImageLaws) (geo : RawGeometry) (uuid : List ℕ) (tree : Tree) 
 
   by : (log : List LogText) × (references_of log ≡ []) × SoundImage contents (laid_image geo around.areas.latest (props_over geo main) held.placed log held.nodes) → IsMadeImage contents geo uuid tree
   by (log, none, sound) = record {
-    superblock = around.superblock;
+    main = main;
+    placed = held.placed;
+    nodes = held.nodes;
+    last = sqnum;
+    are = held.are;
+    around = around;
     image = laid_image geo around.areas.latest (props_over geo main) held.placed log held.nodes;
     sound = sound;
     geometry = refl;

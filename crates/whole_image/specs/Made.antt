@@ -14,20 +14,24 @@ use Rattle.leaf_map.specs.Kept.{Placed}
 use Rattle.sound_image.specs.Image.{Image}
 use Rattle.sound_image.specs.Sound.{SoundImage}
 use Rattle.sound_image.specs.Summary.{is_clean, tree_of_image}
-use Rattle.sound_image.specs.Superblock.{BeginsWithSuper}
 use Rattle.tree_nodes.specs.Stored.{AreNodesOf, stored_tree}
 use Rattle.laid_tree.specs.Leaves.{AreLeavesLaid}
 use Rattle.laid_tree.specs.Standing.{is_plain}
 use Rattle.laid_index.specs.Packing.{index_used}
-use Rattle.made_image.specs.Around.{AreMainFilled, HoldsIndexed}
+use Rattle.made_image.specs.Around.{AreMainFilled, HoldsIndexed, IsMadeAround}
 use Rattle.made_image.specs.declared.filled_main.FilledMain.{FilledMain}
-use Rattle.volume_format.specs.Format.{new_super}
 use Rattle.whole_image.specs.declared.make_fault.MakeFault.{MakeFault}
 use Rattle.whole_image.specs.declared.make_fault.MakeFault.TheVariants.{Memory, Unreserved, Nameless, Attribute, Full, Crowded}
 
--- The contents are a sound image of this geometry, whose superblock has this identifier. No bud holds a node, and the tree is the one that is stored of this one.
+-- The contents are the live nodes of this tree, an index of them, and what is laid around both, with this identifier. That is a sound image of this geometry. No
+-- bud holds a node, and the tree is the one that is stored of this one.
 pub record IsMadeImage (contents : ℕ → List ℕ) (geo : RawGeometry) (uuid : List ℕ) (tree : Tree) : Type 0 where
-  pub superblock : BeginsWithSuper (contents 0) (new_super geo uuid)
+  pub main : FilledMain
+  pub placed : PlacedRow
+  pub nodes : List Placed
+  pub last : ℕ
+  pub are : AreNodesOf tree nodes
+  pub around : IsMadeAround contents geo uuid last main placed nodes
   pub image : Image
   pub sound : SoundImage contents image
   pub geometry : image.geo ≡ geo

@@ -29,7 +29,7 @@ use ubifs_base::Geometry;
 // The areas take numbers below this.
 const LAST_NUMBER: u64 = 1 << 62;
 
-// What was laid into the main LEBs, and a number that no node passes.
+// What was laid into the main LEBs, and the last sequence number that was taken.
 #[derive(Drop)]
 pub(crate) struct Filling {
     pub(crate) main: FilledMain,
@@ -82,7 +82,7 @@ pub(crate) fn fill_main(
             root: index.root,
             highest: tree.highest(),
         },
-        sqnum: index.sqnum,
+        sqnum: index.sqnum.saturating_sub(1),
     })
 }
 
