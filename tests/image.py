@@ -6,29 +6,31 @@ Words: a manifest, and a description of the tree, with the lines
     inode INO KIND MODE NLINK SIZE TIMES [TARGET]
     entry DIR NAME INO KIND
     block INO NUMBER COUNTxHH,COUNTxHH,..
+    highest INO
 
 KIND is f, d or l; MODE is octal, without the kind; TIMES is one time, or the times of access, of change and of writing with
 commas between them; NAME and TARGET are escaped as in a script. A directory's NLINK and SIZE must be those of its entries.
+The highest number that was ever used is that of an inode of the tree, or 64, if no line says it.
 
-It is written from the public format alone (tests/media.py) and from the rule of this stage: the nodes in order of key, with
-sequence numbers from 1 on, fill the main LEBs from the first on, a LEB taking nodes while they fit. It shares nothing with
-the program.
+It is written from the public format alone (tests/media.py, tests/volume.py) and from the rule of this stage: the nodes in order
+of key fill the main LEBs from the first on, a LEB taking nodes while they fit. Behind them stands the index, level by level,
+each node full but for the last of its level. Sequence numbers begin there, and the superblock has the last one. It shares
+nothing with the program.
 """
 
 import sys
 from urllib.parse import unquote_to_bytes
 
 import media
-from media import r5, runs, with_gap
+import volume
+from media import r5, runs
 
-LOG_LEBS, LPT_LEBS, ORPH_LEBS = 4, 2, 1
-MAIN_FIRST = 3 + LOG_LEBS + LPT_LEBS + ORPH_LEBS
 TIMES = ("atime_sec", "ctime_sec", "mtime_sec")
 
 
 def tree_of(lines):
-    """The inodes, entries and blocks of a description."""
-    inodes, entries, blocks = {}, [], {}
+    """The inodes, entries and blocks of a description, and the highest number."""
+    inodes, entries, blocks, highest = {}, [], {}, 64
     for what, *words in map(str.split, lines):
         if what == "inode":
             ino, kind, mode, nlink, size, times, *target = words
@@ -42,47 +44,53 @@ def tree_of(lines):
         elif what == "block":
             ino, number, text = words
             blocks[int(ino), int(number)] = runs(text)
+        elif what == "highest":
+            highest = int(words[0])
         else:
             sys.exit(f"{what}: no such line")
-    return inodes, entries, blocks
+    return inodes, entries, blocks, highest
 
 
-def nodes_of(inodes, entries, blocks):
+def inode_leaf(ino, kind, mode, nlink, size, times, target):
+    def made(sqnum):
+        return media.inode(sqnum, ino, kind, mode, nlink, size, target, **dict(zip(TIMES, times)))
+
+    return volume.Leaf(media.key(ino, media.INO, 0), b"", made)
+
+
+def block_leaf(ino, number, data):
+    return volume.Leaf(media.key(ino, media.DATA, number), b"", lambda sqnum: media.block(sqnum, ino, number, data))
+
+
+def entry_leaf(parent, name, child, kind):
+    return volume.Leaf(media.key(parent, media.DENT, r5(name)), name, lambda sqnum: media.entry(sqnum, parent, name, child, kind))
+
+
+def leaves_of(inodes, entries, blocks):
     """Inode by inode its node, then those of its blocks, then those of the entries in it."""
-    nodes = []
+    leaves = []
     for ino in sorted(inodes):
         kind, mode, nlink, size, times, target = inodes[ino]
         within = sorted((r5(name), name, child, type_) for parent, name, child, type_ in entries if parent == ino)
         if kind == "d":
             assert nlink == 2 + sum(type_ == "d" for _, _, _, type_ in within), f"links of {ino}"
             assert size == 160 + sum(media.up_to(57 + len(name), 8) for _, name, _, _ in within), f"size of {ino}"
-        nodes.append(media.inode(len(nodes) + 1, ino, kind, mode, nlink, size, target, **dict(zip(TIMES, times))))
-        for number in sorted(number for owner, number in blocks if owner == ino):
-            nodes.append(media.block(len(nodes) + 1, ino, number, blocks[ino, number]))
-        for _, name, child, type_ in within:
-            nodes.append(media.entry(len(nodes) + 1, ino, name, child, type_))
-    return nodes
+        leaves.append(inode_leaf(ino, kind, mode, nlink, size, times, target))
+        leaves += [block_leaf(ino, number, blocks[ino, number]) for number in sorted(number for owner, number in blocks if owner == ino)]
+        leaves += [entry_leaf(ino, name, child, type_) for _, name, child, type_ in within]
+    return leaves
 
 
 def main():
     manifest, description = sys.argv[1:]
     with open(manifest) as text:
-        leb_size, min_io, lebs, _ = (int(word) for word in text.readline().split()[1:])
+        leb_size, unit, lebs, fanout = (int(word) for word in text.readline().split()[1:])
     with open(description) as text:
-        nodes = nodes_of(*tree_of(text))
-
-    main_lebs = [b""]
-    for text in map(with_gap, nodes):
-        if len(main_lebs[-1]) + len(text) > leb_size:
-            main_lebs.append(b"")
-        main_lebs[-1] += text
-
-    out = sys.stdout.buffer
-    out.write(b"\xff" * (leb_size * MAIN_FIRST))
-    for text in main_lebs:
-        text += media.gap(-len(text) % min_io)
-        out.write(text + b"\xff" * (leb_size - len(text)))
-    out.write(b"\xff" * (leb_size * (lebs - len(main_lebs))))
+        inodes, entries, blocks, highest = tree_of(text)
+    shape = volume.Shape(lebs, leb_size=leb_size, unit=unit, fanout=fanout)
+    content = volume.Content(shape, leaves_of(inodes, entries, blocks), [], [], superblock_last=True, highest=highest)
+    medium, _ = volume.lay(content)
+    sys.stdout.buffer.write(medium.image)
 
 
 main()

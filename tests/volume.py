@@ -94,6 +94,8 @@ class Content:
     cmt_no: int = 0
     leaves_a_leb: int = 0
     changed_props: list = field(default_factory=list)
+    superblock_last: bool = False
+    highest: int = 64
 
 
 class Medium:
@@ -263,6 +265,24 @@ def lay_orphans(medium, content):
         medium.fill(content.shape.orph_first, len(piece))
 
 
+def wasted(shape, prop):
+    """The dead and the dark bytes of a LEB with these properties (`ubifs_calc_dark` of Linux fs/ubifs/lprops.c)."""
+    left, dead_mark, dark_mark = prop.free + prop.dirty, up_to(56, shape.unit), up_to(4256, shape.unit)
+    if prop.index:
+        return 0, 0
+    if left < dead_mark:
+        return left, 0
+    if left < dark_mark:
+        return 0, left
+    return 0, left - 56 if left - dark_mark < 56 else dark_mark
+
+
+def wastes_of(content, props):
+    """The sums of dead and of dark bytes, which no rule reads."""
+    dead, dark = zip(*(wasted(content.shape, prop) for prop in props))
+    return {"total_dead": sum(dead), "total_dark": sum(dark)}
+
+
 def sums_of(content, props):
     """What a master says of the space of the volume."""
     index = sum(content.shape.leb_size - prop.free - prop.dirty for prop in props if prop.index)
@@ -279,31 +299,50 @@ def first_empty(content, props):
 
 
 def lay(content):
-    """Lays a volume out. Returns its bytes, and the values of its superblock and of its master."""
+    """Lays a volume out. Returns its bytes, and the values of its master.
+
+    Sequence numbers go on from the superblock's. Where it is last, as a maker writes it, they begin in the main area.
+    """
     shape = content.shape
     medium = Medium(shape)
-    medium.put(0, 0, media.node(media.SB, medium.next_number(), shape.super_values()))
-    masters = medium.next_number(), medium.next_number()
-    lay_log(medium, content)
-    lay_orphans(medium, content)
+    numbers = {}
+
+    def lay_areas():
+        if not content.superblock_last:
+            numbers["super"], numbers["masters"] = medium.next_number(), (medium.next_number(), medium.next_number())
+        lay_log(medium, content)
+        lay_orphans(medium, content)
+        if content.superblock_last:
+            numbers["masters"], numbers["super"] = (medium.next_number(), medium.next_number()), medium.next_number()
+
+    if not content.superblock_last:
+        lay_areas()
     leaves = lay_leaves(medium, content)
     index, root = lay_index(medium, content, leaves.lnum)
     lay_buds(medium, content)
+    if content.superblock_last:
+        lay_areas()
 
     told = {**leaves.props, **index.props}
     props = [told.get(shape.main_first + at, Lprop(shape.leb_size)) for at in range(shape.main)]
     last = index.lnum - 1
     head = shape.leb_size - told[last].free
     master = {
-        **sums_of(content, props), "highest_inum": max([64] + [leaf.key[0] for leaf in content.leaves]), "cmt_no": content.cmt_no,
+        **sums_of(content, props), "highest_inum": max([content.highest] + [leaf.key[0] for leaf in content.leaves]), "cmt_no": content.cmt_no,
         "flags": 0 if content.orphans else 2, "log_lnum": 3, "root_lnum": root[0], "root_offs": root[1], "root_len": root[2],
         "gc_lnum": first_empty(content, props), "ihead_lnum": last, "ihead_offs": head, "lscan_lnum": shape.main_first,
     }
+    if content.superblock_last:
+        master.update(wastes_of(content, props))
     for lnum, values in content.changed_props:
         vars(props[lnum - shape.main_first]).update(values)
     place, table, end = lay_properties(medium, shape, props)
     for name, (lnum, offs) in {"lpt": place, "ltab": table, "nhead": end}.items():
         master[f"{name}_lnum"], master[f"{name}_offs"] = lnum, offs
-    for lnum, sqnum in zip((1, 2), masters):
+    medium.put(0, 0, media.node(media.SB, numbers["super"], shape.super_values()))
+    for lnum, sqnum in zip((1, 2), numbers["masters"]):
         medium.put(lnum, 0, media.node(media.MST, sqnum, master))
+    if content.superblock_last:
+        for lnum, size in ((0, SUPER_SIZE), (1, MASTER_SIZE), (2, MASTER_SIZE)):
+            medium.fill(lnum, size)
     return medium, master
