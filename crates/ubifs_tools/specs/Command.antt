@@ -1,5 +1,5 @@
 -- What the command `run` answers, over the files that it is given.
-use Rattle.std.specs.Prelude.{◌≡◌, ◌≢◌, ◌⊎◌, ℕ, ◌<◌, ◌≤◌, IsTrue, false, Some, None, List, [], ◌∷◌, ◌++◌, take, slice_index, codes}
+use Rattle.std.specs.Prelude.{◌≡◌, ◌≢◌, ◌⊎◌, ℕ, ◌<◌, ◌≤◌, IsTrue, false, Some, None, List, [], ◌∷◌, ◌++◌, replicate, take, slice_index, codes}
 use Rattle.std.specs.Fmt.{decimal}
 use Rattle.ubifs_base.specs.Geometry.{IsGeometry, plain_geometry}
 use Rattle.ubifs_base.specs.GeometryFaults.{IsFirstOut, tested_fields}
@@ -14,8 +14,7 @@ use Rattle.cached_files.specs.Present.{IsKept, present}
 use Rattle.ubifs_base.specs.Faults.{Rose}
 use Rattle.io_edges.specs.Keeper.{KeeperState}
 use Rattle.io_edges.specs.Sink.{SinkState}
-use Rattle.image_maker.specs.Leaves.{live_leaves}
-use Rattle.image_maker.specs.Image.{IsImage}
+use Rattle.whole_image.specs.Made.{IsMadeImage}
 use Rattle.script_text.specs.declared.part.Part.{Part}
 use Rattle.script_text.specs.declared.manifest.Manifest.{Manifest}
 use Rattle.script_text.specs.Manifest.{IsManifest, IsFirstBadManifestLine}
@@ -92,8 +91,12 @@ pub record IsLeft (stored : Tree) (last : Running) : Type 0 where
   pub seen : present stored kept ≡ last.files
   pub unmounted : last.mounted ≡ false → last.files ≡ record { tree = stored; handles = [] }
 
+-- the identifier in the superblock of a run's image
+abbrev pub no_identifier : List ℕ
+no_identifier = replicate 16 0
+
 -- The work was done: the texts are in their grammar; the text is that of the script's lines, one after another, from a fresh
--- volume on; and the image's bytes are those of a volume whose main LEBs hold exactly the live nodes of the tree that was put.
+-- volume on; and the image's bytes are those of a volume that holds a sound image of the tree that was put.
 pub record IsDone (texts : List ℕ × List ℕ) (text image : List ℕ) : Type 0 where
   pub m : Manifest
   pub parts : List Part
@@ -106,7 +109,7 @@ pub record IsDone (texts : List ℕ × List ℕ) (text image : List ℕ) : Type 
   pub stored : Tree
   pub left : IsLeft stored last
   pub holds : ℕ → List ℕ
-  pub nodes : IsImage (geometry_of m) (live_leaves stored) holds
+  pub made : IsMadeImage holds (geometry_of m) no_identifier stored
   pub image_is : image ≡ image_of holds (geometry_of m).leb_cnt
 
 -- the files are told, and there is none of this name
