@@ -15,8 +15,11 @@ const SCRIPT: &[u8] =
 const TRACE: &[u8] =
     b"mount rw\n1 1 ok 65\n1 2 ok 65\n1 3 ok 4096\n1 4 ok\n1 5 ok 4096 4096x61\n1 6 ok\nunmount clean\n";
 
-// The image's first main LEB, and the bytes of a LEB.
-const FIRST_NODE: usize = 10 * 16384;
+// The magic number with which each node begins.
+const MAGIC: &[u8] = b"\x31\x18\x10\x06";
+
+// What a check tells of the image of the run: two inodes, a name and a page, in one LEB, and an index of one node.
+const SOUND: &[u8] = b"sound clean used 4528 empty 62 index 1 weight 1\n";
 
 // The words of a run, a name by itself.
 fn words(alloc: Global, names: &[&str]) -> Result<Vec<String>, Memory> {
@@ -73,12 +76,12 @@ const ROWS: &[Row] = &[
     (&["check", "a"], 0, 0, 3, b"image short 26\n"),
 ];
 
-// Whether an image is left where the status says so: 74 LEBs, of which the first main LEB is the first that is written.
+// Whether an image is left where the status says so: 74 LEBs, of which the first begins with a node.
 fn is_left(image: Result<Vec<u8>, KeepFault>, status: u8) -> bool {
     match image {
         Ok(image) => (status == 0 || status == 5)
             && image.len() == 74 * 16384
-            && image.iter().position(|byte| *byte != 0xFF) == Some(FIRST_NODE),
+            && image.starts_with(MAGIC),
         Err(_) => status != 0 && status != 5,
     }
 }
@@ -97,4 +100,21 @@ fn each_status_has_its_line(rt: HostRuntime) {
     for (number, row) in ROWS.iter().enumerate() {
         assert_eq!(rt; is_answered(&rt, rt.alloc(), row), Ok(true), "row {number}");
     }
+}
+
+// Whether the image that a run leaves is told as sound by a check.
+fn is_told_as_sound<R: Threads + Sync>(rt: &R, alloc: Global) -> Result<bool, Memory> {
+    let mut keeper = keeper(alloc, 0)?;
+    let mut trace = MemSink::new(alloc, vec![in alloc; 0]?);
+    let run = words(alloc, &["run", "a", "b", "c"])?;
+    let ran = ubifs(rt, alloc, &run, &mut keeper, &mut trace);
+    let mut told = MemSink::new(alloc, vec![in alloc; 0]?);
+    let check = words(alloc, &["check", "c"])?;
+    let answer = ubifs(rt, alloc, &check, &mut keeper, &mut told);
+    Ok(ran == 0 && answer == 0 && told.text() == SOUND)
+}
+
+#[test]
+fn an_image_of_a_run_is_told_as_sound(rt: HostRuntime) {
+    assert_eq!(rt; is_told_as_sound(&rt, rt.alloc()), Ok(true));
 }
