@@ -4,7 +4,6 @@ use Rattle.std.specs.Prelude.{codes, Result, Ok, Err, IsErr}
 use Rattle.ubifs_base.specs.declared.raw_geometry.RawGeometry.{RawGeometry}
 use Rattle.ubifs_base.specs.Geometry.{IsGeometry}
 use Rattle.ubi_volume.specs.Volume.{image_of}
-use Rattle.whole_image.specs.Made.{IsMadeImage}
 use Rattle.script_text.specs.declared.fault.TextFault.{TextFault}
 use Rattle.script_text.specs.declared.fault.TextFault.TheVariants.{Memory, Line}
 use Rattle.script_text.specs.declared.manifest.Manifest.{Manifest}
@@ -14,7 +13,7 @@ use Rattle.script_text.specs.Script.{IsScript, IsFirstBadLine, OnLine}
 use Rattle.fs_model.specs.Files.{Handles, Tree}
 use Rattle.cached_files.specs.declared.kept.Kept.{Kept}
 use Rattle.cached_files.specs.Present.{IsKept, present}
-use Rattle.ubifs_tools.specs.Command.{IsBadText, IsDone, bad_line, geometry_of, no_identifier}
+use Rattle.ubifs_tools.specs.Command.{IsBadText, IsDone, IsLeftImage, bad_line, geometry_of}
 use Rattle.ubifs_tools.specs.Run.{opening, IsRun as Runs}
 use Rattle.ubifs_tools.specs.Sessions.{IsBare, IsSession, running_of, state_in}
 use Rattle.ubifs_tools.specs.declared.session.Session.{Session}
@@ -32,7 +31,7 @@ bad_script (Line number) m manifest script line word e good bad told never = rec
 
 pub done_of : (manifest script text image : List ℕ) (m : Manifest) (parts : List Part) (raw : RawGeometry) (session : Session) (stored : Tree) → IsManifest manifest m → IsScript script parts → IsGeometry raw → raw ≡ geometry_of m → 24 ≤ m.main
     → Runs raw opening parts text (running_of session) → IsSession raw session → stored ≡ (state_in session).tree
-    → (holds : ℕ → List ℕ) × IsMadeImage holds raw no_identifier stored × (image ≡ image_of holds raw.leb_cnt) → IsDone (manifest, script) text image
+    → (holds : ℕ → List ℕ) × IsLeftImage raw stored holds × (image ≡ image_of holds raw.leb_cnt) → IsDone (manifest, script) text image
 done_of manifest script text image m parts raw session stored is_manifest is_script ranges is main run whole same laid =
     let kept = session.fs.kept in
     let seen : present stored kept ≡ (running_of session).files = ap (λ tree. present tree kept) same in
@@ -53,7 +52,7 @@ done_of manifest script text image m parts raw session stored is_manifest is_scr
         unmounted = λ away. let bare = whole.bare away in left_bare (state_in session).tree stored kept same bare;
       };
       holds = laid.0;
-      made = subst (λ g. IsMadeImage laid.0 g no_identifier stored) is laid.1;
+      image_left = subst (λ g. IsLeftImage g stored laid.0) is laid.1;
       image_is = laid.2 ∙ ap (λ (g : RawGeometry). image_of laid.0 g.leb_cnt) is;
     }
   where
