@@ -1,4 +1,5 @@
 pub mod Answering
 pub mod FourWords
+pub mod Imaging
 pub mod Performing
 pub mod Running

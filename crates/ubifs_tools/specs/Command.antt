@@ -98,7 +98,7 @@ abbrev pub no_identifier : List ℕ
 no_identifier = replicate 16 0
 
 -- What a run leaves of a tree: a sound image of it. If an index has no room beside the leaves, the main LEBs hold these alone.
-abbrev pub IsLeftImage : RawGeometry → Tree → (ℕ → List ℕ) → Type 0
+unfoldable pub IsLeftImage : RawGeometry → Tree → (ℕ → List ℕ) → Type 0
 IsLeftImage geo tree holds =
     IsMadeImage holds geo no_identifier tree
     ⊎ (IsImage geo (live_leaves tree) holds × ((need : ℕ) × (room : ℕ) × IsCrowded geo tree need room))

@@ -20,6 +20,7 @@ use ubifs_base::{Geometry, Memory};
 use whole_image::{MakeFault, make_image};
 
 // The bytes of the image of a tree. Its identifier is zeros.
+#[tactic(auto, unfolding(crate::specs::Command::IsLeftImage))]
 pub(crate) fn image_bytes(
     alloc: Global,
     geometry: &Geometry,

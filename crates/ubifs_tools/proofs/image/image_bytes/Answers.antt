@@ -1,0 +1,10 @@
+use Rattle.std.proofs.Common.{◌∙◌}
+use Rattle.ubifs_base.specs.RawOf.{raw_of}
+use Rattle.ubi_volume.specs.MemVolume.{state_of}
+use Rattle.ubifs_tools.proofs.Imaging.{whole_is_left}
+use Rattle.ubifs_tools.proofs.image.image_bytes.Goals as goal
+
+pub returns-in-Ok : goal.returns-in-Ok
+returns-in-Ok c =
+    whole_is_left (λ image. image.items) (raw_of c.args.geometry.now) c.args.tree.now (state_of c.make_image.new.volume).holds (state_of c.make_image.new.volume).leb_cnt c.args.geometry.now.leb_cnt c.save_image.result
+    c.save_image.ensures (c.in-Ok.ensures.shape.leb_cnt ∙ c.in_ok-volume.ensures.leb_cnt) c.in-Ok.ensures.made
