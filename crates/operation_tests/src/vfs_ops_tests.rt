@@ -1,12 +1,11 @@
 // A fresh volume, and a file of it from its making to its end.
 
-ghost use Rattle.std.specs.Prelude.{◌≡◌, false, IfOk, IsTrue};
+ghost use Rattle.std.specs.Prelude.{◌≡◌, IfOk, IsTrue};
 ghost use Rattle.fs_model.specs.Making.{new_dir};
 ghost use Rattle.fs_model.specs.Proper.{are_bytes};
 ghost use Rattle.fs_model.specs.Worked.{fresh};
 ghost use Rattle.fs_laws.specs.Sound.{IsCall};
 ghost use Rattle.plain_backing.specs.PlainBacking.{state_of};
-ghost use Rattle.vfs_plans.specs.Operations.{is_truncate};
 
 use fs_laws::a_fresh_volume_is_sound;
 use fs_model::{Backing, Change, Group, Inode, Kind, Mode, Op, Reply, Space};
@@ -35,7 +34,7 @@ pub(crate) fn root(alloc: Global) -> Inode
 }
 
 // A tree of the root alone.
-fn fresh_tree(alloc: Global) -> Result<Tree, Memory>
+pub(crate) fn fresh_tree(alloc: Global) -> Result<Tree, Memory>
     ensures { IfOk result (λ tree. tree ≡ fresh.tree) }
 {
     let mut tree = Tree::new(alloc, 64);
@@ -91,7 +90,6 @@ pub(crate) fn path(alloc: Global, bytes: &[u8]) -> Result<Name, Memory>
 // asks what it is.
 fn op_of(alloc: Global, letter: u8) -> Result<Op, Memory>
     ensures call { IfOk result (λ op. IsCall op) }
-    ensures kind { IfOk result (λ op. is_truncate op ≡ false) }
 {
     let path = path(alloc, b"/f")?;
     match letter {

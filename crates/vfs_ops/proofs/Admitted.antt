@@ -22,7 +22,7 @@ use Rattle.cached_files.specs.CallLaws.{Covered-then, Goes-then, Goes-within}
 use Rattle.cached_files.specs.Calls.{HasMadeRoom, IsNotEnospc, WasCovered}
 use Rattle.cached_files.specs.Present.{DirtyPages, newly_dirty, present}
 use Rattle.vfs_plans.specs.Answers.{IsRefused, Looks}
-use Rattle.vfs_ops.specs.Operations.{is_of_names}
+use Rattle.vfs_ops.specs.Operations.{has_group, is_of_names}
 use Rattle.vfs_ops.specs.Steps.{IsAtOnce, IsAtOnceReply, WasAdmitted, is_write, no_space_in}
 use Rattle.vfs_ops.specs.Writing.{HasGroupRoom, IsGroupAdmitted, WasPaid, credits_need, write_need}
 use Rattle.vfs_ops.proofs.Groups.{outcome_is}
@@ -54,10 +54,10 @@ covered_looked looks c kept first second nodes (inr last) =
     inr (record { state = last.state; room = made_looked looks last.state kept last.room; covered = last.covered; since = last.since })
 
 -- a group that was reckoned by looks
-pub group_admitted : {x y : Outlook} {a b : BackingState} → Looks x y a b → (c : BackingState) (kept : Kept) (need whole : Need) (made group : List Change) → need ≡ whole → made ≡ group → WasCovered b c kept need need (length group) → IsGroupAdmitted a c kept made whole
-group_admitted {x} {y} {a} {b} looks c kept need whole made group same is covered =
-    let counted = subst (λ g. WasCovered b c kept need need (length g)) (sym is) covered in
-    inr (covered_looked looks c kept whole whole (length made) (subst (λ n. WasCovered b c kept n n (length made)) same counted))
+pub group_admitted : {x y : Outlook} {a b : BackingState} → Looks x y a b → (c : BackingState) (kept : Kept) (need whole : Need) (made group : List Change) → need ≡ whole → made ≡ group → whole.nodes ≡ length made → WasCovered b c kept need need (length group) → IsGroupAdmitted a c kept made whole
+group_admitted {x} {y} {a} {b} looks c kept need whole made group same is nodes covered =
+    let counted = subst (λ n. WasCovered b c kept need need n) (sym (nodes ∙ ap (λ g. length g) is)) covered in
+    inr (covered_looked looks c kept whole whole whole.nodes (subst (λ n. WasCovered b c kept n n whole.nodes) same counted))
 
 -- what was paid still is after a call that puts nothing
 pub paid_then : (a b c : BackingState) (kept : Kept) (ino offs len grant : ℕ) → WasPaid a b kept ino offs len grant → Goes 0 b c → WasPaid a c kept ino offs len grant
@@ -92,13 +92,13 @@ pub names_admitted : (old new : BackingState) (before : Kept) (caller now grant 
 names_admitted old new before caller now grant (Write slot offs len byte) is h = absurd (false≢true is)
 names_admitted old new before caller now grant op is h = λ same. h
 
--- what isn't on names, and is no write, asks for nothing
-pub none_admitted : (old new : BackingState) (before : Kept) (caller now grant : ℕ) (op : Op) → is_of_names op ≡ false → is_write op ≡ false → WasAdmitted old new before caller now grant op
+-- what has no group, and is no write, asks for nothing
+pub none_admitted : (old new : BackingState) (before : Kept) (caller now grant : ℕ) (op : Op) → has_group op ≡ false → is_write op ≡ false → WasAdmitted old new before caller now grant op
 none_admitted old new before caller now grant (Write slot offs len byte) other without = absurd (false≢true (sym without))
 none_admitted old new before caller now grant op other without = λ is. absurd (false≢true (sym other ∙ is))
 
--- what isn't on names is left out
-pub other_at_once : (T : Type 0) (old : BackingState) (before : Kept) (caller now : ℕ) (op : Op) (result : Result T Refusal) → is_of_names op ≡ false → IsAtOnce {T = T} old before caller now op result
+-- what has no group is left out
+pub other_at_once : (T : Type 0) (old : BackingState) (before : Kept) (caller now : ℕ) (op : Op) (result : Result T Refusal) → has_group op ≡ false → IsAtOnce {T = T} old before caller now op result
 other_at_once T old before caller now op result other = λ is. absurd (false≢true (sym other ∙ is))
 
 -- a refusal of one answer is the same of another

@@ -30,14 +30,15 @@ use Rattle.fs_model.specs.Path.{child, components, front_of, has_long_name, is_d
 use Rattle.fs_model.specs.Proper.{IsProper}
 use Rattle.fs_model.specs.Rename.{is_under, moved, renamed}
 use Rattle.fs_model.specs.Same.{before_zeros, trimmed, trimmed_blocks}
+use Rattle.fs_model.specs.Truncation.{truncating}
 use Rattle.fs_laws.specs.Sound.{IsSound}
 use Rattle.cached_files.specs.Alike.{IsAlike}
 use Rattle.cached_files.specs.Follow.{AreOfNames}
-use Rattle.vfs_plans.specs.Operations.{is_truncate}
 use Rattle.vfs_ops.specs.Operations.{is_of_names}
 use Rattle.vfs_ops.specs.Replies.{IsAlikeOutcome}
 use Rattle.vfs_ops.proofs.Buffering.{open_file, plain_file}
 use Rattle.vfs_ops.proofs.Groups.{group_fits, names_of, outcome_is}
+use Rattle.vfs_ops.proofs.Truncating.{sizes_related}
 
 found_same : {A B : Type 0} (x y : Result A Refusal) (k l : A → Result B Refusal) → x ≡ y → ((v : A) → k v ≡ l v) → with_found x k ≡ with_found y l
 found_same {A} {B} x y k l same each = subst (λ z. with_found x k ≡ with_found z l) same (by x)
@@ -80,7 +81,7 @@ get_trimmed (b ∷ bytes) k = by (trimmed bytes) (get_trimmed bytes) k
     by (t ∷ ts) each zero = refl
     by (t ∷ ts) each (suc j) = each j
 
-trimmed_at : (blocks : Blocks) (ino block : ℕ) → block_at (trimmed_blocks blocks) ino block ≡ trimmed (block_at blocks ino block)
+pub trimmed_at : (blocks : Blocks) (ino block : ℕ) → block_at (trimmed_blocks blocks) ino block ≡ trimmed (block_at blocks ino block)
 trimmed_at [] ino block = refl
 trimmed_at (e ∷ blocks) ino block = by (trimmed_at blocks ino block) (is_at (pair_cmp (ino, block)) e.0)
   where
@@ -183,6 +184,8 @@ pub record Laws : Type 0 where
   pub groups : (x y : Files) (group : List Change) → IsProper x.tree → IsProper y.tree → AreOfNames x.tree group → IsAlike x y → IsAlike (record x { tree = apply x.tree group }) (record y { tree = apply y.tree group })
   pub writes : (x y : Files) (ino : ℕ) (inode : Inode) (now offs n byte : ℕ) → 0 < n → inode_at x.tree ino ≡ Some inode → is_dir inode.kind ≡ false → IsAlike x y
       → IsAlike (record x { tree = tree_written x.tree ino inode now offs n byte }) (record y { tree = tree_written y.tree ino inode now offs n byte })
+  pub sizes : (x y : Files) (ino : ℕ) (inode : Inode) (size now : ℕ) → IsProper x.tree → IsProper y.tree → inode_at x.tree ino ≡ Some inode → is_dir inode.kind ≡ false → IsAlike x y
+      → IsAlike (record x { tree = apply x.tree (truncating x.tree ino inode size now) }) (record y { tree = apply y.tree (truncating y.tree ino inode size now) })
 
 record Two (a : Files) (blocks : Blocks) : Type 0 where
   pub sound : IsSound a
@@ -310,18 +313,23 @@ link_alike a blocks path t =
     refuse_both (not (is_symlink at.kind)) Einval (there a at) (there (with_blocks a blocks) at)
     (some_both (inode_at a.tree at.ino) Enoent (last a) (last (with_blocks a blocks)) (λ inode is. (refl, t.alike))))
 
-all_alike : (a : Files) (blocks : Blocks) (caller now : ℕ) (op : Op) → is_truncate op ≡ false → Two a blocks → IsAlikeOutcome (outcome_of a caller now op) (outcome_of (with_blocks a blocks) caller now op)
-all_alike a blocks caller now (OpenFile path slot) plain t = opened_alike a blocks caller path slot t
-all_alike a blocks caller now (Close slot) plain t = closed_alike a blocks caller slot t
-all_alike a blocks caller now (Read slot offs len) plain t = read_alike a blocks caller slot offs len t
-all_alike a blocks caller now (Write slot offs len byte) plain t = written_alike a blocks caller now slot offs len byte t
-all_alike a blocks caller now (Truncate slot size) plain t = absurd (false≢true (sym plain))
-all_alike a blocks caller now (Fsync slot) plain t = synced_alike a blocks caller slot t
-all_alike a blocks caller now Flush plain t = (refl, t.alike)
-all_alike a blocks caller now (ListDir path) plain t = listed_alike a blocks path t
-all_alike a blocks caller now (Stat path) plain t = told_alike a blocks path t
-all_alike a blocks caller now (Readlink path) plain t = link_alike a blocks path t
-all_alike a blocks caller now op plain t = names_alike a blocks caller now op refl t
+sized_alike : (a : Files) (blocks : Blocks) (caller now slot size : ℕ) → Two a blocks → IsAlikeOutcome (outcome_of a caller now (Truncate slot size)) (outcome_of (with_blocks a blocks) caller now (Truncate slot size))
+sized_alike a blocks caller now slot size t =
+    let y = with_blocks a blocks in
+    sizes_related (λ p q. IsAlikeOutcome (done_by a p) (done_by y q)) a blocks caller now slot size t.sound (λ e. refl) (λ ino inode is plain. (refl, t.laws.sizes a y ino inode size now t.sound.proper t.proper is plain t.alike))
+
+all_alike : (a : Files) (blocks : Blocks) (caller now : ℕ) (op : Op) → Two a blocks → IsAlikeOutcome (outcome_of a caller now op) (outcome_of (with_blocks a blocks) caller now op)
+all_alike a blocks caller now (OpenFile path slot) t = opened_alike a blocks caller path slot t
+all_alike a blocks caller now (Close slot) t = closed_alike a blocks caller slot t
+all_alike a blocks caller now (Read slot offs len) t = read_alike a blocks caller slot offs len t
+all_alike a blocks caller now (Write slot offs len byte) t = written_alike a blocks caller now slot offs len byte t
+all_alike a blocks caller now (Truncate slot size) t = sized_alike a blocks caller now slot size t
+all_alike a blocks caller now (Fsync slot) t = synced_alike a blocks caller slot t
+all_alike a blocks caller now Flush t = (refl, t.alike)
+all_alike a blocks caller now (ListDir path) t = listed_alike a blocks path t
+all_alike a blocks caller now (Stat path) t = told_alike a blocks path t
+all_alike a blocks caller now (Readlink path) t = link_alike a blocks path t
+all_alike a blocks caller now op t = names_alike a blocks caller now op refl t
 
 -- files that are alike differ in blocks alone
 -- files that are alike differ in blocks alone
@@ -332,8 +340,8 @@ with_same a b h =
     ∙ ap (λ highest. record { tree = record b.tree { highest = highest }; handles = a.handles }) h.highest
     ∙ ap (λ handles. record { tree = b.tree; handles = handles }) h.handles
 
-pub alike_outcomes : (a b : Files) (caller now : ℕ) (op : Op) → Laws → IsSound a → IsProper b.tree → is_truncate op ≡ false → IsAlike a b → IsAlikeOutcome (outcome_of a caller now op) (outcome_of b caller now op)
-alike_outcomes a b caller now op laws sound proper plain h =
+pub alike_outcomes : (a b : Files) (caller now : ℕ) (op : Op) → Laws → IsSound a → IsProper b.tree → IsAlike a b → IsAlikeOutcome (outcome_of a caller now op) (outcome_of b caller now op)
+alike_outcomes a b caller now op laws sound proper h =
     let same = with_same a b h in
     let two : Two a b.tree.blocks = record {
       sound = sound;
@@ -341,4 +349,4 @@ alike_outcomes a b caller now op laws sound proper plain h =
       alike = subst (λ f. IsAlike a f) (sym same) h;
       laws = laws;
     } in
-    subst (λ f. IsAlikeOutcome (outcome_of a caller now op) (outcome_of f caller now op)) same (all_alike a b.tree.blocks caller now op plain two)
+    subst (λ f. IsAlikeOutcome (outcome_of a caller now op) (outcome_of f caller now op)) same (all_alike a b.tree.blocks caller now op two)

@@ -1,6 +1,6 @@
 -- Files that are alike ask the same of a store.
-use Rattle.std.proofs.Common.{◌≡◌, ℕ, ◌+◌, false, List, [], ◌∷◌, length, refl, sym, ap, ◌∙◌}
-use Rattle.std.specs.Prelude.{sum_by}
+use Rattle.std.proofs.Common.{◌≡◌, ℕ, ◌+◌, false, true, List, [], ◌∷◌, length, refl, sym, ap, subst, ◌∙◌}
+use Rattle.std.specs.Prelude.{nat_lt, sum_by}
 use Rattle.std.proofs.lemmas.Bool.{false≢true}
 use Rattle.std.proofs.lemmas.List.Sums.{sum_by-cons}
 use Rattle.fs_model.specs.declared.change.Change.{Change}
@@ -11,12 +11,15 @@ use Rattle.fs_model.specs.declared.space.Class.{Class}
 use Rattle.fs_model.specs.declared.space.Class.TheVariants.{Ordinary, Removal}
 use Rattle.fs_model.specs.declared.space.Need.{Need}
 use Rattle.fs_model.specs.Files.{Blocks, Files}
-use Rattle.fs_model.specs.Need.{change_bytes, group_need, need_of}
+use Rattle.fs_model.specs.Need.{change_bytes, group_need, need_of, truncation_need}
 use Rattle.fs_model.specs.Operation.{group_of, plan_of}
 use Rattle.fs_model.specs.Outcome.{Plan, group_in}
+use Rattle.fs_laws.specs.Sound.{IsSound}
 use Rattle.cached_files.specs.Alike.{IsAlike}
+use Rattle.cached_files.specs.Resized.{need_by}
 use Rattle.vfs_plans.specs.Operations.{is_truncate}
 use Rattle.vfs_ops.proofs.Answering.{plan_same, with_blocks, with_same}
+use Rattle.vfs_ops.proofs.Truncating.{need_by_is, sizes_related}
 
 -- any operation but a truncation has the same plan over other blocks
 plan_over : (a : Files) (blocks : Blocks) (caller now : ℕ) (op : Op) → is_truncate op ≡ false → plan_of a caller now op ≡ plan_of (with_blocks a blocks) caller now op
@@ -64,5 +67,17 @@ pub same_group : (a b : Files) (caller now : ℕ) (op : Op) → is_truncate op �
 same_group a b caller now op plain h =
     ap group_in (plan_over a b.tree.blocks caller now op plain) ∙ ap (λ (f : Files). group_of f caller now op) (with_same a b h)
 
-pub same_need : (a b : Files) (caller now : ℕ) (op : Op) → is_truncate op ≡ false → IsAlike a b → need_of a caller now op ≡ need_of b caller now op
-same_need a b caller now op plain h = asks_over a b.tree.blocks caller now op plain ∙ ap (λ (f : Files). need_of f caller now op) (with_same a b h)
+-- a truncation asks by the size of its file, which is the same
+size_asks : (a : Files) (blocks : Blocks) (caller now slot size : ℕ) → IsSound a → IsAlike a (with_blocks a blocks) → need_of a caller now (Truncate slot size) ≡ need_of (with_blocks a blocks) caller now (Truncate slot size)
+size_asks a blocks caller now slot size sound h =
+    sizes_related (λ x y. truncation_need (group_in x) ≡ truncation_need (group_in y)) a blocks caller now slot size sound (λ e. refl) (λ ino inode is plain.
+    need_by_is a.tree ino inode size now ∙ ap (λ n. need_by (nat_lt size n)) (h.sizes ino inode is plain) ∙ sym (need_by_is (with_blocks a blocks).tree ino inode size now))
+
+all_ask : (a : Files) (blocks : Blocks) (caller now : ℕ) (op : Op) → (is_truncate op ≡ true → IsSound a) → IsAlike a (with_blocks a blocks) → need_of a caller now op ≡ need_of (with_blocks a blocks) caller now op
+all_ask a blocks caller now (Truncate slot size) sound h = size_asks a blocks caller now slot size (sound refl) h
+all_ask a blocks caller now op sound h = asks_over a blocks caller now op refl
+
+pub same_need : (a b : Files) (caller now : ℕ) (op : Op) → (is_truncate op ≡ true → IsSound a) → IsAlike a b → need_of a caller now op ≡ need_of b caller now op
+same_need a b caller now op sound h =
+    let same = with_same a b h in
+    all_ask a b.tree.blocks caller now op sound (subst (λ f. IsAlike a f) (sym same) h) ∙ ap (λ (f : Files). need_of f caller now op) same

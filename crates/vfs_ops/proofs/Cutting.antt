@@ -12,12 +12,13 @@ use Rattle.fs_model.specs.declared.reply.Reply.{Reply}
 use Rattle.fs_model.specs.declared.reply.Reply.TheVariants.{Refused as IsRefused}
 use Rattle.fs_model.specs.declared.space.Need.{Need}
 use Rattle.fs_model.specs.Backing.{BackingState, Outlook, given_back, granted}
-use Rattle.fs_model.specs.Files.{Files}
-use Rattle.fs_model.specs.Journal.{Journal, Leaves}
+use Rattle.fs_model.specs.Files.{Files, Tree}
+use Rattle.fs_model.specs.Journal.{Journal, Leaves, MayLeave}
 use Rattle.fs_model.specs.Operation.{group_of}
 use Rattle.cached_files.specs.declared.kept.Kept.{Kept}
-use Rattle.cached_files.specs.CutLaws.{Answered-none, Puts-none, Puts-nothing, Puts-then, Puts-with, Refused-none}
-use Rattle.cached_files.specs.Cuts.{GroupFate, IsLastPut, PutsOnly, PutsSeen, PutsSeenWith, ValuesOf, group_fate, refused_fate}
+use Rattle.cached_files.specs.Alike.{IsAlike}
+use Rattle.cached_files.specs.CutLaws.{AreAmong, Answered-none, Puts-none, Puts-nothing, Puts-then, Puts-with, Refused-none}
+use Rattle.cached_files.specs.Cuts.{GroupFate, HasValues, IsLastPut, PutsOnly, PutsSeen, PutsSeenWith, Values, ValuesOf, group_fate, refused_fate, value_at}
 use Rattle.cached_files.specs.Cuts.GroupFate.{WasPut, NotPut, MayBePut}
 use Rattle.cached_files.specs.Present.{present}
 use Rattle.vfs_plans.specs.Answers.{Looks}
@@ -27,12 +28,13 @@ use Rattle.vfs_ops.specs.declared.event.Event.TheVariants.{Call, Pick, Put, Sync
 use Rattle.vfs_ops.specs.declared.event.Outcome.{Outcome}
 use Rattle.vfs_ops.specs.declared.event.Outcome.TheVariants.{Synced, Did, Began, Went, Closed, Granted, Refused, Drained, Fault}
 use Rattle.vfs_ops.specs.Background.{IsChore}
-use Rattle.vfs_ops.specs.Events.{outcome_fate, group_in}
+use Rattle.vfs_ops.specs.Events.{PutsCall, outcome_fate, group_in}
 use Rattle.vfs_ops.specs.FilesState.{FilesState, present_in}
 use Rattle.vfs_ops.specs.Kinds.{reply_fate}
 use Rattle.vfs_ops.specs.Operations.{is_of_names}
 use Rattle.vfs_ops.specs.Passing.{IsStep}
 use Rattle.vfs_ops.specs.Replies.{is_refusal}
+use Rattle.vfs_ops.proofs.Serving.{alike_self}
 
 -- the journal stayed
 pub cut_same : (old new : BackingState) (kept : Kept) → new.journal ≡ old.journal → PutsSeen old new kept
@@ -68,12 +70,21 @@ no_group files caller now (Chmod path mode) other size = absurd (false≢true (s
 no_group files caller now (Truncate slot length) other size = absurd (false≢true (sym size))
 no_group files caller now op other size = refl
 
+-- the files are those that callers see
+pub call_seen : (old new : BackingState) (kept : Kept) (caller now : ℕ) (op : Op) (fate : GroupFate) → PutsSeenWith old new kept (group_of (present old.tree kept) caller now op) fate → PutsCall old new kept caller now op fate
+call_seen old new kept caller now op fate put = record { seen = present old.tree kept; alike = alike_self (present old.tree kept); cut = put }
+
+-- nothing was put of a call that is refused
+pub call_refused : (old new : BackingState) (kept : Kept) (caller now : ℕ) (op : Op) (refusal : Refusal) → PutsSeen old new kept → PutsCall old new kept caller now op (refused_fate refusal)
+call_refused old new kept caller now op refusal first =
+    call_seen old new kept caller now op (refused_fate refusal) (cut_refused old new kept (group_of (present old.tree kept) caller now op) refusal first)
+
 -- such an operation puts pages alone
 pub cut_answered : {T : Type 0} (old new : BackingState) (kept : Kept) (caller now : ℕ) (op : Op) (result : Result T Refusal) → is_of_names op ≡ false → is_truncate op ≡ false → PutsSeen old new kept
-    → PutsSeenWith old new kept (group_of (present old.tree kept) caller now op) (group_fate result)
+    → PutsCall old new kept caller now op (group_fate result)
 cut_answered old new kept caller now op result other size first =
     let group = group_of (present old.tree kept) caller now op in
-    cut_with old new kept group (group_fate result) (Answered-none result group (no_group (present old.tree kept) caller now op other size)) first
+    call_seen old new kept caller now op (group_fate result) (cut_with old new kept group (group_fate result) (Answered-none result group (no_group (present old.tree kept) caller now op other size)) first)
 
 -- a refusal that is told as want of memory
 pub cut_noted : (old new : BackingState) (kept : Kept) (group : List Change) (refusal noted : Refusal) → (noted ≡ refusal) ⊎ ((noted ≡ Enomem) × ((space : NoSpace) × (refusal ≡ Enospc space)))
@@ -87,6 +98,16 @@ cut_noted old new kept group refusal noted (inr (memory, full)) put =
 pub cut_replied : (old new : BackingState) (kept : Kept) (group : List Change) (reply : Reply) → is_refusal reply ≡ false → PutsSeenWith old new kept group WasPut → PutsSeenWith old new kept group (reply_fate reply)
 cut_replied old new kept group (IsRefused refusal) plain put = absurd (false≢true (sym plain))
 cut_replied old new kept group reply plain put = put
+
+-- the same of a call
+pub call_noted : (old new : BackingState) (kept : Kept) (caller now : ℕ) (op : Op) (refusal noted : Refusal) → (noted ≡ refusal) ⊎ ((noted ≡ Enomem) × ((space : NoSpace) × (refusal ≡ Enospc space)))
+    → PutsCall old new kept caller now op (refused_fate refusal) → PutsCall old new kept caller now op (refused_fate noted)
+call_noted old new kept caller now op refusal noted told put =
+    record { seen = put.seen; alike = put.alike; cut = cut_noted old new kept (group_of put.seen caller now op) refusal noted told put.cut }
+
+pub call_replied : (old new : BackingState) (kept : Kept) (caller now : ℕ) (op : Op) (reply : Reply) → is_refusal reply ≡ false → PutsCall old new kept caller now op WasPut → PutsCall old new kept caller now op (reply_fate reply)
+call_replied old new kept caller now op reply plain put =
+    record { seen = put.seen; alike = put.alike; cut = cut_replied old new kept (group_of put.seen caller now op) reply plain put.cut }
 
 -- nothing more was put
 pub cut_nothing : (old now new : BackingState) (kept : Kept) → PutsSeen old now kept → Leaves now.journal new.journal [] → PutsSeen old new kept
@@ -143,21 +164,38 @@ nothing_changes WasPut = inr (refl, refl)
 nothing_changes NotPut = refl
 nothing_changes MayBePut = inl refl
 
+-- what a step puts: pages, and then the group of files that are alike
+pub record PutsStep (old new : FilesState) (event : Event) (outcome : Outcome) : Type 0 where
+  pub seen : Files
+  pub alike : IsAlike (present_in old) seen
+  pub cut : PutsSeenWith old.backing new.backing old.kept (group_in seen event) (outcome_fate outcome)
+
 -- whatever the event is
-pub step_cut : (old new : FilesState) (event : Event) (outcome : Outcome) → IsStep old new event outcome → PutsSeenWith old.backing new.backing old.kept (group_in (present_in old) event) (outcome_fate outcome)
+pub step_cut : (old new : FilesState) (event : Event) (outcome : Outcome) → IsStep old new event outcome → PutsStep old new event outcome
 step_cut old new event outcome = by event
   where
     none : PutsSeen old.backing new.backing old.kept → PutsSeenWith old.backing new.backing old.kept [] (outcome_fate outcome)
     none first = cut_with old.backing new.backing old.kept [] (outcome_fate outcome) (nothing_changes (outcome_fate outcome)) first
 
-    by : (event : Event) → IsStep old new event outcome → PutsSeenWith old.backing new.backing old.kept (group_in (present_in old) event) (outcome_fate outcome)
-    by (Call caller now grant op) step = step.cut
-    by Pick step = none step.cut
-    by (Put shown) step = none step.cut
-    by Sync step = none step.cut
-    by Collect step = none step.cut
-    by CommitStart step = none step.cut
-    by CommitStep step = none step.cut
-    by CommitEnd step = none step.cut
-    by (Refill n) step = none step.cut
-    by (Drain n) step = none step.cut
+    files : Files
+    files = present_in old
+
+    by : (event : Event) → IsStep old new event outcome → PutsStep old new event outcome
+    by (Call caller now grant op) step = record { seen = step.cut.seen; alike = step.cut.alike; cut = step.cut.cut }
+    by Pick step = record { seen = files; alike = alike_self files; cut = none step.cut }
+    by (Put shown) step = record { seen = files; alike = alike_self files; cut = none step.cut }
+    by Sync step = record { seen = files; alike = alike_self files; cut = none step.cut }
+    by Collect step = record { seen = files; alike = alike_self files; cut = none step.cut }
+    by CommitStart step = record { seen = files; alike = alike_self files; cut = none step.cut }
+    by CommitStep step = record { seen = files; alike = alike_self files; cut = none step.cut }
+    by CommitEnd step = record { seen = files; alike = alike_self files; cut = none step.cut }
+    by (Refill n) step = record { seen = files; alike = alike_self files; cut = none step.cut }
+    by (Drain n) step = record { seen = files; alike = alike_self files; cut = none step.cut }
+
+-- what has some values has no others than more
+pub has_among : {few all : Values} (journal : Journal) (left : Tree) → AreAmong few all → HasValues journal few left → HasValues journal all left
+has_among {few} {all} journal left among has place = by (has place)
+  where
+    by : ((before : Tree) × MayLeave journal before × (value_at left place ≡ value_at before place)) ⊎ few place (value_at left place) → ((before : Tree) × MayLeave journal before × (value_at left place ≡ value_at before place)) ⊎ all place (value_at left place)
+    by (inl old) = inl old
+    by (inr one) = inr (among place (value_at left place) one)

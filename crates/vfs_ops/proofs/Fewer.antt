@@ -1,34 +1,37 @@
 -- Which operations leave an inode without a name: those of names alone, one at most, and where their group sets one.
 use Rattle.std.proofs.Common.{◌≡◌, ℕ, ◌+◌, ◌≤◌, Bool, true, false, cond, ◌&&◌, ◌||◌, not, min, List, [], ◌∷◌, Ok, Err, length, refl, sym, ap, subst, arith}
-use Rattle.std.specs.Prelude.{◌==◌, ◌-◌, filter, is_some, nat_lt}
+use Rattle.std.specs.Prelude.{◌==◌, ◌-◌, ◌/◌, ◌%◌, filter, is_some, nat_lt, take}
 use Rattle.std.specs.BTreeMap.{insert_entry, is_at}
 use Rattle.std.specs.Map.{keys_of, remove_entry}
 use Rattle.std.specs.Ordering.{nat_cmp}
 use Rattle.std.proofs.lemmas.Bool.{false≢true, le-ltb}
 use Rattle.fs_model.specs.declared.change.Change.{Change}
+use Rattle.fs_model.specs.declared.change.Change.TheVariants.{SetInode, SetBlock, CutBlocks}
 use Rattle.fs_model.specs.declared.inode.Entry.{Entry}
 use Rattle.fs_model.specs.declared.inode.Inode.{Inode}
 use Rattle.fs_model.specs.declared.op.Op.{Op}
 use Rattle.fs_model.specs.declared.op.Op.TheVariants.{OpenFile, Close, Read, Write, Truncate, Fsync, Flush, List as ListDir, Stat, Readlink}
 use Rattle.fs_model.specs.declared.refusal.Refusal.{Refusal}
-use Rattle.fs_model.specs.declared.refusal.Refusal.TheVariants.{Enotdir, Eisdir, Enametoolong, Einval, Enoent, Ebadf}
+use Rattle.fs_model.specs.declared.refusal.Refusal.TheVariants.{Efbig, Enotdir, Eisdir, Enametoolong, Einval, Enoent, Ebadf}
 use Rattle.fs_model.specs.declared.reply.Reply.{Reply}
 use Rattle.fs_model.specs.declared.reply.Reply.TheVariants.{Done, Ino, Bytes, List as Listed, Target}
 use Rattle.fs_model.specs.Attributes.{found, is_symlink, link_read, listed, stat_of, told}
-use Rattle.fs_model.specs.Change.{without_inode}
+use Rattle.fs_model.specs.Change.{applied, apply, without_inode}
 use Rattle.fs_model.specs.Directory.{by_hash, entries_in}
-use Rattle.fs_model.specs.Files.{Files, Tree, Inodes, bytes_from, handle_at, inode_at, pair_cmp, size_of}
-use Rattle.fs_model.specs.Handles.{bytes_read, closed, is_bad_slot, opened, synced}
+use Rattle.fs_model.specs.Files.{Files, Tree, Inodes, block_at, bytes_from, handle_at, inode_at, pair_cmp, size_of, with_block}
+use Rattle.fs_model.specs.Handles.{bytes_read, closed, is_bad_slot, opened, size_limit, synced}
+use Rattle.fs_model.specs.Making.{touched}
 use Rattle.fs_model.specs.Operation.{group_of, outcome_of, plan_of}
 use Rattle.fs_model.specs.Orphan.{is_nameless, is_open, leaves_orphan, nameless, without_lost}
 use Rattle.fs_model.specs.Outcome.{Outcome, Plan, done_by, group_in, refuse, with_found, with_some}
 use Rattle.fs_model.specs.Path.{has_long_name, is_dir, is_file, is_path, walked}
+use Rattle.fs_model.specs.Truncation.{shortening, truncating}
 use Rattle.fs_laws.specs.Sound.{IsSound}
 use Rattle.vfs_plans.specs.Operations.{is_truncate}
 use Rattle.vfs_ops.specs.Operations.{is_of_names, orphans}
 use Rattle.vfs_ops.proofs.Cutting.{no_group}
 use Rattle.vfs_ops.proofs.Groups.{outcome_is}
-use Rattle.vfs_ops.proofs.Nameless.{one_at_most}
+use Rattle.vfs_ops.proofs.Nameless.{one_at_most, set_again}
 use Rattle.vfs_ops.proofs.Orphaning.{Keeps, write_keeps}
 use Rattle.vfs_ops.proofs.Orphans.{orphans_told, told_of}
 use Rattle.vfs_ops.proofs.Plans.{found_to, refuse_to, some_to}
@@ -131,19 +134,57 @@ link_keeps files path =
     refuse_to P (not (is_symlink at.kind)) Einval (there at) (none files) (λ a.
     some_to P (inode_at files.tree at.ino) Enoent last (none files) (λ inode b. omega arith)))
 
--- any operation but one of names and a truncation leaves no more inodes without a name
-others_keep : (files : Files) (caller now : ℕ) (op : Op) → IsSound files → is_of_names op ≡ false → is_truncate op ≡ false → Keeps files (outcome_of files caller now op)
-others_keep files caller now (OpenFile path slot) sound other plain = opened_keeps files caller path slot
-others_keep files caller now (Close slot) sound other plain = closed_keeps files caller slot
-others_keep files caller now (Read slot offs len) sound other plain = read_keeps files caller slot offs len
-others_keep files caller now (Write slot offs len byte) sound other plain = write_keeps files caller now slot offs len byte sound
-others_keep files caller now (Fsync slot) sound other plain = synced_keeps files caller slot
-others_keep files caller now Flush sound other plain = omega arith
-others_keep files caller now (ListDir path) sound other plain = listed_keeps files path
-others_keep files caller now (Stat path) sound other plain = told_keeps files path
-others_keep files caller now (Readlink path) sound other plain = link_keeps files path
-others_keep files caller now (Truncate slot size) sound other plain = absurd (false≢true (sym plain))
-others_keep files caller now op sound other plain = absurd (false≢true (sym other))
+-- the blocks aside, what sets a size sets its inode again
+pub shortened_inodes : (tree : Tree) (ino block : ℕ) (bytes : List ℕ) (b : Bool) → (apply tree (cond b (SetBlock ino block bytes ∷ []) [])).inodes ≡ tree.inodes
+shortened_inodes tree ino block bytes true = by (is_some (inode_at tree ino))
+  where
+    by : (b : Bool) → (cond b (record tree { blocks = with_block tree.blocks ino block bytes }) tree).inodes ≡ tree.inodes
+    by true = refl
+    by false = refl
+shortened_inodes tree ino block bytes false = refl
+
+sized_inodes : (tree : Tree) (ino : ℕ) (inode : Inode) (size now : ℕ) → (apply tree (truncating tree ino inode size now)).inodes ≡ insert_entry nat_cmp tree.inodes ino (touched now (record inode { size = size }))
+sized_inodes tree ino inode size now = by (nat_lt size (size_of tree ino inode))
+  where
+    set : Change
+    set = SetInode ino (touched now (record inode { size = size }))
+
+    cut : Tree
+    cut = applied (applied tree set) (CutBlocks ino (size_of tree ino inode) size)
+
+    bytes : List ℕ
+    bytes = block_at tree.blocks ino (size / 4096)
+
+    by : (b : Bool) → (apply tree (set ∷ cond b (CutBlocks ino (size_of tree ino inode) size ∷ shortening tree.blocks ino size) [])).inodes ≡ insert_entry nat_cmp tree.inodes ino (touched now (record inode { size = size }))
+    by true = shortened_inodes cut ino (size / 4096) (take (size % 4096) bytes) (not (size % 4096 == 0) && nat_lt (size % 4096) (length bytes))
+    by false = refl
+
+pub sized_keeps : (files : Files) (caller now slot size : ℕ) → IsSound files → Keeps files (outcome_of files caller now (Truncate slot size))
+sized_keeps files caller now slot size sound =
+    let P : Plan → Type 0 = λ p. Keeps files (done_by files p) in
+    let last : ℕ → Inode → Plan = λ ino inode. Ok (Done, truncating files.tree ino inode size now) in
+    let small : ℕ → Inode → Plan = λ ino inode. refuse (nat_lt size_limit size) Efbig (last ino inode) in
+    let there : ℕ → Plan = λ ino. with_some (inode_at files.tree ino) Ebadf (small ino) in
+    let bad : (e : Refusal) → P (Err e) = λ e. tt in
+    refuse_to P (is_bad_slot slot) Einval (with_some (handle_at files caller slot) Ebadf there) bad (λ a.
+    some_to P (handle_at files caller slot) Ebadf there bad (λ ino at.
+    some_to P (inode_at files.tree ino) Ebadf (small ino) bad (λ inode is.
+    refuse_to P (nat_lt size_limit size) Efbig (last ino inode) bad (λ b.
+    subst (λ inodes. lost_in inodes ≤ length (nameless files.tree)) (sym (sized_inodes files.tree ino inode size now)) (set_again files.tree ino inode (touched now (record inode { size = size })) sound.proper is refl)))))
+
+-- any operation but one of names leaves no more inodes without a name
+others_keep : (files : Files) (caller now : ℕ) (op : Op) → IsSound files → is_of_names op ≡ false → Keeps files (outcome_of files caller now op)
+others_keep files caller now (OpenFile path slot) sound other = opened_keeps files caller path slot
+others_keep files caller now (Close slot) sound other = closed_keeps files caller slot
+others_keep files caller now (Read slot offs len) sound other = read_keeps files caller slot offs len
+others_keep files caller now (Write slot offs len byte) sound other = write_keeps files caller now slot offs len byte sound
+others_keep files caller now (Fsync slot) sound other = synced_keeps files caller slot
+others_keep files caller now Flush sound other = omega arith
+others_keep files caller now (ListDir path) sound other = listed_keeps files path
+others_keep files caller now (Stat path) sound other = told_keeps files path
+others_keep files caller now (Readlink path) sound other = link_keeps files path
+others_keep files caller now (Truncate slot size) sound other = sized_keeps files caller now slot size sound
+others_keep files caller now op sound other = absurd (false≢true (sym other))
 
 -- What an operation leaves without a name: one inode more at most, and that where its group sets one.
 abbrev Leaves : Files → List Change → Outcome → Type 0
@@ -169,9 +210,28 @@ all_leave files caller now op sound plain = by (is_of_names op) refl
     by : (b : Bool) → is_of_names op ≡ b → Leaves files (group_of files caller now op) (outcome_of files caller now op)
     by true is = names_leave files caller now op sound is
     by false other =
-        subst (λ (group : List Change). Leaves files group (outcome_of files caller now op)) (sym (no_group files caller now op other plain)) (no_more files (outcome_of files caller now op) (others_keep files caller now op sound other plain))
+        subst (λ (group : List Change). Leaves files group (outcome_of files caller now op)) (sym (no_group files caller now op other plain)) (no_more files (outcome_of files caller now op) (others_keep files caller now op sound other))
+
+-- whatever the operation is, one inode more is without a name at most
+abbrev LeavesOne : Files → Outcome → Type 0
+LeavesOne files (Ok done) = length (nameless done.1.tree) ≤ length (nameless files.tree) + 1
+LeavesOne files (Err refusal) = Unit {0}
+
+one_of : (files : Files) (group : List Change) (outcome : Outcome) → Leaves files group outcome → LeavesOne files outcome
+one_of files group (Ok done) h = h.0
+one_of files group (Err refusal) h = tt
+
+all_leave_one : (files : Files) (caller now : ℕ) (op : Op) → IsSound files → LeavesOne files (outcome_of files caller now op)
+all_leave_one files caller now op sound = by (is_of_names op) refl
+  where
+    by : (b : Bool) → is_of_names op ≡ b → LeavesOne files (outcome_of files caller now op)
+    by true is = one_of files (group_of files caller now op) (outcome_of files caller now op) (names_leave files caller now op sound is)
+    by false other = one_of files [] (outcome_of files caller now op) (no_more files (outcome_of files caller now op) (others_keep files caller now op sound other))
 
 -- of an operation that is done
+pub one_left : (files after : Files) (caller now : ℕ) (op : Op) (reply : Reply) → IsSound files → outcome_of files caller now op ≡ Ok (reply, after) → length (nameless after.tree) ≤ length (nameless files.tree) + 1
+one_left files after caller now op reply sound done = subst (λ (o : Outcome). LeavesOne files o) done (all_leave_one files caller now op sound)
+
 pub done_leaves : (files after : Files) (caller now : ℕ) (op : Op) (reply : Reply) → IsSound files → is_truncate op ≡ false → outcome_of files caller now op ≡ Ok (reply, after)
     → (length (nameless after.tree) ≤ length (nameless files.tree) + 1) × (leaves_orphan files after ≡ orphans (group_of files caller now op))
 done_leaves files after caller now op reply sound plain done = subst (λ (o : Outcome). Leaves files (group_of files caller now op) o) done (all_leave files caller now op sound plain)

@@ -12,6 +12,7 @@ pub mod Groups
 pub mod Looking
 pub mod Named
 pub mod Nameless
+pub mod NewSize
 pub mod Orphaning
 pub mod Orphans
 pub mod Others
@@ -20,6 +21,8 @@ pub mod Placing
 pub mod Plans
 pub mod Replying
 pub mod Serving
+pub mod Shortened
 pub mod States
 pub mod Takes
+pub mod Truncating
 pub mod Weighing

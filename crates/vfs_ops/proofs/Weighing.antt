@@ -21,13 +21,13 @@ use Rattle.cached_files.specs.Present.{DirtyPages, newly_dirty, present}
 use Rattle.fs_model.specs.declared.op.Op.{Op}
 use Rattle.fs_model.specs.declared.op.Op.TheVariants.{Write}
 use Rattle.fs_model.specs.Legal.{pages_in}
-use Rattle.fs_model.specs.Operation.{group_of}
 use Rattle.vfs_ops.specs.declared.event.Event.TheVariants.{Call}
 use Rattle.vfs_ops.specs.declared.event.Outcome.{Outcome}
 use Rattle.vfs_ops.specs.declared.event.Outcome.TheVariants.{Replied}
 use Rattle.vfs_ops.specs.Events.{IsWeighedCall}
 use Rattle.vfs_ops.specs.FilesState.{FilesState}
 use Rattle.vfs_ops.specs.Kinds.{added_by}
+use Rattle.vfs_ops.specs.Operations.{nodes_asked}
 use Rattle.vfs_ops.specs.Replies.{is_refusal}
 
 -- what puts no node and makes no page dirty
@@ -106,18 +106,18 @@ written dirty ino offs len a b c before mid after grows same goes count =
 -- a write, whatever operation it is that writes so
 pub write_weighs : {T : Type 0} (files : Files) (caller now : ℕ) (op : Op) (slot offs len byte : ℕ) (result : Result T Refusal) (a b : BackingState) (before after : Kept) → op ≡ Write slot offs len byte
     → GrowsBy (added_or_refused (2 * length (pages_of offs len)) 2 result) a b before after
-    → GrowsBy (added_or_refused (2 * pages_in op + length (group_of files caller now op)) (max 2 (length (group_of files caller now op))) result) a b before after
+    → GrowsBy (added_or_refused (2 * pages_in op + nodes_asked files caller now op) (max 2 (nodes_asked files caller now op)) result) a b before after
 write_weighs files caller now op slot offs len byte result a b before after is grows =
-    let P : Op → Type 0 = λ o. GrowsBy (added_or_refused (2 * pages_in o + length (group_of files caller now o)) (max 2 (length (group_of files caller now o))) result) a b before after in
+    let P : Op → Type 0 = λ o. GrowsBy (added_or_refused (2 * pages_in o + nodes_asked files caller now o) (max 2 (nodes_asked files caller now o)) result) a b before after in
     subst P (sym is) (wider (2 * length (pages_of offs len)) (2 * length (pages_of offs len) + 0) 2 2 result a b before after (omega arith) (omega arith) grows)
 
--- a call adds five nodes and what its words touch, if its group is short
-pub weighed_few : (old new : FilesState) (caller now grant : ℕ) (op : Op) (outcome : Outcome) → length (group_of (present old.backing.tree old.kept) caller now op) ≤ 5
+-- a call adds five nodes and what its words touch, if it asks for few
+pub weighed_few : (old new : FilesState) (caller now grant : ℕ) (op : Op) (outcome : Outcome) → nodes_asked (present old.backing.tree old.kept) caller now op ≤ 5
     → IsWeighedCall (record { old = old.backing; new = new.backing; before = old.kept; after = new.kept }) (Call caller now grant op) outcome → GrowsBy (5 + 2 * pages_in op) old.backing new.backing old.kept new.kept
 weighed_few old new caller now grant op (Replied reply left) short h = by reply h
   where
     n : ℕ
-    n = length (group_of (present old.backing.tree old.kept) caller now op)
+    n = nodes_asked (present old.backing.tree old.kept) caller now op
 
     by : (r : Reply) → GrowsBy (added_by (2 * pages_in op + n) (max 2 n) r) old.backing new.backing old.kept new.kept → GrowsBy (5 + 2 * pages_in op) old.backing new.backing old.kept new.kept
     by (Refused (Eio count)) h = omega (arith, short, h)

@@ -1,5 +1,5 @@
 -- What comes of an event.
-use Rattle.std.specs.Prelude.{◌≡◌, ℕ, ◌+◌, ◌*◌, ◌^◌, ◌<◌, ◌≤◌, max, false, Some, List, [], length}
+use Rattle.std.specs.Prelude.{◌≡◌, ℕ, ◌+◌, ◌*◌, ◌^◌, ◌<◌, ◌≤◌, max, Bool, false, Some, List, []}
 use Rattle.std.specs.BTreeMap.{is_at}
 use Rattle.std.specs.Map.{lookup}
 use Rattle.fs_model.specs.declared.backing_answers.Mode.{Mode}
@@ -17,7 +17,8 @@ use Rattle.fs_model.specs.Operation.{group_of}
 use Rattle.fs_laws.specs.Sound.{IsCall}
 use Rattle.cached_files.specs.declared.kept.Kept.{Kept}
 use Rattle.cached_files.specs.Calls.{GrowsBy}
-use Rattle.cached_files.specs.Cuts.{GroupFate}
+use Rattle.cached_files.specs.Alike.{IsAlike}
+use Rattle.cached_files.specs.Cuts.{GroupFate, PutsSeenWith}
 use Rattle.cached_files.specs.Cuts.GroupFate.{NotPut}
 use Rattle.cached_files.specs.Present.{has_dirty, present}
 use Rattle.vfs_plans.specs.Operations.{is_truncate}
@@ -26,12 +27,13 @@ use Rattle.vfs_ops.specs.declared.event.Event.TheVariants.{Call, Drain, Refill}
 use Rattle.vfs_ops.specs.declared.event.Outcome.{Outcome}
 use Rattle.vfs_ops.specs.declared.event.Outcome.TheVariants.{Replied}
 use Rattle.vfs_ops.specs.Kinds.{KeepsOthers, added_by, reply_fate}
+use Rattle.vfs_ops.specs.Operations.{nodes_asked}
 use Rattle.vfs_ops.specs.Steps.{IsAdmittedReply, IsAnswered, IsAtOnceReply, IsExact, Passage}
 use Rattle.vfs_ops.specs.Writing.{BuffersReply}
 
--- any operation but a truncation, that gives bytes; any event of the background, that asks for fewer than 2^32 credits
+-- any operation that gives bytes; any event of the background, that asks for fewer than 2^32 credits
 abbrev pub IsCalled : Event → Type 0
-IsCalled (Call caller now grant op) = IsCall op × (is_truncate op ≡ false)
+IsCalled (Call caller now grant op) = IsCall op
 IsCalled (Refill n) = n < 2 ^ 32
 IsCalled event = Unit {0}
 
@@ -45,6 +47,32 @@ grant_of event = 0
 abbrev pub group_in : Files → Event → List Change
 group_in files (Call caller now grant op) = group_of files caller now op
 group_in files event = []
+
+-- what it tells of the group that was to be put; the background puts none
+abbrev pub outcome_fate : Outcome → GroupFate
+outcome_fate (Replied reply left) = reply_fate reply
+outcome_fate outcome = NotPut
+
+-- whether its operation sets a file's size
+abbrev pub sets_size : Event → Bool
+sets_size (Call caller now grant op) = is_truncate op
+sets_size event = false
+
+-- the nodes that its group asks for
+abbrev pub nodes_asked_in : Files → Event → ℕ
+nodes_asked_in files (Call caller now grant op) = nodes_asked files caller now op
+nodes_asked_in files event = 0
+
+-- What a cut leaves of an operation: pages with the values of the files before, and then its group as a whole. That is its group on files that are alike: a page that was put for room may have other zeros at its end, which a new size takes away.
+pub record PutsCall (old new : BackingState) (kept : Kept) (caller now : ℕ) (op : Op) (fate : GroupFate) : Type 0 where
+  pub seen : Files
+  pub alike : IsAlike (present old.tree kept) seen
+  pub cut : PutsSeenWith old new kept (group_of seen caller now op) fate
+
+-- the same of an event
+abbrev pub PutsCalled : BackingState → BackingState → Kept → Event → Outcome → Type 0
+PutsCalled old new kept (Call caller now grant op) outcome = PutsCall old new kept caller now op (outcome_fate outcome)
+PutsCalled old new kept event outcome = ⊥
 
 -- A call is answered as its operation says, and no more of its grant is left than there was.
 abbrev pub IsAnswer : BackingState → BackingState → Kept → Kept → List NoSpace → List NoSpace → Event → Outcome → Type 0
@@ -62,21 +90,16 @@ abbrev pub KeepsOthersCall : Kept → Kept → Event → Type 0
 KeepsOthersCall before after (Call caller now grant op) = KeepsOthers before after caller op
 KeepsOthersCall before after event = ⊥
 
--- With the dirty pages the index gets heavier by two nodes for each page that a write touches, and by its group. A call that is refused adds nothing, but where the volume failed: then what it was putting.
+-- With the dirty pages the index gets heavier by two nodes for each page that a write touches, and by those that its group asks for. A call that is refused adds nothing, but where the volume failed: then what it was putting.
 abbrev pub IsWeighedCall : Passage → Event → Outcome → Type 0
 IsWeighedCall p (Call caller now grant op) (Replied reply left) =
-    GrowsBy (added_by (2 * pages_in op + length (group_of (present p.old.tree p.before) caller now op)) (max 2 (length (group_of (present p.old.tree p.before) caller now op))) reply) p.old p.new p.before p.after
+    GrowsBy (added_by (2 * pages_in op + nodes_asked (present p.old.tree p.before) caller now op) (max 2 (nodes_asked (present p.old.tree p.before) caller now op)) reply) p.old p.new p.before p.after
 IsWeighedCall p event outcome = ⊥
 
 -- the outcome is a reply
 abbrev pub IsReply : Outcome → Type 0
 IsReply (Replied reply left) = Unit {0}
 IsReply outcome = ⊥
-
--- what it tells of the group that was to be put; the background puts none
-abbrev pub outcome_fate : Outcome → GroupFate
-outcome_fate (Replied reply left) = reply_fate reply
-outcome_fate outcome = NotPut
 
 -- what is left of the grant
 abbrev pub left_of : Outcome → ℕ

@@ -5,10 +5,11 @@ use Rattle.fs_model.specs.declared.change.Change.{Change}
 use Rattle.fs_model.specs.declared.change.Change.TheVariants.{SetInode, DropInode}
 use Rattle.std.specs.Option.{option_map_or}
 use Rattle.fs_model.specs.Cover.{inode_bytes}
-use Rattle.fs_model.specs.Files.{Tree, inode_at}
+use Rattle.fs_model.specs.Files.{Files, Tree, inode_at}
+use Rattle.fs_model.specs.Need.{need_of}
 use Rattle.fs_model.specs.Path.{is_dir}
 use Rattle.fs_model.specs.declared.op.Op.{Op}
-use Rattle.fs_model.specs.declared.op.Op.TheVariants.{Create, Mkdir, Symlink, Link, Unlink, Rmdir, Rename, Chmod}
+use Rattle.fs_model.specs.declared.op.Op.TheVariants.{Create, Mkdir, Symlink, Link, Unlink, Rmdir, Rename, Truncate, Chmod}
 use Rattle.fs_model.specs.declared.space.Class.{Class}
 use Rattle.fs_model.specs.declared.space.Class.TheVariants.{Ordinary, Removal}
 
@@ -23,6 +24,15 @@ is_of_names (Rmdir path) = true
 is_of_names (Rename old new) = true
 is_of_names (Chmod path mode) = true
 is_of_names op = false
+
+-- whether it puts one group: of inodes and names, or that of a new size
+abbrev pub has_group : Op → Bool
+has_group (Truncate slot size) = true
+has_group op = is_of_names op
+
+-- the nodes that its group asks for: as many as it has, but three of a smaller size, whichever of them are put
+abbrev pub nodes_asked : Files → ℕ → ℕ → Op → ℕ
+nodes_asked files caller now op = (need_of files caller now op).nodes
 
 -- the class of who asks: what takes a name away may use the last room
 abbrev pub class_of : Op → Class

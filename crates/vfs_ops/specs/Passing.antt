@@ -18,7 +18,7 @@ use Rattle.vfs_ops.specs.declared.event.Event.{Event}
 use Rattle.vfs_ops.specs.declared.event.Event.TheVariants.{Call}
 use Rattle.vfs_ops.specs.declared.event.Outcome.{Outcome}
 use Rattle.vfs_ops.specs.Background.{IsBackgroundStep}
-use Rattle.vfs_ops.specs.Events.{IsAdmittedCall, IsAnswer, IsAtOnceCall, IsBufferedCall, IsExactCall, IsWeighedCall, IsWrittenBack, KeepsOthersCall, outcome_fate, grant_of, group_in, left_of}
+use Rattle.vfs_ops.specs.Events.{IsAdmittedCall, IsAnswer, IsAtOnceCall, IsBufferedCall, IsExactCall, IsWeighedCall, IsWrittenBack, KeepsOthersCall, PutsCalled, grant_of, left_of, nodes_asked_in}
 use Rattle.vfs_ops.specs.FilesState.{FilesState, present_in}
 use Rattle.vfs_ops.specs.Kinds.{FitsNextOrphans, KeepsOrphans}
 use Rattle.vfs_ops.specs.Steps.{no_space_from}
@@ -37,18 +37,18 @@ pub record IsCallStep (old new : FilesState) (event : Event) (outcome : Outcome)
   pub written : IsWrittenBack old.backing.mode new.backing old.kept new.kept event outcome
   -- What is done was admitted.
   pub admitted : IsAdmittedCall old.backing new.backing old.kept event outcome
-  -- Where the first test holds, names aren't refused for want of room.
+  -- Where the first test holds, a group isn't refused for want of room.
   pub at_once : IsAtOnceCall old.backing old.kept old.refused new.refused event
   -- A write that its grant or the first test covers stays in memory.
   pub buffered : IsBufferedCall old.backing new.backing old.kept new.kept old.refused new.refused event outcome
-  -- With the dirty pages the index gets heavier by what the call wrote and its group.
+  -- With the dirty pages the index gets heavier by what the call wrote and what its group asks for.
   pub weighed : IsWeighedCall (record { old = old.backing; new = new.backing; before = old.kept; after = new.kept }) event outcome
   -- The next list of orphans gets longer by one at most, where an open inode lost its last name.
   pub orphans : KeepsOrphans old.backing new.backing (present_in old) (present_in new)
   -- A cut leaves of it pages with the values of the files before, and then its group as a whole: it was put where the call is done, and it wasn't where it is refused, unless the volume failed.
-  pub cut : PutsSeenWith old.backing new.backing old.kept (group_in (present_in old) event) (outcome_fate outcome)
-  -- What the backing may have done meanwhile: at most two nodes for each dirty page, and the group.
-  pub goes : Goes (2 * length old.kept.pages.dirty + length (group_in (present_in old) event)) old.backing new.backing
+  pub cut : PutsCalled old.backing new.backing old.kept event outcome
+  -- What the backing may have done meanwhile: at most two nodes for each dirty page, and those that the group asks for.
+  pub goes : Goes (2 * length old.kept.pages.dirty + nodes_asked_in (present_in old) event) old.backing new.backing
 
 -- What an event does to the files, and what comes of it: of a caller's, or of one of the background.
 abbrev pub IsStep : FilesState → FilesState → Event → Outcome → Type 0

@@ -24,7 +24,7 @@ use Rattle.cached_files.specs.Calls.{IsNotEnospc, IsWithoutRoom}
 use Rattle.cached_files.specs.Present.{present, IsKept}
 use Rattle.vfs_plans.specs.Answers.{IsFault}
 use Rattle.vfs_ops.specs.Kinds.{IsStopped, OnlyLooks, is_late, is_question}
-use Rattle.vfs_ops.specs.Operations.{is_of_names}
+use Rattle.vfs_ops.specs.Operations.{has_group, is_of_names}
 use Rattle.vfs_ops.specs.Writing.{HasGroupRoom, IsGroupAdmitted, WasPaid, newly_by, write_need}
 
 -- What is kept fits the backing, each dirty page is paid, and the present files are sound.
@@ -92,26 +92,26 @@ pub record IsRefusal (old new : BackingState) (kept : Kept) (files : Files) (cal
   pub why : IsRefusedFor (read_only_cause old.mode op) old new kept files caller now grant op refusal
   pub same : IsAlike files (present new.tree kept)
 
--- What an operation asks for that is done was admitted: the credits that a write lacks, or the group of one of names. No other asks for anything.
+-- What an operation asks for that is done was admitted: the credits that a write lacks, or the group of one that has a group. No other asks for anything.
 abbrev pub WasAdmitted : BackingState → BackingState → Kept → ℕ → ℕ → ℕ → Op → Type 0
 WasAdmitted old new before caller now grant (Write slot offs len byte) =
     (ino : ℕ) → handle_at (present old.tree before) caller slot ≡ Some ino → WasPaid old new before ino offs len grant
 WasAdmitted old new before caller now grant op =
-    is_of_names op ≡ true → IsGroupAdmitted old new before (group_of (present old.tree before) caller now op) (need_of (present old.tree before) caller now op)
+    has_group op ≡ true → IsGroupAdmitted old new before (group_of (present old.tree before) caller now op) (need_of (present old.tree before) caller now op)
 
 -- the same of a reply
 abbrev pub IsAdmittedReply : BackingState → BackingState → Kept → ℕ → ℕ → ℕ → Op → Reply → Type 0
 IsAdmittedReply old new before caller now grant op reply = ((refusal : Refusal) × (reply ≡ Refused refusal)) ⊎ WasAdmitted old new before caller now grant op
 
--- where the plain operation on names is done, and there is room for its group at the first test, it isn't refused for want of room
+-- where the plain operation is done that has a group, and there is room for it at the first test, it isn't refused for want of room
 abbrev pub IsAtOnce : {T : Type 0} → BackingState → Kept → ℕ → ℕ → Op → Result T Refusal → Type 0
 IsAtOnce old before caller now op result =
-    is_of_names op ≡ true → (done : Reply × Files) → outcome_of (present old.tree before) caller now op ≡ Ok done → HasGroupRoom old (need_of (present old.tree before) caller now op) → IsNotEnospc result
+    has_group op ≡ true → (done : Reply × Files) → outcome_of (present old.tree before) caller now op ≡ Ok done → HasGroupRoom old (need_of (present old.tree before) caller now op) → IsNotEnospc result
 
 -- the same of its reply
 abbrev pub IsAtOnceReply : BackingState → Kept → ℕ → ℕ → Op → List NoSpace → List NoSpace → Type 0
 IsAtOnceReply old before caller now op first last =
-    is_of_names op ≡ true → (done : Reply × Files) → outcome_of (present old.tree before) caller now op ≡ Ok done → HasGroupRoom old (need_of (present old.tree before) caller now op) → last ≡ first
+    has_group op ≡ true → (done : Reply × Files) → outcome_of (present old.tree before) caller now op ≡ Ok done → HasGroupRoom old (need_of (present old.tree before) caller now op) → last ≡ first
 
 -- the sides of a reply that there is no room
 abbrev pub no_space_in : Reply → List NoSpace

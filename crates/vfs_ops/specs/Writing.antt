@@ -50,7 +50,7 @@ HasGroupRoom state need = needed state.space need ≤ room_for state.geometry st
 
 -- a group has no change, or what it asks for was admitted
 abbrev pub IsGroupAdmitted : BackingState → BackingState → Kept → List Change → Need → Type 0
-IsGroupAdmitted old new kept group need = (length group ≡ 0) ⊎ WasCovered old new kept need need (length group)
+IsGroupAdmitted old new kept group need = (length group ≡ 0) ⊎ WasCovered old new kept need need need.nodes
 
 -- A write that is kept in memory alone: nothing goes to the backing, nothing is refused for want of room, and the pages that are touched are dirty then; after a refusal no other page is than before.
 pub record IsBuffered {T : Type 0} (old new : BackingState) (kept after : Kept) (ino offs len : ℕ) (result : Result T Refusal) : Type 0 where

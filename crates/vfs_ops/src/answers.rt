@@ -5,16 +5,15 @@ ghost use Rattle.fs_model.specs.declared.op.Op.TheVariants.{Fsync, Flush};
 ghost use Rattle.fs_model.specs.Backing.{Goes};
 ghost use Rattle.fs_model.specs.Files.{Tree};
 ghost use Rattle.fs_model.specs.Legal.{pages_in};
-ghost use Rattle.fs_model.specs.Operation.{group_of, outcome_of};
+ghost use Rattle.fs_model.specs.Operation.{outcome_of};
 ghost use Rattle.fs_laws.specs.Sound.{IsCall};
 ghost use Rattle.cached_files.specs.Alike.{IsAlike};
 ghost use Rattle.cached_files.specs.Calls.{GrowsBy, SureGoes, added_or_refused};
-ghost use Rattle.cached_files.specs.Cuts.{PutsSeen, PutsSeenWith, group_fate};
+ghost use Rattle.cached_files.specs.Cuts.{PutsSeen, group_fate};
 ghost use Rattle.cached_files.specs.Present.{present};
-ghost use Rattle.vfs_plans.specs.Operations.{is_truncate};
-ghost use Rattle.vfs_ops.specs.Events.{HasSynced};
+ghost use Rattle.vfs_ops.specs.Events.{HasSynced, PutsCall};
 ghost use Rattle.vfs_ops.specs.Kinds.{IsEarly, IsLookOnly, KeepsOrphans, KeepsOthers, OnlyLooks};
-ghost use Rattle.vfs_ops.specs.Operations.{is_of_names};
+ghost use Rattle.vfs_ops.specs.Operations.{is_of_names, nodes_asked};
 ghost use Rattle.vfs_ops.specs.Writing.{Buffers, newly_by};
 ghost use Rattle.vfs_ops.specs.Steps.{IsReady, IsAtOnce, WasAdmitted, IsDone, IsIdle, IsTurnedDown, IsLast, IsRefusedFor, IsUnsynced, allowed_on, asked, is_write, read_only_cause};
 
@@ -22,6 +21,7 @@ use crate::changes::change;
 use crate::handles::{close, open};
 use crate::reads::look;
 use crate::syncs::{flush, fsync};
+use crate::truncations::truncate;
 use crate::writes::write;
 use cached_files::{Kept, present_files_are_sound};
 use fs_model::{Backing, Cause, Mode, Op, Refusal, Reply};
@@ -69,7 +69,6 @@ pub(crate) fn call<B: Backing>(
     op: &Op,
 ) -> Result<(Reply, u64), Refusal>
     requires ready { IsReady (B.state backing.old) kept.old }
-    requires op { is_truncate op.now ≡ false }
     requires call { IsCall op.now }
     requires grant { length kept.old.pages.dirty + grant ≤ (B.state backing.old).space.credits }
     ensures ready { IsReady (B.state backing.new) kept.new }
@@ -88,10 +87,10 @@ pub(crate) fn call<B: Backing>(
     ensures admitted { OnOk result (WasAdmitted (B.state backing.old) (B.state backing.new) kept.old caller now grant op.now) }
     ensures at_once { IsAtOnce (B.state backing.old) kept.old caller now op.now result }
     ensures buffered { Buffers (B.state backing.old) (B.state backing.new) kept.old kept.new caller grant op.now result }
-    ensures grows { GrowsBy (added_or_refused (2 * pages_in op.now + length (group_of (present (B.state backing.old).tree kept.old) caller now op.now)) (max 2 (length (group_of (present (B.state backing.old).tree kept.old) caller now op.now))) result) (B.state backing.old) (B.state backing.new) kept.old kept.new }
+    ensures grows { GrowsBy (added_or_refused (2 * pages_in op.now + nodes_asked (present (B.state backing.old).tree kept.old) caller now op.now) (max 2 (nodes_asked (present (B.state backing.old).tree kept.old) caller now op.now)) result) (B.state backing.old) (B.state backing.new) kept.old kept.new }
     ensures orphans { KeepsOrphans (B.state backing.old) (B.state backing.new) (present (B.state backing.old).tree kept.old) (present (B.state backing.new).tree kept.new) }
-    ensures cut { PutsSeenWith (B.state backing.old) (B.state backing.new) kept.old (group_of (present (B.state backing.old).tree kept.old) caller now op.now) (group_fate result) }
-    ensures goes { Goes (2 * length kept.old.pages.dirty + length (group_of (present (B.state backing.old).tree kept.old) caller now op.now)) (B.state backing.old) (B.state backing.new) }
+    ensures cut { PutsCall (B.state backing.old) (B.state backing.new) kept.old caller now op.now (group_fate result) }
+    ensures goes { Goes (2 * length kept.old.pages.dirty + nodes_asked (present (B.state backing.old).tree kept.old) caller now op.now) (B.state backing.old) (B.state backing.new) }
     ensures sure { SureGoes (B.outlook backing.old) (B.outlook backing.new) (B.state backing.old) (B.state backing.new) }
 {
     match read_only_cause(backing.mode(), op) {
@@ -112,7 +111,6 @@ pub(crate) fn serve<B: Backing>(
 ) -> Result<(Reply, u64), Refusal>
     requires ready { IsReady (B.state backing.old) kept.old }
     requires grant { length kept.old.pages.dirty + grant ≤ (B.state backing.old).space.credits }
-    requires op { is_truncate op.now ≡ false }
     requires call { IsCall op.now }
     requires mode { read_only_cause (B.state backing.old).mode op.now ≡ None }
     ensures ready { IsReady (B.state backing.new) kept.new }
@@ -131,10 +129,10 @@ pub(crate) fn serve<B: Backing>(
     ensures admitted { OnOk result (WasAdmitted (B.state backing.old) (B.state backing.new) kept.old caller now grant op.now) }
     ensures at_once { IsAtOnce (B.state backing.old) kept.old caller now op.now result }
     ensures buffered { Buffers (B.state backing.old) (B.state backing.new) kept.old kept.new caller grant op.now result }
-    ensures grows { GrowsBy (added_or_refused (2 * pages_in op.now + length (group_of (present (B.state backing.old).tree kept.old) caller now op.now)) (max 2 (length (group_of (present (B.state backing.old).tree kept.old) caller now op.now))) result) (B.state backing.old) (B.state backing.new) kept.old kept.new }
+    ensures grows { GrowsBy (added_or_refused (2 * pages_in op.now + nodes_asked (present (B.state backing.old).tree kept.old) caller now op.now) (max 2 (nodes_asked (present (B.state backing.old).tree kept.old) caller now op.now)) result) (B.state backing.old) (B.state backing.new) kept.old kept.new }
     ensures orphans { KeepsOrphans (B.state backing.old) (B.state backing.new) (present (B.state backing.old).tree kept.old) (present (B.state backing.new).tree kept.new) }
-    ensures cut { PutsSeenWith (B.state backing.old) (B.state backing.new) kept.old (group_of (present (B.state backing.old).tree kept.old) caller now op.now) (group_fate result) }
-    ensures goes { Goes (2 * length kept.old.pages.dirty + length (group_of (present (B.state backing.old).tree kept.old) caller now op.now)) (B.state backing.old) (B.state backing.new) }
+    ensures cut { PutsCall (B.state backing.old) (B.state backing.new) kept.old caller now op.now (group_fate result) }
+    ensures goes { Goes (2 * length kept.old.pages.dirty + nodes_asked (present (B.state backing.old).tree kept.old) caller now op.now) (B.state backing.old) (B.state backing.new) }
     ensures sure { SureGoes (B.outlook backing.old) (B.outlook backing.new) (B.state backing.old) (B.state backing.new) }
 {
     present_files_are_sound();
@@ -167,7 +165,6 @@ fn serve_without<B: Backing>(
 ) -> Result<Reply, Refusal>
     requires ready { IsReady (B.state backing.old) kept.old }
     requires without { is_write op.now ≡ false }
-    requires op { is_truncate op.now ≡ false }
     requires call { IsCall op.now }
     requires mode { read_only_cause (B.state backing.old).mode op.now ≡ None }
     ensures ready { IsReady (B.state backing.new) kept.new }
@@ -183,10 +180,10 @@ fn serve_without<B: Backing>(
     ensures idle { IsIdle (B.state backing.old) (B.state backing.new) kept.old kept.new op.now }
     ensures admitted { OnOk result (WasAdmitted (B.state backing.old) (B.state backing.new) kept.old caller now grant op.now) }
     ensures at_once { IsAtOnce (B.state backing.old) kept.old caller now op.now result }
-    ensures grows { GrowsBy (added_or_refused (length (group_of (present (B.state backing.old).tree kept.old) caller now op.now)) (max 2 (length (group_of (present (B.state backing.old).tree kept.old) caller now op.now))) result) (B.state backing.old) (B.state backing.new) kept.old kept.new }
+    ensures grows { GrowsBy (added_or_refused (nodes_asked (present (B.state backing.old).tree kept.old) caller now op.now) (max 2 (nodes_asked (present (B.state backing.old).tree kept.old) caller now op.now)) result) (B.state backing.old) (B.state backing.new) kept.old kept.new }
     ensures orphans { KeepsOrphans (B.state backing.old) (B.state backing.new) (present (B.state backing.old).tree kept.old) (present (B.state backing.new).tree kept.new) }
-    ensures cut { PutsSeenWith (B.state backing.old) (B.state backing.new) kept.old (group_of (present (B.state backing.old).tree kept.old) caller now op.now) (group_fate result) }
-    ensures goes { Goes (2 * length kept.old.pages.dirty + length (group_of (present (B.state backing.old).tree kept.old) caller now op.now)) (B.state backing.old) (B.state backing.new) }
+    ensures cut { PutsCall (B.state backing.old) (B.state backing.new) kept.old caller now op.now (group_fate result) }
+    ensures goes { Goes (2 * length kept.old.pages.dirty + nodes_asked (present (B.state backing.old).tree kept.old) caller now op.now) (B.state backing.old) (B.state backing.new) }
     ensures sure { SureGoes (B.outlook backing.old) (B.outlook backing.new) (B.state backing.old) (B.state backing.new) }
 {
     present_files_are_sound();
@@ -196,6 +193,7 @@ fn serve_without<B: Backing>(
     match op {
         Op::OpenFile { path, slot } => open(alloc, backing, kept, caller, path, *slot),
         Op::Close { slot } => close(backing, kept, caller, *slot),
+        Op::Truncate { slot, size } => truncate(alloc, backing, kept, caller, now, *slot, *size),
         Op::Fsync { slot } => synced(alloc, backing, kept, caller, *slot),
         Op::Flush => flushed(alloc, backing, kept),
         Op::Read { .. } | Op::List { .. } | Op::Stat { .. } | Op::Readlink { .. } => {
@@ -209,7 +207,6 @@ fn serve_without<B: Backing>(
         | Op::Rmdir { .. }
         | Op::Rename { .. }
         | Op::Write { .. }
-        | Op::Truncate { .. }
         | Op::Chmod { .. } => unreachable!(),
     }
 }

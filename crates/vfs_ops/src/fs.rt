@@ -37,19 +37,17 @@ impl<B: Backing> Fs<B> {
     ghost use Rattle.fs_model.specs.Directory.{entries_in};
     ghost use Rattle.fs_model.specs.Files.{entry_at, inode_at};
     ghost use Rattle.fs_model.specs.Legal.{pages_in};
-    ghost use Rattle.fs_model.specs.Operation.{group_of};
     ghost use Rattle.fs_model.specs.Path.{walked};
     ghost use Rattle.fs_model.specs.Proper.{IsProper};
     ghost use Rattle.fs_laws.specs.Sound.{IsCall};
     ghost use Rattle.cached_files.specs.Calls.{GrowsBy, SureGoes};
-    ghost use Rattle.cached_files.specs.Cuts.{PutsSeenWith};
     ghost use Rattle.cached_files.specs.Present.{present};
     ghost use Rattle.vfs_plans.specs.Answers.{IsRefused, Looks};
-    ghost use Rattle.vfs_plans.specs.Operations.{is_truncate};
-    ghost use Rattle.vfs_ops.specs.Events.{HasSynced, IsCalled, grant_of};
+    ghost use Rattle.vfs_ops.specs.Events.{HasSynced, IsCalled, PutsCall, grant_of};
     ghost use Rattle.vfs_ops.specs.FilesState.{IsOpened, LeavesKept, present_in};
     ghost use Rattle.vfs_ops.specs.Fs.{files_state};
     ghost use Rattle.vfs_ops.specs.Kinds.{KeepsOrphans, KeepsOthers, added_by, reply_fate};
+    ghost use Rattle.vfs_ops.specs.Operations.{nodes_asked};
     ghost use Rattle.vfs_ops.specs.Passing.{IsApplied, IsStep, MayApply};
     ghost use Rattle.vfs_ops.specs.Steps.{IsAdmittedReply, IsAnswered, IsAtOnceReply, IsExact};
     ghost use Rattle.vfs_ops.specs.Writing.{BuffersReply};
@@ -135,7 +133,6 @@ impl<B: Backing> Fs<B> {
 
     // The reply to a caller's operation, and what is left of the grant.
     fn answer(&mut self, caller: u16, now: u64, grant: u64, op: &Op) -> (Reply, u64)
-        requires op { is_truncate op.now ≡ false }
         requires call { IsCall op.now }
         requires grant { length self.old.kept.pages.dirty + grant ≤ (B.state self.old.backing).space.credits }
         ensures answered { IsAnswered (B.state self.old.backing) (B.state self.new.backing) self.new.kept (present (B.state self.old.backing).tree self.old.kept) caller now grant op.now result.0 self.old.refused.items self.new.refused.items }
@@ -147,10 +144,10 @@ impl<B: Backing> Fs<B> {
         ensures admitted { IsAdmittedReply (B.state self.old.backing) (B.state self.new.backing) self.old.kept caller now grant op.now result.0 }
         ensures at_once { IsAtOnceReply (B.state self.old.backing) self.old.kept caller now op.now self.old.refused.items self.new.refused.items }
         ensures buffered { BuffersReply (B.state self.old.backing) (B.state self.new.backing) self.old.kept self.new.kept self.old.refused.items self.new.refused.items caller grant op.now result.0 }
-        ensures weighed { GrowsBy (added_by (2 * pages_in op.now + length (group_of (present (B.state self.old.backing).tree self.old.kept) caller now op.now)) (max 2 (length (group_of (present (B.state self.old.backing).tree self.old.kept) caller now op.now))) result.0) (B.state self.old.backing) (B.state self.new.backing) self.old.kept self.new.kept }
+        ensures weighed { GrowsBy (added_by (2 * pages_in op.now + nodes_asked (present (B.state self.old.backing).tree self.old.kept) caller now op.now) (max 2 (nodes_asked (present (B.state self.old.backing).tree self.old.kept) caller now op.now)) result.0) (B.state self.old.backing) (B.state self.new.backing) self.old.kept self.new.kept }
         ensures orphans { KeepsOrphans (B.state self.old.backing) (B.state self.new.backing) (present (B.state self.old.backing).tree self.old.kept) (present (B.state self.new.backing).tree self.new.kept) }
-        ensures cut { PutsSeenWith (B.state self.old.backing) (B.state self.new.backing) self.old.kept (group_of (present (B.state self.old.backing).tree self.old.kept) caller now op.now) (reply_fate result.0) }
-        ensures goes { Goes (2 * length self.old.kept.pages.dirty + length (group_of (present (B.state self.old.backing).tree self.old.kept) caller now op.now)) (B.state self.old.backing) (B.state self.new.backing) }
+        ensures cut { PutsCall (B.state self.old.backing) (B.state self.new.backing) self.old.kept caller now op.now (reply_fate result.0) }
+        ensures goes { Goes (2 * length self.old.kept.pages.dirty + nodes_asked (present (B.state self.old.backing).tree self.old.kept) caller now op.now) (B.state self.old.backing) (B.state self.new.backing) }
         ensures sure { SureGoes (B.outlook self.old.backing) (B.outlook self.new.backing) (B.state self.old.backing) (B.state self.new.backing) }
     {
         match call(

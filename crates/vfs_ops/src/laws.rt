@@ -26,7 +26,7 @@ ghost use Rattle.vfs_ops.specs.declared.event.Event.{Event};
 ghost use Rattle.vfs_ops.specs.declared.event.Event.TheVariants.{Call};
 ghost use Rattle.vfs_ops.specs.declared.event.Outcome.{Outcome};
 ghost use Rattle.vfs_ops.specs.declared.event.Outcome.TheVariants.{Replied};
-ghost use Rattle.vfs_ops.specs.Events.{outcome_fate, group_in};
+ghost use Rattle.vfs_ops.specs.Events.{outcome_fate, group_in, sets_size};
 ghost use Rattle.vfs_ops.specs.FilesState.{FilesState, present_in};
 ghost use Rattle.vfs_ops.specs.Operations.{orphans};
 ghost use Rattle.vfs_ops.specs.Passing.{IsApplied, IsStep};
@@ -35,7 +35,7 @@ ghost use Rattle.vfs_plans.specs.Operations.{is_truncate};
 
 use cached_files::{
     a_cut_leaves_what_was_put, clean_files_are_those_of_the_backing, groups_leave_files_alike,
-    written_files_stay_alike,
+    resized_files_stay_alike, written_files_stay_alike,
 };
 use fs_model::a_cut_keeps_what_was_synced;
 
@@ -52,28 +52,30 @@ pub fn a_reply_with_bytes_leaves_the_files()
 /// Files that are alike give the same outcome of an operation: the same reply and files that are alike, or the same refusal. So
 /// a history is replayed from the files of its opening.
 pub fn alike_files_answer_alike()
-    ensures { (a b : Files) (caller now : ℕ) (op : Op) → IsSound a → IsProper b.tree → is_truncate op ≡ false → IsAlike a b → IsAlikeOutcome (outcome_of a caller now op) (outcome_of b caller now op) }
+    ensures { (a b : Files) (caller now : ℕ) (op : Op) → IsSound a → IsProper b.tree → IsAlike a b → IsAlikeOutcome (outcome_of a caller now op) (outcome_of b caller now op) }
 {
     groups_leave_files_alike();
+    resized_files_stay_alike();
     written_files_stay_alike();
 }
 
-/// Files that are alike ask the same of a store for an operation: the same group, and the same room.
+/// Files that are alike ask the same of a store for an operation: the same room, and the same group. That of a new size may
+/// differ, since it may have to shorten zeros at the end of a block away.
 pub fn alike_files_ask_alike()
     ensures group { (a b : Files) (caller now : ℕ) (op : Op) → is_truncate op ≡ false → IsAlike a b → group_of a caller now op ≡ group_of b caller now op }
-    ensures need { (a b : Files) (caller now : ℕ) (op : Op) → is_truncate op ≡ false → IsAlike a b → need_of a caller now op ≡ need_of b caller now op }
+    ensures need { (a b : Files) (caller now : ℕ) (op : Op) → (is_truncate op ≡ true → IsSound a) → IsAlike a b → need_of a caller now op ≡ need_of b caller now op }
 {}
 
 /// A caller's step adds five nodes at most, and two for each page that its words touch: the index gets no heavier, dirty pages
 /// included.
 pub fn a_call_adds_few_nodes()
-    ensures { (old new : FilesState) (caller now grant : ℕ) (op : Op) (outcome : Outcome) → IsSound (present_in old) → is_truncate op ≡ false → IsStep old new (Call caller now grant op) outcome → GrowsBy (5 + 2 * pages_in op) old.backing new.backing old.kept new.kept }
+    ensures { (old new : FilesState) (caller now grant : ℕ) (op : Op) (outcome : Outcome) → IsSound (present_in old) → IsStep old new (Call caller now grant op) outcome → GrowsBy (5 + 2 * pages_in op) old.backing new.backing old.kept new.kept }
 {}
 
 /// An operation that is done leaves one inode without a name more at most, and that exactly where its group sets one: a file
-/// that is open has then lost its last name.
+/// that is open has then lost its last name. A new size sets the inode of its file again, which may have none already.
 pub fn an_operation_leaves_one_orphan_at_most()
-    ensures one { (files after : Files) (caller now : ℕ) (op : Op) (reply : Reply) → IsSound files → is_truncate op ≡ false → outcome_of files caller now op ≡ Ok (reply, after) → length (nameless after.tree) ≤ length (nameless files.tree) + 1 }
+    ensures one { (files after : Files) (caller now : ℕ) (op : Op) (reply : Reply) → IsSound files → outcome_of files caller now op ≡ Ok (reply, after) → length (nameless after.tree) ≤ length (nameless files.tree) + 1 }
     ensures exact { (files after : Files) (caller now : ℕ) (op : Op) (reply : Reply) → IsSound files → is_truncate op ≡ false → outcome_of files caller now op ≡ Ok (reply, after) → leaves_orphan files after ≡ orphans (group_of files caller now op) }
 {}
 
@@ -82,7 +84,7 @@ pub fn an_operation_leaves_one_orphan_at_most()
 /// inode without a name may be gone with its blocks. After a refusal that isn't a fault of the volume, nothing is left of
 /// the group.
 pub fn a_cut_leaves_old_values_or_new_ones()
-    ensures event { (old new : FilesState) (event : Event) (outcome : Outcome) (left : Tree) → IfTold old.backing.journal (IsJournalOf old.backing.tree) → IsStep old new event outcome → MayLeave new.backing.journal left
+    ensures event { (old new : FilesState) (event : Event) (outcome : Outcome) (left : Tree) → (sets_size event ≡ true → IsSound (present_in old)) → IfTold old.backing.journal (IsJournalOf old.backing.tree) → IsStep old new event outcome → MayLeave new.backing.journal left
         → HasValues old.backing.journal (ValuesWith (present_in old).tree (group_in (present_in old) event)) left }
     ensures group { (old new : FilesState) (group : List Change) (need : Need) (result : Result (Unit {0}) Refusal) (left : Tree) → IfTold old.backing.journal (IsJournalOf old.backing.tree) → IsApplied old new group need result → MayLeave new.backing.journal left
         → HasValues old.backing.journal (ValuesWith (present_in old).tree group) left }

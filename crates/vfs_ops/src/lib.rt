@@ -18,6 +18,7 @@ mod pages;
 mod reads;
 mod replies;
 mod syncs;
+mod truncations;
 mod writes;
 
 pub use crate::changes::change;

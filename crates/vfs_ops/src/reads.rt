@@ -112,8 +112,8 @@ fn bytes_there<B: Backing>(
     or_fault(bytes(alloc, backing, kept, ino, offs, n))
 }
 
-// The size of a file in bytes.
-fn size_there<B: Backing>(
+/// The size of a file in bytes.
+pub(crate) fn size_there<B: Backing>(
     backing: &mut B,
     kept: &Kept,
     ino: u32,

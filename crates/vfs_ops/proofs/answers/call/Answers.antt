@@ -2,7 +2,7 @@ use Rattle.std.proofs.Common.{ap, refl, sym, ◌∙◌}
 use Rattle.fs_model.specs.declared.backing_answers.Mode.{Mode}
 use Rattle.vfs_ops.specs.Steps.{read_only_cause}
 use Rattle.cached_files.specs.Cuts.GroupFate.{NotPut}
-use Rattle.vfs_ops.proofs.Cutting.{cut_same, cut_with}
+use Rattle.vfs_ops.proofs.Cutting.{call_seen, cut_same, cut_with}
 use Rattle.vfs_ops.proofs.Others.{not_closed, same_leave}
 use Rattle.vfs_ops.proofs.answers.call.Goals as goal
 
@@ -18,7 +18,9 @@ returns-in-None-clause-closed g c =
     not_closed (read_only_cause mode c.args.op.now) (ap (λ (m : Mode). read_only_cause m c.args.op.now) (sym c.mode.ensures) ∙ sym c.read_only_cause.ensures ∙ c.in-None.is)
 
 pub returns-in-Some-clause-cut : goal.returns-in-Some-clause-cut
-returns-in-Some-clause-cut g c = cut_with (g.B.Backing.state c.args.backing.now) (g.B.Backing.state c.args.backing.now) c.args.kept.now _ NotPut refl (cut_same (g.B.Backing.state c.args.backing.now) (g.B.Backing.state c.args.backing.now) c.args.kept.now refl)
+returns-in-Some-clause-cut g c =
+    let old = g.B.Backing.state c.args.backing.now in
+    call_seen old old c.args.kept.now c.args.caller c.args.now c.args.op.now NotPut (cut_with old old c.args.kept.now _ NotPut refl (cut_same old old c.args.kept.now refl))
 
 pub returns-in-Some-clause-idle : goal.returns-in-Some-clause-idle
 returns-in-Some-clause-idle g c = λ sync closed. (refl, refl)

@@ -1,8 +1,9 @@
-use Rattle.std.proofs.Common.{◌≡◌, ℕ, ◌+◌, ◌-◌, ◌*◌, ap, arith, length, max, refl, subst, sym}
+use Rattle.std.proofs.Common.{◌≡◌, ℕ, ◌+◌, ◌-◌, ◌*◌, ap, arith, max, refl, subst, sym}
 use Rattle.std.proofs.lemmas.Bool.{false≢true}
 use Rattle.fs_model.specs.declared.reply.Reply.{Reply}
 use Rattle.fs_model.specs.declared.op.Op.{Op}
-use Rattle.vfs_ops.specs.Operations.{is_of_names}
+use Rattle.vfs_plans.specs.Operations.{is_truncate}
+use Rattle.vfs_ops.specs.Operations.{has_group, is_of_names, nodes_asked}
 use Rattle.vfs_ops.specs.Steps.{WasAdmitted}
 use Rattle.vfs_ops.specs.Writing.{newly_by}
 use Rattle.vfs_ops.proofs.Cutting.{cut_answered}
@@ -11,7 +12,6 @@ use Rattle.vfs_ops.proofs.Looking.{only_early, whole_left}
 use Rattle.vfs_ops.proofs.Others.{idle_on, others_on}
 use Rattle.vfs_ops.proofs.Serving.{none_buffered, not_write, ok_map}
 use Rattle.fs_model.specs.Legal.{pages_in}
-use Rattle.fs_model.specs.Operation.{group_of}
 use Rattle.cached_files.specs.Present.{present}
 use Rattle.vfs_ops.proofs.Orphaning.{write_keep}
 use Rattle.vfs_ops.proofs.Weighing.{refused_wider, write_weighs}
@@ -33,7 +33,7 @@ returns-in-Err g c = let e = c.in-Err.ensures in record {
   admitted = tt;
   at_once = λ is done out room. retyped Reply (Reply × ℕ) c.in-Err.refusal (e.at_once is done out room);
   buffered = none_buffered (g.B.Backing.state c.args.backing.now) (g.B.Backing.state c.serve_without.new.backing) c.args.kept.now c.serve_without.new.kept c.args.caller c.args.grant c.args.op.now _ (not_write c.args.op.now c.in_default.not-Write);
-  grows = refused_wider Reply (Reply × ℕ) (length (group_of (present (g.B.Backing.state c.args.backing.now).tree c.args.kept.now) c.args.caller c.args.now c.args.op.now)) (2 * pages_in c.args.op.now + length (group_of (present (g.B.Backing.state c.args.backing.now).tree c.args.kept.now) c.args.caller c.args.now c.args.op.now)) (max 2 (length (group_of (present (g.B.Backing.state c.args.backing.now).tree c.args.kept.now) c.args.caller c.args.now c.args.op.now))) (max 2 (length (group_of (present (g.B.Backing.state c.args.backing.now).tree c.args.kept.now) c.args.caller c.args.now c.args.op.now))) c.in-Err.refusal (g.B.Backing.state c.args.backing.now) (g.B.Backing.state c.serve_without.new.backing) c.args.kept.now c.serve_without.new.kept (omega arith) e.grows;
+  grows = refused_wider Reply (Reply × ℕ) (nodes_asked (present (g.B.Backing.state c.args.backing.now).tree c.args.kept.now) c.args.caller c.args.now c.args.op.now) (2 * pages_in c.args.op.now + nodes_asked (present (g.B.Backing.state c.args.backing.now).tree c.args.kept.now) c.args.caller c.args.now c.args.op.now) (max 2 (nodes_asked (present (g.B.Backing.state c.args.backing.now).tree c.args.kept.now) c.args.caller c.args.now c.args.op.now)) (max 2 (nodes_asked (present (g.B.Backing.state c.args.backing.now).tree c.args.kept.now) c.args.caller c.args.now c.args.op.now)) c.in-Err.refusal (g.B.Backing.state c.args.backing.now) (g.B.Backing.state c.serve_without.new.backing) c.args.kept.now c.serve_without.new.kept (omega arith) e.grows;
   orphans = e.orphans;
   cut = e.cut;
   goes = e.goes;
@@ -49,7 +49,7 @@ returns-in-Write-clause-admitted g c =
 
 pub returns-in-Write-clause-at_once : goal.returns-in-Write-clause-at_once
 returns-in-Write-clause-at_once g c =
-    other_at_once _ (g.B.Backing.state c.args.backing.now) c.args.kept.now c.args.caller c.args.now c.args.op.now c.write.result (ap (λ (o : Op). is_of_names o) c.in-Write.is)
+    other_at_once _ (g.B.Backing.state c.args.backing.now) c.args.kept.now c.args.caller c.args.now c.args.op.now c.write.result (ap (λ (o : Op). has_group o) c.in-Write.is)
 
 pub returns-in-Ok-clause-left : goal.returns-in-Ok-clause-left
 returns-in-Ok-clause-left g c = whole_left c.args.kept.now c.args.caller c.args.grant c.args.op.now (not_write c.args.op.now c.in_default.not-Write)
@@ -84,7 +84,7 @@ returns-in-Write-clause-orphans g c =
 
 pub returns-in-Write-clause-cut : goal.returns-in-Write-clause-cut
 returns-in-Write-clause-cut g c =
-    cut_answered (g.B.Backing.state c.args.backing.now) (g.B.Backing.state c.write.new.backing) c.args.kept.now c.args.caller c.args.now c.args.op.now c.write.result (ap (λ (o : Op). is_of_names o) c.in-Write.is) c.requires.op c.write.ensures.cut
+    cut_answered (g.B.Backing.state c.args.backing.now) (g.B.Backing.state c.write.new.backing) c.args.kept.now c.args.caller c.args.now c.args.op.now c.write.result (ap (λ (o : Op). is_of_names o) c.in-Write.is) (ap (λ (o : Op). is_truncate o) c.in-Write.is) c.write.ensures.cut
 
 pub returns-in-Write-clause-idle : goal.returns-in-Write-clause-idle
 returns-in-Write-clause-idle g c =

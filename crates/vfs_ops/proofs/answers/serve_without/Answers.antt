@@ -1,15 +1,24 @@
-use Rattle.std.proofs.Common.{◌≡◌, ap, arith, inr, length, max, refl, sym, ◌∙◌}
+use Rattle.std.proofs.Common.{◌≡◌, ℕ, ◌+◌, ◌*◌, ap, arith, false, inr, length, max, refl, rules, subst, sym, ◌∙◌}
 use Rattle.std.proofs.lemmas.Bool.{false≢true}
 use Rattle.cached_files.specs.Present.{present}
-use Rattle.vfs_ops.proofs.Cutting.{cut_answered, cut_looked, cut_same}
+use Rattle.fs_model.specs.Backing.{Goes}
+use Rattle.cached_files.specs.Calls.{GrowsBy, added_or_refused}
+use Rattle.cached_files.specs.Cuts.{group_fate}
+use Rattle.vfs_ops.proofs.Cutting.{call_seen, cut_answered, cut_looked, cut_same}
 use Rattle.vfs_ops.proofs.Admitted.{after_ok, names_admitted, none_admitted, on_ok, other_at_once}
 use Rattle.vfs_ops.proofs.Looking.{names_early, only_early, opened_looks, unsynced_early}
 use Rattle.vfs_ops.proofs.Others.{idle_on, names_idle, names_leave, others_on}
 use Rattle.vfs_ops.proofs.Serving.{alike_self, done_on, refused_on, ok_map, err_map, at_now, names_synced, or_fault_last, or_unsynced_last, synced_on, unsynced_last}
-use Rattle.fs_model.specs.Operation.{group_of}
 use Rattle.page_cache.specs.Pages.{Pages}
-use Rattle.vfs_ops.specs.Operations.{is_of_names}
+use Rattle.vfs_plans.specs.Operations.{is_truncate}
+use Rattle.vfs_ops.specs.Operations.{has_group, is_of_names, nodes_asked}
+use Rattle.fs_model.specs.declared.op.Op.{Op}
+use Rattle.vfs_ops.specs.Events.{PutsCall}
+use Rattle.vfs_ops.specs.Steps.{IsAtOnce, WasAdmitted}
+use Rattle.vfs_ops.proofs.NewSize.{size_keep, size_turned}
 use Rattle.vfs_ops.proofs.Orphaning.{keeps_alike, keeps_few, looked_orphans, names_keep}
+use Rattle.vfs_ops.proofs.Takes.{not_truncate}
+use Rattle.vfs_ops.proofs.Truncating.{nodes_are}
 use Rattle.vfs_ops.proofs.Weighing.{no_heavier, wider}
 use Rattle.vfs_ops.proofs.answers.serve_without.Goals as goal
 
@@ -71,34 +80,34 @@ returns-then-is_of_names-clause-admitted g c =
 
 pub returns-in-OpenFile-clause-admitted : goal.returns-in-OpenFile-clause-admitted
 returns-in-OpenFile-clause-admitted g c =
-    after_ok c.open.result (none_admitted (g.B.Backing.state c.args.backing.now) (g.B.Backing.state c.open.new.backing) c.args.kept.now c.args.caller c.args.now c.args.grant c.args.op.now (sym c.is_of_names.ensures ∙ c.if-is_of_names.false) c.requires.without)
+    after_ok c.open.result (none_admitted (g.B.Backing.state c.args.backing.now) (g.B.Backing.state c.open.new.backing) c.args.kept.now c.args.caller c.args.now c.args.grant c.args.op.now (ap has_group c.in-OpenFile.is) c.requires.without)
 
 pub returns-in-Close-clause-admitted : goal.returns-in-Close-clause-admitted
 returns-in-Close-clause-admitted g c =
-    after_ok c.close.result (none_admitted (g.B.Backing.state c.args.backing.now) (g.B.Backing.state c.close.new.backing) c.args.kept.now c.args.caller c.args.now c.args.grant c.args.op.now (sym c.is_of_names.ensures ∙ c.if-is_of_names.false) c.requires.without)
+    after_ok c.close.result (none_admitted (g.B.Backing.state c.args.backing.now) (g.B.Backing.state c.close.new.backing) c.args.kept.now c.args.caller c.args.now c.args.grant c.args.op.now (ap has_group c.in-Close.is) c.requires.without)
 
 pub returns-in-Fsync-clause-admitted : goal.returns-in-Fsync-clause-admitted
 returns-in-Fsync-clause-admitted g c =
-    after_ok c.synced.result (none_admitted (g.B.Backing.state c.args.backing.now) (g.B.Backing.state c.synced.new.backing) c.args.kept.now c.args.caller c.args.now c.args.grant c.args.op.now (sym c.is_of_names.ensures ∙ c.if-is_of_names.false) c.requires.without)
+    after_ok c.synced.result (none_admitted (g.B.Backing.state c.args.backing.now) (g.B.Backing.state c.synced.new.backing) c.args.kept.now c.args.caller c.args.now c.args.grant c.args.op.now (ap has_group c.in-Fsync.is) c.requires.without)
 
 pub returns-in-Flush-clause-admitted : goal.returns-in-Flush-clause-admitted
 returns-in-Flush-clause-admitted g c =
-    after_ok c.flushed.result (none_admitted (g.B.Backing.state c.args.backing.now) (g.B.Backing.state c.flushed.new.backing) c.args.kept.now c.args.caller c.args.now c.args.grant c.args.op.now (sym c.is_of_names.ensures ∙ c.if-is_of_names.false) c.requires.without)
+    after_ok c.flushed.result (none_admitted (g.B.Backing.state c.args.backing.now) (g.B.Backing.state c.flushed.new.backing) c.args.kept.now c.args.caller c.args.now c.args.grant c.args.op.now (ap has_group c.in-Flush.is) c.requires.without)
 
 pub returns-then-is_of_names-clause-at_once : goal.returns-then-is_of_names-clause-at_once
 returns-then-is_of_names-clause-at_once g c = λ is done out room. c.change.ensures.at_once done out room
 
 pub returns-in-OpenFile-clause-at_once : goal.returns-in-OpenFile-clause-at_once
-returns-in-OpenFile-clause-at_once g c = other_at_once _ (g.B.Backing.state c.args.backing.now) c.args.kept.now c.args.caller c.args.now c.args.op.now c.open.result (sym c.is_of_names.ensures ∙ c.if-is_of_names.false)
+returns-in-OpenFile-clause-at_once g c = other_at_once _ (g.B.Backing.state c.args.backing.now) c.args.kept.now c.args.caller c.args.now c.args.op.now c.open.result (ap has_group c.in-OpenFile.is)
 
 pub returns-in-Close-clause-at_once : goal.returns-in-Close-clause-at_once
-returns-in-Close-clause-at_once g c = other_at_once _ (g.B.Backing.state c.args.backing.now) c.args.kept.now c.args.caller c.args.now c.args.op.now c.close.result (sym c.is_of_names.ensures ∙ c.if-is_of_names.false)
+returns-in-Close-clause-at_once g c = other_at_once _ (g.B.Backing.state c.args.backing.now) c.args.kept.now c.args.caller c.args.now c.args.op.now c.close.result (ap has_group c.in-Close.is)
 
 pub returns-in-Fsync-clause-at_once : goal.returns-in-Fsync-clause-at_once
-returns-in-Fsync-clause-at_once g c = other_at_once _ (g.B.Backing.state c.args.backing.now) c.args.kept.now c.args.caller c.args.now c.args.op.now c.synced.result (sym c.is_of_names.ensures ∙ c.if-is_of_names.false)
+returns-in-Fsync-clause-at_once g c = other_at_once _ (g.B.Backing.state c.args.backing.now) c.args.kept.now c.args.caller c.args.now c.args.op.now c.synced.result (ap has_group c.in-Fsync.is)
 
 pub returns-in-Flush-clause-at_once : goal.returns-in-Flush-clause-at_once
-returns-in-Flush-clause-at_once g c = other_at_once _ (g.B.Backing.state c.args.backing.now) c.args.kept.now c.args.caller c.args.now c.args.op.now c.flushed.result (sym c.is_of_names.ensures ∙ c.if-is_of_names.false)
+returns-in-Flush-clause-at_once g c = other_at_once _ (g.B.Backing.state c.args.backing.now) c.args.kept.now c.args.caller c.args.now c.args.op.now c.flushed.result (ap has_group c.in-Flush.is)
 
 pub returns-then-is_of_names-clause-looked : goal.returns-then-is_of_names-clause-looked
 returns-then-is_of_names-clause-looked g c = names_early c.args.op.now c.change.result (sym c.is_of_names.ensures ∙ c.if-is_of_names.true) c.change.ensures.early
@@ -141,10 +150,10 @@ pub returns-in-Close-clause-grows : goal.returns-in-Close-clause-grows
 returns-in-Close-clause-grows g c = let none = c.close.ensures.grows in omega (arith, none)
 
 pub returns-in-Fsync-clause-grows : goal.returns-in-Fsync-clause-grows
-returns-in-Fsync-clause-grows g c = wider 0 (length (group_of (present (g.B.Backing.state c.args.backing.now).tree c.args.kept.now) c.args.caller c.args.now c.args.op.now)) 2 (max 2 (length (group_of (present (g.B.Backing.state c.args.backing.now).tree c.args.kept.now) c.args.caller c.args.now c.args.op.now))) c.synced.result (g.B.Backing.state c.args.backing.now) (g.B.Backing.state c.synced.new.backing) c.args.kept.now c.synced.new.kept (omega arith) (omega arith) c.synced.ensures.grows
+returns-in-Fsync-clause-grows g c = wider 0 (nodes_asked (present (g.B.Backing.state c.args.backing.now).tree c.args.kept.now) c.args.caller c.args.now c.args.op.now) 2 (max 2 (nodes_asked (present (g.B.Backing.state c.args.backing.now).tree c.args.kept.now) c.args.caller c.args.now c.args.op.now)) c.synced.result (g.B.Backing.state c.args.backing.now) (g.B.Backing.state c.synced.new.backing) c.args.kept.now c.synced.new.kept (omega arith) (omega arith) c.synced.ensures.grows
 
 pub returns-in-Flush-clause-grows : goal.returns-in-Flush-clause-grows
-returns-in-Flush-clause-grows g c = wider 0 (length (group_of (present (g.B.Backing.state c.args.backing.now).tree c.args.kept.now) c.args.caller c.args.now c.args.op.now)) 2 (max 2 (length (group_of (present (g.B.Backing.state c.args.backing.now).tree c.args.kept.now) c.args.caller c.args.now c.args.op.now))) c.flushed.result (g.B.Backing.state c.args.backing.now) (g.B.Backing.state c.flushed.new.backing) c.args.kept.now c.flushed.new.kept (omega arith) (omega arith) c.flushed.ensures.grows
+returns-in-Flush-clause-grows g c = wider 0 (nodes_asked (present (g.B.Backing.state c.args.backing.now).tree c.args.kept.now) c.args.caller c.args.now c.args.op.now) 2 (max 2 (nodes_asked (present (g.B.Backing.state c.args.backing.now).tree c.args.kept.now) c.args.caller c.args.now c.args.op.now)) c.flushed.result (g.B.Backing.state c.args.backing.now) (g.B.Backing.state c.flushed.new.backing) c.args.kept.now c.flushed.new.kept (omega arith) (omega arith) c.flushed.ensures.grows
 
 pub returns-then-is_of_names-clause-orphans : goal.returns-then-is_of_names-clause-orphans
 returns-then-is_of_names-clause-orphans g c =
@@ -169,23 +178,24 @@ returns-in-Flush-clause-orphans g c =
 
 pub returns-in-OpenFile-clause-cut : goal.returns-in-OpenFile-clause-cut
 returns-in-OpenFile-clause-cut g c =
-    cut_answered (g.B.Backing.state c.args.backing.now) (g.B.Backing.state c.open.new.backing) c.args.kept.now c.args.caller c.args.now c.args.op.now c.open.result (ap is_of_names c.in-OpenFile.is) c.requires.op (cut_looked c.open.ensures.looks c.args.kept.now)
+    cut_answered (g.B.Backing.state c.args.backing.now) (g.B.Backing.state c.open.new.backing) c.args.kept.now c.args.caller c.args.now c.args.op.now c.open.result (ap is_of_names c.in-OpenFile.is) (ap is_truncate c.in-OpenFile.is) (cut_looked c.open.ensures.looks c.args.kept.now)
 
 pub returns-in-Close-clause-cut : goal.returns-in-Close-clause-cut
 returns-in-Close-clause-cut g c =
-    cut_answered (g.B.Backing.state c.args.backing.now) (g.B.Backing.state c.close.new.backing) c.args.kept.now c.args.caller c.args.now c.args.op.now c.close.result (ap is_of_names c.in-Close.is) c.requires.op (cut_same (g.B.Backing.state c.args.backing.now) (g.B.Backing.state c.close.new.backing) c.args.kept.now c.close.ensures.journal)
+    cut_answered (g.B.Backing.state c.args.backing.now) (g.B.Backing.state c.close.new.backing) c.args.kept.now c.args.caller c.args.now c.args.op.now c.close.result (ap is_of_names c.in-Close.is) (ap is_truncate c.in-Close.is) (cut_same (g.B.Backing.state c.args.backing.now) (g.B.Backing.state c.close.new.backing) c.args.kept.now c.close.ensures.journal)
 
 pub returns-in-Fsync-clause-cut : goal.returns-in-Fsync-clause-cut
 returns-in-Fsync-clause-cut g c =
-    cut_answered (g.B.Backing.state c.args.backing.now) (g.B.Backing.state c.synced.new.backing) c.args.kept.now c.args.caller c.args.now c.args.op.now c.synced.result (ap is_of_names c.in-Fsync.is) c.requires.op c.synced.ensures.cut
+    cut_answered (g.B.Backing.state c.args.backing.now) (g.B.Backing.state c.synced.new.backing) c.args.kept.now c.args.caller c.args.now c.args.op.now c.synced.result (ap is_of_names c.in-Fsync.is) (ap is_truncate c.in-Fsync.is) c.synced.ensures.cut
 
 pub returns-in-Flush-clause-cut : goal.returns-in-Flush-clause-cut
 returns-in-Flush-clause-cut g c =
-    cut_answered (g.B.Backing.state c.args.backing.now) (g.B.Backing.state c.flushed.new.backing) c.args.kept.now c.args.caller c.args.now c.args.op.now c.flushed.result (ap is_of_names c.in-Flush.is) c.requires.op c.flushed.ensures.cut
+    cut_answered (g.B.Backing.state c.args.backing.now) (g.B.Backing.state c.flushed.new.backing) c.args.kept.now c.args.caller c.args.now c.args.op.now c.flushed.result (ap is_of_names c.in-Flush.is) (ap is_truncate c.in-Flush.is) c.flushed.ensures.cut
 
 pub returns-in-Read-clause-cut : goal.returns-in-Read-clause-cut
 returns-in-Read-clause-cut g c =
-    cut_answered (g.B.Backing.state c.args.backing.now) (g.B.Backing.state c.look.new.backing) c.args.kept.now c.args.caller c.args.now c.args.op.now c.look.result (sym c.is_of_names.ensures ∙ c.if-is_of_names.false) c.requires.op (cut_looked c.look.ensures.looks c.args.kept.now)
+    let plain : is_truncate c.args.op.now ≡ false = search rules in
+    cut_answered (g.B.Backing.state c.args.backing.now) (g.B.Backing.state c.look.new.backing) c.args.kept.now c.args.caller c.args.now c.args.op.now c.look.result (sym c.is_of_names.ensures ∙ c.if-is_of_names.false) plain (cut_looked c.look.ensures.looks c.args.kept.now)
 
 pub returns-then-is_of_names-clause-idle : goal.returns-then-is_of_names-clause-idle
 returns-then-is_of_names-clause-idle g c =
@@ -206,3 +216,68 @@ returns-in-Fsync-clause-idle g c =
 pub returns-in-Flush-clause-idle : goal.returns-in-Flush-clause-idle
 returns-in-Flush-clause-idle g c =
     idle_on (g.B.Backing.state c.args.backing.now) (g.B.Backing.state c.flushed.new.backing) c.args.kept.now c.flushed.new.kept c.args.op.now _ c.in-Flush.is c.flushed.ensures.idle
+
+pub returns-then-is_of_names-clause-grows : goal.returns-then-is_of_names-clause-grows
+returns-then-is_of_names-clause-grows g c =
+    let files = present (g.B.Backing.state c.args.backing.now).tree c.args.kept.now in
+    let names = sym c.is_of_names.ensures ∙ c.if-is_of_names.true in
+    let P : ℕ → Type 0 = λ n. GrowsBy (added_or_refused n (max 2 n) c.change.result) (g.B.Backing.state c.args.backing.now) (g.B.Backing.state c.change.new.backing) c.args.kept.now c.change.new.kept in
+    subst P (sym (nodes_are files c.args.caller c.args.now c.args.op.now (not_truncate c.args.op.now names))) c.change.ensures.grows
+
+pub returns-then-is_of_names-clause-goes : goal.returns-then-is_of_names-clause-goes
+returns-then-is_of_names-clause-goes g c =
+    let files = present (g.B.Backing.state c.args.backing.now).tree c.args.kept.now in
+    let names = sym c.is_of_names.ensures ∙ c.if-is_of_names.true in
+    let P : ℕ → Type 0 = λ n. Goes (2 * length c.args.kept.now.pages.dirty + n) (g.B.Backing.state c.args.backing.now) (g.B.Backing.state c.change.new.backing) in
+    subst P (sym (nodes_are files c.args.caller c.args.now c.args.op.now (not_truncate c.args.op.now names))) c.change.ensures.goes
+
+pub returns-then-is_of_names-clause-cut : goal.returns-then-is_of_names-clause-cut
+returns-then-is_of_names-clause-cut g c =
+    call_seen (g.B.Backing.state c.args.backing.now) (g.B.Backing.state c.change.new.backing) c.args.kept.now c.args.caller c.args.now c.args.op.now (group_fate c.change.result) c.change.ensures.cut
+
+pub returns-in-Truncate-clause-done : goal.returns-in-Truncate-clause-done
+returns-in-Truncate-clause-done g c =
+    let files = present (g.B.Backing.state c.args.backing.now).tree c.args.kept.now in
+    ok_map c.truncate.result (λ reply h. done_on (g.B.Backing.state c.args.backing.now) files h.0 (present (g.B.Backing.state c.truncate.new.backing).tree c.truncate.new.kept) c.args.caller c.args.now c.args.op.now _ reply c.in-Truncate.is refl h.1 h.2) c.truncate.ensures.done
+
+pub returns-in-Truncate-clause-refused : goal.returns-in-Truncate-clause-refused
+returns-in-Truncate-clause-refused g c =
+    let files = present (g.B.Backing.state c.args.backing.now).tree c.args.kept.now in
+    err_map c.truncate.result (λ refusal h. refused_on (g.B.Backing.state c.args.backing.now) (g.B.Backing.state c.truncate.new.backing) c.truncate.new.kept files c.args.caller c.args.now c.args.grant c.args.op.now _ refusal c.in-Truncate.is refl (size_turned (g.B.Backing.state c.args.backing.now) (g.B.Backing.state c.truncate.new.backing) c.truncate.new.kept _ _ refusal h)) c.truncate.ensures.refused
+
+pub returns-in-Truncate-clause-admitted : goal.returns-in-Truncate-clause-admitted
+returns-in-Truncate-clause-admitted g c =
+    on_ok c.truncate.result (λ h. subst (λ (o : Op). WasAdmitted (g.B.Backing.state c.args.backing.now) (g.B.Backing.state c.truncate.new.backing) c.args.kept.now c.args.caller c.args.now c.args.grant o) (sym c.in-Truncate.is) (λ has. inr h)) c.truncate.ensures.admitted
+
+pub returns-in-Truncate-clause-at_once : goal.returns-in-Truncate-clause-at_once
+returns-in-Truncate-clause-at_once g c =
+    subst (λ (o : Op). IsAtOnce (g.B.Backing.state c.args.backing.now) c.args.kept.now c.args.caller c.args.now o c.truncate.result) (sym c.in-Truncate.is) (λ has. c.truncate.ensures.at_once)
+
+pub returns-in-Truncate-clause-looked : goal.returns-in-Truncate-clause-looked
+returns-in-Truncate-clause-looked g c = only_early c.args.op.now _ c.truncate.result c.in-Truncate.is refl c.truncate.ensures.early
+
+pub returns-in-Truncate-clause-others : goal.returns-in-Truncate-clause-others
+returns-in-Truncate-clause-others g c = others_on c.args.kept.now c.truncate.new.kept c.args.caller c.args.op.now _ c.in-Truncate.is tt
+
+pub returns-in-Truncate-clause-grows : goal.returns-in-Truncate-clause-grows
+returns-in-Truncate-clause-grows g c =
+    let files = present (g.B.Backing.state c.args.backing.now).tree c.args.kept.now in
+    subst (λ (o : Op). GrowsBy (added_or_refused (nodes_asked files c.args.caller c.args.now o) (max 2 (nodes_asked files c.args.caller c.args.now o)) c.truncate.result) (g.B.Backing.state c.args.backing.now) (g.B.Backing.state c.truncate.new.backing) c.args.kept.now c.truncate.new.kept) (sym c.in-Truncate.is) c.truncate.ensures.grows
+
+pub returns-in-Truncate-clause-goes : goal.returns-in-Truncate-clause-goes
+returns-in-Truncate-clause-goes g c =
+    let files = present (g.B.Backing.state c.args.backing.now).tree c.args.kept.now in
+    subst (λ (o : Op). Goes (2 * length c.args.kept.now.pages.dirty + nodes_asked files c.args.caller c.args.now o) (g.B.Backing.state c.args.backing.now) (g.B.Backing.state c.truncate.new.backing)) (sym c.in-Truncate.is) c.truncate.ensures.goes
+
+pub returns-in-Truncate-clause-cut : goal.returns-in-Truncate-clause-cut
+returns-in-Truncate-clause-cut g c =
+    subst (λ (o : Op). PutsCall (g.B.Backing.state c.args.backing.now) (g.B.Backing.state c.truncate.new.backing) c.args.kept.now c.args.caller c.args.now o (group_fate c.truncate.result)) (sym c.in-Truncate.is) c.truncate.ensures.cut
+
+pub returns-in-Truncate-clause-orphans : goal.returns-in-Truncate-clause-orphans
+returns-in-Truncate-clause-orphans g c =
+    size_keep c.truncate.result (g.B.Backing.state c.args.backing.now) (g.B.Backing.state c.truncate.new.backing) (present (g.B.Backing.state c.args.backing.now).tree c.args.kept.now) (present (g.B.Backing.state c.truncate.new.backing).tree c.truncate.new.kept) c.args.caller c.args.now _ _ c.requires.ready.sound
+    (c.present_files_are_sound.ensures.nameless (g.B.Backing.state c.args.backing.now).tree c.args.kept.now c.requires.ready.kept_fits) (c.present_files_are_sound.ensures.nameless (g.B.Backing.state c.truncate.new.backing).tree c.truncate.new.kept c.truncate.ensures.kept) c.truncate.ensures.closed c.truncate.ensures.done c.truncate.ensures.same
+
+pub returns-in-Truncate-clause-idle : goal.returns-in-Truncate-clause-idle
+returns-in-Truncate-clause-idle g c =
+    idle_on (g.B.Backing.state c.args.backing.now) (g.B.Backing.state c.truncate.new.backing) c.args.kept.now c.truncate.new.kept c.args.op.now _ c.in-Truncate.is (λ sync closed. absurd (false≢true sync))

@@ -19,6 +19,7 @@ use Rattle.vfs_ops.proofs.Looking.{looked, room_late}
 use Rattle.vfs_ops.proofs.Orphans.{closed_on, within_none, within_full, within_done, done_alike, orphans_fit, orphan_room_on, orphan_limit_on}
 use Rattle.vfs_ops.proofs.States.{both, tree_on}
 use Rattle.vfs_ops.proofs.Takes.{alike_on, alike_sound, sound_done, sound_on, fits_on, goes_looked, goes_whole, group_is, need_whole, not_truncate, pays_whole, refused_whole, last_done}
+use Rattle.vfs_ops.proofs.Truncating.{nodes_are}
 use Rattle.vfs_ops.proofs.changes.change.Given.{Over}
 use Rattle.vfs_ops.specs.Operations.{orphans}
 use Rattle.vfs_ops.specs.Writing.{HasGroupRoom}
@@ -211,7 +212,7 @@ returns-clause-admitted g c =
     let made = group_is files c.args.caller c.args.now c.args.op.now c.in_ok-reply.reply c.in_ok-reply.group c.in_ok-reply.ensures.found in
     let is = need_whole (g.B.Backing.state c.plan.new.backing).tree (g.B.Backing.state c.args.backing.now).tree c.args.kept.now c.args.caller c.args.now c.args.op.now c.in_ok-reply.group c.class_of.result c.in_ok-need.need c.requires.op (tree_on c.plan.ensures.looks) made c.class_of.ensures c.in_ok-need.ensures.need in
     group_admitted (both c.plan.ensures.looks c.need_of.ensures.looks) (g.B.Backing.state c.apply_group.new.backing) c.args.kept.now c.in_ok-need.need (need_of files c.args.caller c.args.now c.args.op.now) (group_of files c.args.caller c.args.now c.args.op.now) c.in_ok-reply.group
-    is made c.in_ok-apply_group.ensures.admitted
+    is made (nodes_are files c.args.caller c.args.now c.args.op.now (not_truncate c.args.op.now c.requires.op)) c.in_ok-apply_group.ensures.admitted
 
 pub returns-in_err-reply-clause-at_once : goal.returns-in_err-reply-clause-at_once
 returns-in_err-reply-clause-at_once g c done out room =

@@ -1,13 +1,13 @@
-use Rattle.std.proofs.Common.{ℕ, ◌+◌, ◌*◌, arith, length, max, inl, inr, refl}
+use Rattle.std.proofs.Common.{ℕ, ◌+◌, ◌*◌, arith, max, inl, inr, refl}
 use Rattle.fs_model.specs.declared.reply.Reply.{Reply}
 use Rattle.cached_files.specs.Present.{present}
 use Rattle.vfs_ops.specs.Steps.{read_only_cause}
 use Rattle.vfs_ops.proofs.Admitted.{told_at_once}
-use Rattle.vfs_ops.proofs.Cutting.{cut_noted, cut_replied}
+use Rattle.vfs_ops.proofs.Cutting.{call_noted, call_replied}
 use Rattle.vfs_ops.proofs.Looking.{noted_looks}
 use Rattle.vfs_ops.proofs.Serving.{done_buffered, noted_for, refused_buffered, refused_synced}
 use Rattle.fs_model.specs.Legal.{pages_in}
-use Rattle.fs_model.specs.Operation.{group_of}
+use Rattle.vfs_ops.specs.Operations.{nodes_asked}
 use Rattle.vfs_ops.proofs.Weighing.{refusal_told, reply_told}
 use Rattle.vfs_ops.proofs.Replying.{done_plain}
 use Rattle.vfs_ops.proofs.fs.Fs.answer.Goals as goal
@@ -71,17 +71,17 @@ returns-in-Err-clause-others g c = c.in-Err.ensures.others
 
 pub returns-in-Err-clause-weighed : goal.returns-in-Err-clause-weighed
 returns-in-Err-clause-weighed g c =
-    refusal_told (Reply × ℕ) (2 * pages_in c.args.op.now + length (group_of (present (g.B.Backing.state c.args.self.now.backing).tree c.args.self.now.kept) c.args.caller c.args.now c.args.op.now)) (max 2 (length (group_of (present (g.B.Backing.state c.args.self.now.backing).tree c.args.self.now.kept) c.args.caller c.args.now c.args.op.now))) c.in-Err.refusal c.noted-refusal.result (g.B.Backing.state c.args.self.now.backing) (g.B.Backing.state c.call.new.backing) c.args.self.now.kept c.call.new.kept c.noted-refusal.ensures.refusal c.in-Err.ensures.grows
+    refusal_told (Reply × ℕ) (2 * pages_in c.args.op.now + nodes_asked (present (g.B.Backing.state c.args.self.now.backing).tree c.args.self.now.kept) c.args.caller c.args.now c.args.op.now) (max 2 (nodes_asked (present (g.B.Backing.state c.args.self.now.backing).tree c.args.self.now.kept) c.args.caller c.args.now c.args.op.now)) c.in-Err.refusal c.noted-refusal.result (g.B.Backing.state c.args.self.now.backing) (g.B.Backing.state c.call.new.backing) c.args.self.now.kept c.call.new.kept c.noted-refusal.ensures.refusal c.in-Err.ensures.grows
 
 pub returns-in-Ok-clause-weighed : goal.returns-in-Ok-clause-weighed
 returns-in-Ok-clause-weighed g c =
-    reply_told (2 * pages_in c.args.op.now + length (group_of (present (g.B.Backing.state c.args.self.now.backing).tree c.args.self.now.kept) c.args.caller c.args.now c.args.op.now)) (max 2 (length (group_of (present (g.B.Backing.state c.args.self.now.backing).tree c.args.self.now.kept) c.args.caller c.args.now c.args.op.now))) _ (g.B.Backing.state c.args.self.now.backing) (g.B.Backing.state c.call.new.backing) c.args.self.now.kept c.call.new.kept (done_plain (g.B.Backing.state c.args.self.now.backing) (present (g.B.Backing.state c.args.self.now.backing).tree c.args.self.now.kept) c.args.caller c.args.now c.args.op.now _ c.in-Ok.ensures.done.0 c.args.self.now.ready.sound c.in-Ok.ensures.done.1) c.in-Ok.ensures.grows
+    reply_told (2 * pages_in c.args.op.now + nodes_asked (present (g.B.Backing.state c.args.self.now.backing).tree c.args.self.now.kept) c.args.caller c.args.now c.args.op.now) (max 2 (nodes_asked (present (g.B.Backing.state c.args.self.now.backing).tree c.args.self.now.kept) c.args.caller c.args.now c.args.op.now)) _ (g.B.Backing.state c.args.self.now.backing) (g.B.Backing.state c.call.new.backing) c.args.self.now.kept c.call.new.kept (done_plain (g.B.Backing.state c.args.self.now.backing) (present (g.B.Backing.state c.args.self.now.backing).tree c.args.self.now.kept) c.args.caller c.args.now c.args.op.now _ c.in-Ok.ensures.done.0 c.args.self.now.ready.sound c.in-Ok.ensures.done.1) c.in-Ok.ensures.grows
 
 pub returns-in-Err-clause-cut : goal.returns-in-Err-clause-cut
 returns-in-Err-clause-cut g c =
-    cut_noted (g.B.Backing.state c.args.self.now.backing) (g.B.Backing.state c.call.new.backing) c.args.self.now.kept (group_of (present (g.B.Backing.state c.args.self.now.backing).tree c.args.self.now.kept) c.args.caller c.args.now c.args.op.now) c.in-Err.refusal c.noted-refusal.result c.noted-refusal.ensures.refusal c.in-Err.ensures.cut
+    call_noted (g.B.Backing.state c.args.self.now.backing) (g.B.Backing.state c.call.new.backing) c.args.self.now.kept c.args.caller c.args.now c.args.op.now c.in-Err.refusal c.noted-refusal.result c.noted-refusal.ensures.refusal c.in-Err.ensures.cut
 
 pub returns-in-Ok-clause-cut : goal.returns-in-Ok-clause-cut
 returns-in-Ok-clause-cut g c =
-    cut_replied (g.B.Backing.state c.args.self.now.backing) (g.B.Backing.state c.call.new.backing) c.args.self.now.kept (group_of (present (g.B.Backing.state c.args.self.now.backing).tree c.args.self.now.kept) c.args.caller c.args.now c.args.op.now) _
+    call_replied (g.B.Backing.state c.args.self.now.backing) (g.B.Backing.state c.call.new.backing) c.args.self.now.kept c.args.caller c.args.now c.args.op.now _
     (done_plain (g.B.Backing.state c.args.self.now.backing) (present (g.B.Backing.state c.args.self.now.backing).tree c.args.self.now.kept) c.args.caller c.args.now c.args.op.now _ c.in-Ok.ensures.done.0 c.args.self.now.ready.sound c.in-Ok.ensures.done.1) c.in-Ok.ensures.cut

@@ -44,11 +44,8 @@ returns-in-Put-clause-step g c =
 pub picked-requires : goal.picked-requires
 picked-requires g c = c.args.self.now.ready.kept_fits.pages
 
-pub answer-reply-requires-clause-op : goal.answer-reply-requires-clause-op
-answer-reply-requires-clause-op g c = (subst (λ (event : Event). IsCalled event) c.in-Call.is c.requires.call).1
-
 pub answer-reply-requires-clause-call : goal.answer-reply-requires-clause-call
-answer-reply-requires-clause-call g c = (subst (λ (event : Event). IsCalled event) c.in-Call.is c.requires.call).0
+answer-reply-requires-clause-call g c = (subst (λ (event : Event). IsCalled event) c.in-Call.is c.requires.call)
 
 pub answer-reply-requires-clause-grant : goal.answer-reply-requires-clause-grant
 answer-reply-requires-clause-grant g c =
