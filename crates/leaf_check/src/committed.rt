@@ -1,6 +1,6 @@
 // The leaves of the committed index, with what stands at their places.
 
-ghost use Rattle.std.specs.Prelude.{◌≡◌, ◌∷◌, ◌++◌, [], All, IfOk, List, OnOk, map};
+ghost use Rattle.std.specs.Prelude.{◌≡◌, ◌<◌, ◌≤◌, length, ◌∷◌, ◌++◌, [], All, IfOk, List, OnOk, map};
 ghost use Rattle.std.specs.List.{AllByRecursion, AllZip};
 ghost use Rattle.std.specs.List.Sorted.{IsPermutation};
 ghost use Rattle.ubi_volume.specs.Volume.{Keeps, SameShape};
@@ -17,7 +17,7 @@ use crate::committed_read::CommittedRead;
 use crate::leaf_answer::LeafAnswer;
 use crate::leaf_bytes::LeafBytes;
 use crate::order::put_in_order;
-use crate::reading::read_bytes;
+use crate::reading::{MOST_BYTES, read_bytes};
 use index_tree::Leaf;
 use log_replay::CommittedLeaf;
 use std::alloc::Global;
@@ -25,14 +25,13 @@ use std::thread::Threads;
 use ubi_volume::{AreaFault, Volume};
 use ubifs_base::Memory;
 
-// The bytes of so many leaves at most are kept at once.
-const BATCH: usize = 1024;
+// Nodes of so many bytes are looked at side by side.
+const BATCH_BYTES: usize = 4 << 20;
 
 /// What is told of the intact leaf node that stands at the place of each of these leaves with its length, if one does, whatever node that
 /// is (`ubifs_tnc_read_node` of Linux fs/ubifs); and leaves of them whose place has their own node. Nothing is asked of the leaves: outside
 /// the volume stands none, and none is longer than 4,256 bytes, of which no more are read for a leaf. The leaves are read one after
-/// another, and what was read is looked at side by side. Takes memory for what is told, for the leaves once more, and for the bytes of
-/// 1,024 nodes.
+/// another, and what was read is looked at side by side. Takes memory for what is told, for the leaves once more, and for 4 MiB of nodes.
 pub fn read_committed<R: Threads + Sync, V: Volume>(
     rt: &R,
     alloc: Global,
@@ -50,7 +49,7 @@ pub fn read_committed<R: Threads + Sync, V: Volume>(
     let mut spare = Vec::new(alloc);
     let mut left = leaves;
     'reading: while !left.is_empty() {
-        let (batch, rest) = left.split_at(left.len().min(BATCH));
+        let (batch, rest) = left.split_at(batch_of(left));
         let answers = read_batch(rt, alloc, volume, batch, &mut spare)?;
         keep_answers(&mut committed, &mut intact, answers)?;
         left = rest;
@@ -59,6 +58,23 @@ pub fn read_committed<R: Threads + Sync, V: Volume>(
         leaves: committed,
         intact,
     }))
+}
+
+// How many of some leaves are read before what was read is looked at: one at least, and no more once their nodes have enough bytes.
+fn batch_of(leaves: &[Leaf]) -> usize
+    ensures most { result ≤ length leaves.now }
+    ensures least { 0 < length leaves.now → 0 < result }
+{
+    let mut count = 0;
+    let mut bytes = 0;
+    for leaf in leaves {
+        count += 1;
+        bytes += leaf.len.min(MOST_BYTES) as usize;
+        if bytes >= BATCH_BYTES {
+            return count;
+        }
+    }
+    count
 }
 
 // What was read, with the leaves that are intact in order of place.

@@ -1,5 +1,6 @@
 mod AppliedTold
 mod FoundTold
+mod GoingUp
 mod LostTold
 mod MovedTold
 mod Moving

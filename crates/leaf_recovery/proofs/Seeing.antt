@@ -52,7 +52,7 @@ pair_at a b c d =
     make : ℕ → ℕ → ℕ × ℕ
     make m n = (m, n)
 
-text_is : (a b : List ℕ) → is_same_name a b ≡ true → a ≡ b
+pub text_is : (a b : List ℕ) → is_same_name a b ≡ true → a ≡ b
 text_is a b h = by (slice_cmp nat_cmp a b) refl h
   where
     by : (o : Ordering) → slice_cmp nat_cmp a b ≡ o → is_eq o ≡ true → a ≡ b

@@ -5,6 +5,7 @@ use Rattle.ubifs_base.specs.Key.{key_words}
 use Rattle.ubifs_base.specs.R5.{r5_of}
 use Rattle.ubifs_base.specs.declared.key.Key.{Key}
 use Rattle.ubifs_base.specs.declared.key.Key.TheVariants.{Ino, Block as BlockKey, Dent}
+use Rattle.index_tree.specs.Order.{key_rank}
 use Rattle.index_tree.specs.declared.leaf.Leaf.{Leaf}
 use Rattle.fs_model.specs.Path.{is_same_name}
 use Rattle.journal_scan.specs.declared.node_content.NodeContent.{NodeContent}
@@ -20,6 +21,11 @@ node_key_told (Block ino number) = BlockKey ino number
 node_key_told (Entry dir name linked) = Dent dir (r5_of name)
 node_key_told (Truncation ino size) = Ino ino
 node_key_told (Unknown key linked) = key
+
+-- the place in the order of the key of what a node shows, if that isn't what is behind a size
+abbrev pub rank_shown : NodeContent → ℕ
+rank_shown (Truncation ino size) = 0
+rank_shown content = key_rank (node_key_told content)
 
 -- the leaf that a node becomes where it stands
 abbrev pub leaf_told : JournalNode → Leaf

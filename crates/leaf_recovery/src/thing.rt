@@ -7,7 +7,7 @@ ghost use Rattle.index_tree.specs.Removal.{same_leaf};
 ghost use Rattle.fs_model.specs.Path.{is_same_name};
 ghost use Rattle.log_replay.specs.Things.{is_block_told, is_inode_told, is_name_told};
 ghost use Rattle.leaf_recovery.specs.Found.{place_told};
-ghost use Rattle.leaf_recovery.specs.Things.{becomes_leaf, ends_told, is_cut_told, is_entry_told, is_part_told, is_unlinked_told, leaf_told, node_key_told, same_name_told, shows_thing, shows_told};
+ghost use Rattle.leaf_recovery.specs.Things.{becomes_leaf, ends_told, is_cut_told, is_entry_told, is_part_told, is_unlinked_told, leaf_told, node_key_told, rank_shown, same_name_told, shows_thing, shows_told};
 
 use crate::recovered_leaf::Place;
 use index_tree::Leaf;
@@ -62,6 +62,19 @@ pub(crate) fn key_of(content: &NodeContent) -> Key
         },
         NodeContent::Truncation { ino, .. } => Key::Ino { ino: *ino },
         NodeContent::Unknown { key, .. } => *key,
+    }
+}
+
+// The place in the order of the key of what a node shows, if that isn't what is behind a size; else 0.
+pub(crate) fn rank_shown(content: &NodeContent) -> u128
+    ensures { result ≡ rank_shown content.now }
+{
+    match content {
+        NodeContent::Truncation { .. } => 0,
+        NodeContent::Inode { .. }
+        | NodeContent::Block { .. }
+        | NodeContent::Entry { .. }
+        | NodeContent::Unknown { .. } => rank(&key_of(content)),
     }
 }
 

@@ -1,9 +1,11 @@
 mod Backwards
 mod Firsts
+mod GoingUp
 mod Levels
 mod LinkFirst
 mod PlaceFirst
 mod PlacesRight
+mod SameLinks
 mod SeenMore
 mod SeenSoFar
 mod Telling

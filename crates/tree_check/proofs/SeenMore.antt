@@ -32,7 +32,7 @@ at_pair a b c d = same_tests (is_at (pair_cmp (a, b)) (c, d)) ((c == a) && (d ==
     let e = and_parts (c == a) (d == b) h in
     at_here pair_cmp pairs (a, b) (c, d) (let x = eqb-true c a e.0 in let y = eqb-true d b e.1 in let z : (a, b) ≡ (c, d) = cc in z))
 
-name_from : (n m : List ℕ) (o : Ordering) → slice_cmp nat_cmp n m ≡ o → is_eq o ≡ true → n ≡ m
+pub name_from : (n m : List ℕ) (o : Ordering) → slice_cmp nat_cmp n m ≡ o → is_eq o ≡ true → n ≡ m
 name_from n m Less e k = absurd cc
 name_from n m Equal e k = exact_bytes n m e
 name_from n m Greater e k = absurd cc

@@ -1,4 +1,5 @@
 pub mod Facts
+pub mod KeyOrder
 pub mod Kinds
 pub mod LinkFindings
 pub mod Links

@@ -1,5 +1,5 @@
 -- The entries that leaves show, and what they lead to.
-use Rattle.std.specs.Prelude.{ℕ, ◌==◌, List, [], ◌∷◌, count_by}
+use Rattle.std.specs.Prelude.{ℕ, ◌==◌, List, [], ◌∷◌, ◌++◌, count_by}
 use Rattle.std.specs.BTreeMap.{insert_entry}
 use Rattle.std.specs.Map.{values_of}
 use Rattle.fs_model.specs.Files.{name_cmp}
@@ -28,6 +28,16 @@ entries_shown leaves = entries_over leaves []
 -- what they lead to, in order
 abbrev pub links_shown : List ShownLeaf → List Link
 links_shown leaves = values_of (entries_shown leaves)
+
+-- what the entry leads to that a leaf shows, if it shows one
+abbrev pub entry_link : Shown → List Link
+entry_link (Entry dir name ino kind) = record { dir = dir; ino = ino } ∷ []
+entry_link shown = []
+
+-- what the entries of leaves lead to, leaf by leaf
+abbrev pub entry_links : List ShownLeaf → List Link
+entry_links [] = []
+entry_links (x ∷ leaves) = entry_link x.shown ++ entry_links leaves
 
 -- how many lead to an inode
 abbrev pub count_to : List Link → ℕ → ℕ

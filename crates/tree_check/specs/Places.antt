@@ -54,6 +54,10 @@ abbrev pub wrongs_behind : Facts → List ShownLeaf → List ShownLeaf → List 
 wrongs_behind facts before [] = []
 wrongs_behind facts before (leaf ∷ leaves) = wrong_if (is_wrong_behind facts before leaf) leaf ∷ wrongs_behind facts (before ++ leaf ∷ []) leaves
 
+-- what is wrong at a leaf of which none before it shows the same
+abbrev pub wrong_alone : Facts → ShownLeaf → Option WrongValue
+wrong_alone facts leaf = wrong_if (is_misplaced facts leaf.shown) leaf
+
 -- what is wrong at a place if there is no inode 1
 abbrev pub wrong_root : Option Kind → ℕ × ℕ → Option WrongValue
 wrong_root None root = Some (record { lnum = root.0; offs = root.1; wanted = 1; found = 0 })

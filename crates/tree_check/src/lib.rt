@@ -11,6 +11,7 @@
 mod children;
 mod counts;
 mod facts;
+mod key_order;
 mod kinds;
 mod laws;
 mod link;

@@ -21,7 +21,8 @@ use ubifs_base::Memory;
 
 /// The inode among leaves whose links are wrong first: it is no directory and has other links than names, or none
 /// (`dbg_check_filesystem` of Linux fs/ubifs). The number of its names is wanted, and its links are found. Entries of one directory
-/// and name are one, and the first counts. None if all links are right. Takes memory for two maps with an entry a name, and copies names.
+/// and name are one, and the first counts. None if all links are right. Takes memory for a link a
+/// name and a map with an entry an inode, and for a map of copied names where these don't go up.
 pub fn first_wrong_link(alloc: Global, leaves: &[ShownLeaf]) -> Result<Option<WrongValue>, Memory>
     ensures { IfOk result (λ found. (kept : List Kept) (highest : ℕ) → AreShownBy kept leaves.now → IsFirstOf (IsWrongLinkOf kept (tree_of kept highest)) found) }
 {

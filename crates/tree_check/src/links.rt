@@ -1,8 +1,10 @@
 // The entries that leaves show.
 
-ghost use Rattle.std.specs.Prelude.{◌≡◌, IfOk, OnOk};
-ghost use Rattle.tree_check.specs.Links.{entries_shown, links_shown, with_link};
+ghost use Rattle.std.specs.Prelude.{◌≡◌, ◌++◌, IfOk, OnOk};
+ghost use Rattle.std.specs.List.Sorted.{IsPermutation};
+ghost use Rattle.tree_check.specs.Links.{entries_shown, entry_link, entry_links, links_shown, with_link};
 
+use crate::key_order::keys_go_up;
 use crate::link::Link;
 use crate::shown_leaf::{Shown, ShownLeaf};
 use fs_model::OrderedName;
@@ -10,8 +12,48 @@ use std::alloc::Global;
 use std::collections::BTreeMap;
 use ubifs_base::{Memory, Name};
 
-/// What the entries of leaves lead to, in order of directory and name. Of leaves that show one name the first counts.
+/// What the entries of leaves lead to, in some order. Of leaves that show one name the first counts. Where leaves go up, no map is made
+/// and no name is copied.
 pub(crate) fn links_of(alloc: Global, leaves: &[ShownLeaf]) -> Result<Vec<Link>, Memory>
+    ensures { IfOk result (λ links. IsPermutation links.items (links_shown leaves.now)) }
+{
+    if keys_go_up(leaves) {
+        let links = entry_links(alloc, leaves)?;
+        return Ok(links);
+    }
+    let named = links_by_name(alloc, leaves)?;
+    Ok(named)
+}
+
+// What the entries of leaves lead to, leaf by leaf.
+fn entry_links(alloc: Global, leaves: &[ShownLeaf]) -> Result<Vec<Link>, Memory>
+    ensures { IfOk result (λ links. links.items ≡ entry_links leaves.now) }
+{
+    let mut links = Vec::new(alloc);
+    let mut left = leaves;
+    'adding: while let Some((leaf, rest)) = left.split_first() {
+        add_link(&mut links, &leaf.shown)?;
+        left = rest;
+    }
+    Ok(links)
+}
+
+// Adds what the entry leads to that a leaf shows, if it shows one.
+fn add_link(links: &mut Vec<Link>, shown: &Shown) -> Result<(), Memory>
+    ensures { OnOk result (links.new.items ≡ links.old.items ++ entry_link shown.now) }
+{
+    let Shown::Entry { dir, ino, .. } = shown else {
+        return Ok(());
+    };
+    links.push(Link {
+        dir: *dir,
+        ino: *ino,
+    })?;
+    Ok(())
+}
+
+// What the entries of leaves lead to, in order of directory and name.
+fn links_by_name(alloc: Global, leaves: &[ShownLeaf]) -> Result<Vec<Link>, Memory>
     ensures { IfOk result (λ links. links.items ≡ links_shown leaves.now) }
 {
     let entries = entries_of(alloc, leaves)?;

@@ -1,17 +1,18 @@
 // What is out of its place in the tree.
 
-ghost use Rattle.std.specs.Prelude.{◌≡◌, ℕ, ◌||◌, [], List, IfOk, OnOk};
+ghost use Rattle.std.specs.Prelude.{◌≡◌, ℕ, ◌||◌, [], List, IfOk, OnOk, map};
 ghost use Rattle.leaf_map.specs.Kept.{Kept};
 ghost use Rattle.leaf_map.specs.Shown.{tree_of};
 ghost use Rattle.image_check.specs.WrongValues.{IsFirstOf};
 ghost use Rattle.tree_check.specs.Facts.{facts_in, is_misplaced};
 ghost use Rattle.tree_check.specs.LinkFindings.{soonest_of};
-ghost use Rattle.tree_check.specs.Places.{IsOutOfPlaceAt, number_shown, misplaced_at, wrong_if, wrong_root, wrongs_behind};
+ghost use Rattle.tree_check.specs.Places.{IsOutOfPlaceAt, number_shown, misplaced_at, wrong_alone, wrong_if, wrong_root, wrongs_behind};
 ghost use Rattle.tree_check.specs.Seen.{is_seen, same_told};
 ghost use Rattle.tree_check.specs.Told.{AreShownBy};
 ghost use Rattle.tree_check.specs.declared.shown_leaf.Shown.{Shown as AShown};
 
 use crate::facts::{TreeFacts, facts_of, is_misplaced};
+use crate::key_order::keys_go_up;
 use crate::link::ROOT;
 use crate::seen_leaves::{SeenLeaves, nothing_seen, see};
 use crate::shown_leaf::{Shown, ShownLeaf};
@@ -23,7 +24,8 @@ use ubifs_base::Memory;
 /// one before it; inode 1, which is no directory; a directory that isn't the root, and has not one name or isn't reached from the root;
 /// a name that stands in no directory, or leads to no inode of its kind, or to the root. There the inode number is wanted to which a name leads, or else the one in the
 /// leaf's key, and 0 is found. Without inode 1 it is wanted at `root`, the LEB and offset of the root of the index. None if all is in its place.
-/// Takes memory for maps with an entry a leaf, and copies names twice.
+/// Takes memory for maps with an entry an inode. Where what leaves show doesn't go up, or two names of a directory have one hash, it takes
+/// memory for maps with an entry a leaf besides, and copies names twice.
 pub fn first_out_of_place(
     alloc: Global,
     leaves: &[ShownLeaf],
@@ -52,8 +54,51 @@ fn missing_root(facts: &TreeFacts, root: (u32, u32)) -> Option<WrongValue>
     }
 }
 
-// The first of what is found and of the leaves that are out of their places.
+// The first of what is found and of the leaves that are out of their places. Where leaves go up, none shows what one before it shows.
 fn first_misplaced(
+    alloc: Global,
+    facts: &TreeFacts,
+    leaves: &[ShownLeaf],
+    found: Option<WrongValue>,
+) -> Result<Option<WrongValue>, Memory>
+    ensures { IfOk result (λ first. first ≡ soonest_of found (wrongs_behind (facts_in facts.now) [] leaves.now)) }
+{
+    if keys_go_up(leaves) {
+        return Ok(first_alone(facts, leaves, found));
+    }
+    let first = first_behind(alloc, facts, leaves, found)?;
+    Ok(first)
+}
+
+// The same of leaves of which none shows what one before it shows.
+fn first_alone(
+    facts: &TreeFacts,
+    leaves: &[ShownLeaf],
+    found: Option<WrongValue>,
+) -> Option<WrongValue>
+    ensures { result ≡ soonest_of found (map (wrong_alone (facts_in facts.now)) leaves.now) }
+{
+    let mut first = found;
+    let mut left = leaves;
+    'telling: while let Some((leaf, rest)) = left.split_first() {
+        first = sooner(first, misplaced_alone(facts, leaf));
+        left = rest;
+    }
+    first
+}
+
+// What is wrong with a leaf by itself.
+fn misplaced_alone(facts: &TreeFacts, leaf: &ShownLeaf) -> Option<WrongValue>
+    ensures { result ≡ wrong_alone (facts_in facts.now) leaf.now }
+{
+    if is_misplaced(facts, &leaf.shown) {
+        return Some(misplaced_at(leaf));
+    }
+    None
+}
+
+// The same of any leaves.
+fn first_behind(
     alloc: Global,
     facts: &TreeFacts,
     leaves: &[ShownLeaf],

@@ -5,7 +5,7 @@ use Rattle.leaf_recovery.specs.declared.recovered_leaf.RecoveredLeaf.{RecoveredL
 use Rattle.leaf_recovery.specs.Repeated.{repeated_behind_told}
 use Rattle.leaf_recovery.specs.Seen.{has_seen}
 use Rattle.leaf_recovery.specs.Things.{shows_told}
-use Rattle.leaf_recovery.proofs.repeated.repeated_leaves.Given as goal
+use Rattle.leaf_recovery.proofs.repeated.repeated_by_maps.Given as goal
 
 -- the leaves so far are those of which what they show is kept
 abbrev pub invariant-loop-leaf : goal.invariant-loop-leaf
