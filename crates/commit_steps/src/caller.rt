@@ -12,8 +12,8 @@ ghost use Rattle.media_sys.specs.declared.branch.Branch.{Branch as ABranch};
 ghost use Rattle.node_table.specs.Clean.{placed_of};
 ghost use Rattle.node_table.specs.Placing.{KeepsPlaces};
 ghost use Rattle.ubi_volume.specs.Geometry.{IsGeometryOf};
-ghost use Rattle.ubi_volume.specs.Volume.{AreUnits, Leaves, Only, SameShape};
-ghost use Rattle.index_cache.specs.Loaded.{IsIndexOn};
+ghost use Rattle.ubi_volume.specs.Volume.{AreUnits, Leaves, Only, SameShape, filled};
+ghost use Rattle.node_cache.specs.Loaded.{IsIndexOn};
 ghost use Rattle.index_cache.specs.Paged.{dirty_of, fanout_of, frozen_of, leaves_of, tree_of};
 ghost use Rattle.index_commit.specs.Lebs.{AreApart, AreGivable, IsGiven};
 ghost use Rattle.index_commit.specs.Written.{IsRootOf};
@@ -51,6 +51,7 @@ fn put_leaf<V: Volume>(
         → OnOk result (IsCommitUnderWay (V.state volume.new) kept given index.new) }
     ensures seen { (lebs : List ℕ) → (IsGiven lebs bud → ⊥) → IsSeenWithin (V.state volume.old) lebs index.old → OnOk result (IsSeenWithin (V.state volume.new) lebs index.new) }
     ensures leaves { OnOk result (leaves_of index.new ≡ placed leaf (leaves_of index.old)) }
+    ensures written { OnOk result ((V.state volume.new).holds bud ≡ filled (V.state volume.old).leb_size node.now) }
     ensures beside { (lebs : List ℕ) → (IsGiven lebs bud → ⊥) → WorksBeside (V.state volume.old) (V.state volume.new) lebs }
     ensures nodes { frozen_of index.new ≡ frozen_of index.old × (dirty_of index.new ≡ dirty_of index.old) × (fanout_of index.new ≡ fanout_of index.old) }
     ensures shape { SameShape (V.state volume.old) (V.state volume.new) }
@@ -86,6 +87,8 @@ fn take_steps<V: Volume>(
     ensures done { (kept given : List ℕ) → AreApart (given ++ kept) (bud ∷ lebs.now) → IsCommitUnderWay (V.state volume.old) kept given index.old
         → OnOk result ((now : List ℕ) × All (IsGiven (lebs.now ++ given)) now × IsCommitUnderWay (V.state volume.new) kept now index.new) }
     ensures none { OnOk result (dirty_of index.new ≡ []) }
+    ensures written { (V.state volume.old).holds bud ≡ filled (V.state volume.old).leb_size node.now
+        → OnOk result ((V.state volume.new).holds bud ≡ filled (V.state volume.old).leb_size node.now) }
     ensures beside { (others : List ℕ) → AreApart others (bud ∷ lebs.now) → WorksBeside (V.state volume.old) (V.state volume.new) others }
     ensures frozen { KeepsPlaces (frozen_of index.old) (frozen_of index.new) }
     ensures fanout { fanout_of index.new ≡ fanout_of index.old }
@@ -128,6 +131,8 @@ pub fn commit_beside_puts<V: Volume>(
     ensures next { (kept : List ℕ) → AreApart kept (bud ∷ lebs.now) → IsSeenWithin (V.state volume.old) kept index.old
         → OnOk result ((given : List ℕ) × All (IsGiven lebs.now) given × IsSeenWithin (V.state volume.new) (given ++ lebs_of (placed_of (frozen_of index.new))) index.new) }
     ensures frozen { OnOk result (KeepsPlaces (tree_of index.old) (frozen_of index.new)) }
+    ensures written { (V.state volume.old).holds bud ≡ filled (V.state volume.old).leb_size node.now
+        → OnOk result ((V.state volume.new).holds bud ≡ filled (V.state volume.old).leb_size node.now) }
     ensures beside { (others : List ℕ) → AreApart others (bud ∷ lebs.now) → WorksBeside (V.state volume.old) (V.state volume.new) others }
     ensures old_stays { (kept : List ℕ) (fanout : ℕ) (root : ABranch) (placed : PlacedRow) → AreApart kept (bud ∷ lebs.now) → IsSeenWithin (V.state volume.old) kept index.old
         → All (IsGiven kept) (lebs_of placed) → IsStoredIndex (V.state volume.old).holds fanout root placed
@@ -163,6 +168,7 @@ pub fn load_and_commit<V: Volume>(
     requires number { sqnum.old + 1 + length lebs.now < 2 ^ 63 }
     ensures leaves { (row : PlacedRow) → IsIndexOn (V.state volume.old) geometry.now.fanout root.now row → AreSettledLebs (V.state volume.old) (lebs_of row) → AreApart (lebs_of row) (bud ∷ lebs.now)
         → IfOk result (λ at. (now : KeyedRow) × (contents (bare now) ≡ placed leaf (contents (plain row))) × IsRootOf (V.state volume.new).holds geometry.now.fanout now at) }
+    ensures written { OnOk result ((V.state volume.new).holds bud ≡ filled (V.state volume.old).leb_size node.now) }
     ensures beside { (others : List ℕ) → AreApart others (bud ∷ lebs.now) → WorksBeside (V.state volume.old) (V.state volume.new) others }
     ensures old_stays { (row : PlacedRow) → IsIndexOn (V.state volume.old) geometry.now.fanout root.now row → AreSettledLebs (V.state volume.old) (lebs_of row) → AreApart (lebs_of row) (bud ∷ lebs.now)
         → Leaves (V.state volume.old) (V.state volume.new) (λ c. IsStoredIndex c geometry.now.fanout root.now row) }

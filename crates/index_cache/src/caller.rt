@@ -8,7 +8,7 @@ ghost use Rattle.node_table.specs.Clean.{placed_of};
 ghost use Rattle.node_table.specs.Placing.{KeepsPlaces};
 ghost use Rattle.node_table.specs.Changing.{AreChanges, changed_by, leaves_after_all};
 ghost use Rattle.ubifs_base.specs.Key.{IsKey};
-ghost use Rattle.index_cache.specs.Loaded.{IsRead, IsIndexOn};
+ghost use Rattle.node_cache.specs.Loaded.{IsRead, IsIndexOn};
 ghost use Rattle.index_cache.specs.Paged.{tree_of, leaves_of, frozen_of, fanout_of, KeepsNodes};
 
 use crate::buffer::NodeBuffer;

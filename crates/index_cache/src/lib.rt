@@ -2,8 +2,8 @@
 //!
 //! A `PagedIndex` is a table of nodes and two roots: that of the index that is seen, and that of the one that a commit writes.
 //! All nodes are kept: the load of a mount goes from the root down, and whatever is changed later adds nodes to the table. A
-//! commit gives the dirty nodes of its index their places, and changes nothing else of them. `specs/Loaded.antt` says what
-//! has to stand on a volume so that it can be loaded.
+//! commit gives the dirty nodes of its index their places, and changes nothing else of them. `IsIndexOn` of
+//! node_cache says what has to stand on a volume so that it can be loaded.
 #![tactic(auto)]
 
 mod buffer;

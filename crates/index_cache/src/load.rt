@@ -9,13 +9,13 @@ ghost use Rattle.node_table.specs.Sound.{IsSoundView};
 ghost use Rattle.node_table.specs.Staging.{row_before, AreLinksIn, IsAdded};
 ghost use Rattle.node_table.specs.declared.link.Link.TheVariants.{ToNode};
 ghost use Rattle.ubifs_base.specs.declared.key.Key.{Key as AKey};
-ghost use Rattle.index_cache.specs.Loaded.{IsRead, IsIndexOn, IsRowOn};
+ghost use Rattle.node_cache.specs.Loaded.{IsRead, IsIndexOn, IsRowOn};
 ghost use Rattle.index_cache.specs.Paged.{tree_of, frozen_of, fanout_of};
 
 use crate::paged::PagedIndex;
-use crate::reading::read_node;
 use index_tree::Leaf;
 use media_sys::Branch;
+use node_cache::read_node;
 use node_table::{Link, NodePlace, NodeTable, Root, TableNode, roots_stay};
 use std::alloc::Global;
 use ubi_volume::{AreaFault, Volume};

@@ -1,48 +1,19 @@
-// An index node is read from a volume.
+// The root of an index is read from a volume.
 
-ghost use Rattle.std.specs.Prelude.{◌≡◌, ◌<◌, ◌≤◌, ℕ, [], ◌∷◌, IfOk, length, map, take};
+ghost use Rattle.std.specs.Prelude.{◌≡◌, ◌<◌, [], ◌∷◌, IfOk, map, take};
 ghost use Rattle.index_media.specs.Stored.{IsIndexNodeAt};
-ghost use Rattle.media_sys.specs.Index.{Index as AnIndexNode, index_of};
-ghost use Rattle.media_sys.specs.SystemNode.{IsSystemNode, index};
+ghost use Rattle.media_sys.specs.Index.{Index as AnIndexNode};
 ghost use Rattle.ubifs_base.specs.Key.{IsKey};
 ghost use Rattle.ubifs_base.specs.declared.key.Key.{Key as AKey};
-ghost use Rattle.index_cache.specs.Loaded.{IsRead, root_at};
+ghost use Rattle.index_cache.specs.Loaded.{root_at};
+ghost use Rattle.node_cache.specs.Loaded.{IsRead};
 
-use media_sys::{Branch, IdxNode, one_node};
+use media_sys::Branch;
+use node_cache::read_node;
 use node_table::NodePlace;
 use std::alloc::Global;
 use ubi_volume::{AreaFault, Volume};
-use ubifs_base::{Key, Memory};
-
-/// The index node that bytes are. Bytes that are none are answered as want of memory: no caller hands such.
-fn decoded(alloc: Global, bytes: &[u8]) -> Result<IdxNode, Memory>
-    ensures said { (sqnum group : ℕ) (said : AnIndexNode) → IsSystemNode bytes.now sqnum group (index said) → IfOk result (λ node. index_of node ≡ said) }
-    ensures few { IfOk result (λ node. length node.branches.items ≤ 256) }
-{
-    one_node();
-    match IdxNode::decode(alloc, bytes)? {
-        None => Err(Memory),
-        Some(node) => Ok(node),
-    }
-}
-
-/// Reads the index node to which a branch leads.
-pub fn read_node<V: Volume>(
-    alloc: Global,
-    volume: &mut V,
-    branch: &Branch,
-) -> Result<IdxNode, AreaFault>
-    requires lnum { branch.now.lnum < (V.state volume.old).leb_cnt }
-    requires node { (said : AnIndexNode) × IsIndexNodeAt (V.state volume.old).holds branch.now said }
-    ensures said { (said : AnIndexNode) → IsIndexNodeAt (V.state volume.old).holds branch.now said → IfOk result (λ node. index_of node ≡ said) }
-    ensures few { IfOk result (λ node. length node.branches.items ≤ 256) }
-    ensures reads { IsRead (V.state volume.old) (V.state volume.new) result }
-{
-    let mut bytes = vec![in alloc; 0; branch.len as usize]?;
-    volume.read(branch.lnum, branch.offs, &mut bytes)?;
-    let node = decoded(alloc, &bytes)?;
-    Ok(node)
-}
+use ubifs_base::Key;
 
 /// Reads the branch to the root that stands at a place (`root_lnum`, `root_offs` and `root_len` of `struct ubifs_mst_node`).
 /// Its key is that of the root's first branch, since no branch of a parent gives it one.

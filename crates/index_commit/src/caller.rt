@@ -11,7 +11,7 @@ ghost use Rattle.node_table.specs.Clean.{placed_of};
 ghost use Rattle.node_table.specs.Placing.{KeepsPlaces};
 ghost use Rattle.ubi_volume.specs.Geometry.{IsGeometryOf};
 ghost use Rattle.ubi_volume.specs.Volume.{SameShape};
-ghost use Rattle.index_cache.specs.Loaded.{IsIndexOn};
+ghost use Rattle.node_cache.specs.Loaded.{IsIndexOn};
 ghost use Rattle.index_cache.specs.Paged.{fanout_of, frozen_of, leaves_of, tree_of};
 ghost use Rattle.index_commit.specs.Lebs.{AreApart, AreGivable, IsGiven};
 ghost use Rattle.index_commit.specs.Standing.{AreOutside};

@@ -2,7 +2,8 @@ use Rattle.std.proofs.Common.{◌≡◌, ◌≤◌, ◌++◌, ◌∷◌, ℕ, le
 use Rattle.ubifs_base.specs.RawOf.{raw_of}
 use Rattle.index_media.specs.KeyedRow.{KeyedRow}
 use Rattle.node_table.specs.Placing.{KeepsPlaces}
-use Rattle.ubi_volume.specs.Volume.{AreUnits}
+use Rattle.std.specs.Prelude.{OnOk}
+use Rattle.ubi_volume.specs.Volume.{AreUnits, filled}
 use Rattle.index_cache.specs.Paged.{frozen_of}
 use Rattle.commit_steps.specs.UnderWay.{IsCommitUnderWay}
 use Rattle.commit_steps.specs.UnderWayLaws.{WorksBeside-none, WorksBeside-step, WorksBeside-then, commit_step}
@@ -109,3 +110,15 @@ returns-clause-frozen g t c =
     let K : KeyedRow → Type 0 = λ r. KeepsPlaces (frozen_of c.args.index.now) r in
     c.places_are_kept.ensures.both (frozen_of c.args.index.now) (frozen_of c.put_leaf.new.index) (frozen_of c.take_steps.new.index) (subst K (sym c.put_leaf.ensures.nodes.0) c.write_next_leb.ensures.index.kept.frozen)
     c.take_steps.ensures.frozen
+
+pub returns-clause-written : goal.returns-clause-written
+returns-clause-written g t c = λ _.
+    let a = g.V.Volume.state c.args.volume.now in
+    let b = g.V.Volume.state c.write_next_leb.new.volume in
+    let d = g.V.Volume.state c.put_leaf.new.volume in
+    let e = g.V.Volume.state c.take_steps.new.volume in
+    let first = c.write_next_leb.ensures.answer.0.shape in
+    let second = c.put_leaf.ensures.shape in
+    let put : d.holds c.args.bud ≡ filled b.leb_size c.args.node.now = c.in_ok-put_leaf.ensures.written in
+    let P : ℕ → Type 0 = λ n. OnOk c.take_steps.result (e.holds c.args.bud ≡ filled n c.args.node.now) in
+    subst P (second.leb_size ∙ first.leb_size) (c.take_steps.ensures.written (put ∙ ap (λ n. filled n c.args.node.now) (sym second.leb_size)))

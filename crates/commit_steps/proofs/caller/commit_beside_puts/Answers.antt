@@ -56,3 +56,6 @@ returns-in_err-take_steps-clause-beside g c = c.take_steps.ensures.beside
 
 pub returns-clause-beside : goal.returns-clause-beside
 returns-clause-beside g c = c.take_steps.ensures.beside
+
+pub returns-clause-written : goal.returns-clause-written
+returns-clause-written g c = c.in_ok-take_steps.ensures.written

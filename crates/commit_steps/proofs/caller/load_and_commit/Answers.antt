@@ -1,5 +1,5 @@
-use Rattle.std.proofs.Common.{◌≡◌, ℕ, List, refl, ap, ◌∙◌, inl}
-use Rattle.std.specs.Prelude.{Option, All}
+use Rattle.std.proofs.Common.{◌≡◌, ℕ, List, refl, ap, sym, subst, ◌∙◌, inl}
+use Rattle.std.specs.Prelude.{Option, All, OnOk}
 use Rattle.index_tree.specs.Order.{placed}
 use Rattle.index_tree.specs.Shape.{Shape, contents}
 use Rattle.index_media.specs.KeyedRow.{KeyedRow, all_clean, bare}
@@ -8,7 +8,7 @@ use Rattle.index_media.specs.Stored.{IsStoredIndex}
 use Rattle.media_sys.specs.declared.branch.Branch.{Branch}
 use Rattle.node_table.specs.Clean.{placed_of}
 use Rattle.node_table.specs.Placing.{KeepsPlaces}
-use Rattle.ubi_volume.specs.Volume.{Only}
+use Rattle.ubi_volume.specs.Volume.{Only, filled}
 use Rattle.ubi_volume.specs.VolumeLaws.{Leaves-then}
 use Rattle.index_cache.specs.Paged.{frozen_of, tree_of}
 use Rattle.index_commit.specs.Lebs.{IsGiven}
@@ -84,3 +84,15 @@ returns-clause-beside g c = λ others apart.
     let d = g.V.Volume.state c.put_leaf.new.volume in
     let put = WorksBeside-then a b d others (WorksBeside-keeps a b others c.at_root.ensures.reads.keeps) (c.put_leaf.ensures.beside others (λ given. apart c.args.bud given (inl refl))) in
     WorksBeside-then a d (g.V.Volume.state c.commit_beside_puts.new.volume) others put (c.commit_beside_puts.ensures.beside others apart)
+
+pub returns-clause-written : goal.returns-clause-written
+returns-clause-written g c =
+    let a = g.V.Volume.state c.args.volume.now in
+    let b = g.V.Volume.state c.at_root.new.volume in
+    let d = g.V.Volume.state c.put_leaf.new.volume in
+    let e = g.V.Volume.state c.commit_beside_puts.new.volume in
+    let first = c.at_root.ensures.reads.shape in
+    let second = c.put_leaf.ensures.shape in
+    let put : d.holds c.args.bud ≡ filled b.leb_size c.args.node.now = c.in_ok-put_leaf.ensures.written in
+    let P : ℕ → Type 0 = λ n. OnOk c.commit_beside_puts.result (e.holds c.args.bud ≡ filled n c.args.node.now) in
+    subst P (second.leb_size ∙ first.leb_size) (c.commit_beside_puts.ensures.written (put ∙ ap (λ n. filled n c.args.node.now) (sym second.leb_size)))

@@ -46,3 +46,6 @@ returns-clause-seen g c = λ lebs apart seen.
     let O : KeyedRow → Type 0 = λ r. AreOutside b.holds others r in
     subst O (sym c.in_ok-insert.ensures.tree) (c.changes_keep_what_stands.ensures.changed (fanout_of old) (Insert c.args.leaf) b.holds others (tree_of old) c.trees_are_sound.ensures.fits out))
     (seen_beside a b lebs old beside seen)
+
+pub returns-clause-written : goal.returns-clause-written
+returns-clause-written g c = c.in_ok-change.ensures.done.holds

@@ -10,7 +10,8 @@ use Rattle.node_table.specs.Staging.{row_before, AreLinksIn}
 use Rattle.node_table.specs.declared.link.Link.{Link}
 use Rattle.node_table.specs.declared.link.Link.TheVariants.{ToLeaf, ToNode}
 use Rattle.index_cache.proofs.Links.{links_in_added, links_in_append, made_row, node_behind, leaf_behind}
-use Rattle.index_cache.proofs.Placed.{row_moved, first_leaf, first_node, below, row_as, none_clean, all_is_clean}
+use Rattle.node_cache.specs.RowsOn.{row_moved, first_leaf, first_node, below, row_as}
+use Rattle.index_cache.proofs.Placed.{none_clean, all_is_clean, sound_below}
 use Rattle.index_cache.proofs.load.+loading.Goals as goal
 
 pub load_among-load_among-requires : goal.load_among-load_among-requires
@@ -123,7 +124,7 @@ load_node-add_clean-requires g t c =
     let is = made_row c.args.table.now.nodes.items c.load_among.new.table.nodes.items c.new-links.result.items c.load_among.new.links.items (all_clean own.0) c.new-links.ensures.items loaded in
     let P : KeyedRow → Type 0 = λ r. IsSoundView f (record { level = c.args.level; place = Some (stretch_of branch); children = r }) in
     let F : ℕ → Type 0 = λ n. IsSoundView n (record { level = c.args.level; place = Some (stretch_of branch); children = row_of (views c.load_among.new.table.nodes.items) c.load_among.new.links.items }) in
-    record { clean = ap is_clean_row is ∙ all_is_clean own.0; sound = subst F (sym c.in_ok-load_among.ensures.fanout) (subst P (sym is) p.sound) }
+    record { clean = ap is_clean_row is ∙ all_is_clean own.0; sound = subst F (sym c.in_ok-load_among.ensures.fanout) (subst P (sym is) (sound_below a f c.args.level branch own.0 own.1)) }
 
 pub load_node-returns-clause-loaded : goal.load_node-returns-clause-loaded
 load_node-returns-clause-loaded g t c row on =

@@ -5,7 +5,8 @@ use Rattle.index_media.specs.KeyedKeys.{AreKeysBounded}
 use Rattle.index_media.specs.KeyedRow.{KeyedRow, no_more, all_clean}
 use Rattle.index_media.specs.PlacedRow.{ended, node_at, branches_of}
 use Rattle.media_sys.specs.Index.{Index}
-use Rattle.index_cache.proofs.Placed.{row_moved, row_as, below, root_on, clean_bounded, clean_keys}
+use Rattle.node_cache.specs.RowsOn.{row_moved, row_as, below, root_on, clean_bounded}
+use Rattle.index_cache.proofs.Placed.{clean_keys}
 use Rattle.index_cache.proofs.paged.PagedIndex.at_root.Goals as goal
 
 pub read_node-requires-clause-node : goal.read_node-requires-clause-node

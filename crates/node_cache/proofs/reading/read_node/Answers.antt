@@ -1,7 +1,7 @@
 use Rattle.std.proofs.Common.{◌≡◌, ◌∙◌, List, ℕ, length, sym, subst, rules}
 use Rattle.media_sys.specs.SystemNode.{IsSystemNode, index}
-use Rattle.index_cache.proofs.Placed.{read_bytes, written_back}
-use Rattle.index_cache.proofs.reading.read_node.Goals as goal
+use Rattle.node_cache.specs.RowsOn.{read_bytes, written_back}
+use Rattle.node_cache.proofs.reading.read_node.Goals as goal
 
 pub returns-clause-said : goal.returns-clause-said
 returns-clause-said g c said h =

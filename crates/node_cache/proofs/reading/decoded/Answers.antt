@@ -1,7 +1,7 @@
 use Rattle.std.proofs.Common.{◌≡◌, arith}
 use Rattle.media_sys.specs.Index.{index_of}
 use Rattle.media_sys.specs.SystemNode.{index}
-use Rattle.index_cache.proofs.reading.decoded.Goals as goal
+use Rattle.node_cache.proofs.reading.decoded.Goals as goal
 
 pub returns-in-Some-clause-said : goal.returns-in-Some-clause-said
 returns-in-Some-clause-said c sqnum group said h =

@@ -1,0 +1,5 @@
+pub mod Loaded
+pub mod RowsOn
+pub mod Kept
+pub mod Branches
+pub mod FirstAt
