@@ -10,4 +10,6 @@ pub mod Naming
 pub mod PartLines
 pub mod ScriptLines
 pub mod OneReading
+pub mod Made
+pub mod MadeLines
 pub mod ScriptLaws

@@ -17,7 +17,7 @@ same_fields a b l u m f =
     ∙ ap (λ (x : ℕ). made b.leb_size b.min_io x a.fanout) m ∙ ap (λ (x : ℕ). made b.leb_size b.min_io b.main x) f
 
 -- a text begins with one geometry's line, and has one rest
-volume_once : (a b : Manifest) (x y : List ℕ) → HasRange a → HasRange b → volume_line a ++ x ≡ volume_line b ++ y → (a ≡ b) × (x ≡ y)
+pub volume_once : (a b : Manifest) (x y : List ℕ) → HasRange a → HasRange b → volume_line a ++ x ≡ volume_line b ++ y → (a ≡ b) × (x ≡ y)
 volume_once a b x y ra rb e =
     let p0 = append_cancel_left (codes "volume ") (leb_size_bytes a x) (leb_size_bytes b y) (sym (volume_bytes a x) ∙ e ∙ volume_bytes b y) in
     let p1 = number_cut 32 a.leb_size b.leb_size (min_io_bytes a x) (min_io_bytes b y) (omega arith) (omega arith) (omega arith) p0 in

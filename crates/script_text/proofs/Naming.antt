@@ -26,6 +26,7 @@ known name =
     if pointwise eqb name (codes "close") then Some verbs.Close else
     if pointwise eqb name (codes "read") then Some verbs.Read else
     if pointwise eqb name (codes "write") then Some verbs.Write else
+    if pointwise eqb name (codes "truncate") then Some verbs.Truncate else
     if pointwise eqb name (codes "fsync") then Some verbs.Fsync else
     if pointwise eqb name (codes "list") then Some verbs.List else
     if pointwise eqb name (codes "stat") then Some verbs.Stat else
@@ -46,13 +47,13 @@ op_verb (OpenFile path slot) = Some verbs.Open
 op_verb (Close slot) = Some verbs.Close
 op_verb (Read slot offs len) = Some verbs.Read
 op_verb (Write slot offs len byte) = Some verbs.Write
+op_verb (Truncate slot size) = Some verbs.Truncate
 op_verb (Fsync slot) = Some verbs.Fsync
 op_verb (Listing path) = Some verbs.List
 op_verb (Stat path) = Some verbs.Stat
 op_verb (Readlink path) = Some verbs.Readlink
 op_verb (Chmod path mode) = Some verbs.Chmod
 op_verb Flush = None
-op_verb (Truncate slot size) = None
 
 known_verb : (verb : Verb) → known (verb_name verb) ≡ Some verb
 known_verb verbs.Create = refl
@@ -66,6 +67,7 @@ known_verb verbs.Open = refl
 known_verb verbs.Close = refl
 known_verb verbs.Read = refl
 known_verb verbs.Write = refl
+known_verb verbs.Truncate = refl
 known_verb verbs.Fsync = refl
 known_verb verbs.List = refl
 known_verb verbs.Stat = refl
@@ -129,13 +131,13 @@ verb_there (OpenFile path slot) rest some h = (verbs.Open, refl)
 verb_there (Close slot) rest some h = (verbs.Close, refl)
 verb_there (Read slot offs len) rest some h = (verbs.Read, refl)
 verb_there (Write slot offs len byte) rest some h = (verbs.Write, refl)
+verb_there (Truncate slot size) rest some h = (verbs.Truncate, refl)
 verb_there (Fsync slot) rest some h = (verbs.Fsync, refl)
 verb_there (Listing path) rest some h = (verbs.List, refl)
 verb_there (Stat path) rest some h = (verbs.Stat, refl)
 verb_there (Readlink path) rest some h = (verbs.Readlink, refl)
 verb_there (Chmod path mode) rest some h = (verbs.Chmod, refl)
 verb_there Flush rest some h = absurd (some refl)
-verb_there (Truncate slot size) rest some h = absurd h
 
 pub create_none : (text : List ℕ) → ((path : List ℕ) (mode : ℕ) → AreWords (Path path ∷ Mode mode ∷ []) text → ⊥) → (op : Op) → op_verb op ≡ Some verbs.Create → AreWords (op_words op) text → ⊥
 create_none text none (Create path mode) e h = none path mode h
@@ -168,6 +170,10 @@ read_none text none op e h = absurd cc
 pub write_none : (text : List ℕ) → ((slot : ℕ) (offs : ℕ) (len : ℕ) (byte : ℕ) → AreWords (Number 8 slot ∷ Number 64 offs ∷ Number 32 len ∷ Number 8 byte ∷ []) text → ⊥) → (op : Op) → op_verb op ≡ Some verbs.Write → AreWords (op_words op) text → ⊥
 write_none text none (Write slot offs len byte) e h = none slot offs len byte h
 write_none text none op e h = absurd cc
+
+pub truncate_none : (text : List ℕ) → ((slot : ℕ) (size : ℕ) → AreWords (Number 8 slot ∷ Number 64 size ∷ []) text → ⊥) → (op : Op) → op_verb op ≡ Some verbs.Truncate → AreWords (op_words op) text → ⊥
+truncate_none text none (Truncate slot size) e h = none slot size h
+truncate_none text none op e h = absurd cc
 
 pub chmod_none : (text : List ℕ) → ((path : List ℕ) (mode : ℕ) → AreWords (Path path ∷ Mode mode ∷ []) text → ⊥) → (op : Op) → op_verb op ≡ Some verbs.Chmod → AreWords (op_words op) text → ⊥
 chmod_none text none (Chmod path mode) e h = none path mode h

@@ -2,7 +2,7 @@
 use Rattle.std.proofs.Common.{◌≡◌, ℕ, List, [], ◌∷◌, Some, arith, sym, refl, ap, subst, ◌∙◌, inl, inr}
 use Rattle.std.proofs.lemmas.Fmt.{decimal_injective}
 use Rattle.fs_model.specs.declared.op.Op.{Op}
-use Rattle.fs_model.specs.declared.op.Op.TheVariants.{Create, Mkdir, Symlink, Link, Unlink, Rmdir, Rename, OpenFile, Close, Read, Write, Fsync, Flush, List as Listing, Stat, Readlink, Chmod}
+use Rattle.fs_model.specs.declared.op.Op.TheVariants.{Create, Mkdir, Symlink, Link, Unlink, Rmdir, Rename, OpenFile, Close, Read, Write, Truncate, Fsync, Flush, List as Listing, Stat, Readlink, Chmod}
 use Rattle.script_text.specs.declared.verb.Verb.{Verb}
 use Rattle.script_text.specs.Script.{op_name, op_words}
 use Rattle.script_text.specs.Words.{BeginsWithByte, IsSpelled, Word, Fixed, Number, Mode, Path, Target, IsWord, AreWords}
@@ -24,7 +24,7 @@ spelled_once (x ∷ xs) (y ∷ ys) word h k =
     ap (λ (z : ℕ). z ∷ xs) once.0 ∙ ap (λ (zs : List ℕ). y ∷ zs) rest
 
 -- words of one kind
-abbrev Alike : Word → Word → Type 0
+abbrev pub Alike : Word → Word → Type 0
 Alike (Fixed a) (Fixed b) = Unit {0}
 Alike (Number bits m) (Number more n) = bits ≡ more
 Alike (Mode m) (Mode n) = Unit {0}
@@ -32,7 +32,7 @@ Alike (Path x) (Path y) = Unit {0}
 Alike (Target x) (Target y) = Unit {0}
 Alike w v = ⊥
 
-abbrev AllAlike : List Word → List Word → Type 0
+abbrev pub AllAlike : List Word → List Word → Type 0
 AllAlike [] [] = Unit {0}
 AllAlike (w ∷ ws) (v ∷ vs) = Alike w v × AllAlike ws vs
 AllAlike ws vs = ⊥
@@ -72,6 +72,7 @@ same_verb (OpenFile p t) (OpenFile px tx) verb e d = ((tt, (refl, tt)), λ w. cc
 same_verb (Close p) (Close px) verb e d = ((refl, tt), λ w. cc)
 same_verb (Read p t l) (Read px tx lx) verb e d = ((refl, (refl, (refl, tt))), λ w. cc)
 same_verb (Write p t l b) (Write px tx lx bx) verb e d = ((refl, (refl, (refl, (refl, tt)))), λ w. cc)
+same_verb (Truncate p t) (Truncate px tx) verb e d = ((refl, (refl, tt)), λ w. cc)
 same_verb (Fsync p) (Fsync px) verb e d = ((refl, tt), λ w. cc)
 same_verb (Listing p) (Listing px) verb e d = ((tt, tt), λ w. cc)
 same_verb (Stat p) (Stat px) verb e d = ((tt, tt), λ w. cc)

@@ -35,7 +35,7 @@ reads_push ps p text rest line more h d k = (
 pub front_line : (front rest line more after : List ℕ) → Lacks 10 front → rest ≡ line ++ (10 ∷ more) → Lacks 10 line → rest ≡ ended front ++ after → line ≡ front
 front_line front rest line more after one e short d = (cut_once 10 line more front after short one (sym e ∙ (d ∙ append_assoc front (10 ∷ []) after))).0
 
-no_line : (front rest after : List ℕ) → Lacks 10 rest → rest ≡ ended front ++ after → ⊥
+pub no_line : (front rest after : List ℕ) → Lacks 10 rest → rest ≡ ended front ++ after → ⊥
 no_line front rest after short d = not_cut 10 rest front after short (d ∙ append_assoc front (10 ∷ []) after)
 
 pub end_lacks : Lacks 10 (codes "end")

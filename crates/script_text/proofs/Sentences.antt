@@ -9,7 +9,7 @@ use Rattle.std.proofs.lemmas.Bool.Decides.{nat_tests}
 use Rattle.std.proofs.lemmas.Str.Parse.{IsNumeralModel, numerals_by_value, tells_digits}
 use Rattle.std.proofs.lemmas.Fmt.{digits_decimal}
 use Rattle.script_text.specs.Escapes.{hex_digit}
-use Rattle.script_text.specs.Words.{Lacks, BeginsWithByte, IsSpelled, is_octal_digit, Word, Fixed, Number, Mode, Path, Target, NoWord, IsWord, AreWords}
+use Rattle.script_text.specs.Words.{Lacks, BeginsWithByte, IsSpelled, is_octal_digit, Word, Fixed, Number, Mode, Path, Target, IsWord, AreWords}
 use Rattle.script_text.proofs.Cutting.{lacks_append, cut_once, not_cut}
 
 -- each byte stands behind the blanks of ASCII
@@ -59,7 +59,6 @@ Bare (Number bits n) = 2 ^ bits ≤ 2 ^ 64
 Bare (Mode mode) = Unit {0}
 Bare (Path path) = Unit {0}
 Bare (Target target) = Unit {0}
-Bare NoWord = Unit {0}
 
 abbrev pub AllBare : List Word → Type 0
 AllBare [] = Unit {0}
@@ -71,7 +70,6 @@ tight_word (Number bits n) t b h = subst Tight (sym h.1) (tight_digits (decimal 
 tight_word (Mode mode) t b h = tight_octal t h.octal
 tight_word (Path path) t b h = tight_spelled path t h.0
 tight_word (Target target) t b h = tight_spelled target t h
-tight_word NoWord t b h = absurd h
 
 -- what stands before the first space is the first word
 pub split : (w v : Word) (ws : List Word) (text front rest : List ℕ) → Bare w → Lacks 32 front → text ≡ front ++ (32 ∷ rest) → AreWords (w ∷ v ∷ ws) text

@@ -9,7 +9,7 @@ use Rattle.script_text.specs.declared.part.Part.TheVariants.{Mount, Unmount, Now
 use Rattle.script_text.specs.declared.fault.TextFault.{TextFault}
 use Rattle.script_text.specs.declared.fault.TextFault.TheVariants.{Memory, Line as FaultLine}
 use Rattle.text_lines.specs.Lines.{ended}
-use Rattle.script_text.specs.Words.{Word, Fixed, Number, Mode, Path, Target, NoWord, AreWords}
+use Rattle.script_text.specs.Words.{Word, Fixed, Number, Mode, Path, Target, AreWords}
 
 -- the word for an operation
 abbrev pub op_name : Op → List ℕ
@@ -32,7 +32,7 @@ op_name (Stat path) = codes "stat"
 op_name (Readlink path) = codes "readlink"
 op_name (Chmod path mode) = codes "chmod"
 
--- the words behind it; no words spell a truncation
+-- the words behind it
 abbrev pub op_words : Op → List Word
 op_words (Create path mode) = Path path ∷ Mode mode ∷ []
 op_words (Mkdir path mode) = Path path ∷ Mode mode ∷ []
@@ -45,7 +45,7 @@ op_words (OpenFile path slot) = Path path ∷ Number 8 slot ∷ []
 op_words (Close slot) = Number 8 slot ∷ []
 op_words (Read slot offs len) = Number 8 slot ∷ Number 64 offs ∷ Number 32 len ∷ []
 op_words (Write slot offs len byte) = Number 8 slot ∷ Number 64 offs ∷ Number 32 len ∷ Number 8 byte ∷ []
-op_words (Truncate slot size) = NoWord ∷ []
+op_words (Truncate slot size) = Number 8 slot ∷ Number 64 size ∷ []
 op_words (Fsync slot) = Number 8 slot ∷ []
 op_words Flush = []
 op_words (Listing path) = Path path ∷ []

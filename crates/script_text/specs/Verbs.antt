@@ -2,7 +2,7 @@
 use Rattle.std.specs.Prelude.{ℕ, ◌≡◌, Bool, true, false, List, codes}
 use Rattle.fs_model.specs.declared.op.Op.{Op}
 use Rattle.script_text.specs.declared.verb.Verb.{Verb}
-use Rattle.script_text.specs.declared.verb.Verb.TheVariants.{Create, Mkdir, Symlink, Link, Unlink, Rmdir, Rename, Open, Close, Read, Write, Fsync, List as Listing, Stat, Readlink, Chmod}
+use Rattle.script_text.specs.declared.verb.Verb.TheVariants.{Create, Mkdir, Symlink, Link, Unlink, Rmdir, Rename, Open, Close, Read, Write, Truncate, Fsync, List as Listing, Stat, Readlink, Chmod}
 use Rattle.script_text.specs.Script.{op_name, op_words}
 use Rattle.script_text.specs.Words.{AreWords}
 
@@ -19,6 +19,7 @@ verb_name Open = codes "open"
 verb_name Close = codes "close"
 verb_name Read = codes "read"
 verb_name Write = codes "write"
+verb_name Truncate = codes "truncate"
 verb_name Fsync = codes "fsync"
 verb_name Listing = codes "list"
 verb_name Stat = codes "stat"

@@ -47,14 +47,13 @@ pub record IsMode (word : List ℕ) (mode : ℕ) : Type 0 where
   pub octal : list_all is_octal_digit word ≡ true
   pub value : octal_number 0 word ≡ mode
 
--- a word of the grammar, with what it says: a fixed word, a number below a power of 2, a mode, a path or a target. No word stands where none is.
+-- a word of the grammar, with what it says: a fixed word, a number below a power of 2, a mode, a path or a target
 pub data Word : Type 0 where
   Fixed : List ℕ → Word
   Number : ℕ → ℕ → Word
   Mode : ℕ → Word
   Path : List ℕ → Word
   Target : List ℕ → Word
-  NoWord : Word
 
 -- the text is such a word
 abbrev pub IsWord : Word → List ℕ → Type 0
@@ -63,7 +62,6 @@ IsWord (Number bits n) word = (n < 2 ^ bits) × (word ≡ decimal n)
 IsWord (Mode mode) word = IsMode word mode
 IsWord (Path path) word = IsSpelled word path × (is_rooted path ≡ true)
 IsWord (Target target) word = IsSpelled word target
-IsWord NoWord word = ⊥
 
 -- the text is such words, with one space between them
 abbrev pub AreWords : List Word → List ℕ → Type 0

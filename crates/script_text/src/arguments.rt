@@ -86,6 +86,17 @@ pub fn slot_word(word: &[u8]) -> Option<u8>
     Some(slot as u8)
 }
 
+/// A slot and a size.
+pub fn slot_and_size(words: &[u8]) -> Option<(u8, u64)>
+    ensures found { IfSome result (λ parts. AreWords (Number 8 parts.0 ∷ Number 64 parts.1 ∷ []) words.now) }
+    ensures none { IfNone result ((slot size : ℕ) → AreWords (Number 8 slot ∷ Number 64 size ∷ []) words.now → ⊥) }
+{
+    let (first, rest) = cut(words, b' ')?;
+    let slot = slot_word(first)?;
+    let size = number(rest, u64::MAX)?;
+    Some((slot, size))
+}
+
 /// A slot, an offset and a length.
 pub fn read_words(words: &[u8]) -> Option<(u8, u64, u32)>
     ensures found { IfSome result (λ parts. AreWords (Number 8 parts.0 ∷ Number 64 parts.1 ∷ Number 32 parts.2 ∷ []) words.now) }
@@ -122,7 +133,7 @@ fn offset_and_length(words: &[u8]) -> Option<(u64, u32)>
 }
 
 /// A length and a byte.
-fn length_and_byte(words: &[u8]) -> Option<(u32, u8)>
+pub fn length_and_byte(words: &[u8]) -> Option<(u32, u8)>
     ensures found { IfSome result (λ parts. AreWords (Number 32 parts.0 ∷ Number 8 parts.1 ∷ []) words.now) }
     ensures none { IfNone result ((len byte : ℕ) → AreWords (Number 32 len ∷ Number 8 byte ∷ []) words.now → ⊥) }
 {

@@ -13,8 +13,10 @@ mod arguments;
 mod cut;
 mod fault;
 mod law;
+mod listed;
 mod listing;
 mod manifest;
+mod manifest_line;
 mod number;
 mod operations;
 mod part;
@@ -26,10 +28,12 @@ mod words;
 
 pub use crate::fault::TextFault;
 pub use crate::law::{
-    manifest_has_no_bad_line, one_bad_line, one_bad_manifest_line, one_manifest, one_script,
-    parts_are_in_range, script_has_no_bad_line,
+    manifest_has_no_bad_line, manifest_lines_are_given, one_bad_line, one_bad_manifest_line,
+    one_listing, one_manifest, one_script, parts_are_in_range, script_has_no_bad_line,
 };
+pub use crate::listed::{ListedManifest, list_manifest};
 pub use crate::manifest::{Manifest, read_manifest};
+pub use crate::manifest_line::ManifestLine;
 pub use crate::part::Part;
 pub use crate::reply::write_reply;
 pub use crate::script::{Script, read_script};

@@ -39,7 +39,7 @@ pub fn read_manifest(bytes: &[u8]) -> Result<Manifest, TextFault>
 }
 
 /// The geometry of the first line, and what stands behind that line.
-fn volume(bytes: &[u8]) -> Option<(Manifest, &[u8])>
+pub fn volume(bytes: &[u8]) -> Option<(Manifest, &[u8])>
     ensures found { IfSome result (λ parts. bytes.now ≡ volume_line parts.0 ++ parts.1.now) }
     ensures range { IfSome result (λ parts. HasRange parts.0) }
     ensures none { IfNone result ((m : Manifest) → (rest : List ℕ) → HasRange m → bytes.now ≡ volume_line m ++ rest → ⊥) }

@@ -8,7 +8,8 @@ ghost use Rattle.script_text.specs.Words.{AreWords, Fixed};
 ghost use Rattle.script_text.specs.declared.verb.Verb.{Verb};
 
 use crate::arguments::{
-    path_and_mode, path_and_slot, path_and_target, read_words, slot_word, two_paths, write_words,
+    path_and_mode, path_and_slot, path_and_target, read_words, slot_and_size, slot_word, two_paths,
+    write_words,
 };
 use crate::cut::cut;
 use crate::verb::{Verb, verb_of};
@@ -51,6 +52,7 @@ fn operation_of(alloc: Global, verb: Verb, words: &[u8]) -> Result<Option<Op>, A
         Verb::Close => Ok(close(words)),
         Verb::Read => Ok(read(words)),
         Verb::Write => Ok(write(words)),
+        Verb::Truncate => Ok(truncate(words)),
         Verb::Fsync => Ok(fsync(words)),
         Verb::List => list(alloc, words),
         Verb::Stat => stat(alloc, words),
@@ -166,6 +168,14 @@ fn write(words: &[u8]) -> Option<Op>
         len,
         byte,
     })
+}
+
+fn truncate(words: &[u8]) -> Option<Op>
+    ensures found { IfSome result (λ op. Says Verb.Truncate op words.now) }
+    ensures none { IfNone result ((op : Op) → Says Verb.Truncate op words.now → ⊥) }
+{
+    let (slot, size) = slot_and_size(words)?;
+    Some(Op::Truncate { slot, size })
 }
 
 fn fsync(words: &[u8]) -> Option<Op>

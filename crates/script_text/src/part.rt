@@ -23,7 +23,7 @@ pub enum Part {
 }
 
 /// The most bytes that a line has before its newline.
-const LENGTH: usize = 10_000;
+pub const LENGTH: usize = 10_000;
 
 /// The part that a line spells, where it may stand there. The line is without its newline.
 pub fn next_part(alloc: Global, mounted: bool, line: &[u8]) -> Result<Option<Part>, AllocError>

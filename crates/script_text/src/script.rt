@@ -15,7 +15,7 @@ pub struct Script {
 }
 
 /// The most lines that a script has.
-const LINES: u64 = 100_000;
+pub const LINES: u64 = 100_000;
 
 /// Reads a script of one caller: lines of words with one space between them, in 100,000 lines at most, each of 10,000
 /// bytes at most before its newline. The lines are `mount`, `unmount` and `now N`; `1 OP`, with the operation a word and

@@ -18,6 +18,7 @@ pub enum Verb {
     Close,
     Read,
     Write,
+    Truncate,
     Fsync,
     List,
     Stat,
@@ -44,6 +45,9 @@ pub fn verb_of(name: &[u8]) -> Option<Verb>
     }
     if name == b"write".as_slice() {
         return Some(Verb::Write);
+    }
+    if name == b"truncate".as_slice() {
+        return Some(Verb::Truncate);
     }
     if name == b"fsync".as_slice() {
         return Some(Verb::Fsync);

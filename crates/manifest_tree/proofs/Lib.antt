@@ -1,0 +1,5 @@
+pub mod Walking
+pub mod Placing
+pub mod Groups
+pub mod Pages
+pub mod Lines

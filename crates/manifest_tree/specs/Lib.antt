@@ -1,0 +1,2 @@
+pub mod ManifestTree
+pub mod Places
