@@ -1,5 +1,5 @@
 -- From a fresh volume to a whole image.
-use Rattle.std.proofs.Common.{◌≡◌, ℕ, ◌+◌, ◌-◌, ◌*◌, ◌^◌, ◌<◌, ◌≤◌, List, [], length, ap, arith}
+use Rattle.std.proofs.Common.{◌≡◌, ℕ, ◌+◌, ◌-◌, ◌*◌, ◌^◌, ◌<◌, ◌≤◌, List, [], ◌∷◌, ◌++◌, length, sym, ap, ◌∙◌, arith}
 use Rattle.ubifs_base.specs.declared.raw_geometry.RawGeometry.{RawGeometry}
 use Rattle.ubifs_base.specs.Areas.{main_first, main_lebs}
 use Rattle.ubifs_base.specs.Geometry.{IsGeometry, leb_reserve}
@@ -9,7 +9,9 @@ use Rattle.fs_model.specs.Cover.{tree_bytes}
 use Rattle.fs_model.specs.Files.{Tree}
 use Rattle.fs_model.specs.Proper.{IsProper}
 use Rattle.image_maker.specs.declared.open_leb.OpenLeb.{OpenLeb}
+use Rattle.std.proofs.lemmas.List.{append-nil}
 use Rattle.image_maker.specs.Image.{shape_of}
+use Rattle.image_maker.specs.Packed.{packed_leaves}
 use Rattle.image_maker.specs.Places.{AreLaid, IsWrittenLeaf, numbered_leaves}
 use Rattle.image_maker.specs.declared.laid_leaves.LaidLeaves.{LaidLeaves}
 use Rattle.std.specs.List.{AllByRecursion}
@@ -18,6 +20,7 @@ use Rattle.image_maker.specs.Leaves.{live_leaves}
 use Rattle.image_maker.proofs.LayingLemmas.{AreLaid-close}
 use Rattle.image_maker.proofs.Grammar.{all_leaves, are_written}
 use Rattle.image_maker.proofs.Room.{HasRoom, IsLaid-new, length-le-sum_by, small}
+use Rattle.image_maker.proofs.Packing.{packed_none}
 use Rattle.image_maker.proofs.Ready.{done_room}
 use Rattle.image_maker.proofs.TreeNodes.{live_leaves-are, sum_by-live_leaves, some_leaf}
 
@@ -81,11 +84,22 @@ last_room raw tree before after was state geo ready l =
 pub last_some : (raw : RawGeometry) (tree : Tree) (before after : OpenLeb) (was state : VolumeState) → IsProper tree → Lays raw (live_leaves tree) before was after state → 0 < length after.bytes.items
 last_some raw tree before after was state proper l = let some = some_leaf tree proper in l.some (omega (arith, some))
 
+-- LEBs took leaves as long as they fit
+all_packed : (raw : RawGeometry) (tree : Tree) (before after : OpenLeb) (was state : VolumeState) → IsNew raw before → Lays raw (live_leaves tree) before was after state
+    → after.used.items ++ length after.bytes.items ∷ [] ≡ packed_leaves raw.leb_size 0 (live_leaves tree)
+all_packed raw tree before after was state first l =
+    let empty : length before.bytes.items ≡ 0 = ap length first.bytes in
+    ap (λ xs. after.used.items ++ xs) (sym (packed_none raw.leb_size (length after.bytes.items)))
+    ∙ l.packed []
+    ∙ ap (λ xs. xs ++ packed_leaves raw.leb_size (length before.bytes.items) (live_leaves tree ++ [])) first.used
+    ∙ ap (λ (n : ℕ). packed_leaves raw.leb_size n (live_leaves tree ++ [])) empty
+    ∙ ap (packed_leaves raw.leb_size 0) (append-nil (live_leaves tree))
+
 -- and all is laid
 pub last_closed : (raw : RawGeometry) (tree : Tree) (before after closed : OpenLeb) (was state : VolumeState) (new : ℕ → List ℕ) (laid : LaidLeaves) → IsGeometry raw → IsProper tree
     → tree_bytes tree ≤ (main_lebs raw - 6) * (raw.leb_size - leb_reserve raw) → IsBlank (shape_of raw) was → IsNew raw before → after.lnum + 6 ≤ raw.leb_cnt
     → laid.leaves.items ≡ closed.leaves.items → laid.used.items ≡ closed.used.items → laid.sqnum ≡ closed.sqnum
     → Lays raw (live_leaves tree) before was after state → IsClosed raw after closed state.holds new → AreLaid raw (live_leaves tree) new laid
 last_closed raw tree before after closed was state new laid geo proper fits blank first room leaves used sqnum l closing =
-    AreLaid-close raw (live_leaves tree) after closed state.holds new laid room (last_some raw tree before after was state proper l) l.fits (nodes_written raw tree geo proper fits) (few_leaves raw tree geo proper fits) leaves used sqnum closing
+    AreLaid-close raw (live_leaves tree) after closed state.holds new laid room (last_some raw tree before after was state proper l) l.fits (nodes_written raw tree geo proper fits) (few_leaves raw tree geo proper fits) leaves used sqnum (all_packed raw tree before after was state first l) closing
     (l.laid [] (fresh_laid raw before was geo blank first))

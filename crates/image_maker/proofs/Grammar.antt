@@ -35,7 +35,7 @@ low_type (block node) = omega arith
 low_type (entry node) = low_entry node
 low_type (truncation node) = omega arith
 
-short : (leaf : LeafNode) → IsLeaf leaf → leaf_len leaf ≤ 4256
+pub short : (leaf : LeafNode) → IsLeaf leaf → leaf_len leaf ≤ 4256
 short (inode node) h = let most = h.most in omega (arith, most)
 short (block node) h = let most = h.most in omega (arith, most)
 short (entry node) h = let most = h.most in omega (arith, most)

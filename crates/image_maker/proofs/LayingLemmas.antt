@@ -20,6 +20,7 @@ use Rattle.image_maker.specs.declared.laid_leaves.LaidLeaves.{LaidLeaves}
 use Rattle.image_maker.specs.declared.open_leb.OpenLeb.{OpenLeb}
 use Rattle.image_maker.specs.Image.{leb_text, to_unit, AreHeld, IsImage}
 use Rattle.image_maker.specs.Laying.{TakesLeaf, IsLaid, IsClosed}
+use Rattle.image_maker.specs.Packed.{packed_leaves}
 use Rattle.image_maker.specs.Places.{AreLaid, IsWrittenLeaf, numbered_leaves, numbered_text, placed_leaf, placed_rows, row_bytes}
 use Rattle.image_maker.proofs.Rows.{all-row, flat_texts, length_texts, numbered-append, placed-next, placed-none, texts_are}
 use Rattle.change_nodes.specs.Texts.{leaf_bytes, leaf_text}
@@ -158,10 +159,11 @@ pub AreLaid-close : (raw : RawGeometry) (leaves : List LeafNode) (before after :
     → laid.leaves.items ≡ after.leaves.items
     → laid.used.items ≡ after.used.items
     → laid.sqnum ≡ after.sqnum
+    → before.used.items ++ length before.bytes.items ∷ [] ≡ packed_leaves raw.leb_size 0 leaves
     → IsClosed raw before after old new
     → IsLaid raw leaves before old
     → AreLaid raw leaves new laid
-AreLaid-close raw leaves before after old new laid inside some most nodes few places used sqnum closed h =
+AreLaid-close raw leaves before after old new laid inside some most nodes few places used sqnum packs closed h =
     let more : length (h.rows ++ h.last ∷ []) ≡ length h.rows + 1 = length-append h.rows (h.last ∷ []) in
     let place = h.place in
     let bytes = buffer_bytes raw leaves before old h in
@@ -173,6 +175,7 @@ AreLaid-close raw leaves before after old new laid inside some most nodes few pl
       nodes = nodes;
       leaves_are = places ∙ closed.leaves ∙ h.leaves_are;
       used = used ∙ used-close raw leaves before after old new h closed;
+      packed = used ∙ closed.used ∙ packs;
       sqnum = sqnum ∙ closed.sqnum ∙ h.number;
       few = few;
       room = omega (arith, more, place, inside);

@@ -2,6 +2,8 @@ pub mod Fresh
 pub mod Grammar
 pub mod Units
 pub mod LayingLemmas
+pub mod LeafCounts
+pub mod Packing
 pub mod Ready
 pub mod Room
 pub mod Rows

@@ -1,5 +1,5 @@
 -- Leaves that can be laid next, and what was laid behind one another.
-use Rattle.std.proofs.Common.{◌≡◌, ◌<◌, List, [], ◌∷◌, ◌++◌, length, sym, ◌∙◌, ap, subst, arith, append_assoc, length-append, inl, inr}
+use Rattle.std.proofs.Common.{◌≡◌, ◌<◌, List, [], ◌∷◌, ◌++◌, length, refl, sym, ◌∙◌, ap, subst, arith, append_assoc, length-append, inl, inr}
 use Rattle.std.specs.List.{AllByRecursion}
 use Rattle.std.proofs.lemmas.List.{append-nil}
 use Rattle.std.proofs.lemmas.Bool.{cases_lt}
@@ -11,6 +11,7 @@ use Rattle.media_leaf.specs.LeafNode.{LeafNode, IsLeaf}
 use Rattle.change_nodes.specs.Texts.{leaf_bytes}
 use Rattle.image_maker.specs.declared.open_leb.OpenLeb.{OpenLeb}
 use Rattle.image_maker.specs.Laying.{IsLaid, IsReady, Lays, IsUnderWay}
+use Rattle.image_maker.specs.Packed.{packed_after}
 use Rattle.image_maker.proofs.Room.{HasRoom, room}
 
 all_front : (xs ys : List LeafNode) → AllByRecursion IsLeaf (xs ++ ys) → AllByRecursion IsLeaf xs
@@ -71,6 +72,7 @@ pub lays_none : (raw : RawGeometry) (next : List LeafNode) (open_leb : OpenLeb) 
 lays_none raw next open_leb state r =
     record {
       laid = λ done h. subst (λ leaves. IsLaid raw leaves open_leb state.holds) (sym (append-nil done)) h;
+      packed = λ leaves. refl;
       some = λ h. omega (arith, h);
       fits = r.fits;
       geometry = r.geometry;
@@ -81,6 +83,7 @@ pub lays_more : (raw : RawGeometry) (first more : List LeafNode) (a b c : OpenLe
 lays_more raw first more a b c p q r l m =
     record {
       laid = λ done h. subst (λ leaves. IsLaid raw leaves c r.holds) (append_assoc done first more) (m.laid (done ++ first) (l.laid done h));
+      packed = λ leaves. m.packed leaves ∙ l.packed (more ++ leaves) ∙ ap (packed_after raw a) (sym (append_assoc first more leaves));
       some = λ h. elim (cases_lt 0 (length more)) [
         | inl last ↦ m.some (omega (arith, last))
         | inr none ↦

@@ -103,32 +103,32 @@ sum_by-entry_leaves (e ∷ entries) =
 abbrev Rows : Type 0
 Rows = List ((ℕ × List ℕ) × Entry)
 
-sum_by-insert : (rows : Rows) (k : ℕ × List ℕ) (e : Entry) → sum_by entry_bytes (values_of (insert_entry name_cmp rows k e)) ≤ sum_by entry_bytes (values_of rows) + entry_bytes e
-sum_by-insert [] k e = let one = sum_by-cons entry_bytes e [] in omega (arith, one)
-sum_by-insert (r ∷ rows) k e = by (sum_by-insert rows k e) (name_cmp k r.0)
+sum_by-insert : (w : Entry → ℕ) (rows : Rows) (k : ℕ × List ℕ) (e : Entry) → sum_by w (values_of (insert_entry name_cmp rows k e)) ≤ sum_by w (values_of rows) + w e
+sum_by-insert w [] k e = let one = sum_by-cons w e [] in omega (arith, one)
+sum_by-insert w (r ∷ rows) k e = by (sum_by-insert w rows k e) (name_cmp k r.0)
   where
-    by : sum_by entry_bytes (values_of (insert_entry name_cmp rows k e)) ≤ sum_by entry_bytes (values_of rows) + entry_bytes e → (o : Ordering) → sum_by entry_bytes (values_of (match_ordering o ((k, e) ∷ r ∷ rows) ((r.0, e) ∷ rows) (r ∷ insert_entry name_cmp rows k e))) ≤ sum_by entry_bytes (values_of (r ∷ rows)) + entry_bytes e
-    by more Less = let new = sum_by-cons entry_bytes e (values_of (r ∷ rows)) in omega (arith, new)
+    by : sum_by w (values_of (insert_entry name_cmp rows k e)) ≤ sum_by w (values_of rows) + w e → (o : Ordering) → sum_by w (values_of (match_ordering o ((k, e) ∷ r ∷ rows) ((r.0, e) ∷ rows) (r ∷ insert_entry name_cmp rows k e))) ≤ sum_by w (values_of (r ∷ rows)) + w e
+    by more Less = let new = sum_by-cons w e (values_of (r ∷ rows)) in omega (arith, new)
     by more Equal =
-        let new = sum_by-cons entry_bytes e (values_of rows) in
-        let old = sum_by-cons entry_bytes r.1 (values_of rows) in
+        let new = sum_by-cons w e (values_of rows) in
+        let old = sum_by-cons w r.1 (values_of rows) in
         omega (arith, new, old)
     by more Greater =
-        let new = sum_by-cons entry_bytes r.1 (values_of (insert_entry name_cmp rows k e)) in
-        let old = sum_by-cons entry_bytes r.1 (values_of rows) in
+        let new = sum_by-cons w r.1 (values_of (insert_entry name_cmp rows k e)) in
+        let old = sum_by-cons w r.1 (values_of rows) in
         omega (arith, more, new, old)
 
-sum_by-sorted : (rows : Rows) (entries : List Entry) → sum_by entry_bytes (values_of (fold (λ sorted e. insert_entry name_cmp sorted (r5_of e.name, e.name) e) rows entries)) ≤ sum_by entry_bytes (values_of rows) + sum_by entry_bytes entries
-sum_by-sorted rows [] = omega arith
-sum_by-sorted rows (e ∷ entries) =
-    let more = sum_by-sorted (insert_entry name_cmp rows (r5_of e.name, e.name) e) entries in
-    let here = sum_by-insert rows (r5_of e.name, e.name) e in
-    let sum = sum_by-cons entry_bytes e entries in
+sum_by-sorted : (w : Entry → ℕ) (rows : Rows) (entries : List Entry) → sum_by w (values_of (fold (λ sorted e. insert_entry name_cmp sorted (r5_of e.name, e.name) e) rows entries)) ≤ sum_by w (values_of rows) + sum_by w entries
+sum_by-sorted w rows [] = omega arith
+sum_by-sorted w rows (e ∷ entries) =
+    let more = sum_by-sorted w (insert_entry name_cmp rows (r5_of e.name, e.name) e) entries in
+    let here = sum_by-insert w rows (r5_of e.name, e.name) e in
+    let sum = sum_by-cons w e entries in
     omega (arith, more, here, sum)
 
 -- sorted by hash they are no more
-pub sum_by-by_hash : (entries : List Entry) → sum_by entry_bytes (by_hash entries) ≤ sum_by entry_bytes entries
-sum_by-by_hash entries = let all = sum_by-sorted [] entries in omega (arith, all)
+pub sum_by-by_hash : (w : Entry → ℕ) (entries : List Entry) → sum_by w (by_hash entries) ≤ sum_by w entries
+sum_by-by_hash w entries = let all = sum_by-sorted w [] entries in omega (arith, all)
 
 -- each entry takes bytes
 pub count_le-sum_by : (entries : List Entry) → count_by (λ e. is_dir e.kind) entries ≤ sum_by entry_bytes entries

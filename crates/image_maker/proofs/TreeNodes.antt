@@ -28,11 +28,11 @@ use Rattle.image_maker.specs.Leaves.{stored_size, inode_leaf, block_leaf, entry_
 use Rattle.image_maker.proofs.Grammar.{CanBeWritten, block_written, entry_written, inode_written, nlink_fits, size_fits}
 use Rattle.image_maker.proofs.Sums.{count_le-sum_by, part, part_le, part_step, block_weight, sum_by-block_leaves, sum_by-blocks, sum_by-entry_leaves, sum_by-by_hash}
 
-and_first : (a b : Bool) → IsTrue (a && b) → IsTrue a
+pub and_first : (a b : Bool) → IsTrue (a && b) → IsTrue a
 and_first true b h = refl
 and_first false b h = h
 
-and_second : (a b : Bool) → IsTrue (a && b) → IsTrue b
+pub and_second : (a b : Bool) → IsTrue (a && b) → IsTrue b
 and_second true b h = h
 and_second false b h = absurd cc
 
@@ -134,7 +134,7 @@ some_leaf tree p = by tree.inodes refl
     by (e ∷ inodes) is = omega arith
 
 -- ---- bytes
-less_of : (a b : ℕ) → is_lt (nat_cmp a b) ≡ true → a < b
+pub less_of : (a b : ℕ) → is_lt (nat_cmp a b) ≡ true → a < b
 less_of a b h = grind (arith, nat_tests)
 
 abbrev entries_past : Tree → ℕ → ℕ
@@ -151,7 +151,7 @@ sum_of tree e =
     let two = sum_by-append leaf_bytes blocks entries in
     let b = sum_by-block_leaves (filter (λ stored. stored.0.0 == e.0) tree.blocks) in
     let n = sum_by-entry_leaves (by_hash (entries_in tree e.0)) in
-    let less = sum_by-by_hash (entries_in tree e.0) in
+    let less = sum_by-by_hash entry_bytes (entries_in tree e.0) in
     omega (arith, all, two, b, n, less)
 
 sum_from : (tree : Tree) (inodes : Inodes) (a : ℕ) → ascends nat_cmp (a ∷ keys_of inodes) ≡ true
@@ -170,7 +170,7 @@ sum_from tree (e ∷ inodes) a up =
 is_above : (n : ℕ) → 1 ≤ n → is_lt (nat_cmp 0 n) ≡ true
 is_above n h = grind (arith, nat_tests)
 
-from_zero : (inodes : Inodes) → IsTrue (list_all is_inode_node inodes) → ascends nat_cmp (keys_of inodes) ≡ true → ascends nat_cmp (0 ∷ keys_of inodes) ≡ true
+pub from_zero : (inodes : Inodes) → IsTrue (list_all is_inode_node inodes) → ascends nat_cmp (keys_of inodes) ≡ true → ascends nat_cmp (0 ∷ keys_of inodes) ≡ true
 from_zero [] h up = refl
 from_zero (e ∷ inodes) h up = let less : is_lt (nat_cmp 0 e.0) ≡ true = is_above e.0 (numbered e (and_first (is_inode_node e) (list_all is_inode_node inodes) h)) in ap (λ b. b && ascends nat_cmp (e.0 ∷ keys_of inodes)) less ∙ up
 

@@ -12,6 +12,7 @@ use Rattle.fs_model.specs.declared.inode.Entry.{Entry}
 use Rattle.fs_model.specs.Directory.{entries_in}
 use Rattle.fs_model.specs.Files.{Tree, Inodes}
 use Rattle.image_maker.specs.Image.{to_unit, AreHeld}
+use Rattle.image_maker.specs.Packed.{packed_after}
 use Rattle.image_maker.specs.Places.{FitsLeb, numbered_leaves, numbered_text, placed_leaf, placed_rows, row_bytes}
 use Rattle.image_maker.specs.declared.open_leb.OpenLeb.{OpenLeb}
 
@@ -66,9 +67,10 @@ pub record IsReady (raw : RawGeometry) (next : List LeafNode) (open_leb : OpenLe
   pub fits : length open_leb.bytes.items ≤ raw.leb_size
   pub geometry : HasGeometry raw state
 
--- These leaves were laid behind those that were laid before; once there are any, the open LEB has some.
+-- These leaves were laid behind those that were laid before, and LEBs took them as long as they fit; once there are any, the open LEB has some.
 pub record Lays (raw : RawGeometry) (next : List LeafNode) (before : OpenLeb) (was : VolumeState) (after : OpenLeb) (state : VolumeState) : Type 0 where
   pub laid : (done : List LeafNode) → IsLaid raw done before was.holds → IsLaid raw (done ++ next) after state.holds
+  pub packed : (leaves : List LeafNode) → packed_after raw after leaves ≡ packed_after raw before (next ++ leaves)
   pub some : 0 < length before.bytes.items + length next → 0 < length after.bytes.items
   pub fits : length after.bytes.items ≤ raw.leb_size
   pub geometry : HasGeometry raw state

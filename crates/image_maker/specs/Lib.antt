@@ -1,4 +1,5 @@
 pub mod Leaves
 pub mod Image
+pub mod Packed
 pub mod Places
 pub mod Laying

@@ -7,6 +7,7 @@ use Rattle.media_leaf.specs.LeafNode.{LeafNode, IsLeafNode, written}
 use Rattle.leaf_map.specs.Kept.{Placed, kept_at}
 use Rattle.change_nodes.specs.Texts.{leaf_bytes, leaf_len, leaf_text}
 use Rattle.image_maker.specs.Image.{AreHeld}
+use Rattle.image_maker.specs.Packed.{packed_leaves}
 use Rattle.image_maker.specs.declared.laid_leaves.LaidLeaves.{LaidLeaves}
 
 -- leaves with their sequence numbers, which rise by one from this on
@@ -45,8 +46,8 @@ pub record FitsLeb (raw : RawGeometry) (row : List (ℕ × LeafNode)) : Type 0 w
 abbrev pub IsWrittenLeaf : ℕ × LeafNode → Type 0
 IsWrittenLeaf n = IsLeafNode (written n.0 0 n.1) n.0 0 n.1
 
--- The leaves, numbered from 1 on and divided in order into rows, stand in the first main LEBs. Answered are the leaf that each node is at its place, the bytes
--- that the row of each LEB takes, and the next number. At least five LEBs are left.
+-- The leaves, numbered from 1 on and divided in order into rows, stand in the first main LEBs, each of which took leaves as long as they fit. Answered are the leaf
+-- that each node is at its place, the bytes that the row of each LEB takes, and the next number. At least five LEBs are left.
 pub record AreLaid (raw : RawGeometry) (leaves : List LeafNode) (holds : ℕ → List ℕ) (laid : LaidLeaves) : Type 0 where
   pub rows : List (List (ℕ × LeafNode))
   pub all : flat_map (λ row. row) rows ≡ numbered_leaves 1 leaves
@@ -55,6 +56,7 @@ pub record AreLaid (raw : RawGeometry) (leaves : List LeafNode) (holds : ℕ →
   pub nodes : AllByRecursion IsWrittenLeaf (numbered_leaves 1 leaves)
   pub leaves_are : laid.leaves.items ≡ map (λ x. (kept_at x).leaf) (placed_rows (main_first raw) rows)
   pub used : laid.used.items ≡ map row_bytes rows
+  pub packed : laid.used.items ≡ packed_leaves raw.leb_size 0 leaves
   pub sqnum : laid.sqnum ≡ suc (length leaves)
   pub few : length leaves ≤ 2 ^ 30
   pub room : main_first raw + length rows + 5 ≤ raw.leb_cnt

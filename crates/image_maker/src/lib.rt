@@ -7,9 +7,11 @@
 #![tactic(auto)]
 
 mod laid_leaves;
+mod law;
 mod layout;
 mod open_leb;
 mod tree_leaves;
 
 pub use crate::laid_leaves::LaidLeaves;
+pub use crate::law::leaves_of_a_tree_are_few;
 pub use crate::layout::lay_tree;

@@ -8,6 +8,7 @@ ghost use Rattle.media_leaf.specs.LeafNode.{LeafNode, IsLeaf};
 ghost use Rattle.change_nodes.specs.Nodes.{node_of, HasPlainMode};
 ghost use Rattle.change_nodes.specs.Texts.{leaf_bytes, leaf_text};
 ghost use Rattle.image_maker.specs.Image.{to_unit, round_up};
+ghost use Rattle.image_maker.specs.Packed.{packed_after};
 ghost use Rattle.image_maker.specs.Laying.{HasGeometry, TakesLeaf, IsLaid, IsReady, Lays, IsClosed};
 
 use crate::tree_leaves::leaf_at;
@@ -80,6 +81,7 @@ impl OpenLeb {
         requires fits { length self.old.bytes.items ≤ geometry.now.leb_size }
         ensures laid { OnOk result ((leaves : List LeafNode) → IsLaid (raw_of geometry.now) leaves self.old (state_of volume.old).holds
             → IsLaid (raw_of geometry.now) (leaves ++ node_of leaf.now ∷ []) self.new (state_of volume.new).holds) }
+        ensures packed { OnOk result ((leaves : List LeafNode) → packed_after (raw_of geometry.now) self.new leaves ≡ packed_after (raw_of geometry.now) self.old (node_of leaf.now ∷ leaves)) }
         ensures some { OnOk result (0 < length self.new.bytes.items) }
         ensures fits { OnOk result (length self.new.bytes.items ≤ geometry.now.leb_size) }
         ensures geometry { HasGeometry (raw_of geometry.now) (state_of volume.new) }
@@ -103,6 +105,8 @@ impl OpenLeb {
         requires fits { length self.old.bytes.items ≤ geometry.now.leb_size }
         ensures laid { OnOk result ((leaves : List LeafNode) → IsLaid (raw_of geometry.now) leaves self.old (state_of volume.old).holds
             → IsLaid (raw_of geometry.now) leaves self.new (state_of volume.new).holds) }
+        ensures packed { OnOk result ((next : LeafNode) (leaves : List LeafNode) → leaf_bytes next ≡ len
+            → packed_after (raw_of geometry.now) self.new (next ∷ leaves) ≡ packed_after (raw_of geometry.now) self.old (next ∷ leaves)) }
         ensures sqnum { OnOk result (self.new.sqnum ≡ self.old.sqnum) }
         ensures fits { OnOk result (length self.new.bytes.items + len ≤ geometry.now.leb_size) }
         ensures geometry { HasGeometry (raw_of geometry.now) (state_of volume.new) }

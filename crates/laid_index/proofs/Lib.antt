@@ -7,5 +7,6 @@ mod Crowning
 mod Making
 mod Levels
 mod Counting
+mod Few
 mod Rising
 mod Indexing

@@ -7,10 +7,12 @@
 #![tactic(auto)]
 
 mod laid_index;
+mod law;
 mod laying;
 mod open_leb;
 mod packing;
 
 pub use laid_index::LaidIndex;
+pub use law::an_index_takes_few_lebs;
 pub use laying::lay_index;
 pub use packing::index_lebs;

@@ -1,10 +1,13 @@
 pub mod Counted
 pub mod Covered
+pub mod Covers
+pub mod FullIndexes
 pub mod Greatest
 pub mod Listing
 pub mod Opening
 pub mod Orders
 pub mod PlainGoing
+pub mod Promises
 pub mod Putting
 pub mod Seen
 pub mod SoFar

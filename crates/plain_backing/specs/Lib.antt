@@ -1,5 +1,7 @@
 pub mod BlockWalk
 pub mod Cells
+pub mod Covering
+pub mod FullIndex
 pub mod Orphans
 pub mod PlainBacking
 pub mod PlainBackingLaws

@@ -1,5 +1,5 @@
 -- A backing in memory: what there is to say of it, and the numbers that it keeps.
-use Rattle.std.specs.Prelude.{◌≡◌, ℕ, ◌+◌, ◌-◌, Bool, false, if◌then◌else◌, min, Some, None}
+use Rattle.std.specs.Prelude.{◌≡◌, ℕ, ◌+◌, ◌-◌, Bool, false, if◌then◌else◌, min, max, Some, None}
 use Rattle.ubifs_base.specs.declared.raw_geometry.RawGeometry.{RawGeometry}
 use Rattle.ubifs_base.specs.Areas.{main_lebs}
 use Rattle.ubifs_base.specs.RawOf.{raw_of}
@@ -16,6 +16,7 @@ use Rattle.fs_model.specs.Backing.{BackingState, Outlook}
 use Rattle.fs_model.specs.Cover.{tree_bytes}
 use Rattle.fs_model.specs.Files.{Tree}
 use Rattle.fs_model.specs.Journal.{Journal}
+use Rattle.plain_backing.specs.Covering.{IsCovering}
 use Rattle.plain_backing.specs.Story.{Story, medium_of, opened}
 
 -- nothing of an index is ever left to write
@@ -41,12 +42,16 @@ state_with geo tree n s = record {
 abbrev pub state_of : PlainBacking → BackingState
 state_of b = state_with (raw_of b.geo) b.tree b.numbers b.story.value
 
--- it is sure while no failing call is set, and never spent
-abbrev pub outlook_with : Numbers → Outlook
-outlook_with n = record { sure = n.strike ≡ 0; spent = ⊥; strike = Some n.strike }
+-- all that was promised has room
+abbrev pub Covers : BackingState → Type 0
+Covers state = IsCovering state.geometry state.tree state.space state.grant
+
+-- it is sure while no failing call is set and all that was promised has room, and never spent
+abbrev pub outlook_with : RawGeometry → Tree → Numbers → Story → Outlook
+outlook_with geo tree n s = record { sure = (n.strike ≡ 0) × Covers (state_with geo tree n s); spent = ⊥; strike = Some n.strike }
 
 abbrev pub outlook_of : PlainBacking → Outlook
-outlook_of b = outlook_with b.numbers
+outlook_of b = outlook_with (raw_of b.geo) b.tree b.numbers b.story.value
 
 -- a call that doesn't fail brings the one that does nearer
 abbrev pub counted : Numbers → Numbers
@@ -105,9 +110,9 @@ begun n = record n { running = Some (plus n.ended 1); later = 0; closed = 0 }
 abbrev pub with_closed : Numbers → Bool → Numbers
 with_closed n named = record n { closed = if named then plus n.closed 1 else n.closed }
 
--- the commit of this number has ended
-abbrev pub ended_as : Numbers → ℕ → Numbers
-ended_as n cmt_no = record n { running = None; ended = cmt_no; nodes = n.later; weight = n.base }
+-- The commit of this number has ended. The weight is that of its index, or the first one if that is more, but no more than before.
+abbrev pub ended_as : Numbers → ℕ → ℕ → Numbers
+ended_as n cmt_no index = record n { running = None; ended = cmt_no; nodes = n.later; weight = min n.weight (max n.base index) }
 
 -- a changing call that isn't done: it is the one that fails, or the store is read-only
 abbrev pub IsRefused : Numbers → Numbers → StoreFault → Type 0

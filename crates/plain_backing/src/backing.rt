@@ -11,6 +11,7 @@ ghost use Rattle.plain_backing.specs.Story.{IsStory, IsWhole, is_idle};
 ghost use Rattle.plain_backing.specs.StoryLaws.{story_prop};
 
 use crate::Tree;
+use crate::full_index::full_index_weight;
 use crate::numbers::Numbers;
 use crate::steps::{
     admit, changing_call, count_call, count_closed, end, has_weight_for, listed_orphans,
@@ -20,9 +21,14 @@ use crate::story::{
     Story, add_group, add_page, begin_story, count_all, end_story, lose_group, lose_page,
     open_story, sync_story,
 };
+use fs_laws::a_dropped_inode_keeps_trees_proper;
 use fs_model::{
     Backing, Change, Collected, Ended, Entry, Grant, Group, Inode, Mode, Need, NoSpace, PageNode,
     Space, Started, Stepped, StoreFault,
+};
+use space_sums::{
+    more_never_lowers_the_need, what_takes_no_more_keeps_what_was_granted,
+    what_was_admitted_can_be_put,
 };
 use std::alloc::Global;
 use told_value::Told;
@@ -196,11 +202,13 @@ impl Backing for PlainBacking {
     }
 
     fn admit(&mut self, need: &Need) -> Result<(), NoSpace> {
+        what_was_admitted_can_be_put();
         let space = self.space();
         admit(&mut self.numbers, &self.geo, &space, need)
     }
 
     fn give_back(&mut self, credits: u64) {
+        more_never_lowers_the_need();
         self.numbers.credits -= credits;
     }
 
@@ -212,6 +220,7 @@ impl Backing for PlainBacking {
         if !has_weight_for(&self.numbers, 2) {
             return Err(StoreFault::Memory);
         }
+        what_was_admitted_can_be_put();
         let group = changes_of(self.alloc, page)?;
         self.tree.apply(self.alloc, &group)?;
         spend_page(&mut self.numbers);
@@ -229,6 +238,7 @@ impl Backing for PlainBacking {
         if !has_weight_for(&self.numbers, nodes) {
             return Err(StoreFault::Memory);
         }
+        what_was_admitted_can_be_put();
         self.tree.apply(self.alloc, group)?;
         spend_grant(&mut self.numbers, nodes);
         add_group(&mut self.story, group);
@@ -238,6 +248,8 @@ impl Backing for PlainBacking {
 
     fn drop_orphan(&mut self, ino: u32) -> Result<(), StoreFault> {
         count_call(&mut self.numbers)?;
+        a_dropped_inode_keeps_trees_proper();
+        what_takes_no_more_keeps_what_was_granted();
         self.tree.drop_inode(ino);
         count_closed(&mut self.numbers, self.listed.as_slice(), ino);
         Ok(())
@@ -278,7 +290,9 @@ impl Backing for PlainBacking {
         let Some(cmt_no) = self.numbers.running else {
             return Ok(Ended::Idle);
         };
-        end(&mut self.numbers, cmt_no);
+        let weight = full_index_weight(&self.geo, self.tree.leaves());
+        what_takes_no_more_keeps_what_was_granted();
+        end(&mut self.numbers, cmt_no, weight);
         end_story(&mut self.story);
         Ok(Ended::Done { cmt_no })
     }

@@ -8,6 +8,7 @@
 mod backing;
 mod block_walk;
 mod cell;
+mod full_index;
 mod node_bytes;
 mod numbers;
 mod rounds;

@@ -4,7 +4,7 @@ use fs_model::{Grant, Mode};
 
 /// What a backing in memory keeps beside its tree. `closed` counts the inodes without a name that were closed since the
 /// last commit's start, if its list names them; `strike` says which call from now on fails, 0 if none does; `base` is
-/// the weight that a commit leaves.
+/// the least weight that a commit leaves.
 #[derive(Clone, Copy)]
 pub(crate) struct Numbers {
     pub(crate) orphan_limit: u64,

@@ -146,14 +146,14 @@ pub(crate) fn listed_orphans(alloc: Global, tree: &Tree) -> Result<Vec<u32>, Mem
     Ok(listed)
 }
 
-/// Ends the commit of this number.
-pub(crate) fn end(numbers: &mut Numbers, cmt_no: u64)
-    ensures { numbers.new ≡ ended_as numbers.old cmt_no }
+/// Ends the commit of this number, whose index weighs so much.
+pub(crate) fn end(numbers: &mut Numbers, cmt_no: u64, index: u64)
+    ensures { numbers.new ≡ ended_as numbers.old cmt_no index }
 {
     numbers.running = None;
     numbers.ended = cmt_no;
     numbers.nodes = numbers.later;
-    numbers.weight = numbers.base;
+    numbers.weight = numbers.weight.min(numbers.base.max(index));
 }
 
 /// Spends a credit on a page of two nodes.

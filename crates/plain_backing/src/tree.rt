@@ -7,6 +7,7 @@ ghost use Rattle.fs_model.specs.Orphan.{nameless};
 ghost use Rattle.fs_model.specs.Cover.{tree_bytes};
 ghost use Rattle.fs_model.specs.Directory.{entries_in};
 ghost use Rattle.fs_model.specs.Files.{inode_at, entry_at, block_at};
+ghost use Rattle.plain_backing.specs.Covering.{leaf_count};
 ghost use Rattle.plain_backing.specs.TreeCells.{entry_of};
 ghost use Rattle.plain_backing.specs.TreeReads.{has_block};
 ghost use Rattle.fs_model.specs.Files.{last_block_of};
@@ -184,6 +185,19 @@ impl Tree {
         ensures few { result < 2 ^ 40 }
     {
         self.cells.bytes
+    }
+
+    /// How many leaf nodes it has, or more where cells are empty; at most 2^40. They are kept, not counted.
+    pub(crate) fn leaves(&self) -> u64
+        ensures all { leaf_count self.now ≤ result }
+        ensures few { result ≤ 2 ^ 40 }
+    {
+        let _bytes = self.bytes();
+        let (inodes, blocks, entries) = self.count_cells();
+        (inodes as u64)
+            .saturating_add(blocks as u64)
+            .saturating_add(entries as u64)
+            .min(1 << 40)
     }
 
     /// How many cells are kept of inodes, blocks and entries, empty ones among them.

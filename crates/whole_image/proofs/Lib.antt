@@ -1,3 +1,4 @@
+pub mod Covered
 pub mod Stored
 pub mod Filled
 pub mod Whole

@@ -9,13 +9,15 @@ use Rattle.small_areas.specs.Copies.{IsMasterLeb}
 use Rattle.index_media.specs.PlacedRow.{PlacedRow}
 use Rattle.fs_model.specs.Files.{Tree}
 use Rattle.fs_model.specs.Orphan.{nameless}
-use Rattle.fs_model.specs.Cover.{tree_bytes}
+use Rattle.fs_model.specs.Cover.{index_lebs, tree_bytes}
 use Rattle.leaf_map.specs.Kept.{Placed}
 use Rattle.sound_image.specs.Image.{Image}
 use Rattle.sound_image.specs.Sound.{SoundImage}
 use Rattle.sound_image.specs.Summary.{is_clean, tree_of_image}
 use Rattle.tree_nodes.specs.Stored.{AreNodesOf, stored_tree}
-use Rattle.laid_tree.specs.Leaves.{AreLeavesLaid}
+use Rattle.image_maker.specs.Leaves.{live_leaves}
+use Rattle.image_maker.specs.Packed.{packed_leaves}
+use Rattle.plain_backing.specs.Covering.{leaf_count}
 use Rattle.laid_tree.specs.Standing.{is_plain}
 use Rattle.laid_index.specs.Packing.{index_used}
 use Rattle.made_image.specs.Around.{AreMainFilled, HoldsIndexed, IsMadeAround}
@@ -49,15 +51,17 @@ pub record CanBeLaid (geo : RawGeometry) (tree : Tree) : Type 0 where
   pub plain : IsTrue (list_all is_plain tree.inodes)
   pub fits : tree_bytes tree ≤ most_leaf_bytes geo
 
--- An index of the tree's leaves takes so many LEBs. That is more than the main LEBs that are left behind the leaves, but for one that stays empty.
+-- An index of the tree's leaves takes so many LEBs. That is more than the main LEBs that are left behind the leaves, which take LEBs as long as they fit, but for one that stays empty.
 pub record IsCrowded (geo : RawGeometry) (tree : Tree) (need room : ℕ) : Type 0 where
-  pub contents : ℕ → List ℕ
-  pub nodes : List Placed
-  pub used : List ℕ
-  pub laid : AreLeavesLaid geo contents tree nodes used
-  pub need_is : need ≡ length (index_used geo (length nodes))
-  pub room_is : room + 1 + length used ≡ main_lebs geo
+  pub need_is : need ≡ length (index_used geo (length (live_leaves tree)))
+  pub room_is : room + 1 + length (packed_leaves geo.leb_size 0 (live_leaves tree)) ≡ main_lebs geo
   pub more : room < need
+
+-- The leaves have room beside three times the LEBs that an index of this weight takes, and six more, as admission tests. The weight has a node for each `fanout` leaves.
+pub record IsCoveredTree (geo : RawGeometry) (tree : Tree) : Type 0 where
+  pub weight : ℕ
+  pub weighed : leaf_count tree ≤ geo.fanout * weight
+  pub fits : tree_bytes tree ≤ (main_lebs geo - 3 * index_lebs geo weight - 6) * (geo.leb_size - leb_reserve geo)
 
 -- why no image of a tree is made; want of memory is free
 abbrev pub IsRefused : RawGeometry → Tree → MakeFault → Type 0

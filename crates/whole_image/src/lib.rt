@@ -5,9 +5,11 @@
 #![tactic(auto)]
 
 mod filling;
+mod law;
 mod make_fault;
 mod making;
 mod tests_of_trees;
 
+pub use crate::law::a_covered_tree_has_room;
 pub use crate::make_fault::MakeFault;
 pub use crate::making::make_image;

@@ -18,4 +18,4 @@ take_node-requires-clause-number c =
 pub returns-clause-laid : goal.returns-clause-laid
 returns-clause-laid c =
     let taken = c.in_ok-take_node.ensures in
-    record { laid = taken.laid; some = λ h. taken.some; fits = taken.fits; geometry = taken.geometry }
+    record { laid = taken.laid; packed = taken.packed; some = λ h. taken.some; fits = taken.fits; geometry = taken.geometry }

@@ -2,6 +2,10 @@ use Rattle.std.proofs.Common.{◌≡◌, List, subst, ap, ◌∙◌}
 use Rattle.fs_model.specs.declared.change.Change.{Change}
 use Rattle.fs_model.specs.Change.{apply}
 use Rattle.fs_model.specs.Backing.{page_puts}
+use Rattle.ubifs_base.specs.RawOf.{raw_of}
+use Rattle.plain_backing.specs.PlainBacking.{page_spent}
+use Rattle.plain_backing.proofs.PlainGoing.{sure_after}
+use Rattle.plain_backing.proofs.Promises.{page_covers}
 use Rattle.plain_backing.specs.declared.numbers.Numbers.{Numbers}
 use Rattle.plain_backing.specs.Story.{lost_by}
 use Rattle.plain_backing.proofs.Told.{failed_told, failed_leaves, done_leaves, page_told, refused_mode, refused_running, idle_after, idle_done, whole_all}
@@ -41,3 +45,15 @@ invariant_of-self-2-clause-idle c =
     let self = c.args.self.now in
     idle_done self.story.value c.add_page.new.story.value c.count_all.new.story.value (page_puts c.args.page.now) self.numbers.running c.spend_page.new.numbers.running c.add_page.ensures c.count_all.ensures
     (ap (λ (n : Numbers). n.running) c.spend_page.ensures ∙ ap (λ (n : Numbers). n.running) c.in_default.ensures.ok.0) self.idle
+
+pub returns-clause-sure : goal.returns-clause-sure
+returns-clause-sure c =
+    let self = c.args.self.now in
+    let geo = raw_of self.geo in
+    let P : List Change → Type 0 = λ group. c.apply.new.self ≡ apply self.tree group in
+    let put = subst P c.in_ok-group.ensures.group c.in_ok-apply.ensures.ok in
+    let spent = c.spend_page.ensures ∙ ap page_spent c.in_default.ensures.ok.0 in
+    sure_after _ geo self.tree c.apply.new.self self.story.value c.count_all.new.story.value self.numbers c.spend_page.new.numbers _ c.in_default.ensures.ok.1
+    (ap (λ (n : Numbers). n.strike) spent) (ap (λ (n : Numbers). n.faults) spent)
+    (page_covers geo self.geo.in_range self.tree c.apply.new.self c.args.page.now self.story.value c.count_all.new.story.value self.numbers c.spend_page.new.numbers
+    put c.requires.fits c.requires.covered spent (λ before later grant. c.what_was_admitted_can_be_put.ensures.page geo before later grant))
