@@ -1,0 +1,114 @@
+// Files behind their lock.
+
+ghost use Rattle.std.specs.Prelude.{◌≡◌, ◌⊎◌, true, [], All, length};
+ghost use Rattle.fs_laws.specs.Sound.{IsCall};
+ghost use Rattle.traced_files.specs.Calls.{AreLegal, IsEntered, IsUndone, StandsIn};
+ghost use Rattle.traced_files.specs.States.{PassState};
+ghost use Rattle.vfs_ops.specs.declared.event.Event.TheVariants.{Pick, Put};
+ghost use Rattle.vfs_ops.specs.Background.{is_work};
+ghost use Rattle.vfs_ops.specs.Fs.{files_state};
+
+use fs_model::{Backing, Op, Reply, TraceLine};
+use std::alloc::Global;
+use std::mem::replace;
+use std::sync::{Mutex, Wait};
+use trace_word::{Recorder, TraceWord};
+use traced_files::{Finished, Pass, Site, TracedFs, meet_all};
+use vfs_ops::{Done, Encoded, Event, Fs};
+
+/// Files over a backing that callers share, and workers, who stop with a key. A `Live` makes no key.
+#[derive(Drop)]
+pub struct Live<B: Backing, K: Send + Drop, J: Site> {
+    word: TraceWord,
+    traced: Mutex<TracedFs<B, J>>,
+    keys: Mutex<Vec<K>>,
+    ghost of_word: { word ≡ J.word },
+}
+
+/// What is left of it: the files over their backing, and the lines of all calls.
+#[derive(Drop)]
+pub struct Closed<B: Backing> {
+    pub fs: Fs<B>,
+    pub trace: Vec<TraceLine>,
+}
+
+impl<B: Backing, K: Send + Drop, J: Site> Live<B, K, J> {
+    /// Files behind a lock, with no line yet. The recorder has made the passes of all callers.
+    pub fn new(alloc: Global, fs: Fs<B>, word: TraceWord, recorder: Recorder) -> Live<B, K, J>
+        requires word { word ≡ J.word }
+        requires recorder { (recorder.word ≡ J.word) × (recorder.known.seen ≡ []) × (recorder.passes ≡ J.start.callers) }
+        requires start { files_state fs ≡ J.start.files }
+        requires sure { J.start.outlook.sure → (B.outlook fs.backing).sure }
+        requires credits { (files_state fs).backing.space.credits ≡ length (files_state fs).kept.pages.dirty }
+    {
+        Live {
+            word,
+            traced: Mutex::new(TracedFs::new(alloc, fs, recorder)),
+            keys: Mutex::new(Vec::new(alloc)),
+        }
+    }
+
+    /// Makes a call. Its line stands at place `last` of the trace, which begins with all that the pass had seen before. Where no
+    /// memory is found for that line before anything is done, the reply is want of memory, and there is no line.
+    pub fn call<R: Wait>(&self, rt: &R, pass: Pass, now: u64, op: Op) -> (Pass, Reply)
+        requires pass { pass.word ≡ J.word }
+        requires call { IsCall op }
+        ensures { IsUndone pass result.0 result.1 ⊎ IsEntered J.start pass now op result.0 result.1 }
+    {
+        self.traced.lock(rt).call(&self.word, pass, now, op)
+    }
+
+    /// The page that became dirty first, as it is now.
+    pub fn pick<R: Wait>(&self, rt: &R) -> Done<B>
+        ensures { result.event ≡ Pick }
+    {
+        self.traced.lock(rt).pick()
+    }
+
+    /// Puts a page that was picked, if it is still as it was then.
+    pub fn put<R: Wait>(&self, rt: &R, page: Encoded) -> Done<B>
+        ensures { result.event ≡ Put page }
+    {
+        self.traced.lock(rt).put(page)
+    }
+
+    /// Syncs all that was put, collects a LEB, or goes on with a commit.
+    pub fn chore<R: Wait>(&self, rt: &R, event: Event) -> Done<B>
+        requires { is_work event ≡ true }
+        ensures { result.event ≡ event }
+    {
+        self.traced.lock(rt).chore(event)
+    }
+
+    /// Leaves these keys for workers, and hands back those that were left before.
+    pub fn stop<R: Wait>(&self, rt: &R, keys: Vec<K>) -> Vec<K> {
+        replace(&mut *self.keys.lock(rt), keys)
+    }
+
+    /// A key that was left. There may be none, and then a worker looks for a page again.
+    pub fn wait_work<R: Wait>(&self, rt: &R) -> Option<K> {
+        self.keys.lock(rt).pop()
+    }
+
+    /// The files and the lines of all calls, which are legal from the start to these files. They begin with what each pass has seen,
+    /// and have just the calls that were made with it. No credit is covered beside those of dirty pages.
+    pub fn close(self, passes: Vec<Pass>) -> Closed<B>
+        requires { All (λ p. p.word ≡ J.word) passes.items }
+        ensures legal { AreLegal J.start result.trace.items (files_state result.fs) (B.outlook result.fs.backing) }
+        ensures passes { All (λ p. StandsIn result.trace.items p) passes.items }
+        ensures credits { (files_state result.fs).backing.space.credits ≡ length (files_state result.fs).kept.pages.dirty }
+    {
+        let Live {
+            word,
+            traced,
+            keys: _,
+        } = self;
+        let Finished {
+            fs,
+            trace,
+            mut recorder,
+        } = traced.into_inner().finish();
+        meet_all(&word, &mut recorder, passes);
+        Closed { fs, trace }
+    }
+}

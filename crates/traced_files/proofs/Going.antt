@@ -1,0 +1,321 @@
+-- A history goes on: by a caller's call, with a line more, and by work between them, without one.
+use Rattle.std.proofs.Common.{◌≡◌, ◌⊎◌, inl, inr, ℕ, ◌+◌, ◌*◌, ◌≤◌, true, false, List, [], ◌∷◌, ◌++◌, length, Ok, Err, Some, None, refl, sym, ap, subst, ◌∙◌, arith}
+use Rattle.std.specs.Prelude.{◌-◌, Option, nat_lt, filter, ◌==◌}
+use Rattle.std.specs.BTreeMap.{is_at}
+use Rattle.std.specs.Map.{keys_of, lookup}
+use Rattle.std.specs.Ordering.{nat_cmp}
+use Rattle.std.proofs.lemmas.List.{append-nil}
+use Rattle.ubifs_base.specs.Faults.{Rose}
+use Rattle.fs_model.specs.declared.backing_answers.Mode.{Mode}
+use Rattle.fs_model.specs.declared.backing_answers.Mode.TheVariants.{ReadWrite}
+use Rattle.fs_model.specs.declared.change.Change.{Change}
+use Rattle.fs_model.specs.declared.op.Op.{Op}
+use Rattle.fs_model.specs.declared.op.Op.TheVariants.{Truncate, Write}
+use Rattle.fs_model.specs.declared.refusal.Cause.{Cause}
+use Rattle.fs_model.specs.declared.refusal.NoSpace.{NoSpace}
+use Rattle.fs_model.specs.declared.refusal.Refusal.{Refusal}
+use Rattle.fs_model.specs.declared.refusal.Refusal.TheVariants.{Enospc, Erofs, Eio, Enomem, Enfile}
+use Rattle.fs_model.specs.declared.refusal.Table.TheVariants.{Orphans}
+use Rattle.fs_model.specs.declared.reply.Reply.{Reply}
+use Rattle.fs_model.specs.declared.reply.Reply.TheVariants.{Refused}
+use Rattle.fs_model.specs.declared.space.Need.{Need}
+use Rattle.fs_model.specs.declared.trace.TraceLine.{TraceLine}
+use Rattle.fs_model.specs.Backing.{orphan_room}
+use Rattle.fs_model.specs.Cover.{tree_bytes}
+use Rattle.fs_model.specs.Files.{Files, Tree, Inodes, inode_at}
+use Rattle.fs_model.specs.Legal.{IsRefusal as IsLegalRefusal, Opening, Place, count_in, next_number, pages_in, plain, read_only_cause, sides_in, whole_bytes}
+use Rattle.fs_model.specs.Need.{need_of, truncation_need}
+use Rattle.fs_model.specs.Operation.{files_in, group_of, outcome_of, reply_in}
+use Rattle.fs_model.specs.Orphan.{leaves_orphan, nameless}
+use Rattle.fs_model.specs.Outcome.{Outcome}
+use Rattle.fs_model.specs.Same.{trimmed_blocks}
+use Rattle.fs_laws.specs.Sound.{IsCall, IsMoment, IsSound}
+use Rattle.cached_files.specs.Alike.{IsAlike}
+use Rattle.vfs_ops.specs.declared.event.Event.TheVariants.{Call}
+use Rattle.vfs_ops.specs.declared.event.Outcome.TheVariants.{Replied}
+use Rattle.vfs_ops.specs.FilesState.{FilesState, present_in}
+use Rattle.vfs_ops.specs.Kinds.{is_late}
+use Rattle.vfs_ops.specs.Passing.{IsCallStep}
+use Rattle.vfs_ops.specs.Replies.{holds_bytes, is_refusal}
+use Rattle.vfs_ops.specs.Steps.{IsAnswered, IsDone, IsLast, IsReady, IsRefusal, IsRefusedFor, IsTurnedDown, allowed_on, asked, no_space_in}
+use Rattle.traced_files.specs.Laws.{AreLaws}
+use Rattle.traced_files.specs.History.{IsWithinWeight}
+use Rattle.traced_files.proofs.Answering.{IsCounted, IsDoneAlike, IsDowned, IsOverfull, alike_done, alike_refused, allowed_done, allowed_refused, counts_none, counts_one, downed, open_of, sides_told, tells_count}
+use Rattle.traced_files.proofs.Lines.{IsLine}
+use Rattle.traced_files.proofs.Sides.{IsFull, are_sides, whole_most}
+
+pub alike_then : (a b c : Files) → IsAlike a b → IsAlike b c → IsAlike a c
+alike_then a b c h k = record {
+  inodes = h.inodes ∙ k.inodes;
+  blocks = h.blocks ∙ k.blocks;
+  entries = h.entries ∙ k.entries;
+  highest = h.highest ∙ k.highest;
+  handles = h.handles ∙ k.handles;
+  sizes = λ ino inode found file.
+      let same : inode_at a.tree ino ≡ inode_at b.tree ino = ap (λ (inodes : Inodes). lookup (is_at (nat_cmp ino)) inodes) h.inodes in
+      h.sizes ino inode found file ∙ k.sizes ino inode (sym same ∙ found) file;
+}
+
+-- What a caller's step is: what was asked, and what is known of it beside what it says.
+pub record Stepped : Type 0 where
+  pub old : FilesState
+  pub new : FilesState
+  pub line : TraceLine
+  pub grant : ℕ
+  pub left : ℕ
+
+pub record IsMadeCall (opening : Opening) (s : Stepped) : Type 0 where
+  pub step : IsCallStep s.old s.new (Call s.line.caller s.line.now s.grant s.line.op) (Replied s.line.reply s.left)
+  pub moment : IsMoment s.line.now
+  pub call : IsCall s.line.op
+  pub ready : IsReady s.old.backing s.old.kept
+  pub after : IsReady s.new.backing s.new.kept
+  pub used : s.new.backing.space.used ≡ tree_bytes s.new.backing.tree
+  pub main : s.new.backing.space.main ≡ s.old.backing.space.main
+  pub paid : s.grant ≤ pages_in s.line.op
+  pub few : s.old.backing.space.credits ≤ length s.old.kept.pages.dirty + s.grant + 17 * (opening.callers - 1)
+
+-- What a call makes of a place: a line in the mode before or after it, and files that callers can't tell from the present ones.
+pub record WasEntered (opening : Opening) (place : Place) (s : Stepped) : Type 0 where
+  pub after : Files
+  pub one : IsLine opening s.old.backing.mode place s.line after ⊎ IsLine opening s.new.backing.mode place s.line after
+  pub same : IsAlike after (present_in s.new)
+  pub sound : IsSound after
+  pub refused : s.new.refused ≡ s.old.refused ++ sides_in s.line
+  pub counts : IsCounted s.old.backing.faults s.new.backing.faults (count_in s.line)
+
+-- how many inodes have no name
+abbrev lost_in : Inodes → ℕ
+lost_in inodes = length (keys_of (filter (λ e. e.1.nlink == 0) inodes))
+
+pub orphan_same : (a b c d : Files) → IsAlike a b → IsAlike c d → leaves_orphan a c ≡ leaves_orphan b d
+orphan_same a b c d h k =
+    ap (λ (i : Inodes). nat_lt (lost_in i) (length (nameless c.tree))) h.inodes ∙ ap (λ (i : Inodes). nat_lt (length (nameless b.tree)) (lost_in i)) k.inodes
+
+no_sides : (reply : Reply) → is_refusal reply ≡ false → no_space_in reply ≡ []
+no_sides (Refused refusal) e = absurd cc
+no_sides reply e = refl
+
+no_count : (reply : Reply) → is_refusal reply ≡ false → tells_count reply ≡ false
+no_count (Refused refusal) e = absurd cc
+no_count reply e = refl
+
+no_count_early : (refusal : Refusal) → is_late refusal ≡ false → tells_count (Refused refusal) ≡ false
+no_count_early (Eio count) e = absurd cc
+no_count_early refusal e = refl
+
+-- where callers can't tell a place's files from the present ones, and its line has the next number
+pub record IsReached (opening : Opening) (place : Place) (s : Stepped) : Type 0 where
+  pub sound : IsSound place.files
+  pub same : IsAlike place.files (present_in s.old)
+  pub number : s.line.number ≡ next_number place.before s.line.caller
+  pub geometry : s.old.backing.geometry ≡ opening.geometry
+  pub main : s.old.backing.space.main ≡ opening.space.main
+  pub limit : s.old.backing.orphan_limit ≡ opening.orphan_limit
+  pub orphans : opening.orphan_room ≤ orphan_room s.old.backing + place.orphans
+  pub within : s.old.backing.mode ≡ ReadWrite → IsWithinWeight opening (place.before ++ s.line ∷ []) s.new.backing s.new.kept
+
+entered_done : (opening : Opening) (place : Place) (s : Stepped) → AreLaws → IsMadeCall opening s → IsReached opening place s → read_only_cause s.old.backing.mode s.line.op ≡ None
+    → IsDone (allowed_on s.old.backing (present_in s.old) s.line.caller s.line.now s.line.op) (present_in s.new) s.line.reply → s.new.refused ≡ s.old.refused → WasEntered opening place s
+entered_done opening place s laws h r closed done kept =
+    let f : Files = place.files in
+    let c : ℕ = s.line.caller in
+    let n : ℕ = s.line.now in
+    let op : Op = s.line.op in
+    let seen : Files = done.0 in
+    let there : outcome_of (present_in s.old) c n op ≡ Ok (s.line.reply, seen) = allowed_done (orphan_room s.old.backing) s.old.backing.orphan_limit (present_in s.old) c n op (s.line.reply, seen) done.1 in
+    let alike = laws.answer f (present_in s.old) c n op r.sound h.ready.sound.proper r.same in
+    let here : IsDoneAlike (outcome_of f c n op) s.line.reply seen = alike_done (outcome_of f c n op) (outcome_of (present_in s.old) c n op) s.line.reply seen alike there in
+    let no : is_refusal s.line.reply ≡ false = laws.told (present_in s.old) c n op s.line.reply seen h.ready.sound there in
+    record {
+      after = here.after;
+      one = inl (record { number = r.number; answer = inl (record { done = closed; told = sym (ap reply_in here.done); left = sym (ap (files_in f) here.done) }) });
+      same = alike_then here.after seen (present_in s.new) here.same done.2;
+      sound = subst (λ (o : Outcome). IsSound (files_in f o)) here.done (laws.sound f c n op r.sound h.moment h.call).sound;
+      refused = kept ∙ sym (append-nil s.old.refused) ∙ ap (λ (x : List NoSpace). s.old.refused ++ x) (sym (sides_told s.line ∙ no_sides s.line.reply no));
+      counts = inl (counts_none s.line (no_count s.line.reply no));
+    }
+
+-- why a line is refused, and what it counts
+pub record IsTold (opening : Opening) (place : Place) (s : Stepped) : Type 0 where
+  pub one : IsLine opening s.old.backing.mode place s.line place.files ⊎ IsLine opening s.new.backing.mode place s.line place.files
+  pub counts : IsCounted s.old.backing.faults s.new.backing.faults (count_in s.line)
+
+told_as : (opening : Opening) (place : Place) (s : Stepped) (mode : Mode) (refusal : Refusal) → s.line.number ≡ next_number place.before s.line.caller → s.line.reply ≡ Refused refusal → IsLegalRefusal opening place mode s.line refusal → IsLine opening mode place s.line place.files
+told_as opening place s mode refusal number told why = record { number = number; answer = inr (record { refusal = refusal; told = told; why = why; same = refl }) }
+
+-- refused as the plain operation is
+told_plain : (opening : Opening) (place : Place) (s : Stepped) (refusal : Refusal) → AreLaws → IsMadeCall opening s → IsReached opening place s → read_only_cause s.old.backing.mode s.line.op ≡ None → s.line.reply ≡ Refused refusal
+    → outcome_of (present_in s.old) s.line.caller s.line.now s.line.op ≡ Err refusal → IsTold opening place s
+told_plain opening place s refusal laws h r closed told there =
+    let f : Files = place.files in
+    let c : ℕ = s.line.caller in
+    let n : ℕ = s.line.now in
+    let op : Op = s.line.op in
+    let alike = laws.answer f (present_in s.old) c n op r.sound h.ready.sound.proper r.same in
+    let here : outcome_of f c n op ≡ Err refusal = alike_refused (outcome_of f c n op) (outcome_of (present_in s.old) c n op) refusal alike there in
+    let early = laws.early f c n op refusal here in
+    record {
+      one = inl (record { number = r.number; answer = inl (record { done = closed; told = told ∙ sym (ap reply_in here); left = sym (ap (files_in f) here) }) });
+      counts = inl (counts_none s.line (ap tells_count told ∙ no_count_early refusal early));
+    }
+
+-- refused since no orphan more can be told of
+told_overfull : (opening : Opening) (place : Place) (s : Stepped) (refusal : Refusal) → AreLaws → IsMadeCall opening s → IsReached opening place s → s.line.reply ≡ Refused refusal
+    → IsOverfull (orphan_room s.old.backing) s.old.backing.orphan_limit (present_in s.old) (outcome_of (present_in s.old) s.line.caller s.line.now s.line.op) refusal → IsTold opening place s
+told_overfull opening place s refusal laws h r told full =
+    let f : Files = place.files in
+    let c : ℕ = s.line.caller in
+    let n : ℕ = s.line.now in
+    let op : Op = s.line.op in
+    let alike = laws.answer f (present_in s.old) c n op r.sound h.ready.sound.proper r.same in
+    let here : IsDoneAlike (outcome_of f c n op) full.found.0 full.found.1 = alike_done (outcome_of f c n op) (outcome_of (present_in s.old) c n op) full.found.0 full.found.1 alike full.plain_is in
+    let orphan : leaves_orphan f (files_in f (outcome_of f c n op)) ≡ true =
+    ap (λ (o : Outcome). leaves_orphan f (files_in f o)) here.done ∙ orphan_same f (present_in s.old) here.after full.found.1 r.same here.same ∙ full.orphan in
+    let refusal_is : s.line.reply ≡ Refused (Enfile Orphans s.old.backing.orphan_limit) = told ∙ ap Refused full.told in
+    record {
+      one = inl (told_as opening place s s.old.backing.mode (Enfile Orphans s.old.backing.orphan_limit) r.number refusal_is (((full.found.0, here.after), here.done), orphan, omega (arith, r.orphans, full.none), r.limit));
+      counts = inl (counts_none s.line (ap tells_count refusal_is));
+    }
+
+-- what an operation asks for, with credits for a write's pages beside its grant
+abbrev IsAsked : ℕ → Op → Need → Need → Type 0
+IsAsked grant op need plain = (need.bytes ≡ plain.bytes) × (need.nodes ≡ plain.nodes) × (need.class ≡ plain.class) × (grant ≤ pages_in op → need.credits + grant ≤ pages_in op)
+
+cut_credits : (group : List Change) → (truncation_need group).credits ≡ 0
+cut_credits [] = refl
+cut_credits (set ∷ []) = refl
+cut_credits (set ∷ cut ∷ rest) = refl
+
+asked_is : (files : Files) (caller now grant : ℕ) (op : Op) → IsAsked grant op (asked files caller now grant op) (need_of files caller now op)
+asked_is files caller now grant (Write slot offs len byte) = (refl, refl, refl, λ le. omega (arith, le))
+asked_is files caller now grant (Truncate slot size) = let none = cut_credits (group_of files caller now (Truncate slot size)) in (refl, refl, refl, λ le. omega (arith, le, none))
+asked_is files caller now grant op = (refl, refl, refl, λ le. omega (arith, le))
+
+-- refused for want of room
+told_full : (opening : Opening) (place : Place) (s : Stepped) (sides : NoSpace) → AreLaws → IsMadeCall opening s → IsReached opening place s → read_only_cause s.old.backing.mode s.line.op ≡ None → s.line.reply ≡ Refused (Enospc sides)
+    → IsAlike (present_in s.old) (present_in s.new) → (done : Reply × Files) × (allowed_on s.old.backing (present_in s.old) s.line.caller s.line.now s.line.op ≡ Ok done)
+    → IsDowned s.old.backing s.new.backing s.new.kept (asked (present_in s.old) s.line.caller s.line.now s.grant s.line.op) s.line.op (Enospc sides) → IsTold opening place s
+told_full opening place s sides laws h r closed told same done why =
+    let f : Files = place.files in
+    let c : ℕ = s.line.caller in
+    let n : ℕ = s.line.now in
+    let op : Op = s.line.op in
+    let there : outcome_of (present_in s.old) c n op ≡ Ok done.0 = allowed_done (orphan_room s.old.backing) s.old.backing.orphan_limit (present_in s.old) c n op done.0 done.1 in
+    let alike = laws.answer f (present_in s.old) c n op r.sound h.ready.sound.proper r.same in
+    let here : IsDoneAlike (outcome_of f c n op) done.0.0 done.0.1 = alike_done (outcome_of f c n op) (outcome_of (present_in s.old) c n op) done.0.0 done.0.1 alike there in
+    let need : Need = asked (present_in s.old) c n s.grant op in
+    let plain_need : need_of f c n op ≡ need_of (present_in s.old) c n op = laws.need f (present_in s.old) c n op (λ is. r.sound) r.same in
+    let asks = asked_is (present_in s.old) c n s.grant op in
+    let room = why.1 in
+    let no_dirty : length s.new.kept.pages.dirty ≡ 0 = ap length room.3 in
+    let clean : (present_in s.new).tree ≡ s.new.backing.tree = laws.clean s.new.backing.tree s.new.kept h.after.kept_fits room.3 in
+    let seen : IsAlike f (present_in s.new) = alike_then f (present_in s.old) (present_in s.new) r.same same in
+    let whole : tree_bytes s.new.backing.tree ≤ whole_bytes f.tree =
+    whole_most s.new.backing.tree f.tree h.after.kept_fits.proper (seen.inodes ∙ ap (λ (t : Tree). t.inodes) clean) (seen.entries ∙ ap (λ (t : Tree). t.entries) clean) (seen.blocks ∙ ap (λ (t : Tree). trimmed_blocks t.blocks) clean) in
+    let within = r.within (open_of s.old.backing.mode op closed why.0) in
+    let used = h.used in
+    let issued = h.step.issued in
+    let left = h.step.answered.1 in
+    let few = h.few in
+    let own = asks.3 h.paid in
+    let weight = within.weight in
+    let full : IsFull opening place s.line sides s.new.backing need = record {
+      need_is = room.0;
+      room_is = room.1;
+      exceeds = room.2;
+      held = room.4.held;
+      used = omega (arith, whole, used);
+      geometry = h.step.goes.geometry ∙ r.geometry;
+      main = h.main ∙ r.main;
+      credits = omega (arith, issued, left, few, own, no_dirty);
+      bytes = asks.0 ∙ sym (ap (λ (x : Need). x.bytes) plain_need);
+      nodes = asks.1 ∙ sym (ap (λ (x : Need). x.nodes) plain_need);
+      class = asks.2 ∙ sym (ap (λ (x : Need). x.class) plain_need);
+      weight = omega (arith, weight);
+      index = within.index;
+    } in
+    record {
+      one = inl (told_as opening place s s.old.backing.mode (Enospc sides) r.number told (((done.0.0, here.after), here.done), are_sides opening place s.line sides s.new.backing need full));
+      counts = inl (counts_none s.line (ap tells_count told));
+    }
+
+-- turned down by the store
+told_down : (opening : Opening) (place : Place) (s : Stepped) (refusal : Refusal) → AreLaws → IsMadeCall opening s → IsReached opening place s → read_only_cause s.old.backing.mode s.line.op ≡ None → s.line.reply ≡ Refused refusal
+    → IsAlike (present_in s.old) (present_in s.new) → IsLast (allowed_on s.old.backing (present_in s.old) s.line.caller s.line.now s.line.op) refusal
+    → IsDowned s.old.backing s.new.backing s.new.kept (asked (present_in s.old) s.line.caller s.line.now s.grant s.line.op) s.line.op refusal → IsTold opening place s
+told_down opening place s (Enospc sides) laws h r closed told same last why = told_full opening place s sides laws h r closed told same last why
+told_down opening place s (Erofs cause) laws h r closed told same last why = record {
+  one = inr (told_as opening place s s.new.backing.mode (Erofs cause) r.number told (ap (λ (m : Mode). read_only_cause m s.line.op) why.0 ∙ why.1));
+  counts = inl (counts_none s.line (ap tells_count told));
+}
+told_down opening place s (Eio count) laws h r closed told same last why = record {
+  one = inr (told_as opening place s s.new.backing.mode (Eio count) r.number told why.2);
+  counts = inr (count, counts_one s.line count told, subst (λ (x : ℕ). Rose s.old.backing.faults x) (sym why.1) why.0, omega (arith, why.1));
+}
+told_down opening place s Enomem laws h r closed told same last why = record {
+  one = inl (told_as opening place s s.old.backing.mode Enomem r.number told tt);
+  counts = inl (counts_none s.line (ap tells_count told));
+}
+told_down opening place s refusal laws h r closed told same last why = absurd why
+
+entered_refused : (opening : Opening) (place : Place) (s : Stepped) → AreLaws → IsMadeCall opening s → IsReached opening place s
+    → IsRefusal s.old.backing s.new.backing s.new.kept (present_in s.old) s.line.caller s.line.now s.grant s.line.op s.line.reply → s.new.refused ≡ s.old.refused ++ no_space_in s.line.reply → WasEntered opening place s
+entered_refused opening place s laws h r refused noted =
+    let told = by (read_only_cause s.old.backing.mode s.line.op) refl refused.why in
+    record {
+      after = place.files;
+      one = told.one;
+      same = alike_then place.files (present_in s.old) (present_in s.new) r.same refused.same;
+      sound = r.sound;
+      refused = noted ∙ ap (λ (x : List NoSpace). s.old.refused ++ x) (sym (sides_told s.line));
+      counts = told.counts;
+    }
+  where
+    open_told : read_only_cause s.old.backing.mode s.line.op ≡ None → (allowed_on s.old.backing (present_in s.old) s.line.caller s.line.now s.line.op ≡ Err refused.refusal)
+        ⊎ (IsTurnedDown s.old.backing s.new.backing s.new.kept (asked (present_in s.old) s.line.caller s.line.now s.grant s.line.op) s.line.op refused.refusal × IsLast (allowed_on s.old.backing (present_in s.old) s.line.caller s.line.now s.line.op) refused.refusal)
+        → IsTold opening place s
+    open_told closed (inr why) = told_down opening place s refused.refusal laws h r closed refused.told refused.same why.1 (downed s.old.backing s.new.backing s.new.kept (asked (present_in s.old) s.line.caller s.line.now s.grant s.line.op) s.line.op refused.refusal h.step.goes.mode why.0)
+    open_told closed (inl plain) = plain_told (allowed_refused (orphan_room s.old.backing) s.old.backing.orphan_limit (present_in s.old) s.line.caller s.line.now s.line.op refused.refusal plain)
+      where
+        plain_told : (outcome_of (present_in s.old) s.line.caller s.line.now s.line.op ≡ Err refused.refusal) ⊎ IsOverfull (orphan_room s.old.backing) s.old.backing.orphan_limit (present_in s.old) (outcome_of (present_in s.old) s.line.caller s.line.now s.line.op) refused.refusal → IsTold opening place s
+        plain_told (inl there) = told_plain opening place s refused.refusal laws h r closed refused.told there
+        plain_told (inr full) = told_overfull opening place s refused.refusal laws h r refused.told full
+
+    by : (c : Option Cause) → read_only_cause s.old.backing.mode s.line.op ≡ c → IsRefusedFor c s.old.backing s.new.backing s.new.kept (present_in s.old) s.line.caller s.line.now s.grant s.line.op refused.refusal → IsTold opening place s
+    by None closed why = open_told closed why
+    by (Some cause) closed why = record {
+      one = inl (told_as opening place s s.old.backing.mode (Erofs cause) r.number (refused.told ∙ ap Refused why) closed);
+      counts = inl (counts_none s.line (ap tells_count (refused.told ∙ ap Refused why)));
+    }
+
+pub entered : (opening : Opening) (place : Place) (s : Stepped) → AreLaws → IsMadeCall opening s → IsReached opening place s → WasEntered opening place s
+entered opening place s laws h r = by h.step.answered.0
+  where
+    by : IsAnswered s.old.backing s.new.backing s.new.kept (present_in s.old) s.line.caller s.line.now s.grant s.line.op s.line.reply s.old.refused s.new.refused → WasEntered opening place s
+    by (inl done) = entered_done opening place s laws h r done.0 done.1 done.2
+    by (inr refused) = entered_refused opening place s laws h r refused.0 refused.1
+
+-- the same step, of which another reply is told
+abbrev pub with_reply : Stepped → Reply → Stepped
+with_reply s reply = record s { line = record s.line { reply = reply } }
+
+-- an answer that holds bytes is told as want of memory: the files were left
+pub entered_short : (opening : Opening) (place : Place) (s : Stepped) → AreLaws → IsMadeCall opening s → IsReached opening place s → holds_bytes s.line.reply ≡ true → WasEntered opening place (with_reply s (Refused Enomem))
+entered_short opening place s laws h r bytes = by h.step.answered.0
+  where
+    by : IsAnswered s.old.backing s.new.backing s.new.kept (present_in s.old) s.line.caller s.line.now s.grant s.line.op s.line.reply s.old.refused s.new.refused → WasEntered opening place (with_reply s (Refused Enomem))
+    by (inl done) =
+        let seen : Files = done.1.0 in
+        let there : outcome_of (present_in s.old) s.line.caller s.line.now s.line.op ≡ Ok (s.line.reply, seen) = allowed_done (orphan_room s.old.backing) s.old.backing.orphan_limit (present_in s.old) s.line.caller s.line.now s.line.op (s.line.reply, seen) done.1.1 in
+        let left : seen ≡ present_in s.old = laws.bytes (present_in s.old) s.line.caller s.line.now s.line.op s.line.reply seen h.ready.sound there bytes in
+        let same : IsAlike (present_in s.old) (present_in s.new) = subst (λ (f : Files). IsAlike f (present_in s.new)) left done.1.2 in
+        record {
+          after = place.files;
+          one = inl (told_as opening place (with_reply s (Refused Enomem)) s.old.backing.mode Enomem r.number refl tt);
+          same = alike_then place.files (present_in s.old) (present_in s.new) r.same same;
+          sound = r.sound;
+          refused = done.2 ∙ sym (append-nil s.old.refused) ∙ ap (λ (x : List NoSpace). s.old.refused ++ x) (sym (sides_told (record s.line { reply = Refused Enomem })));
+          counts = inl (counts_none (record s.line { reply = Refused Enomem }) refl);
+        }
+    by (inr refused) = let told = refused.0.told in absurd cc

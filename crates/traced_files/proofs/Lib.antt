@@ -1,0 +1,11 @@
+pub mod Answering
+pub mod Counts
+pub mod Entering
+pub mod Going
+pub mod Histories
+pub mod Keeping
+pub mod Legality
+pub mod Lines
+pub mod Passing
+pub mod Plain
+pub mod Sides

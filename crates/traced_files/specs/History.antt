@@ -1,0 +1,95 @@
+-- What the lines of many callers come to, with the work between them: from how files over a backing were to how they are.
+use Rattle.std.specs.Prelude.{◌≡◌, ◌⊎◌, ℕ, ◌+◌, ◌*◌, ◌^◌, ◌≤◌, max, List, [], ◌∷◌, ◌++◌, drop, length}
+use Rattle.std.specs.List.{flat_map}
+use Rattle.fs_model.specs.declared.backing_answers.Mode.{Mode}
+use Rattle.fs_model.specs.declared.backing_answers.Mode.TheVariants.{ReadWrite, ReadOnly}
+use Rattle.fs_model.specs.declared.refusal.Cause.TheVariants.{Faulted, Spent}
+use Rattle.fs_model.specs.declared.refusal.NoSpace.{NoSpace}
+use Rattle.fs_model.specs.declared.trace.TraceLine.{TraceLine}
+use Rattle.fs_model.specs.Backing.{BackingState, Outlook, Rose, orphan_room}
+use Rattle.fs_model.specs.Cover.{index_lebs}
+use Rattle.fs_model.specs.Legal.{AreLines, Opening, Place, Present, count_in, most_weight, sides_in}
+use Rattle.fs_laws.specs.Sound.{IsSound}
+use Rattle.cached_files.specs.declared.kept.Kept.{Kept}
+use Rattle.cached_files.specs.Alike.{IsAlike}
+use Rattle.cached_files.specs.Calls.{full_weight}
+use Rattle.vfs_ops.specs.FilesState.{FilesState, present_in}
+
+-- how files over a backing are, when the lines of so many callers begin
+abbrev pub opening_of : FilesState → Outlook → ℕ → Opening
+opening_of state outlook callers = record {
+  geometry = state.backing.geometry;
+  callers = callers;
+  files = present_in state;
+  space = state.backing.space;
+  dirty = length state.kept.pages.dirty;
+  orphan_room = orphan_room state.backing;
+  orphan_limit = state.backing.orphan_limit;
+  mode = state.backing.mode;
+  faults = state.backing.faults;
+  outlook = outlook;
+}
+
+-- how they are after the lines; these refusals for want of room were noted before
+abbrev pub present_of : List NoSpace → FilesState → Outlook → Present
+present_of noted state outlook = record {
+  files = present_in state;
+  refused = drop (length noted) state.refused;
+  mode = state.backing.mode;
+  faults = state.backing.faults;
+  outlook = outlook;
+}
+
+-- the mode is what it was, or the store is read-only since: its volume failed, or a number is used up
+abbrev pub IsModeAfter : Opening → Mode → ℕ → Type 0
+IsModeAfter opening mode faults =
+    (mode ≡ opening.mode)
+    ⊎ ((opening.mode ≡ ReadWrite)
+    × (((count : ℕ) × (mode ≡ ReadOnly (Faulted count)) × Rose opening.faults count × (count ≤ faults))
+    ⊎ ((sqnum : ℕ) × (cmt_no : ℕ) × (mode ≡ ReadOnly (Spent sqnum cmt_no)) × ((2 ^ 63 ≤ sqnum) ⊎ (2 ^ 63 ≤ cmt_no)))))
+
+-- each count rose from the one before it, up to the present one
+abbrev pub Rise : ℕ → List ℕ → ℕ → Type 0
+Rise before [] faults = before ≤ faults
+Rise before (count ∷ counts) faults = Rose before count × Rise count counts faults
+
+-- the place of the first line
+abbrev pub first_place : Opening → Place
+first_place opening = record { before = []; files = opening.files; orphans = 0 }
+
+-- The lines lead from the opening to a place: some in the mode of the opening, the rest in this one.
+pub record Leads (opening : Opening) (mode : Mode) (lines : List TraceLine) (last : Place) : Type 0 where
+  pub first : List TraceLine
+  pub rest : List TraceLine
+  pub all : lines ≡ first ++ rest
+  pub middle : Place
+  pub opened : AreLines opening opening.mode (first_place opening) first middle
+  pub closed : AreLines opening mode middle rest last
+
+-- what the index weighs, dirty pages included, and how many LEBs it takes, at most
+pub record IsWithinWeight (opening : Opening) (lines : List TraceLine) (state : BackingState) (kept : Kept) : Type 0 where
+  pub weight : full_weight state kept ≤ most_weight opening lines
+  pub index : state.space.index ≤ max opening.space.index (2 * index_lebs opening.geometry (most_weight opening lines))
+
+-- These lines, and work between them that callers don't see, lead from the opening to this state. It is what a line more needs in order to be legal too.
+pub record IsHistory (opening : Opening) (noted : List NoSpace) (lines : List TraceLine) (now : FilesState) : Type 0 where
+  -- Replayed one after another, the lines lead to a place whose files callers can't tell from the present ones.
+  pub last : Place
+  pub leads : Leads opening now.backing.mode lines last
+  pub same : IsAlike last.files (present_in now)
+  pub sound : IsSound last.files
+  -- The mode changes once at most; the sides of refusals are those that are noted since, and the counts of faults rise.
+  pub mode : IsModeAfter opening now.backing.mode now.backing.faults
+  pub refused : now.refused ≡ noted ++ flat_map sides_in lines
+  pub counts : Rise opening.faults (flat_map count_in lines) now.backing.faults
+  pub faults : opening.faults ≤ now.backing.faults
+  -- The layout stays, the next list of orphans has as much room as the lines left of it, and the index weighs no more than they may add.
+  pub geometry : now.backing.geometry ≡ opening.geometry
+  pub main : now.backing.space.main ≡ opening.space.main
+  pub limit : now.backing.orphan_limit ≡ opening.orphan_limit
+  pub orphans : opening.orphan_room ≤ orphan_room now.backing + last.orphans
+  pub weight : now.backing.mode ≡ ReadWrite → IsWithinWeight opening lines now.backing now.kept
+
+-- a volume that was sure met no fault, or takes no more writing
+abbrev pub IsSureSince : Opening → ℕ → Outlook → Type 0
+IsSureSince opening faults outlook = opening.outlook.sure → outlook.spent ⊎ (outlook.sure × (faults ≡ opening.faults))

@@ -1,0 +1,25 @@
+// A caller's pass.
+
+use std::marker::Model;
+
+/// A caller's right to make calls. Contracts see it as a `PassState`: its trace's word, whose it is, how many calls it has made,
+/// the place of the last, and the trace as it was seen then.
+#[derive(Drop)]
+pub struct Pass {
+    pub(crate) ticket: trace_word::Pass,
+    pub caller: u16,
+    pub made: u64,
+    pub last: u64,
+}
+
+impl Model for Pass {
+    ghost use Rattle.traced_files.specs.States.{PassState};
+
+    ghost Value = { PassState };
+
+    ghost use Rattle.traced_files.specs.Passes.{pass_state, IsPass};
+
+    ghost view = { pass_state };
+
+    ghost invariant = { IsPass };
+}

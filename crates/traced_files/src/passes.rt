@@ -1,0 +1,73 @@
+// The passes of all callers.
+
+ghost use Rattle.std.specs.Prelude.{◌≡◌, ◌≤◌, ◌+◌, [], All, IfOk, vec_capacity};
+ghost use Rattle.traced_files.specs.Calls.{StandsIn};
+ghost use Rattle.traced_files.specs.States.{fresh_pass, fresh_passes};
+
+use crate::pass::Pass;
+use std::alloc::Global;
+use trace_word::{Recorder, TraceWord};
+use ubifs_base::Memory;
+
+/// The word of an empty trace, its recorder, and the passes of the callers 1 to `callers`, in order.
+pub fn open(alloc: Global, callers: u16) -> Result<(TraceWord, Recorder, Vec<Pass>), Memory>
+    ensures recorder { IfOk result (λ made. (made.1.word ≡ made.0) × (made.1.known.seen ≡ []) × (made.1.passes ≡ callers)) }
+    ensures passes { IfOk result (λ made. made.2.items ≡ fresh_passes made.0 callers) }
+{
+    let Ok(mut passes) = Vec::with_capacity(alloc, callers as usize) else {
+        return Err(Memory);
+    };
+    let (word, mut recorder) = TraceWord::new(alloc)?;
+    make_passes(&word, &mut recorder, &mut passes, callers);
+    Ok((word, recorder, passes))
+}
+
+// The pass of the next caller.
+fn next_pass(word: &TraceWord, recorder: &mut Recorder, caller: u16) -> Pass
+    requires word { recorder.old.word ≡ word.now }
+    requires caller { caller ≡ recorder.old.passes + 1 }
+    ensures recorder { (recorder.new.word ≡ word.now) × (recorder.new.known.seen ≡ recorder.old.known.seen) × (recorder.new.passes ≡ caller) }
+    ensures pass { result ≡ fresh_pass word.now caller }
+{
+    Pass {
+        ticket: word.new_pass(recorder),
+        caller,
+        made: 0,
+        last: 0,
+    }
+}
+
+// The passes of all callers.
+fn make_passes(word: &TraceWord, recorder: &mut Recorder, passes: &mut Vec<Pass>, callers: u16)
+    requires word { recorder.old.word ≡ word.now }
+    requires none { (recorder.old.passes ≡ 0) × (passes.old.items ≡ []) }
+    requires room { callers ≤ vec_capacity passes.old }
+    ensures recorder { (recorder.new.word ≡ word.now) × (recorder.new.known.seen ≡ recorder.old.known.seen) × (recorder.new.passes ≡ callers) }
+    ensures passes { passes.new.items ≡ fresh_passes word.now callers }
+{
+    for caller in 0..callers {
+        passes.push_reserved(next_pass(word, recorder, caller + 1));
+    }
+}
+
+// What a pass has seen begins the trace, which has just the calls that were made with it.
+fn meet_one(word: &TraceWord, recorder: &mut Recorder, pass: Pass)
+    requires { (recorder.old.word ≡ word.now) × (pass.word ≡ word.now) }
+    ensures recorder { (recorder.new.word ≡ word.now) × (recorder.new.known.seen ≡ recorder.old.known.seen) }
+    ensures pass { StandsIn recorder.old.known.seen pass }
+{
+    let mut pass = pass;
+    word.meet(recorder, &mut pass.ticket);
+}
+
+/// What each pass has seen begins the trace, which has just the calls that were made with it.
+pub fn meet_all(word: &TraceWord, recorder: &mut Recorder, passes: Vec<Pass>)
+    requires word { recorder.old.word ≡ word.now }
+    requires passes { All (λ p. p.word ≡ word.now) passes.items }
+    ensures recorder { (recorder.new.word ≡ word.now) × (recorder.new.known.seen ≡ recorder.old.known.seen) }
+    ensures passes { All (λ p. StandsIn recorder.old.known.seen p) passes.items }
+{
+    for pass in passes {
+        meet_one(word, recorder, pass);
+    }
+}
