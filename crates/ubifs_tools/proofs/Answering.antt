@@ -3,6 +3,7 @@ use Rattle.std.proofs.Common.{◌≡◌, ℕ, ◌⊎◌, inl, inr, ◌+◌, ◌-
 use Rattle.std.proofs.lemmas.Bool.{false≢true}
 use Rattle.ubifs_base.specs.declared.raw_geometry.RawGeometry.{RawGeometry}
 use Rattle.ubifs_base.specs.Areas.{main_lebs}
+use Rattle.small_areas.specs.Orphans.{orphan_limit}
 use Rattle.fs_model.specs.declared.backing_answers.Mode.{Mode}
 use Rattle.fs_model.specs.declared.backing_answers.Mode.TheVariants.{ReadWrite, ReadOnly}
 use Rattle.fs_model.specs.declared.op.Op.{Op}
@@ -15,12 +16,11 @@ use Rattle.fs_model.specs.declared.reply.Reply.TheVariants.{Refused}
 use Rattle.fs_model.specs.declared.space.Need.{Need}
 use Rattle.fs_model.specs.Backing.{BackingState, Goes, ModeGoes, Rose, next_orphans}
 use Rattle.fs_model.specs.Cover.{room_for, tree_bytes}
-use Rattle.fs_model.specs.Files.{Files}
 use Rattle.cached_files.specs.declared.kept.Kept.{Kept}
 use Rattle.cached_files.specs.Calls.{IsWithoutRoom, SureGoes}
 use Rattle.cached_files.specs.Present.{IsKept, present}
 use Rattle.plain_backing.specs.declared.backing.PlainBacking.{PlainBacking}
-use Rattle.plain_backing.specs.PlainBacking.{state_of, outlook_of}
+use Rattle.plain_backing.specs.PlainBacking.{Covers, state_of, outlook_of}
 use Rattle.plain_backing.specs.Spending.{is_spent}
 use Rattle.vfs_ops.specs.declared.event.Event.TheVariants.{Call}
 use Rattle.vfs_ops.specs.declared.event.Outcome.{Outcome}
@@ -29,14 +29,14 @@ use Rattle.vfs_ops.specs.Events.{IsAnswer as IsAnswerOf, IsReply, left_of}
 use Rattle.vfs_plans.specs.Answers.{IsFault}
 use Rattle.vfs_ops.specs.Steps.{IsAnswered, IsDone, IsLast, IsRefusedFor, IsTurnedDown, IsUnsynced, allowed, allowed_on, asked, read_only_cause}
 use Rattle.ubifs_tools.specs.Replies.{is_memory}
-use Rattle.ubifs_tools.specs.Run.{HasNoRoom, IsAnswer, IsFull, plain}
+use Rattle.ubifs_tools.specs.Run.{HasNoRoom, IsAnswer, IsFull, Running, orphans_told, plain}
 use Rattle.ubifs_tools.specs.Sessions.{IsSteady}
 
--- a backing that takes no orphan
-plainly : (s : BackingState) (files : Files) (caller now : ℕ) (op : Op) → s.orphan_limit ≡ 0 → allowed_on s files caller now op ≡ plain files caller now op
-plainly s files caller now op e =
-    let none : 0 - next_orphans s ≡ 0 = omega arith in
-    ap (λ limit. allowed (limit - next_orphans s) limit files caller now op) e ∙ ap (λ room. allowed room 0 files caller now op) none
+-- the next list of orphans is as long as callers see it, and as much room is left
+plainly : (geo : RawGeometry) (s : BackingState) (before : Running) (caller : ℕ) (op : Op) → s.orphan_limit ≡ orphan_limit geo.leb_size → next_orphans s ≡ orphans_told before
+    → allowed_on s before.files caller before.now op ≡ plain geo before caller op
+plainly geo s before caller op e long =
+    ap (λ n. allowed (s.orphan_limit - n) s.orphan_limit before.files caller before.now op) long ∙ ap (λ limit. allowed (limit - orphans_told before) limit before.files caller before.now op) e
 
 fault_room : (old new : BackingState) (kept : Kept) (need : Need) (r : Refusal) → IsFault old new r → IsWithoutRoom old new kept need r
 fault_room old new kept need (Eio count) h = h
@@ -67,44 +67,49 @@ no_rise a b e f (inl less) = omega (arith, e, f, less)
 no_rise a b e f (inr most) = omega (arith, f, most)
 
 -- what is known of a backing when a step has ended
-pub record IsCalm (old new : BackingState) : Type 0 where
+pub record IsCalm (geo : RawGeometry) (old new : BackingState) (before : Running) : Type 0 where
   pub was : old.mode ≡ ReadWrite
   pub is : new.mode ≡ ReadWrite
   pub faults_were : old.faults ≡ 0
   pub faults : new.faults ≡ 0
-  pub orphans : old.orphan_limit ≡ 0
+  pub limit : old.orphan_limit ≡ orphan_limit geo.leb_size
+  pub orphans : next_orphans old ≡ orphans_told before
 
 -- the reply's cause, of those that are left
-cause_of : (geo : RawGeometry) (old new : BackingState) (kept : Kept) (files : Files) (caller now : ℕ) (op : Op) (reply : Reply) → IsCalm old new
+cause_of : (geo : RawGeometry) (old new : BackingState) (kept : Kept) (before : Running) (caller : ℕ) (op : Op) (reply : Reply) → IsCalm geo old new before
     → ((need : Need) (sides : NoSpace) → IsWithoutRoom old new kept need (Enospc sides) → HasNoRoom geo (present new.tree kept).tree need sides)
     → is_memory reply ≡ false → (r : Refusal) → reply ≡ Refused r
-    → (allowed_on old files caller now op ≡ Err r) ⊎ (IsTurnedDown old new kept (asked files caller now 0 op) op r × IsLast (allowed_on old files caller now op) r)
-    → ((refusal : Refusal) × (plain files caller now op ≡ Err refusal) × (reply ≡ Refused refusal)) ⊎ IsFull geo files caller now op reply (present new.tree kept)
-cause_of geo old new kept files caller now op reply calm room known r told (inl e) = inl (r, sym (plainly old files caller now op calm.orphans) ∙ e, told)
-cause_of geo old new kept files caller now op reply calm room known (Enospc sides) told (inr (turned, last)) = inr (record {
+    → (allowed_on old before.files caller before.now op ≡ Err r) ⊎ (IsTurnedDown old new kept (asked before.files caller before.now 0 op) op r × IsLast (allowed_on old before.files caller before.now op) r)
+    → ((refusal : Refusal) × (plain geo before caller op ≡ Err refusal) × (reply ≡ Refused refusal)) ⊎ IsFull geo (plain geo before caller op) (asked before.files caller before.now 0 op) reply (present new.tree kept)
+cause_of geo old new kept before caller op reply calm room known r told (inl e) = inl (r, sym (plainly geo old before caller op calm.limit calm.orphans) ∙ e, told)
+cause_of geo old new kept before caller op reply calm room known (Enospc sides) told (inr (turned, last)) = inr (record {
   sides = sides;
   told = told;
   done = last.0;
-  free = sym (plainly old files caller now op calm.orphans) ∙ last.1;
-  room = room (asked files caller now 0 op) sides (turned_room old new kept (asked files caller now 0 op) op (Enospc sides) turned);
+  free = sym (plainly geo old before caller op calm.limit calm.orphans) ∙ last.1;
+  room = room (asked before.files caller before.now 0 op) sides (turned_room old new kept (asked before.files caller before.now 0 op) op (Enospc sides) turned);
 })
-cause_of geo old new kept files caller now op reply calm room known (Eio count) told (inr (turned, last)) =
-    let why = turned_room old new kept (asked files caller now 0 op) op (Eio count) turned in absurd (no_rise old.faults new.faults calm.faults_were calm.faults why.0)
-cause_of geo old new kept files caller now op reply calm room known (Erofs cause) told (inr (turned, last)) =
-    let n : ReadWrite ≡ ReadOnly cause = sym calm.is ∙ turned_room old new kept (asked files caller now 0 op) op (Erofs cause) turned in absurd cc
-cause_of geo old new kept files caller now op reply calm room known Enomem told (inr (turned, last)) = absurd (false≢true (sym known ∙ ap is_memory told))
-cause_of geo old new kept files caller now op reply calm room known r told (inr (turned, last)) = absurd (turned_room old new kept (asked files caller now 0 op) op r turned)
+cause_of geo old new kept before caller op reply calm room known (Eio count) told (inr (turned, last)) =
+    let why = turned_room old new kept (asked before.files caller before.now 0 op) op (Eio count) turned in absurd (no_rise old.faults new.faults calm.faults_were calm.faults why.0)
+cause_of geo old new kept before caller op reply calm room known (Erofs cause) told (inr (turned, last)) =
+    let n : ReadWrite ≡ ReadOnly cause = sym calm.is ∙ turned_room old new kept (asked before.files caller before.now 0 op) op (Erofs cause) turned in absurd cc
+cause_of geo old new kept before caller op reply calm room known Enomem told (inr (turned, last)) = absurd (false≢true (sym known ∙ ap is_memory told))
+cause_of geo old new kept before caller op reply calm room known r told (inr (turned, last)) = absurd (turned_room old new kept (asked before.files caller before.now 0 op) op r turned)
 
-pub answer_of : (geo : RawGeometry) (old new : BackingState) (kept : Kept) (files : Files) (caller now : ℕ) (op : Op) (reply : Reply) (before after : List NoSpace) → IsCalm old new
+pub answer_of : (geo : RawGeometry) (old new : BackingState) (kept : Kept) (before : Running) (caller : ℕ) (op : Op) (reply : Reply) (first last : List NoSpace) → IsCalm geo old new before
     → ((need : Need) (sides : NoSpace) → IsWithoutRoom old new kept need (Enospc sides) → HasNoRoom geo (present new.tree kept).tree need sides)
-    → is_memory reply ≡ false → IsAnswered old new kept files caller now 0 op reply before after → IsAnswer geo files caller now op reply (present new.tree kept)
-answer_of geo old new kept files caller now op reply before after calm room known (inl (open_is, done, same)) =
-    inl (subst (λ outcome. IsDone outcome (present new.tree kept) reply) (plainly old files caller now op calm.orphans) done)
-answer_of geo old new kept files caller now op reply before after calm room known (inr (refusal, list)) = inr (record {
-  why = cause_of geo old new kept files caller now op reply calm room known refusal.refusal refusal.told
-      (subst (λ (m : Mode). IsRefusedFor (read_only_cause m op) old new kept files caller now 0 op refusal.refusal) calm.was refusal.why);
+    → is_memory reply ≡ false → IsAnswered old new kept before.files caller before.now 0 op reply first last → IsAnswer geo before caller op reply (present new.tree kept)
+answer_of geo old new kept before caller op reply first last calm room known (inl (open_is, done, same)) =
+    inl (subst (λ outcome. IsDone outcome (present new.tree kept) reply) (plainly geo old before caller op calm.limit calm.orphans) done)
+answer_of geo old new kept before caller op reply first last calm room known (inr (refusal, list)) = inr (record {
+  why = cause_of geo old new kept before caller op reply calm room known refusal.refusal refusal.told
+      (subst (λ (m : Mode). IsRefusedFor (read_only_cause m op) old new kept before.files caller before.now 0 op refusal.refusal) calm.was refusal.why);
   same = refusal.same;
 })
+
+-- a bound on two numbers is one on their equals
+pub grows_of : (a b m n more : ℕ) → a ≡ m → b ≡ n → n ≤ m + more → b ≤ a + more
+grows_of a b m n more e f h = omega (arith, e, f, h)
 
 -- the two sides are those of the present tree, where no page is dirty
 pub no_room : (geo : RawGeometry) (old : BackingState) (new : PlainBacking) (kept : Kept) → IsSteady geo new kept → IsKept (state_of new).tree kept → (IsKept (state_of new).tree kept → kept.pages.dirty ≡ [] → (present (state_of new).tree kept).tree ≡ (state_of new).tree)
@@ -137,15 +142,16 @@ still_writable n old new goes was none still = by goes.mode
 pub steady_next : (geo : RawGeometry) (old new : PlainBacking) (before after : Kept) (n left : ℕ) → IsSteady geo old before → Goes n (state_of old) (state_of new)
     → SureGoes (outlook_of old) (outlook_of new) (state_of old) (state_of new)
     → ((state_of new).space.credits + length before.pages.dirty + 0 ≡ (state_of old).space.credits + length after.pages.dirty + left) → left ≤ 0 → IsSteady geo new after
-steady_next geo old new before after n left steady goes sure issued none = by (sure.sure steady.strike)
+steady_next geo old new before after n left steady goes sure issued none = by (sure.sure (steady.strike, steady.covers))
   where
-    by : ⊥ ⊎ ((new.numbers.strike ≡ 0) × ((state_of new).faults ≡ (state_of old).faults)) → IsSteady geo new after
+    by : ⊥ ⊎ (((new.numbers.strike ≡ 0) × Covers (state_of new)) × ((state_of new).faults ≡ (state_of old).faults)) → IsSteady geo new after
     by (inl spent) = absurd spent
-    by (inr (strike, same)) = record {
+    by (inr ((strike, covers), same)) = record {
       geometry = goes.geometry ∙ steady.geometry;
       mode = still_writable n (state_of old) new goes steady.mode steady.faults (same ∙ steady.faults);
       faults = same ∙ steady.faults;
       strike = strike;
+      covers = covers;
       orphans = goes.orphan_limit ∙ steady.orphans;
       credits = let covered = steady.credits in omega (arith, issued, none, covered);
     }

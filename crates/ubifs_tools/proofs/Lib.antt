@@ -1,5 +1,10 @@
 pub mod Answering
 pub mod FourWords
+pub mod FreshCover
 pub mod Imaging
+pub mod LeftCover
+pub mod Making
 pub mod Performing
 pub mod Running
+pub mod ThreeWords
+pub mod Working

@@ -1,5 +1,5 @@
 -- The answers of a run.
-use Rattle.std.proofs.Common.{◌≡◌, ℕ, ◌≤◌, List, [], ap, sym, refl, ◌∙◌, subst, inl, inr}
+use Rattle.std.proofs.Common.{◌≡◌, ℕ, ◌≤◌, List, ap, sym, refl, ◌∙◌, subst, inl, inr}
 use Rattle.std.specs.Prelude.{codes, Result, Ok, Err, IsErr}
 use Rattle.ubifs_base.specs.declared.raw_geometry.RawGeometry.{RawGeometry}
 use Rattle.ubifs_base.specs.Geometry.{IsGeometry}
@@ -10,14 +10,14 @@ use Rattle.script_text.specs.declared.manifest.Manifest.{Manifest}
 use Rattle.script_text.specs.declared.part.Part.{Part}
 use Rattle.script_text.specs.Manifest.{IsManifest, IsFirstBadManifestLine}
 use Rattle.script_text.specs.Script.{IsScript, IsFirstBadLine, OnLine}
-use Rattle.fs_model.specs.Files.{Handles, Tree}
-use Rattle.cached_files.specs.declared.kept.Kept.{Kept}
+use Rattle.fs_model.specs.Files.{Tree}
+use Rattle.fs_model.specs.Orphan.{without_nameless}
 use Rattle.cached_files.specs.Present.{IsKept, present}
 use Rattle.ubifs_tools.specs.Command.{IsBadText, IsDone, IsLeftImage, bad_line, geometry_of}
 use Rattle.ubifs_tools.specs.Run.{opening, IsRun as Runs}
-use Rattle.ubifs_tools.specs.Sessions.{IsBare, IsSession, running_of, state_in}
+use Rattle.ubifs_tools.specs.Sessions.{IsSession, running_of, state_in}
 use Rattle.ubifs_tools.specs.declared.session.Session.{Session}
-use Rattle.ubifs_tools.proofs.Running.{bare_tree}
+use Rattle.ubifs_tools.proofs.Running.{bare_files}
 
 pub bad_manifest : (fault : TextFault) (manifest script line word : List ℕ) → word ≡ codes "manifest" → OnLine fault (IsFirstBadManifestLine manifest) → OnLine fault (λ number. line ≡ bad_line word number) → (fault ≡ Memory → ⊥)
     → IsBadText (manifest, script) line
@@ -31,7 +31,7 @@ bad_script (Line number) m manifest script line word e good bad told never = rec
 
 pub done_of : (manifest script text image : List ℕ) (m : Manifest) (parts : List Part) (raw : RawGeometry) (session : Session) (stored : Tree) → IsManifest manifest m → IsScript script parts → IsGeometry raw → raw ≡ geometry_of m → 24 ≤ m.main
     → Runs raw opening parts text (running_of session) → IsSession raw session → stored ≡ (state_in session).tree
-    → (holds : ℕ → List ℕ) × IsLeftImage raw stored holds × (image ≡ image_of holds raw.leb_cnt) → IsDone (manifest, script) text image
+    → (holds : ℕ → List ℕ) × IsLeftImage raw (without_nameless stored) holds × (image ≡ image_of holds raw.leb_cnt) → IsDone (manifest, script) text image
 done_of manifest script text image m parts raw session stored is_manifest is_script ranges is main run whole same laid =
     let kept = session.fs.kept in
     let seen : present stored kept ≡ (running_of session).files = ap (λ tree. present tree kept) same in
@@ -49,15 +49,12 @@ done_of manifest script text image m parts raw session stored is_manifest is_scr
         kept = kept;
         fits = subst (λ tree. IsKept tree kept) (sym same) session.fs.ready.kept_fits;
         seen = seen;
-        unmounted = λ away. let bare = whole.bare away in left_bare (state_in session).tree stored kept same bare;
+        unmounted = λ away. bare_files (state_in session).tree stored kept (sym same) (whole.bare away);
       };
       holds = laid.0;
-      image_left = subst (λ g. IsLeftImage g stored laid.0) is laid.1;
+      image_left = subst (λ g. IsLeftImage g (without_nameless stored) laid.0) is laid.1;
       image_is = laid.2 ∙ ap (λ (g : RawGeometry). image_of laid.0 g.leb_cnt) is;
     }
-  where
-    left_bare : (tree stored : Tree) (kept : Kept) → stored ≡ tree → IsBare kept → present tree kept ≡ record { tree = stored; handles = [] }
-    left_bare tree stored kept same bare = ap (λ (t : Tree). record { tree = t; handles = kept.handles }) (bare_tree tree kept bare.pages bare.inodes ∙ sym same) ∙ ap (λ (h : Handles). record { tree = stored; handles = h }) bare.handles
 
 pub no_error : {T E : Type 0} (r : Result T E) (x : T) → r ≡ Ok x → IsErr r → ⊥
 no_error (Ok y) x e h = absurd cc

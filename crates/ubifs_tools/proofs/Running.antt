@@ -3,15 +3,14 @@ use Rattle.std.proofs.Common.{◌≡◌, ℕ, ◌++◌, List, [], ◌∷◌, ref
 use Rattle.std.proofs.lemmas.List.{append-nil, append_assoc}
 use Rattle.ubifs_base.specs.declared.raw_geometry.RawGeometry.{RawGeometry}
 use Rattle.std.specs.List.{AllByRecursion}
-use Rattle.fs_model.specs.declared.op.Op.TheVariants.{Create, Mkdir, Symlink, Link, Unlink, Rmdir, Rename, OpenFile, Close, Read, Write, Truncate, Fsync, Flush, List as ListDir, Stat, Readlink, Chmod}
-use Rattle.fs_model.specs.Files.{Files, Tree, size_of}
+use Rattle.fs_model.specs.Files.{Files, Handles, Tree, size_of}
 use Rattle.fs_model.specs.Same.{trimmed_blocks}
 use Rattle.cached_files.specs.declared.kept.Kept.{Kept}
 use Rattle.cached_files.specs.Alike.{IsAlike}
 use Rattle.cached_files.specs.Present.{covered, present}
 use Rattle.script_text.specs.declared.part.Part.{Part}
 use Rattle.script_text.specs.declared.part.Part.TheVariants.{Mount, Unmount, Now, Line}
-use Rattle.script_text.specs.Script.{AreLinesOf, IsInRange, IsLineOf, mounted_after}
+use Rattle.script_text.specs.Script.{IsInRange, mounted_after}
 use Rattle.ubifs_tools.specs.Replies.{IsCalled}
 use Rattle.ubifs_tools.specs.Run.{Running, IsPart, IsRun}
 use Rattle.ubifs_tools.specs.Sessions.{IsBare}
@@ -35,46 +34,30 @@ mounted_next geo before after (Line caller op) text h = ap (λ (s : Running). s.
 pub bare_tree : (tree : Tree) (kept : Kept) → kept.pages.dirty ≡ [] → kept.inodes ≡ [] → (present tree kept).tree ≡ tree
 bare_tree tree kept clean none = ap (λ inodes. covered tree inodes kept.pages.dirty) none ∙ ap (λ dirty. covered tree [] dirty) clean
 
--- all was put, and nobody has a file open any more
-pub put_alike : (files : Files) (tree later : Tree) (kept bare : Kept) → IsAlike files (present tree kept) → kept.pages.dirty ≡ [] → kept.inodes ≡ [] → later ≡ tree → IsBare bare
-    → IsAlike (record files { handles = [] }) (present later bare)
-put_alike files tree later kept bare alike clean none same is =
+-- what was put, where no page is dirty, is as callers saw it
+pub put_alike : (files : Files) (tree : Tree) (kept : Kept) → IsAlike files (present tree kept) → kept.pages.dirty ≡ [] → kept.inodes ≡ [] → IsAlike files (record files { tree = tree })
+put_alike files tree kept alike clean none =
     let put : (present tree kept).tree ≡ tree = bare_tree tree kept clean none in
-    let left : tree ≡ (present later bare).tree = sym (bare_tree later bare is.pages is.inodes ∙ same) in
-    let whole : (present tree kept).tree ≡ (present later bare).tree = put ∙ left in
     record {
-      inodes = alike.inodes ∙ ap (λ (t : Tree). t.inodes) whole;
-      blocks = alike.blocks ∙ ap (λ (t : Tree). trimmed_blocks t.blocks) whole;
-      entries = alike.entries ∙ ap (λ (t : Tree). t.entries) whole;
-      highest = alike.highest ∙ ap (λ (t : Tree). t.highest) whole;
-      handles = sym is.handles;
-      sizes = λ ino inode found plain. alike.sizes ino inode found plain ∙ ap (λ (t : Tree). size_of t ino inode) whole;
+      inodes = alike.inodes ∙ ap (λ (t : Tree). t.inodes) put;
+      blocks = alike.blocks ∙ ap (λ (t : Tree). trimmed_blocks t.blocks) put;
+      entries = alike.entries ∙ ap (λ (t : Tree). t.entries) put;
+      highest = alike.highest ∙ ap (λ (t : Tree). t.highest) put;
+      handles = refl;
+      sizes = λ ino inode found plain. alike.sizes ino inode found plain ∙ ap (λ (t : Tree). size_of t ino inode) put;
     }
 
--- a line of the grammar is a call that a run makes
-called : (part : Part) (line : List ℕ) → IsLineOf part line → IsInRange part → IsCalled part
-called Mount line is range = tt
-called Unmount line is range = tt
-called (Now now) line is range = tt
-called (Line caller (Create path mode)) line is range = (range.1, refl)
-called (Line caller (Mkdir path mode)) line is range = (range.1, refl)
-called (Line caller (Symlink path target)) line is range = (range.1, refl)
-called (Line caller (Link a b)) line is range = (range.1, refl)
-called (Line caller (Unlink path)) line is range = (range.1, refl)
-called (Line caller (Rmdir path)) line is range = (range.1, refl)
-called (Line caller (Rename a b)) line is range = (range.1, refl)
-called (Line caller (OpenFile path slot)) line is range = (range.1, refl)
-called (Line caller (Close slot)) line is range = (range.1, refl)
-called (Line caller (Read slot offs len)) line is range = (range.1, refl)
-called (Line caller (Write slot offs len byte)) line is range = (range.1, refl)
-called (Line caller (Truncate slot size)) line is range = absurd is.words.3.3
-called (Line caller (Fsync slot)) line is range = (range.1, refl)
-called (Line caller Flush) line is range = (range.1, refl)
-called (Line caller (ListDir path)) line is range = (range.1, refl)
-called (Line caller (Stat path)) line is range = (range.1, refl)
-called (Line caller (Readlink path)) line is range = (range.1, refl)
-called (Line caller (Chmod path mode)) line is range = (range.1, refl)
+-- the files, where nothing is kept beside the tree
+pub bare_files : (tree stored : Tree) (kept : Kept) → tree ≡ stored → IsBare kept → present tree kept ≡ record { tree = stored; handles = [] }
+bare_files tree stored kept same bare = ap (λ (t : Tree). record { tree = t; handles = kept.handles }) (bare_tree tree kept bare.pages bare.inodes ∙ same) ∙ ap (λ (h : Handles). record { tree = stored; handles = h }) bare.handles
 
-pub all_called : (parts : List Part) (text : List ℕ) → AreLinesOf parts text → AllByRecursion IsInRange parts → AllByRecursion IsCalled parts
-all_called [] text lines range = tt
-all_called (part ∷ parts) text (line, rest, is, others, e) range = (called part line is range.0, all_called parts rest others range.1)
+-- a line of the grammar is a call that a run makes
+called : (part : Part) → IsInRange part → IsCalled part
+called Mount range = tt
+called Unmount range = tt
+called (Now now) range = tt
+called (Line caller op) range = range.1
+
+pub all_called : (parts : List Part) → AllByRecursion IsInRange parts → AllByRecursion IsCalled parts
+all_called [] range = tt
+all_called (part ∷ parts) range = (called part range.0, all_called parts range.1)

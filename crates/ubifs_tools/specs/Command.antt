@@ -9,14 +9,13 @@ use Rattle.ubifs_base.specs.declared.raw_geometry.GeomField.{GeomField}
 use Rattle.ubifs_base.specs.declared.raw_geometry.GeomField.TheVariants.{LebSize, MinIo, LogLebs, LptLebs, OrphLebs, LebCnt, MaxLebCnt, Fanout, LsaveCnt}
 use Rattle.ubi_volume.specs.Volume.{image_of}
 use Rattle.fs_model.specs.Files.{Tree}
+use Rattle.fs_model.specs.Orphan.{without_nameless}
 use Rattle.cached_files.specs.declared.kept.Kept.{Kept}
 use Rattle.cached_files.specs.Present.{IsKept, present}
 use Rattle.ubifs_base.specs.Faults.{Rose}
 use Rattle.io_edges.specs.Keeper.{KeeperState}
 use Rattle.io_edges.specs.Sink.{SinkState}
-use Rattle.image_maker.specs.Image.{IsImage}
-use Rattle.image_maker.specs.Leaves.{live_leaves}
-use Rattle.whole_image.specs.Made.{IsCrowded, IsMadeImage}
+use Rattle.whole_image.specs.Made.{IsMadeImage}
 use Rattle.script_text.specs.declared.part.Part.{Part}
 use Rattle.script_text.specs.declared.manifest.Manifest.{Manifest}
 use Rattle.script_text.specs.Manifest.{IsManifest, IsFirstBadManifestLine}
@@ -97,14 +96,12 @@ pub record IsLeft (stored : Tree) (last : Running) : Type 0 where
 abbrev pub no_identifier : List ℕ
 no_identifier = replicate 16 0
 
--- What a run leaves of a tree: a sound image of it. If an index has no room beside the leaves, the main LEBs hold these alone.
+-- What a run leaves of a tree: a whole image of it, which is sound.
 unfoldable pub IsLeftImage : RawGeometry → Tree → (ℕ → List ℕ) → Type 0
-IsLeftImage geo tree holds =
-    IsMadeImage holds geo no_identifier tree
-    ⊎ (IsImage geo (live_leaves tree) holds × ((need : ℕ) × (room : ℕ) × IsCrowded geo tree need room))
+IsLeftImage geo tree holds = IsMadeImage holds geo no_identifier tree
 
 -- The work was done: the texts are in their grammar; the text is that of the script's lines, one after another, from a fresh
--- volume on; and the image's bytes are those of a volume that holds what is left of the tree that was put.
+-- volume on; and the image's bytes are those of a volume that holds what is left of the tree that was put, without what has no name.
 pub record IsDone (texts : List ℕ × List ℕ) (text image : List ℕ) : Type 0 where
   pub m : Manifest
   pub parts : List Part
@@ -117,7 +114,7 @@ pub record IsDone (texts : List ℕ × List ℕ) (text image : List ℕ) : Type 
   pub stored : Tree
   pub left : IsLeft stored last
   pub holds : ℕ → List ℕ
-  pub image_left : IsLeftImage (geometry_of m) stored holds
+  pub image_left : IsLeftImage (geometry_of m) (without_nameless stored) holds
   pub image_is : image ≡ image_of holds (geometry_of m).leb_cnt
 
 -- the files are told, and there is none of this name

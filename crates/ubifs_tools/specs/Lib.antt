@@ -6,3 +6,4 @@ pub mod Performed
 pub mod Replies
 pub mod Run
 pub mod Sessions
+pub mod Making

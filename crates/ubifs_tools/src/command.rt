@@ -52,7 +52,7 @@ pub(crate) fn run<K: Keeper>(
 }
 
 // The line for a file that wasn't read or written.
-fn unread(alloc: Global, name: &str) -> Result<Ended, Memory>
+pub(crate) fn unread(alloc: Global, name: &str) -> Result<Ended, Memory>
     ensures { IfOk result (NamesFile name.now) }
 {
     let line = line_of_two(alloc, b"file".as_slice(), name.as_bytes())?;

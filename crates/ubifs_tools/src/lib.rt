@@ -5,6 +5,8 @@ mod command;
 mod fresh;
 mod image;
 mod image_command;
+mod mkfs;
+mod nameless;
 mod perform;
 mod run;
 mod session;

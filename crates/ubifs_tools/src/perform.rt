@@ -8,7 +8,9 @@ ghost use Rattle.ubifs_tools.specs.Command.{bad_line, field_name};
 ghost use Rattle.ubifs_tools.specs.Performed.{IsPerformed};
 
 use crate::image::image_bytes;
+use crate::nameless::without_nameless;
 use crate::run::play;
+use fs_laws::a_mount_keeps_trees_proper;
 use script_text::{TextFault, parts_are_in_range, read_manifest, read_script};
 use std::alloc::Global;
 use text_lines::line_of_three;
@@ -59,7 +61,8 @@ pub(crate) fn perform(alloc: Global, manifest: &[u8], script: &[u8]) -> Result<P
     }
     parts_are_in_range();
     let run = play(alloc, geometry, parts)?;
-    let tree = run.session.fs.into_parts().into_tree();
+    a_mount_keeps_trees_proper();
+    let tree = without_nameless(alloc, run.session.fs.into_parts().into_tree())?;
     let image = image_bytes(alloc, &geometry, &tree)?;
     Ok(Performed::Done {
         text: run.text,
@@ -68,7 +71,7 @@ pub(crate) fn perform(alloc: Global, manifest: &[u8], script: &[u8]) -> Result<P
 }
 
 // The line for a text whose first bad line is told.
-fn bad_text_line(alloc: Global, word: &[u8], fault: TextFault) -> Result<Vec<u8>, Memory>
+pub(crate) fn bad_text_line(alloc: Global, word: &[u8], fault: TextFault) -> Result<Vec<u8>, Memory>
     ensures line { IfOk result (λ line. OnLine fault (λ number. line.items ≡ bad_line word.now number)) }
     ensures memory { fault ≡ TextFault.Memory → IsErr result }
 {
@@ -82,7 +85,7 @@ fn bad_text_line(alloc: Global, word: &[u8], fault: TextFault) -> Result<Vec<u8>
 }
 
 // The line for a field that is out of range.
-fn bad_geometry_line(alloc: Global, fault: GeomFault) -> Result<Vec<u8>, Memory>
+pub(crate) fn bad_geometry_line(alloc: Global, fault: GeomFault) -> Result<Vec<u8>, Memory>
     ensures { IfOk result (λ line. line.items ≡ line_of (codes "geometry" ∷ field_name fault.field ∷ decimal fault.value ∷ [])) }
 {
     let value = fault.value.to_string(alloc)?;
@@ -111,7 +114,7 @@ fn name_of(field: GeomField) -> &'static [u8]
 }
 
 // The line for a volume with too few main LEBs.
-fn small_line(alloc: Global, main: u32) -> Result<Vec<u8>, Memory>
+pub(crate) fn small_line(alloc: Global, main: u32) -> Result<Vec<u8>, Memory>
     ensures { IfOk result (λ line. line.items ≡ line_of (codes "small" ∷ decimal main ∷ codes "24" ∷ [])) }
 {
     let main = main.to_string(alloc)?;

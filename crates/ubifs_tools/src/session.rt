@@ -10,17 +10,22 @@ ghost use Rattle.plain_backing.specs.PlainBacking.{state_of};
 ghost use Rattle.script_text.specs.declared.part.Part.TheVariants.{Line, Mount, Unmount};
 ghost use Rattle.script_text.specs.Script.{MayStand};
 ghost use Rattle.vfs_ops.specs.declared.event.Outcome.TheVariants.{Replied};
-ghost use Rattle.vfs_ops.specs.Events.{HasSynced, IsReply};
+ghost use Rattle.vfs_ops.specs.Background.{is_work};
+ghost use Rattle.vfs_ops.specs.Events.{HasSynced, IsCalled as IsCalledEvent, IsReply, grant_of};
 ghost use Rattle.ubifs_tools.specs.Replies.{IsCalled, is_memory};
-ghost use Rattle.ubifs_tools.specs.Run.{IsAnswer, IsPart, opening};
-ghost use Rattle.ubifs_tools.specs.Sessions.{IsBare, IsSession, IsSteady, running_of, state_in};
+ghost use Rattle.fs_model.specs.Files.{Tree};
+ghost use Rattle.fs_model.specs.Orphan.{without_nameless};
+ghost use Rattle.ubifs_tools.specs.Run.{IsAnswer, IsPart, OrphansGrow, opening};
+ghost use Rattle.ubifs_tools.specs.Sessions.{IsBare, IsSession, IsSteady, running_of, mounted_over, state_in};
 
-use crate::fresh::fresh_backing;
-use cached_files::clean_files_are_those_of_the_backing;
-use fs_laws::a_fresh_volume_is_sound;
-use fs_model::{Op, Refusal, Reply};
+use crate::fresh::{backing_of, fresh_space, fresh_tree};
+use crate::nameless::without_nameless;
+use cached_files::{clean_files_are_those_of_the_backing, present_files_are_sound};
+use fs_laws::{a_fresh_volume_is_sound, a_mount_keeps_trees_proper};
+use fs_model::{Backing, Op, Refusal, Reply};
 use plain_backing::PlainBacking;
 use script_text::{Part, write_reply};
+use space_sums::more_never_lowers_the_need;
 use std::alloc::Global;
 use ubifs_base::{Geometry, Memory};
 use vfs_ops::{Event, Fs, Outcome};
@@ -28,11 +33,12 @@ use vfs_ops::{Event, Fs, Outcome};
 /// How many clean pages are kept in memory.
 const CLEAN: u32 = 1024;
 
-/// Files over a volume in memory, whether it is mounted, the time in seconds since 1970, and how many lines of the caller stand
+/// Files over a volume in memory, its geometry, whether it is mounted, the time in seconds since 1970, and how many lines of the caller stand
 /// behind the last line of another kind.
 #[derive(Drop)]
 pub(crate) struct Session {
     pub(crate) fs: Fs<PlainBacking>,
+    pub(crate) geometry: Geometry,
     pub(crate) mounted: bool,
     pub(crate) now: u64,
     pub(crate) number: u64,
@@ -45,10 +51,11 @@ pub(crate) fn fresh_session(alloc: Global, geometry: Geometry) -> Result<Session
     ensures opening { IfOk result (λ session. running_of session ≡ opening) }
 {
     a_fresh_volume_is_sound();
-    let backing = fresh_backing(alloc, geometry)?;
+    let backing = backing_of(alloc, geometry, fresh_tree(alloc)?, fresh_space(geometry))?;
     match Fs::new(alloc, backing, CLEAN) {
         Ok(fs) => Ok(Session {
             fs,
+            geometry,
             mounted: false,
             now: 0,
             number: 0,
@@ -77,6 +84,7 @@ pub(crate) fn next(
         Part::Unmount => unmounted(alloc, session, text),
         Part::Now { now } => Ok(Session {
             fs: session.fs,
+            geometry: session.geometry,
             mounted: session.mounted,
             now,
             number: 0,
@@ -95,23 +103,25 @@ fn mounted(session: Session, text: &mut Vec<u8>) -> Result<Session, Memory>
     text.extend_from_slice(b"mount rw\n".as_slice())?;
     Ok(Session {
         fs: session.fs,
+        geometry: session.geometry,
         mounted: true,
         now: session.now,
         number: 0,
     })
 }
 
-// Unmounts it: all is put, and nobody has a file open any more.
+// Unmounts it: all is put, nobody has a file open any more, and what has no name is gone.
 fn unmounted(alloc: Global, session: Session, text: &mut Vec<u8>) -> Result<Session, Memory>
     requires session { IsSession (state_in session).geometry session }
     ensures session { IfOk result (λ new. IsSession (state_in session).geometry new) }
     ensures part { IfOk result (λ new. (line : List ℕ) × IsPart (state_in session).geometry (running_of session) Unmount line (running_of new) × (text.new.items ≡ text.old.items ++ line)) }
     ensures few { IfOk result (λ new. new.number ≡ 0) }
 {
-    let fs = put_away(alloc, session.fs)?;
+    let fs = put_away(alloc, session.geometry, session.fs)?;
     text.extend_from_slice(b"unmount clean\n".as_slice())?;
     Ok(Session {
         fs,
+        geometry: session.geometry,
         mounted: false,
         now: session.now,
         number: 0,
@@ -134,22 +144,37 @@ fn served(session: Session, caller: u16, op: Op, text: &mut Vec<u8>) -> Result<S
     write_reply(caller, number, &reply, text)?;
     Ok(Session {
         fs,
+        geometry: session.geometry,
         mounted: session.mounted,
         now: session.now,
         number,
     })
 }
 
-// Puts all that is dirty, and closes all that is open.
-fn put_away(alloc: Global, fs: Fs<PlainBacking>) -> Result<Fs<PlainBacking>, Memory>
-    requires steady { IsSteady (state_of fs.backing).geometry fs.backing fs.kept }
-    ensures steady { IfOk result (λ new. IsSteady (state_of fs.backing).geometry new.backing new.kept) }
+// Puts all that is dirty and commits it, closes all that is open, and drops what has no name then. Nothing was put since on the volume.
+fn put_away(
+    alloc: Global,
+    geometry: Geometry,
+    fs: Fs<PlainBacking>,
+) -> Result<Fs<PlainBacking>, Memory>
+    requires main { 24 ≤ main_lebs (raw_of geometry) }
+    requires steady { IsSteady (raw_of geometry) fs.backing fs.kept }
+    ensures steady { IfOk result (λ new. IsSteady (raw_of geometry) new.backing new.kept) }
     ensures bare { IfOk result (λ new. IsBare new.kept) }
-    ensures files { IfOk result (λ new. IsAlike (record (present (state_of fs.backing).tree fs.kept) { handles = [] }) (present (state_of new.backing).tree new.kept)) }
+    ensures closed { IfOk result (λ new. (state_of new.backing).closed ≡ 0) }
+    ensures files { IfOk result (λ new. (put : Tree) × IsAlike (present (state_of fs.backing).tree fs.kept) (record (present (state_of fs.backing).tree fs.kept) { tree = put })
+        × (present (state_of new.backing).tree new.kept ≡ record { tree = without_nameless put; handles = [] })) }
 {
+    a_mount_keeps_trees_proper();
+    more_never_lowers_the_need();
     let mut fs = fs;
     flush(&mut fs)?;
-    match Fs::new(alloc, fs.into_parts(), CLEAN) {
+    commit(&mut fs)?;
+    let backing = fs.into_parts();
+    let space = backing.space();
+    let tree = without_nameless(alloc, backing.into_tree())?;
+    let backing = backing_of(alloc, geometry, tree, space)?;
+    match Fs::new(alloc, backing, CLEAN) {
         Ok(fs) => Ok(fs),
         Err((fault, _)) => Err(fault),
     }
@@ -169,15 +194,52 @@ fn flush(fs: &mut Fs<PlainBacking>) -> Result<(), Memory>
     }
 }
 
+// Commits what was put, as a mount does that ends.
+fn commit(fs: &mut Fs<PlainBacking>) -> Result<(), Memory>
+    requires steady { IsSteady (state_of fs.old.backing).geometry fs.old.backing fs.old.kept }
+    ensures steady { OnOk result (IsSteady (state_of fs.old.backing).geometry fs.new.backing fs.new.kept) }
+    ensures tree { OnOk result ((state_of fs.new.backing).tree ≡ (state_of fs.old.backing).tree) }
+    ensures kept { OnOk result (fs.new.kept ≡ fs.old.kept) }
+{
+    work(fs, &Event::CommitStart)?;
+    work(fs, &Event::CommitStep)?;
+    work(fs, &Event::CommitEnd)?;
+    Ok(())
+}
+
+// Asks the backing for work on what was put. Want of memory alone keeps it from that.
+fn work(fs: &mut Fs<PlainBacking>, event: &Event) -> Result<(), Memory>
+    requires steady { IsSteady (state_of fs.old.backing).geometry fs.old.backing fs.old.kept }
+    requires work { is_work event.now ≡ true }
+    requires call { IsCalledEvent event.now }
+    requires grant { grant_of event.now ≡ 0 }
+    ensures steady { IsSteady (state_of fs.old.backing).geometry fs.new.backing fs.new.kept }
+    ensures tree { (state_of fs.new.backing).tree ≡ (state_of fs.old.backing).tree }
+    ensures kept { fs.new.kept ≡ fs.old.kept }
+{
+    let outcome = fs.step(event);
+    fault_of(&outcome)
+}
+
+// The fault that an outcome tells. Want of memory is the only one that comes.
+fn fault_of(outcome: &Outcome) -> Result<(), Memory> {
+    match outcome {
+        Outcome::Fault { .. } => Err(Memory),
+        _ => Ok(()),
+    }
+}
+
 // The reply to a caller's operation. Want of memory ends the run.
 fn replied(fs: &mut Fs<PlainBacking>, caller: u16, now: u64, op: Op) -> Result<Reply, Memory>
     requires steady { IsSteady (state_of fs.old.backing).geometry fs.old.backing fs.old.kept }
     requires call { IsCalled (Line caller op) }
     ensures steady { OnOk result (IsSteady (state_of fs.old.backing).geometry fs.new.backing fs.new.kept) }
-    ensures answer { IfOk result (λ reply. IsAnswer (state_of fs.old.backing).geometry (present (state_of fs.old.backing).tree fs.old.kept) caller now op reply (present (state_of fs.new.backing).tree fs.new.kept)) }
+    ensures answer { IfOk result (λ reply. IsAnswer (state_of fs.old.backing).geometry (mounted_over fs.old.backing fs.old.kept now) caller op reply (present (state_of fs.new.backing).tree fs.new.kept)) }
+    ensures orphans { OnOk result (OrphansGrow (mounted_over fs.old.backing fs.old.kept now) (mounted_over fs.new.backing fs.new.kept now)) }
     ensures written { IfOk result (λ reply. HasSynced ReadWrite (state_of fs.new.backing) fs.old.kept fs.new.kept caller op reply) }
 {
     clean_files_are_those_of_the_backing();
+    present_files_are_sound();
     let event = Event::Call {
         caller,
         now,

@@ -8,10 +8,12 @@ ghost use Rattle.io_edges.specs.Keeper.{SameFiles};
 ghost use Rattle.ubifs_tools.specs.Command.{IsRun, OnRun, IsPrinted, IsTold, IsUnread, IsBadText, IsBadGeometry};
 ghost use Rattle.ubifs_tools.specs.ImageCommand.{IsBadImage, IsNoImage, IsOfImage, IsTextOf, OnImage};
 ghost use Rattle.ubifs_tools.specs.Ended.{IsFinished, IsTurnedDown};
+ghost use Rattle.ubifs_tools.specs.Making.{HasNoImage, IsBadTree, IsMkfs, IsMkfsFinished, IsMkfsTurnedDown, IsMkfsUnread, OnMkfs};
 ghost use Rattle.ubifs_tools.specs.declared.image_command.ImageCommand.{ImageCommand as Command};
 
 use crate::command::{Ended, run};
 use crate::image_command::{ImageCommand, Reported, report};
+use crate::mkfs::{mkfs, mkfs_words};
 use crate::words::{image_words, run_words};
 use io_edges::{Keeper, Sink, SinkFault};
 use std::alloc::Global;
@@ -20,7 +22,7 @@ use ubifs_base::Memory;
 
 /// Runs the command that the words say, over the keeper's files, and prints to the sink. The answer is the status: 0 the
 /// work was done, 1 the words aren't a command, 2 a text isn't in its grammar, 3 an image isn't sound, 4 a file wasn't read
-/// or written, 5 the output failed, 6 there was no memory, 7 the manifest's geometry is out of range.
+/// or written, 5 the output failed, 6 there was no memory, 7 the manifest's geometry is out of range, or its tree has no room.
 pub fn ubifs<R: Threads + Sync, K: Keeper, O: Sink>(
     rt: &R,
     alloc: Global,
@@ -30,53 +32,71 @@ pub fn ubifs<R: Threads + Sync, K: Keeper, O: Sink>(
 ) -> u8
     ensures known { result ≤ 7 }
 
-    // The words are neither a run of three files nor a check or a dump of one.
+    // The words are neither a run of three files, nor a check or a dump of one, nor a making of an image.
     ensures words { (result ≡ 1) ↔ (((manifest script image : List ℕ) → IsRun (map string_bytes words.now) manifest script image → ⊥)
-        × ((command : Command) (image : List ℕ) → IsOfImage (map string_bytes words.now) command image → ⊥)) }
+        × ((command : Command) (image : List ℕ) → IsOfImage (map string_bytes words.now) command image → ⊥)
+        × ((manifest image : List ℕ) → IsMkfs (map string_bytes words.now) manifest image → ⊥)) }
     ensures usage { result ≡ 1 → IsPrinted (O.state out.old) (O.state out.new) (line_of (codes "usage" ∷ [])) }
 
     // The work was done, and all of its text was printed.
     ensures done { result ≡ 0 → OnRun (map string_bytes words.now) (λ manifest script image. (text : List ℕ)
         × IsFinished (K.state keeper.old) (K.state keeper.new) manifest script image text × IsTold (O.state out.old) (O.state out.new) text)
         ⊎ OnImage (map string_bytes words.now) (λ command image. (text : List ℕ)
-        × IsTextOf command (K.state keeper.old) (K.state keeper.new) image text × IsTold (O.state out.old) (O.state out.new) text) }
+        × IsTextOf command (K.state keeper.old) (K.state keeper.new) image text × IsTold (O.state out.old) (O.state out.new) text)
+        ⊎ OnMkfs (map string_bytes words.now) (λ manifest image. (text : List ℕ)
+        × IsMkfsFinished (K.state keeper.old) (K.state keeper.new) manifest image text × IsTold (O.state out.old) (O.state out.new) text) }
 
     // Nothing was done, and the line says why.
     ensures text { result ≡ 2 → OnRun (map string_bytes words.now) (λ manifest script image. (line : List ℕ)
         × IsTurnedDown (K.state keeper.old) (K.state keeper.new) manifest script (λ texts. IsBadText texts line)
+        × IsPrinted (O.state out.old) (O.state out.new) line)
+        ⊎ OnMkfs (map string_bytes words.now) (λ manifest image. (line : List ℕ)
+        × IsMkfsTurnedDown (K.state keeper.old) (K.state keeper.new) manifest (λ text. IsBadTree text line)
         × IsPrinted (O.state out.old) (O.state out.new) line) }
     ensures image { result ≡ 3 → OnImage (map string_bytes words.now) (λ command image. (line : List ℕ)
         × IsBadImage (K.state keeper.old) (K.state keeper.new) image line × IsPrinted (O.state out.old) (O.state out.new) line) }
     ensures geometry { result ≡ 7 → OnRun (map string_bytes words.now) (λ manifest script image. (line : List ℕ)
         × IsTurnedDown (K.state keeper.old) (K.state keeper.new) manifest script (λ texts. IsBadGeometry texts line)
+        × IsPrinted (O.state out.old) (O.state out.new) line)
+        ⊎ OnMkfs (map string_bytes words.now) (λ manifest image. (line : List ℕ)
+        × IsMkfsTurnedDown (K.state keeper.old) (K.state keeper.new) manifest (λ text. HasNoImage text line)
         × IsPrinted (O.state out.old) (O.state out.new) line) }
     ensures files { result ≡ 4 → OnRun (map string_bytes words.now) (λ manifest script image. (line : List ℕ)
         × IsUnread (K.state keeper.old) (K.state keeper.new) manifest script image line
         × SameFiles (K.state keeper.old) (K.state keeper.new) × IsPrinted (O.state out.old) (O.state out.new) line)
         ⊎ OnImage (map string_bytes words.now) (λ command image. (line : List ℕ)
         × IsNoImage (K.state keeper.old) (K.state keeper.new) image line
-        × SameFiles (K.state keeper.old) (K.state keeper.new) × IsPrinted (O.state out.old) (O.state out.new) line) }
+        × SameFiles (K.state keeper.old) (K.state keeper.new) × IsPrinted (O.state out.old) (O.state out.new) line)
+        ⊎ OnMkfs (map string_bytes words.now) (λ manifest image. (line : List ℕ)
+        × IsMkfsUnread (K.state keeper.old) (K.state keeper.new) manifest image line × IsPrinted (O.state out.old) (O.state out.new) line) }
 
     // The work was done, but the sink failed.
     ensures failed { result ≡ 5 → Rose (O.state out.old).faults (O.state out.new).faults }
     ensures output { result ≡ 5 → OnRun (map string_bytes words.now) (λ manifest script image. (text : List ℕ)
         × IsFinished (K.state keeper.old) (K.state keeper.new) manifest script image text × IsPrinted (O.state out.old) (O.state out.new) text)
         ⊎ OnImage (map string_bytes words.now) (λ command image. (text : List ℕ)
-        × IsTextOf command (K.state keeper.old) (K.state keeper.new) image text × IsPrinted (O.state out.old) (O.state out.new) text) }
+        × IsTextOf command (K.state keeper.old) (K.state keeper.new) image text × IsPrinted (O.state out.old) (O.state out.new) text)
+        ⊎ OnMkfs (map string_bytes words.now) (λ manifest image. (text : List ℕ)
+        × IsMkfsFinished (K.state keeper.old) (K.state keeper.new) manifest image text × IsPrinted (O.state out.old) (O.state out.new) text) }
 
     // There was no memory.
     ensures memory { result ≡ 6 → IsPrinted (O.state out.old) (O.state out.new) (line_of (codes "memory" ∷ [])) }
 
-    // A file changes only where a run was done.
+    // A file changes only where a run was done, or an image was made.
     ensures kept { SameFiles (K.state keeper.old) (K.state keeper.new)
         ⊎ OnRun (map string_bytes words.now) (λ manifest script image. (text : List ℕ)
-        × IsFinished (K.state keeper.old) (K.state keeper.new) manifest script image text) }
+        × IsFinished (K.state keeper.old) (K.state keeper.new) manifest script image text)
+        ⊎ OnMkfs (map string_bytes words.now) (λ manifest image. (text : List ℕ)
+        × IsMkfsFinished (K.state keeper.old) (K.state keeper.new) manifest image text) }
 {
     if let Some((manifest, script, image)) = run_words(words) {
         return run_told(alloc, manifest, script, image, keeper, out);
     }
     if let Some((command, image)) = image_words(words) {
         return image_told(rt, alloc, command, image, keeper, out);
+    }
+    if let Some((manifest, image)) = mkfs_words(words) {
+        return mkfs_told(alloc, manifest, image, keeper, out);
     }
     told(out, b"usage\n".as_slice(), 1)
 }
@@ -110,6 +130,41 @@ fn run_told<K: Keeper, O: Sink>(
         ⊎ ((text : List ℕ) × IsFinished (K.state keeper.old) (K.state keeper.new) manifest.now script.now image.now text) }
 {
     match run(alloc, manifest, script, image, keeper) {
+        Ok(Ended::Unread { line }) => told(out, &line, 4),
+        Ok(Ended::BadText { line }) => told(out, &line, 2),
+        Ok(Ended::BadGeometry { line }) => told(out, &line, 7),
+        Ok(Ended::Done { text }) => printed(out, &text),
+        Err(Memory) => told(out, b"memory\n".as_slice(), 6),
+    }
+}
+
+// Makes an image of a manifest, and prints what became of it.
+fn mkfs_told<K: Keeper, O: Sink>(
+    alloc: Global,
+    manifest: &str,
+    image: &str,
+    keeper: &mut K,
+    out: &mut O,
+) -> u8
+    ensures known { (result ≤ 7) × (result ≢ 1) × (result ≢ 3) }
+    ensures done { result ≡ 0 → (text : List ℕ)
+        × IsMkfsFinished (K.state keeper.old) (K.state keeper.new) manifest.now image.now text × IsTold (O.state out.old) (O.state out.new) text }
+    ensures text { result ≡ 2 → (line : List ℕ)
+        × IsMkfsTurnedDown (K.state keeper.old) (K.state keeper.new) manifest.now (λ text. IsBadTree text line)
+        × IsPrinted (O.state out.old) (O.state out.new) line }
+    ensures geometry { result ≡ 7 → (line : List ℕ)
+        × IsMkfsTurnedDown (K.state keeper.old) (K.state keeper.new) manifest.now (λ text. HasNoImage text line)
+        × IsPrinted (O.state out.old) (O.state out.new) line }
+    ensures files { result ≡ 4 → (line : List ℕ)
+        × IsMkfsUnread (K.state keeper.old) (K.state keeper.new) manifest.now image.now line × IsPrinted (O.state out.old) (O.state out.new) line }
+    ensures failed { result ≡ 5 → Rose (O.state out.old).faults (O.state out.new).faults }
+    ensures output { result ≡ 5 → (text : List ℕ)
+        × IsMkfsFinished (K.state keeper.old) (K.state keeper.new) manifest.now image.now text × IsPrinted (O.state out.old) (O.state out.new) text }
+    ensures memory { result ≡ 6 → IsPrinted (O.state out.old) (O.state out.new) (line_of (codes "memory" ∷ [])) }
+    ensures kept { SameFiles (K.state keeper.old) (K.state keeper.new)
+        ⊎ ((text : List ℕ) × IsMkfsFinished (K.state keeper.old) (K.state keeper.new) manifest.now image.now text) }
+{
+    match mkfs(alloc, manifest, image, keeper) {
         Ok(Ended::Unread { line }) => told(out, &line, 4),
         Ok(Ended::BadText { line }) => told(out, &line, 2),
         Ok(Ended::BadGeometry { line }) => told(out, &line, 7),

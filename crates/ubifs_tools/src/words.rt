@@ -80,7 +80,7 @@ fn is_run(word: &[u8]) -> bool
     word == b"run".as_slice()
 }
 
-fn is_file_name(word: &[u8]) -> bool
+pub(crate) fn is_file_name(word: &[u8]) -> bool
     ensures { IsTrue result ↔ IsFileName word.now }
 {
     !word.is_empty() && word[0] != b'-'

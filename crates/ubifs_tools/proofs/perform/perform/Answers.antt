@@ -1,7 +1,12 @@
-use Rattle.std.proofs.Common.{ap, ◌∙◌, subst, inl}
+use Rattle.std.proofs.Common.{◌≡◌, ℕ, List, ap, ◌∙◌, subst, sym, inl}
 use Rattle.ubifs_base.specs.declared.raw_geometry.RawGeometry.{RawGeometry}
 use Rattle.ubifs_base.specs.GeometryFaults.{IsFirstOut, tested_fields}
 use Rattle.ubifs_base.specs.RawOf.{raw_of}
+use Rattle.ubi_volume.specs.Volume.{image_of}
+use Rattle.fs_model.specs.Files.{Tree}
+use Rattle.fs_model.specs.Proper.{IsProper}
+use Rattle.ubifs_tools.specs.Command.{IsLeftImage}
+use Rattle.ubifs_tools.proofs.LeftCover.{covered_tree, named_tree}
 use Rattle.ubifs_tools.proofs.Performing.{bad_manifest, bad_script, done_of, no_error}
 use Rattle.plain_backing.specs.PlainBacking.{state_of}
 use Rattle.ubifs_tools.proofs.Running.{all_called}
@@ -27,10 +32,25 @@ returns-in-Err-new c = record {
 
 pub play-requires-clause-calls : goal.play-requires-clause-calls
 play-requires-clause-calls c =
-    let script = c.in-Ok-read_script.ensures.ok in
-    all_called c.in-Ok-read_script.script.parts.items script.lines.0 script.lines.1 (c.parts_are_in_range.ensures c.args.script.now c.in-Ok-read_script.script.parts.items script)
+    all_called c.in-Ok-read_script.script.parts.items (c.parts_are_in_range.ensures c.args.script.now c.in-Ok-read_script.script.parts.items c.in-Ok-read_script.ensures.ok)
+
+pub image_bytes-requires-clause-proper : goal.image_bytes-requires-clause-proper
+image_bytes-requires-clause-proper c =
+    let P : Tree → Type 0 = λ tree. IsProper tree in
+    let same : c.into_tree.result ≡ (state_of c.in_ok-run.run'.session.fs.backing).tree = c.into_tree.ensures ∙ ap (λ b. (state_of b).tree) c.into_parts.ensures in
+    subst P (sym c.in_ok-tree.ensures) (c.a_mount_keeps_trees_proper.ensures c.into_tree.result (subst P (sym same) c.in_ok-run.run'.session.fs.ready.kept_fits.proper))
+
+pub image_bytes-requires-clause-covered : goal.image_bytes-requires-clause-covered
+image_bytes-requires-clause-covered c =
+    let geo = raw_of c.in-Ok-new.geometry in
+    let steady = c.in_ok-run.ensures.session.steady in
+    let whole = covered_tree geo c.in_ok-run.run'.session.fs.backing c.into_tree.result steady.geometry (c.into_tree.ensures ∙ ap (λ b. (state_of b).tree) c.into_parts.ensures) steady.covers in
+    named_tree geo c.into_tree.result c.in_ok-tree.tree c.in_ok-tree.ensures whole
 
 pub returns : goal.returns
-returns c = done_of c.args.manifest.now c.args.script.now c.in_ok-run.run'.text.items c.in_ok-image.image.items c.in-Ok.manifest c.in-Ok-read_script.script.parts.items (raw_of c.in-Ok-new.geometry) c.in_ok-run.run'.session c.into_tree-tree.result
+returns c =
+    let stored = c.into_tree.result in
+    let P : Tree → Type 0 = λ tree. (holds : ℕ → List ℕ) × IsLeftImage (raw_of c.in-Ok-new.geometry) tree holds × (c.in_ok-image.image.items ≡ image_of holds c.in-Ok-new.geometry.leb_cnt) in
+    done_of c.args.manifest.now c.args.script.now c.in_ok-run.run'.text.items c.in_ok-image.image.items c.in-Ok.manifest c.in-Ok-read_script.script.parts.items (raw_of c.in-Ok-new.geometry) c.in_ok-run.run'.session stored
     c.in-Ok.ensures.ok c.in-Ok-read_script.ensures.ok c.in-Ok-new.geometry.in_range (c.in-Ok-new.ensures.fields ∙ c.plain-raw.ensures) c.if-manifest-lt24.false
-    c.in_ok-run.ensures.run c.in_ok-run.ensures.session (c.into_tree-tree.ensures ∙ ap (λ b. (state_of b).tree) c.into_parts.ensures) c.in_ok-image.ensures
+    c.in_ok-run.ensures.run c.in_ok-run.ensures.session (c.into_tree.ensures ∙ ap (λ b. (state_of b).tree) c.into_parts.ensures) (subst P c.in_ok-tree.ensures c.in_ok-image.ensures)

@@ -1,11 +1,36 @@
-use Rattle.std.proofs.Common.{ap, ◌∙◌}
+use Rattle.std.proofs.Common.{ap, subst, sym, ◌∙◌}
 use Rattle.cached_files.specs.Present.{present}
+use Rattle.fs_model.specs.Files.{Tree}
+use Rattle.fs_model.specs.Orphan.{without_nameless}
+use Rattle.fs_model.specs.Proper.{IsProper}
 use Rattle.plain_backing.specs.PlainBacking.{state_of}
-use Rattle.ubifs_tools.proofs.Running.{put_alike}
+use Rattle.ubifs_base.specs.RawOf.{raw_of}
+use Rattle.ubifs_tools.proofs.LeftCover.{named_covers}
+use Rattle.ubifs_tools.proofs.Running.{bare_files, put_alike}
 use Rattle.ubifs_tools.proofs.session.put_away.Goals as goal
+
+pub new-requires-clause-proper : goal.new-requires-clause-proper
+new-requires-clause-proper c =
+    let P : Tree → Type 0 = λ tree. IsProper tree in
+    subst P (sym (c.in_ok-backing.ensures.tree ∙ c.in_ok-tree.ensures))
+    (c.a_mount_keeps_trees_proper.ensures c.into_tree.result (subst P (sym (c.into_tree.ensures ∙ ap (λ b. (state_of b).tree) c.into_parts-backing.ensures)) c.commit.new.fs.ready.kept_fits.proper))
+
+pub backing_of-requires-clause-covers : goal.backing_of-requires-clause-covers
+backing_of-requires-clause-covers c =
+    let P : Tree → Type 0 = λ tree. IsProper tree in
+    let stored = c.into_tree.ensures ∙ ap (λ b. (state_of b).tree) c.into_parts-backing.ensures in
+    let steady = c.in_ok-commit.ensures.steady in
+    named_covers (raw_of c.args.geometry) c.commit.new.fs.backing c.space-space.result c.into_tree.result c.in_ok-tree.tree (steady.geometry ∙ c.in_ok-flush.ensures.steady.geometry ∙ c.requires.steady.geometry) (c.space-space.ensures ∙ ap (λ b. (state_of b).space) c.into_parts-backing.ensures) stored c.in_ok-tree.ensures
+    c.more_never_lowers_the_need.ensures.admitted
+    (subst P (sym c.in_ok-tree.ensures) (c.a_mount_keeps_trees_proper.ensures c.into_tree.result (subst P (sym stored) c.commit.new.fs.ready.kept_fits.proper))) steady.covers
 
 pub returns-in-Ok-clause-files : goal.returns-in-Ok-clause-files
 returns-in-Ok-clause-files c =
-    put_alike (present (state_of c.args.fs.backing).tree c.args.fs.kept) (state_of c.flush.new.fs.backing).tree (state_of c.in-Ok.fs.backing).tree c.flush.new.fs.kept c.in-Ok.fs.kept
-    c.in_ok-flush.ensures.files c.in_ok-flush.ensures.pages c.in_ok-flush.ensures.inodes (ap (λ b. (state_of b).tree) (c.in-Ok.ensures.backing ∙ c.into_parts.ensures))
-    (record { pages = c.in-Ok.ensures.opened.dirty; inodes = c.in-Ok.ensures.opened.inodes; handles = c.in-Ok.ensures.opened.handles })
+    let put = (state_of c.flush.new.fs.backing).tree in (
+      put,
+      put_alike (present (state_of c.args.fs.backing).tree c.args.fs.kept) put c.flush.new.fs.kept c.in_ok-flush.ensures.files c.in_ok-flush.ensures.pages c.in_ok-flush.ensures.inodes,
+      bare_files (state_of c.in-Ok.fs.backing).tree (without_nameless put) c.in-Ok.fs.kept
+          (ap (λ b. (state_of b).tree) c.in-Ok.ensures.backing ∙ c.in_ok-backing.ensures.tree ∙ c.in_ok-tree.ensures
+          ∙ ap without_nameless (c.into_tree.ensures ∙ ap (λ b. (state_of b).tree) c.into_parts-backing.ensures ∙ c.in_ok-commit.ensures.tree))
+          (record { pages = c.in-Ok.ensures.opened.dirty; inodes = c.in-Ok.ensures.opened.inodes; handles = c.in-Ok.ensures.opened.handles }),
+    )

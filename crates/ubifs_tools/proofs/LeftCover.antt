@@ -1,0 +1,123 @@
+-- What a covered backing has is a covered tree, also without what has no name.
+use Rattle.std.proofs.Common.{◌≡◌, ℕ, zero, suc, ◌+◌, ◌-◌, ◌*◌, ◌/◌, ◌≤◌, Option, Some, None, List, [], ◌∷◌, refl, sym, ap, subst, ◌∙◌, arith}
+use Rattle.std.specs.Prelude.{fold}
+use Rattle.std.proofs.lemmas.Nat.{le-div}
+use Rattle.std.proofs.Math.Nat.{div-mul-le_self, div-zero, mul-le-mul_right}
+use Rattle.ubifs_base.specs.Areas.{main_lebs}
+use Rattle.ubifs_base.specs.declared.raw_geometry.RawGeometry.{RawGeometry}
+use Rattle.ubifs_base.specs.Geometry.{index_nodes_per_leb, leb_reserve}
+use Rattle.fs_model.specs.declared.space.Class.TheVariants.{Removal}
+use Rattle.fs_model.specs.declared.space.Grant.{Grant}
+use Rattle.fs_model.specs.declared.space.Need.{Need}
+use Rattle.fs_model.specs.declared.space.Space.{Space}
+use Rattle.fs_model.specs.Cover.{index_lebs, index_room, needed, reserve, room_for, tree_bytes}
+use Rattle.fs_model.specs.Change.{without_inode}
+use Rattle.fs_model.specs.Files.{Tree}
+use Rattle.fs_model.specs.Orphan.{nameless, without_nameless}
+use Rattle.fs_model.specs.Proper.{IsProper}
+use Rattle.fs_model.specs.Settled.{nothing}
+use Rattle.space_sums.specs.Spaces.{AsksNoLess, HasRoom}
+use Rattle.plain_backing.specs.declared.backing.PlainBacking.{PlainBacking}
+use Rattle.plain_backing.specs.Covering.{IsCovering, granted_need, leaf_count}
+use Rattle.plain_backing.proofs.Covers.{bytes_less, leaves_less}
+use Rattle.plain_backing.specs.PlainBacking.{Covers, state_of}
+use Rattle.whole_image.specs.Made.{IsCoveredTree}
+
+quotient_grows : (q m n : ℕ) → m ≤ n → m / q ≤ n / q
+quotient_grows zero m n h = rw (div-zero m, div-zero n) (omega arith)
+quotient_grows (suc q) m n h =
+    let below = div-mul-le_self m (suc q) in
+    le-div (m / suc q) n (suc q) (omega arith) (omega (arith, below, h))
+
+lebs_grow : (geo : RawGeometry) (m n : ℕ) → m ≤ n → index_lebs geo m ≤ index_lebs geo n
+lebs_grow geo m n h = quotient_grows (index_nodes_per_leb geo) (m + index_nodes_per_leb geo - 1) (n + index_nodes_per_leb geo - 1) (omega (arith, h))
+
+-- the room for a need beside the weight that there is
+room_le : (geo : RawGeometry) (space : Space) (need : Need) → need.class ≡ Removal → room_for geo space need ≤ (space.main - 3 * index_lebs geo space.weight - 6) * (geo.leb_size - leb_reserve geo)
+room_le geo space need removal =
+    let later = space.weight + 2 * (space.credits + need.credits) + need.nodes in
+    let grown = lebs_grow geo space.weight later (omega arith) in
+    let kept : 3 * index_lebs geo later ≤ index_room geo space.index later = omega arith in
+    let six : reserve need.class ≡ 6 = ap reserve removal in
+    mul-le-mul_right (geo.leb_size - leb_reserve geo) (omega (arith, grown, kept, six))
+
+of_removal : (grant : Option Grant) → (granted_need grant).class ≡ Removal
+of_removal None = refl
+of_removal (Some grant) = refl
+
+covered_of : (geo : RawGeometry) (tree : Tree) (space : Space) (grant : Option Grant) → space.main ≡ main_lebs geo → space.used ≡ tree_bytes tree → IsCovering geo tree space grant → IsCoveredTree geo tree
+covered_of geo tree space grant main used h =
+    let fits = h.room.fits in
+    let least : space.used ≤ needed space (granted_need grant) = omega arith in
+    let most = room_le geo space (granted_need grant) (of_removal grant) in
+    let P : ℕ → Type 0 = λ n. tree_bytes tree ≤ (n - 3 * index_lebs geo space.weight - 6) * (geo.leb_size - leb_reserve geo) in
+    record { weight = space.weight; weighed = h.weighed; fits = subst P main (omega (arith, fits, least, most, used)) }
+
+-- the tree of a backing all of whose promises have room
+pub covered_tree : (geo : RawGeometry) (backing : PlainBacking) (tree : Tree) → (state_of backing).geometry ≡ geo → tree ≡ (state_of backing).tree → Covers (state_of backing) → IsCoveredTree geo tree
+covered_tree geo backing tree same is covers =
+    let state = state_of backing in
+    let P : RawGeometry → Type 0 = λ g. IsCoveredTree g tree in
+    let Q : Tree → Type 0 = λ t. IsCoveredTree state.geometry t in
+    subst P same (subst Q (sym is) (covered_of state.geometry state.tree state.space state.grant refl refl covers))
+
+-- what is left without some inodes
+fewer_bytes : (inos : List ℕ) (tree : Tree) → tree_bytes (fold without_inode tree inos) ≤ tree_bytes tree
+fewer_bytes [] tree = omega arith
+fewer_bytes (ino ∷ inos) tree =
+    let rest = fewer_bytes inos (without_inode tree ino) in
+    let one = bytes_less tree ino in
+    omega (arith, rest, one)
+
+fewer_leaves : (inos : List ℕ) (tree : Tree) → leaf_count (fold without_inode tree inos) ≤ leaf_count tree
+fewer_leaves [] tree = omega arith
+fewer_leaves (ino ∷ inos) tree =
+    let rest = fewer_leaves inos (without_inode tree ino) in
+    let one = leaves_less tree ino in
+    omega (arith, rest, one)
+
+-- a tree without what has no name is covered as the whole one is
+pub named_tree : (geo : RawGeometry) (tree named : Tree) → named ≡ without_nameless tree → IsCoveredTree geo tree → IsCoveredTree geo named
+named_tree geo tree named is h =
+    let bytes = fewer_bytes (nameless tree) tree in
+    let leaves = fewer_leaves (nameless tree) tree in
+    let weighed = h.weighed in
+    let fits = h.fits in
+    let P : Tree → Type 0 = λ t. IsCoveredTree geo t in
+    subst P (sym is) (record { weight = h.weight; weighed = omega (arith, leaves, weighed); fits = omega (arith, bytes, fits) })
+
+-- the least that can be granted
+grants_more : (grant : Option Grant) (less more : Space) → less.used ≤ more.used → less.held ≤ more.held → less.credits ≤ more.credits → less.index ≤ more.index → less.weight ≤ more.weight → more.main ≤ less.main
+    → AsksNoLess less nothing more (granted_need grant)
+grants_more None less more used held credits index weight main =
+    record { used = used; held = held; credits = omega (arith, credits); bytes = omega arith; nodes = omega arith; index = index; weight = weight; main = main; reserve = omega arith }
+grants_more (Some grant) less more used held credits index weight main =
+    record { used = used; held = held; credits = omega (arith, credits); bytes = omega arith; nodes = omega arith; index = index; weight = weight; main = main; reserve = omega arith }
+
+named_covers_in : (geo : RawGeometry) (tree : Tree) (space : Space) (grant : Option Grant) → space.used ≡ tree_bytes tree
+    → ((g : RawGeometry) (less more : Space) (asked asked_more : Need) → AsksNoLess less asked more asked_more → HasRoom g more asked_more → HasRoom g less asked)
+    → IsProper (without_nameless tree) → IsCovering geo tree space grant
+    → IsCovering geo (without_nameless tree) (record space { used = tree_bytes (without_nameless tree); held = 0 }) None
+named_covers_in geo tree space grant used law proper h =
+    let bytes = fewer_bytes (nameless tree) tree in
+    let leaves = fewer_leaves (nameless tree) tree in
+    let weighed = h.weighed in
+    let less : Space = record space { used = tree_bytes (without_nameless tree); held = 0 } in
+    record {
+      proper = proper;
+      room = law geo less space nothing (granted_need grant) (grants_more grant less space (omega (arith, bytes, used)) (omega arith) (omega arith) (omega arith) (omega arith) (omega arith)) h.room;
+      weighed = omega (arith, leaves, weighed);
+    }
+
+-- a backing all of whose promises have room, mounted again without what has no name
+pub named_covers : (geo : RawGeometry) (backing : PlainBacking) (space : Space) (tree named : Tree) → (state_of backing).geometry ≡ geo → space ≡ (state_of backing).space → tree ≡ (state_of backing).tree → named ≡ without_nameless tree
+    → ((g : RawGeometry) (less more : Space) (asked asked_more : Need) → AsksNoLess less asked more asked_more → HasRoom g more asked_more → HasRoom g less asked)
+    → IsProper named → Covers (state_of backing) → IsCovering geo named (record space { used = tree_bytes named; held = 0 }) None
+named_covers geo backing space tree named same is stored gone law proper covers =
+    let state = state_of backing in
+    let all : named ≡ without_nameless state.tree = gone ∙ ap without_nameless stored in
+    let P : Tree → Type 0 = λ t. IsProper t in
+    let Q : RawGeometry → Type 0 = λ g. IsCovering g (without_nameless state.tree) (record state.space { used = tree_bytes (without_nameless state.tree); held = 0 }) None in
+    let R : Tree → Type 0 = λ t. IsCovering geo t (record state.space { used = tree_bytes t; held = 0 }) None in
+    let S : Space → Type 0 = λ s. IsCovering geo named (record s { used = tree_bytes named; held = 0 }) None in
+    subst S (sym is) (subst R (sym all) (subst Q same (named_covers_in state.geometry state.tree state.space state.grant refl law (subst P all proper) covers)))

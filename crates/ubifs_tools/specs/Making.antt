@@ -1,0 +1,113 @@
+-- What the command `mkfs` answers, over the files that it is given.
+use Rattle.std.specs.Prelude.{◌≡◌, ◌⊎◌, ℕ, ◌<◌, ◌≤◌, IsTrue, List, [], ◌∷◌, codes}
+use Rattle.std.specs.Fmt.{decimal}
+use Rattle.ubifs_base.specs.Faults.{Rose}
+use Rattle.ubifs_base.specs.Geometry.{IsGeometry}
+use Rattle.ubifs_base.specs.GeometryFaults.{IsFirstOut, tested_fields}
+use Rattle.ubifs_base.specs.declared.raw_geometry.GeomFault.{GeomFault}
+use Rattle.ubifs_base.specs.declared.raw_geometry.RawGeometry.{RawGeometry}
+use Rattle.ubi_volume.specs.Volume.{image_of}
+use Rattle.text_lines.specs.Lines.{line_of}
+use Rattle.fs_model.specs.Files.{Tree}
+use Rattle.script_text.specs.declared.manifest.Manifest.{Manifest}
+use Rattle.manifest_tree.specs.ManifestTree.{IsFirstBadTreeLine, IsTreeManifest}
+use Rattle.whole_image.specs.declared.make_fault.MakeFault.TheVariants.{Crowded, Full}
+use Rattle.whole_image.specs.Made.{IsMadeImage, IsRefused}
+use Rattle.io_edges.specs.Keeper.{KeeperState, SameFiles, SetsFile}
+use Rattle.ubifs_tools.specs.Command.{IsFileName, IsMissing, Told, bad_line, field_name, file_line, geometry_of, no_identifier}
+use Rattle.ubifs_tools.specs.declared.command.Ended.{Ended}
+use Rattle.ubifs_tools.specs.declared.command.Ended.TheVariants.{Unread, BadText, BadGeometry, Done}
+use Rattle.ubifs_tools.specs.declared.perform.Performed.{Performed}
+use Rattle.ubifs_tools.specs.declared.perform.Performed.TheVariants as performed
+
+-- the words `mkfs`, a manifest, and the image to be written
+pub record IsMkfs (words : List (List ℕ)) (manifest image : List ℕ) : Type 0 where
+  pub words_are : words ≡ codes "mkfs" ∷ manifest ∷ image ∷ []
+  pub manifest_is : IsFileName manifest
+  pub image_is : IsFileName image
+
+-- the words are of this form, and this holds of the two names
+pub record OnMkfs (words : List (List ℕ)) (P : List ℕ → List ℕ → Type 0) : Type 0 where
+  pub manifest : List ℕ
+  pub image : List ℕ
+  pub is : IsMkfs words manifest image
+  pub holds : P manifest image
+
+-- the text isn't in its grammar, and the line names its first bad line
+pub record IsBadTree (text line : List ℕ) : Type 0 where
+  pub number : ℕ
+  pub bad : IsFirstBadTreeLine text number
+  pub line_is : line ≡ bad_line (codes "manifest") number
+
+-- the leaves of a tree, or an index behind them, have no room
+pub record IsTooFull (geo : RawGeometry) (tree : Tree) (line : List ℕ) : Type 0 where
+  pub need : ℕ
+  pub room : ℕ
+  pub why : IsRefused geo tree (Full need room) ⊎ IsRefused geo tree (Crowded need room)
+  pub line_is : line ≡ line_of (codes "full" ∷ decimal need ∷ decimal room ∷ [])
+
+-- The image's bytes are those of a volume that holds a sound image of exactly this tree, and the line tells how many LEBs that are.
+pub record IsToldImage (geo : RawGeometry) (tree : Tree) (told image : List ℕ) : Type 0 where
+  pub holds : ℕ → List ℕ
+  pub made : IsMadeImage holds geo no_identifier tree
+  pub image_is : image ≡ image_of holds geo.leb_cnt
+  pub told_is : told ≡ line_of (codes "made" ∷ decimal geo.leb_cnt ∷ [])
+
+-- The text is a manifest, but its geometry has a field out of range, or fewer than 24 main LEBs, or the tree has no room there.
+pub record HasNoImage (text line : List ℕ) : Type 0 where
+  pub volume : Manifest
+  pub tree : Tree
+  pub is : IsTreeManifest text volume tree
+  pub why : ((fault : GeomFault) × IsFirstOut (geometry_of volume) tested_fields fault × (line ≡ line_of (codes "geometry" ∷ field_name fault.field ∷ decimal fault.value ∷ [])))
+      ⊎ (IsGeometry (geometry_of volume) × (volume.main < 24) × (line ≡ line_of (codes "small" ∷ decimal volume.main ∷ codes "24" ∷ [])))
+      ⊎ (IsGeometry (geometry_of volume) × (24 ≤ volume.main) × IsTooFull (geometry_of volume) tree line)
+
+-- An image of a tree was made, and the line tells how many LEBs it has; or the tree has no room.
+abbrev pub IsImageMade : RawGeometry → Tree → Performed → Type 0
+IsImageMade geo tree (performed.BadText line) = ⊥
+IsImageMade geo tree (performed.BadGeometry line) = IsTooFull geo tree line.items
+IsImageMade geo tree (performed.Done told image) = IsToldImage geo tree told.items image.items
+
+-- the text is a manifest, and an image of its tree was made
+pub record IsMadeOf (text told image : List ℕ) : Type 0 where
+  pub volume : Manifest
+  pub tree : Tree
+  pub is : IsTreeManifest text volume tree
+  pub geometry : IsGeometry (geometry_of volume)
+  pub main : 24 ≤ volume.main
+  pub made : IsToldImage (geometry_of volume) tree told image
+
+-- what became of a manifest's text
+abbrev pub IsMkfsMade : List ℕ → Performed → Type 0
+IsMkfsMade text (performed.BadText line) = IsBadTree text line.items
+IsMkfsMade text (performed.BadGeometry line) = HasNoImage text line.items
+IsMkfsMade text (performed.Done told image) = IsMadeOf text told.items image.items
+
+-- the work was done, over this text and with this image, which the keeper has now
+pub record IsMkfsFinished (old new : KeeperState) (manifest image : List ℕ) (told : List ℕ) : Type 0 where
+  pub text : List ℕ
+  pub bytes : List ℕ
+  pub read : Told old manifest text
+  pub made : IsMadeOf text told bytes
+  pub written : IsTrue old.tells → SetsFile old image bytes new
+
+-- nothing was done, because of what was read; the files are as they were
+pub record IsMkfsTurnedDown (old new : KeeperState) (manifest : List ℕ) (Why : List ℕ → Type 0) : Type 0 where
+  pub text : List ℕ
+  pub read : Told old manifest text
+  pub why : Why text
+  pub same : SameFiles old new
+
+-- A call of the keeper failed, or there is no such manifest; the line names the file.
+pub record IsMkfsUnread (old new : KeeperState) (manifest image line : List ℕ) : Type 0 where
+  pub name : List ℕ
+  pub why : (Rose old.faults new.faults × ((name ≡ manifest) ⊎ (name ≡ image))) ⊎ (IsMissing old manifest × (name ≡ manifest))
+  pub line_is : line ≡ file_line name
+  pub same : SameFiles old new
+
+-- how the command ended
+abbrev pub IsMkfsEnded : KeeperState → KeeperState → List ℕ → List ℕ → Ended → Type 0
+IsMkfsEnded old new manifest image (Unread line) = IsMkfsUnread old new manifest image line.items
+IsMkfsEnded old new manifest image (BadText line) = IsMkfsTurnedDown old new manifest (λ text. IsBadTree text line.items)
+IsMkfsEnded old new manifest image (BadGeometry line) = IsMkfsTurnedDown old new manifest (λ text. HasNoImage text line.items)
+IsMkfsEnded old new manifest image (Done text) = IsMkfsFinished old new manifest image text.items
