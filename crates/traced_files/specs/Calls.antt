@@ -11,9 +11,12 @@ use Rattle.fs_model.specs.Legal.{IsLegal}
 use Rattle.trace_word.specs.Knowledge.{lines_of}
 use Rattle.vfs_ops.specs.FilesState.{FilesState}
 use Rattle.vfs_ops.specs.declared.event.Event.{Event}
-use Rattle.vfs_ops.specs.declared.event.Event.TheVariants.{Pick, Put}
+use Rattle.vfs_ops.specs.declared.event.Event.TheVariants.{Call, Pick, Put}
+use Rattle.vfs_ops.specs.declared.event.Outcome.TheVariants.{Replied}
 use Rattle.vfs_ops.specs.Background.{is_work}
+use Rattle.vfs_ops.specs.Passing.{IsCallStep}
 use Rattle.traced_files.specs.History.{present_of}
+use Rattle.traced_files.specs.Replies.{IsToldAs}
 use Rattle.traced_files.specs.Start.{IsHistoryFrom, Start, opened_at}
 use Rattle.traced_files.specs.States.{PassState}
 
@@ -37,6 +40,13 @@ pub record IsEntered (start : Start) (old : PassState) (now : ℕ) (op : Op) (ne
   pub behind : length old.seen ≤ new.last
   pub lines : lines_of new.caller new.seen ≡ new.made
   pub legal : (state : FilesState) × IsHistoryFrom start new.seen state
+
+-- One step of the files was made, that of the call, which brings no credit. The reply is its answer, but for bytes of which no memory could hold a copy.
+pub record WasStepped (old new : FilesState) (caller now : ℕ) (op : Op) (told : Reply) : Type 0 where
+  pub answer : Reply
+  pub left : ℕ
+  pub step : IsCallStep old new (Call caller now 0 op) (Replied answer left)
+  pub told_as : IsToldAs answer told
 
 -- a trace begins with what a pass has seen, and has just the calls of its caller that it made
 abbrev pub StandsIn : List TraceLine → PassState → Type 0

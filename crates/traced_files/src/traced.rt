@@ -2,7 +2,7 @@
 
 ghost use Rattle.std.specs.Prelude.{◌≡◌, ◌⊎◌, ◌≤◌, true, [], length};
 ghost use Rattle.fs_laws.specs.Sound.{IsCall};
-ghost use Rattle.traced_files.specs.Calls.{AreLegal, IsEntered, IsUndone, is_work_between};
+ghost use Rattle.traced_files.specs.Calls.{AreLegal, IsEntered, IsUndone, WasStepped, is_work_between};
 ghost use Rattle.traced_files.specs.States.{PassState, TracedState};
 ghost use Rattle.vfs_ops.specs.declared.event.Event.TheVariants.{Pick, Put};
 ghost use Rattle.vfs_ops.specs.Background.{is_work};
@@ -80,7 +80,7 @@ impl<B: Backing, J: Site> TracedFs<B, J> {
         requires word { word.now ≡ J.word }
         requires pass { pass.word ≡ J.word }
         requires call { IsCall op }
-        ensures called { (IsUndone pass result.0 result.1 × (self.new ≡ self.old)) ⊎ (IsEntered J.start pass now op result.0 result.1 × (self.new.trace ≡ result.0.seen)) }
+        ensures called { (IsUndone pass result.0 result.1 × (self.new ≡ self.old)) ⊎ (IsEntered J.start pass now op result.0 result.1 × (self.new.trace ≡ result.0.seen) × WasStepped self.old.files self.new.files pass.caller now op result.1) }
     {
         let Ok(()) = self.trace.reserve(1) else {
             return (

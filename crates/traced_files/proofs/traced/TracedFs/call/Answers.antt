@@ -4,9 +4,13 @@ use Rattle.fs_model.specs.declared.op.Op.{Op}
 use Rattle.fs_model.specs.declared.reply.Reply.{Reply}
 use Rattle.fs_model.specs.declared.trace.TraceLine.{TraceLine}
 use Rattle.trace_word.specs.Knowledge.{lines_of}
+use Rattle.vfs_ops.specs.FilesState.{FilesState}
+use Rattle.vfs_ops.specs.declared.event.Event.TheVariants.{Call}
+use Rattle.vfs_ops.specs.declared.event.Outcome.TheVariants.{Replied}
 use Rattle.vfs_ops.specs.Fs.{files_state}
+use Rattle.vfs_ops.specs.Passing.{IsCallStep}
 use Rattle.traced_files.specs.Start.{IsHistoryFrom}
-use Rattle.traced_files.specs.States.{PassState}
+use Rattle.traced_files.specs.States.{PassState, TracedState}
 use Rattle.traced_files.specs.Traced.{IsTraced}
 use Rattle.traced_files.proofs.Entering.{entered}
 use Rattle.traced_files.proofs.Going.{Stepped}
@@ -95,9 +99,11 @@ returns g c =
     ap (λ (x : ℕ). before g c ++ (record { caller = x; number = c.pass.inside.made + 1; now = c.args.now; op = c.args.op; reply = c.twice-reply.result.0 }) ∷ []) caller in
     let legal : IsHistoryFrom g.J.Site.start c.enter.new.pass.known.seen (files_state c.made-op.new.fs) = subst (λ (t : List TraceLine). IsHistoryFrom g.J.Site.start t (files_state c.made-op.new.fs)) (sym (seen g c)) (traced g c).history in
     let last : c.len-last.result ≡ length (before g c) = search rules in
+    let stepped : FilesState × ℕ → Type 0 = λ x. IsCallStep x.0 (files_state c.made-op.new.fs) (Call x.1 c.args.now 0 c.args.op) (Replied c.made-op.result.1 c.made-op.result.2) in
     record {
       called = inr (
         entered g.J.Site.start (files_state c.made-op.new.fs) c.args.pass new c.args.now c.args.op c.twice-reply.result.0 (before g c) (c.enter.ensures.pass.0 ∙ (c.requires.word ∙ sym c.requires.pass)) caller (ap (λ (p : PassState). p.made + 1) c.pass.view_is) last (seen g c ∙ named) begins done legal,
         kept g c ∙ sym (seen g c),
+        record { answer = c.made-op.result.1; left = c.made-op.result.2; step = subst stepped (λ k. (ap (λ (s : TracedState). s.files) c.self.view_is k, caller k)) c.made-op.ensures.step; told_as = c.twice-reply.ensures.told },
       );
     }
