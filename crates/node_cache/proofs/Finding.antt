@@ -1,21 +1,22 @@
 -- Where the leaves of one rank stand, of leaves in front and leaves behind them.
-use Rattle.std.proofs.Common.{◌≡◌, ℕ, zero, suc, ◌+◌, ◌-◌, ◌<◌, false, List, [], ◌∷◌, ◌++◌, length, refl, ap, sym, subst, ◌∙◌, arith, length-append}
+use Rattle.std.proofs.Common.{◌≡◌, ℕ, zero, suc, ◌+◌, false, List, [], ◌∷◌, ◌++◌, length, refl, ap, sym, subst, ◌∙◌, arith, length-append}
 use Rattle.std.specs.Prelude.{Some, None, slice_get, ◌==◌}
 use Rattle.std.proofs.lemmas.Bool.Decides.{nat_tests}
 use Rattle.std.proofs.lemmas.List.Elements.{filter-append}
 use Rattle.index_tree.specs.Order.{leaf_rank, of_rank}
 use Rattle.index_tree.specs.declared.leaf.Leaf.{Leaf}
-use Rattle.index_media.specs.KeyedBounds.{AreAtMost, AreAtLeast}
+use Rattle.index_media.specs.KeyedBounds.{AreAtLeast}
 use Rattle.node_cache.specs.Branches.{IsNth}
 use Rattle.node_cache.specs.declared.nth.Nth.{Nth}
 use Rattle.node_cache.specs.declared.nth.Nth.TheVariants.{Found, Fewer}
+use Rattle.node_cache.proofs.Passed.{AreBelow}
 
-none_below : (at k : ℕ) (xs : List Leaf) → at < k → AreAtMost (Some at) xs → of_rank k xs ≡ []
-none_below at k [] l h = refl
-none_below at k (x ∷ xs) l h =
-    let within = h.0 in
-    let other : (leaf_rank x == k) ≡ false = grind (arith, nat_tests, within, l) in
-    rw other (none_below at k xs l h.1)
+none_below : (at : ℕ) (xs : List Leaf) → AreBelow at xs → of_rank at xs ≡ []
+none_below at [] h = refl
+none_below at (x ∷ xs) h =
+    let low = h.0 in
+    let other : (leaf_rank x == at) ≡ false = grind (arith, nat_tests, low) in
+    rw other (none_below at xs h.1)
 
 none_above : (k : ℕ) (xs : List Leaf) → AreAtLeast (k + 1) xs → of_rank k xs ≡ []
 none_above k [] h = refl
@@ -42,11 +43,11 @@ parts : (at : ℕ) (all front back : List Leaf) → all ≡ front ++ back → of
 parts at all front back is = ap (of_rank at) is ∙ filter-append (λ x. leaf_rank x == at) front back
 
 -- those in front have lower ranks
-pub nth_passed : (at : ℕ) (all front back : List Leaf) (nth : ℕ) (r : Nth) → all ≡ front ++ back → 0 < at → AreAtMost (Some (at - 1)) front
+pub nth_passed : (at : ℕ) (all front back : List Leaf) (nth : ℕ) (r : Nth) → all ≡ front ++ back → AreBelow at front
     → IsNth (of_rank at back) nth r → IsNth (of_rank at all) nth r
-nth_passed at all front back nth r is some low h =
+nth_passed at all front back nth r is low h =
     let P : List Leaf → Type 0 = λ v. IsNth v nth r in
-    subst P (sym (parts at all front back is ∙ ap (λ (v : List Leaf). v ++ of_rank at back) (none_below (at - 1) at front (omega (arith, some)) low))) h
+    subst P (sym (parts at all front back is ∙ ap (λ (v : List Leaf). v ++ of_rank at back) (none_below at front low))) h
 
 -- it is in front
 pub nth_in_front : (at : ℕ) (all front back : List Leaf) (nth : ℕ) (x : Leaf) → all ≡ front ++ back → IsNth (of_rank at front) nth (Found x) → IsNth (of_rank at all) nth (Found x)

@@ -20,7 +20,7 @@ AreKeptIn contents nodes = (place : ℕ × ℕ × ℕ) (node : IdxNode) → Cont
 abbrev pub is_place : ℕ × ℕ × ℕ → ℕ × ℕ × ℕ → Bool
 is_place a b = (a.0 == b.0 && a.1 == b.1) && a.2 == b.2
 
-same_place : (a b : ℕ × ℕ × ℕ) → is_place a b ≡ true → a ≡ b
+pub same_place : (a b : ℕ × ℕ × ℕ) → is_place a b ≡ true → a ≡ b
 same_place a b h =
     let both = and_parts (a.0 == b.0 && a.1 == b.1) (a.2 == b.2) h in
     let front = and_parts (a.0 == b.0) (a.1 == b.1) both.0 in

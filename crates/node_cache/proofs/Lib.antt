@@ -1,3 +1,10 @@
+pub mod Ending
+pub mod Entered
 pub mod Finding
 pub mod Following
+pub mod Forgotten
+pub mod HeldLeaves
 pub mod KeptNodes
+pub mod LastBlocks
+pub mod Passed
+pub mod Ranging

@@ -1,5 +1,5 @@
 -- Index nodes that are kept of a volume.
-use Rattle.std.specs.Prelude.{◌≡◌, ℕ, List, Contains}
+use Rattle.std.specs.Prelude.{◌≡◌, ◌==◌, ℕ, if◌then◌else◌, not, List, [], ◌∷◌, Option, None, Some, Contains, filter}
 use Rattle.ubifs_base.specs.declared.key.Key.TheVariants.{Ino}
 use Rattle.media_sys.specs.Index.{Index, index_of}
 use Rattle.media_sys.specs.declared.branch.Branch.{Branch}
@@ -22,3 +22,12 @@ IsNodeOf contents place node = (said : Index) → IsIndexNodeAt contents (to_pla
 -- each node that is kept is that of its place
 abbrev pub AreKept : (ℕ → List ℕ) → NodeCache → Type 0
 AreKept contents cache = (place : ℕ × ℕ × ℕ) (node : IdxNode) → Contains cache.nodes.entries (place, node) → IsNodeOf contents place node
+
+-- the nodes that are kept of other LEBs
+abbrev pub beside_leb : ℕ → List ((ℕ × ℕ × ℕ) × IdxNode) → List ((ℕ × ℕ × ℕ) × IdxNode)
+beside_leb lnum entries = filter (λ entry. not (entry.0.0 == lnum)) entries
+
+-- the first place in a LEB of which a node is kept
+abbrev pub kept_in : ℕ → List ((ℕ × ℕ × ℕ) × IdxNode) → Option (ℕ × ℕ × ℕ)
+kept_in lnum [] = None
+kept_in lnum (entry ∷ entries) = if entry.0.0 == lnum then Some entry.0 else kept_in lnum entries

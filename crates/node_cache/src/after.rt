@@ -8,6 +8,7 @@ ghost use Rattle.index_media.specs.PlacedRow.{PlacedRow, ended, node_at, branche
 ghost use Rattle.node_cache.specs.Kept.{AreKept};
 ghost use Rattle.node_cache.specs.Loaded.{IsIndexOn, IsRead, IsRowOn};
 
+use crate::bisect::branches_passed;
 use crate::branches::{begin_within, leaf_to};
 use crate::cache::NodeCache;
 use crate::rank::rank;
@@ -58,7 +59,9 @@ impl NodeCache {
         ensures kept { AreKept (V.state volume.new).holds self.new }
     {
         let node = self.take(alloc, volume, branch)?;
-        let found = self.after_among(alloc, volume, node.branches.as_slice(), level, at);
+        let branches = node.branches.as_slice();
+        let (_, rest) = branches.split_at(branches_passed(branches, at));
+        let found = self.after_among(alloc, volume, rest, level, at);
         self.keep(branch, node);
         found
     }

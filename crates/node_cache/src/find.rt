@@ -8,6 +8,7 @@ ghost use Rattle.node_cache.specs.Branches.{IsNth};
 ghost use Rattle.node_cache.specs.Kept.{AreKept};
 ghost use Rattle.node_cache.specs.Loaded.{IsIndexOn, IsRead, IsRowOn};
 
+use crate::bisect::lower_branches_passed;
 use crate::branches::{begin_below, begin_within, leaf_to};
 use crate::cache::NodeCache;
 use crate::nth::Nth;
@@ -65,7 +66,9 @@ impl NodeCache {
         ensures kept { AreKept (V.state volume.new).holds self.new }
     {
         let node = self.take(alloc, volume, branch)?;
-        let found = self.find_among(alloc, volume, node.branches.as_slice(), level, at, nth);
+        let branches = node.branches.as_slice();
+        let (_, rest) = branches.split_at(lower_branches_passed(branches, at));
+        let found = self.find_among(alloc, volume, rest, level, at, nth);
         self.keep(branch, node);
         found
     }

@@ -8,15 +8,21 @@
 #![tactic(auto)]
 
 mod after;
+mod bisect;
 mod branches;
 mod cache;
 pub mod caller;
 mod find;
+mod forgetting;
+mod holding;
 mod keeping;
+mod last;
 mod laws;
 mod nth;
+mod range_scan;
 mod rank;
 mod reading;
+mod scan;
 
 pub use crate::cache::NodeCache;
 pub use crate::laws::kept_nodes_stay;

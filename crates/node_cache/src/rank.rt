@@ -1,6 +1,7 @@
 // A key's place in the order.
 
 ghost use Rattle.std.specs.Prelude.{◌≡◌};
+ghost use Rattle.index_tree.specs.LastBlock.{last_rank};
 ghost use Rattle.index_tree.specs.Order.{key_rank};
 
 use ubifs_base::Key;
@@ -20,4 +21,11 @@ pub fn rank(key: &Key) -> u128
         Key::Dent { dir, hash } => dir as u128 * FIRST + 2 * KIND + hash as u128,
         Key::Xent { ino, hash } => ino as u128 * FIRST + 3 * KIND + hash as u128,
     }
+}
+
+/// The greatest rank that a block of this inode can have.
+pub fn last_rank(ino: u32) -> u128
+    ensures { result ≡ last_rank ino }
+{
+    ino as u128 * FIRST + 2 * KIND - 1
 }

@@ -1,4 +1,4 @@
-use Rattle.std.proofs.Common.{◌-◌, ◌<◌, ◌∷◌, [], List, length, ap, sym, ◌∙◌, subst, arith}
+use Rattle.std.proofs.Common.{◌-◌, ◌<◌, ◌∷◌, [], List, length, ap, sym, ◌∙◌, subst, arith, length-drop}
 use Rattle.std.specs.Prelude.{IfOk, Result, Ok, Err}
 use Rattle.ubi_volume.specs.declared.fault.AreaFault.{AreaFault}
 use Rattle.index_tree.specs.Order.{of_rank}
@@ -13,6 +13,7 @@ use Rattle.node_cache.specs.declared.nth.Nth.{Nth}
 use Rattle.node_cache.specs.declared.nth.Nth.TheVariants.{Found, Fewer}
 use Rattle.node_cache.proofs.Finding.{as_found, nth_above, nth_behind, nth_in_front, nth_passed}
 use Rattle.node_cache.proofs.KeptNodes.{node_of}
+use Rattle.node_cache.proofs.Passed.{behind, below_next, below_passed}
 use Rattle.node_cache.proofs.cache.NodeCache.+finding.Goals as goal
 
 -- an answer that is one of some leaves is one of others, if these have it too
@@ -35,20 +36,32 @@ find_below-find_among-found-requires g t c κs inside =
     let p = below a own.0 c.args.level c.args.branch.now own.1 own.2 in
     let took = c.in_ok-node.ensures in
     let said = took.said (record { level = c.args.level; branches = branches_of own.1 }) p.said in
-    let branches = sym (ap (λ (i : Index). i.branches) said) ∙ sym c.as_slice.ensures.value in
+    let all = c.as_slice-branches.result.now in
+    let branches = sym (ap (λ (i : Index). i.branches) said) ∙ sym c.as_slice-branches.ensures.value in
+    let n = c.lower_branches_passed.result in
+    let q = behind a b own.0 c.args.level (c.args.at - 1) c.args.branch.now own.1 all n own.2 took.reads.keeps took.reads.shape branches c.lower_branches_passed.ensures.begins in
     let few = took.few in
-    let long = ap length c.as_slice.ensures.value in
-    (omega (arith, few, long, c.decreases), (inside, ((own.0, own.1, branches, row_moved a b own.0 c.args.level own.1 took.reads.keeps took.reads.shape p.on), took.kept)))
+    let long = ap length c.as_slice-branches.ensures.value in
+    let cut = length-drop n all in
+    let short = ap length c.split_at.ensures.back in
+    (omega (arith, few, long, cut, short, c.decreases), (inside, ((own.0, q.others, q.branches ∙ sym c.split_at.ensures.back, q.on), took.kept)))
 
 pub find_below-returns-clause-found : goal.find_below-returns-clause-found
 find_below-returns-clause-found g t c = λ fanout row on.
     let a = g.V.Volume.state c.args.volume.now in
     let b = g.V.Volume.state c.take.new.volume in
+    let at = c.args.at in
     let p = below a fanout c.args.level c.args.branch.now row on in
     let took = c.in_ok-node.ensures in
     let said = took.said (record { level = c.args.level; branches = branches_of row }) p.said in
-    let branches = sym (ap (λ (i : Index). i.branches) said) ∙ sym c.as_slice.ensures.value in
-    c.find_among-found.ensures.found fanout row branches (row_moved a b fanout c.args.level row took.reads.keeps took.reads.shape p.on)
+    let all = c.as_slice-branches.result.now in
+    let branches = sym (ap (λ (i : Index). i.branches) said) ∙ sym c.as_slice-branches.ensures.value in
+    let n = c.lower_branches_passed.result in
+    let q = behind a b fanout c.args.level (at - 1) c.args.branch.now row all n on took.reads.keeps took.reads.shape branches c.lower_branches_passed.ensures.begins in
+    let low = below_passed at n q.front c.lower_branches_passed.ensures.positive q.none q.within in
+    on_ok c.find_among-found.result (IsNth (of_rank at (contents (plain q.others))) c.args.nth) (IsNth (of_rank at (contents (plain row))) c.args.nth)
+    (λ r h. nth_passed at (contents (plain row)) q.front (contents (plain q.others)) c.args.nth r q.is low h)
+    (c.find_among-found.ensures.found fanout q.others (q.branches ∙ sym c.split_at.ensures.back) q.on)
 
 pub find_below-returns-clause-kept : goal.find_below-returns-clause-kept
 find_below-returns-clause-kept g t c =
@@ -81,7 +94,7 @@ find_among-returns-then-begin_below-clause-found g t c = λ fanout row e on.
     let begins = c.begin_below.ensures.begins c.if-begin_below.true in
     let some = c.begin_below.ensures.positive c.if-begin_below.true in
     on_ok c.find_among.result (IsNth (of_rank at (contents (plain p.others))) c.args.nth) (IsNth (of_rank at (contents (plain row))) c.args.nth)
-    (λ n h. nth_passed at (contents (plain row)) (contents (plain p.alone)) (contents (plain p.others)) c.args.nth n p.is some (p.within (at - 1) begins) h)
+    (λ n h. nth_passed at (contents (plain row)) (contents (plain p.alone)) (contents (plain p.others)) c.args.nth n p.is (below_next at (contents (plain p.alone)) some (p.within (at - 1) begins)) h)
     (c.find_among.ensures.found fanout p.others p.branches p.on)
 
 pub find_among-find_at-requires : goal.find_among-find_at-requires

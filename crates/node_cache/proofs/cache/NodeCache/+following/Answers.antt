@@ -1,4 +1,4 @@
-use Rattle.std.proofs.Common.{◌<◌, ◌∷◌, [], length, ap, sym, ◌∙◌, arith}
+use Rattle.std.proofs.Common.{◌<◌, ◌∷◌, [], length, ap, sym, ◌∙◌, arith, length-drop}
 use Rattle.index_tree.specs.Order.{first_after}
 use Rattle.index_tree.specs.Shape.{contents}
 use Rattle.index_tree.specs.declared.leaf.Leaf.{Leaf}
@@ -8,6 +8,7 @@ use Rattle.node_cache.specs.FirstAt.{first_at, only_leaf, only_node, no_leaf}
 use Rattle.node_cache.specs.RowsOn.{below, row_moved}
 use Rattle.node_cache.proofs.Following.{after_behind, after_in_front, after_ok, after_passed}
 use Rattle.node_cache.proofs.KeptNodes.{node_of}
+use Rattle.node_cache.proofs.Passed.{behind}
 use Rattle.node_cache.proofs.cache.NodeCache.+following.Goals as goal
 
 -- ---- below a node
@@ -25,20 +26,31 @@ after_below-after_among-found-requires g t c κs inside =
     let p = below a own.0 c.args.level c.args.branch.now own.1 own.2 in
     let took = c.in_ok-node.ensures in
     let said = took.said (record { level = c.args.level; branches = branches_of own.1 }) p.said in
-    let branches = sym (ap (λ (i : Index). i.branches) said) ∙ sym c.as_slice.ensures.value in
+    let all = c.as_slice-branches.result.now in
+    let branches = sym (ap (λ (i : Index). i.branches) said) ∙ sym c.as_slice-branches.ensures.value in
+    let n = c.branches_passed.result in
+    let q = behind a b own.0 c.args.level c.args.at c.args.branch.now own.1 all n own.2 took.reads.keeps took.reads.shape branches c.branches_passed.ensures.begins in
     let few = took.few in
-    let long = ap length c.as_slice.ensures.value in
-    (omega (arith, few, long, c.decreases), (inside, ((own.0, own.1, branches, row_moved a b own.0 c.args.level own.1 took.reads.keeps took.reads.shape p.on), took.kept)))
+    let long = ap length c.as_slice-branches.ensures.value in
+    let cut = length-drop n all in
+    let short = ap length c.split_at.ensures.back in
+    (omega (arith, few, long, cut, short, c.decreases), (inside, ((own.0, q.others, q.branches ∙ sym c.split_at.ensures.back, q.on), took.kept)))
 
 pub after_below-returns-clause-found : goal.after_below-returns-clause-found
 after_below-returns-clause-found g t c = λ fanout row on.
     let a = g.V.Volume.state c.args.volume.now in
     let b = g.V.Volume.state c.take.new.volume in
+    let at = c.args.at in
     let p = below a fanout c.args.level c.args.branch.now row on in
     let took = c.in_ok-node.ensures in
     let said = took.said (record { level = c.args.level; branches = branches_of row }) p.said in
-    let branches = sym (ap (λ (i : Index). i.branches) said) ∙ sym c.as_slice.ensures.value in
-    c.after_among-found.ensures.found fanout row branches (row_moved a b fanout c.args.level row took.reads.keeps took.reads.shape p.on)
+    let all = c.as_slice-branches.result.now in
+    let branches = sym (ap (λ (i : Index). i.branches) said) ∙ sym c.as_slice-branches.ensures.value in
+    let n = c.branches_passed.result in
+    let q = behind a b fanout c.args.level at c.args.branch.now row all n on took.reads.keeps took.reads.shape branches c.branches_passed.ensures.begins in
+    after_ok c.after_among-found.result (first_after at (contents (plain q.others))) (first_after at (contents (plain row)))
+    (after_passed at (contents (plain row)) q.front (contents (plain q.others)) q.is q.within)
+    (c.after_among-found.ensures.found fanout q.others (q.branches ∙ sym c.split_at.ensures.back) q.on)
 
 pub after_below-returns-clause-kept : goal.after_below-returns-clause-kept
 after_below-returns-clause-kept g t c =
