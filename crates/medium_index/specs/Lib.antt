@@ -1,0 +1,2 @@
+pub mod OnMedium
+pub mod OnMediumLaws
