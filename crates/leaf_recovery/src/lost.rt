@@ -82,8 +82,28 @@ pub(crate) fn empty_leaves(alloc: Global, lost: &[LostLeaf]) -> Result<Vec<Leaf>
     Ok(empty)
 }
 
-// The leaves of which no node can be read, where the journal hasn't replaced them.
-pub(crate) fn unnamed_leaves(
+// The lost leaves of which no node can be read, where the journal hasn't replaced them. Only if a leaf is lost, nodes are compared with
+// all leaves.
+pub(crate) fn missing_leaves(
+    alloc: Global,
+    references: &[RefNode],
+    committed: &[CommittedLeaf],
+    found: &[RecoveredLeaf],
+    lost: &[LostLeaf],
+    nodes: &[JournalNode],
+) -> Result<Vec<Leaf>, Memory>
+    ensures { IfOk result (λ missing. missing.items ≡ unnamed_told (spare_names_told references.now committed.now found.now nodes.now) lost.now) }
+{
+    if lost.is_empty() {
+        return Ok(Vec::new(alloc));
+    }
+    let names = spare_names(alloc, references, committed, found, nodes)?;
+    let missing = unnamed_leaves(alloc, lost, names)?;
+    Ok(missing)
+}
+
+// The same, of these names.
+fn unnamed_leaves(
     alloc: Global,
     lost: &[LostLeaf],
     names: Vec<JournalNode>,
@@ -147,7 +167,7 @@ fn drop_name(names: &mut Vec<JournalNode>, content: &NodeContent)
 
 // The nodes of the journal that may stand for names that can't be read: no leaf that can be read, and none that is found, has
 // their name.
-pub(crate) fn spare_names(
+fn spare_names(
     alloc: Global,
     references: &[RefNode],
     committed: &[CommittedLeaf],

@@ -9,7 +9,7 @@ ghost use Rattle.leaf_recovery.specs.Told.{AreTold, IsRecoveredFrom};
 use crate::applied::apply_nodes;
 use crate::copies::spare_copies;
 use crate::found::find_leaves;
-use crate::lost::{empty_leaves, spare_names, unnamed_leaves};
+use crate::lost::{empty_leaves, missing_leaves};
 use crate::moved::move_leaves;
 use crate::orphans::{drop_listed, listed_left};
 use crate::recovered_leaf::{RecoveredLeaf, RecoveredLeaves};
@@ -57,8 +57,14 @@ fn recover_told(
     let found = find_leaves(alloc, references, committed, nodes, spare)?;
     let repeated = repeated_leaves(alloc, found.leaves.as_slice())?;
     let empty = empty_leaves(alloc, found.lost.as_slice())?;
-    let names = spare_names(alloc, references, committed, found.leaves.as_slice(), nodes)?;
-    let missing = unnamed_leaves(alloc, found.lost.as_slice(), names)?;
+    let missing = missing_leaves(
+        alloc,
+        references,
+        committed,
+        found.leaves.as_slice(),
+        found.lost.as_slice(),
+        nodes,
+    )?;
     let orphans = listed_left(alloc, references, committed, listed)?;
     let left = leaves_left(alloc, found.leaves, nodes, &orphans)?;
     let kept = move_leaves(alloc, references, copies, left)?;

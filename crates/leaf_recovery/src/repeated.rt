@@ -1,14 +1,18 @@
 // The leaves that show what one before them shows.
 
 ghost use Rattle.std.specs.Prelude.{◌≡◌, ◌++◌, ◌∷◌, [], cond, IfOk, IsTrue, OnOk};
-ghost use Rattle.leaf_recovery.specs.Repeated.{DoKeysGoUp, repeated_behind_told};
+ghost use Rattle.leaf_recovery.specs.Repeated.{IsFoundAhead, RepeatNothing, repeated_behind_told};
 ghost use Rattle.leaf_recovery.specs.Seen.{has_seen};
 
 use crate::recovered_leaf::RecoveredLeaf;
 use crate::seen::{Seen, has_seen, note, nothing};
-use crate::thing::{copied, rank_shown};
+use crate::thing::{copied, rank_shown, shows};
+use journal_scan::NodeContent;
 use std::alloc::Global;
 use ubifs_base::Memory;
+
+// So many leaves of one key are compared with one before them.
+const MOST_EQUAL: u32 = 16;
 
 // The leaves that show what one before them shows. Where keys go up there is none, and no map is made.
 pub(crate) fn repeated_leaves(
@@ -24,18 +28,43 @@ pub(crate) fn repeated_leaves(
     Ok(repeated)
 }
 
-// Whether the keys of what leaves show go up from one to the next.
+// Whether no leaf shows what one before it shows, as the order of their keys tells it: this goes up from one to the next, as in an
+// index, or stays where what they show differs. True is never told of more than 16 leaves of one key behind one.
 fn keys_go_up(found: &[RecoveredLeaf]) -> bool
-    ensures { IsTrue result → DoKeysGoUp 0 found.now }
+    ensures { IsTrue result → RepeatNothing found.now }
 {
-    let mut last = 0;
     let mut left = found;
     'going: while let Some((leaf, rest)) = left.split_first() {
-        let next = rank_shown(&leaf.content);
-        if next <= last {
+        if !is_ahead_of(&leaf.content, rest) {
             return false;
         }
-        last = next;
+        left = rest;
+    }
+    true
+}
+
+// Whether what stands behind something has greater keys, up to the first that has one, and else isn't shown by it.
+fn is_ahead_of(content: &NodeContent, behind: &[RecoveredLeaf]) -> bool
+    ensures { IsTrue result → IsFoundAhead content.now behind.now }
+{
+    let place = rank_shown(content);
+    if place == 0 {
+        return false;
+    }
+    let mut passed = 0u32;
+    let mut left = behind;
+    'passing: while let Some((next, rest)) = left.split_first() {
+        let there = rank_shown(&next.content);
+        if there > place {
+            return true;
+        }
+        if there < place || passed >= MOST_EQUAL {
+            return false;
+        }
+        if shows(content, &next.content) {
+            return false;
+        }
+        passed += 1;
         left = rest;
     }
     true

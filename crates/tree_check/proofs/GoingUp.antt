@@ -1,5 +1,5 @@
--- Leaves that go up show different things.
-use Rattle.std.proofs.Common.{◌≡◌, ◌<◌, ◌≤◌, ◌+◌, ◌*◌, ◌^◌, ◌++◌, ◌||◌, ◌==◌, ℕ, Bool, true, false, List, [], ◌∷◌, map, refl, sym, ap, ◌∙◌, Option, arith}
+-- Leaves whose keys go up, or are those of other names, show nothing twice.
+use Rattle.std.proofs.Common.{◌≡◌, length, ◌<◌, ◌+◌, ◌*◌, ◌^◌, ◌++◌, ◌||◌, ◌==◌, ℕ, Bool, true, false, List, [], ◌∷◌, map, refl, sym, ap, subst, ◌∙◌, Option, arith, inl, inr}
 use Rattle.std.specs.Prelude.{⊤}
 use Rattle.std.specs.List.{list_any}
 use Rattle.std.specs.Cmp.Lexicographic.{slice_cmp}
@@ -9,7 +9,7 @@ use Rattle.ubifs_base.specs.R5.{r5_of}
 use Rattle.fs_model.specs.Path.{is_same_name}
 use Rattle.image_check.specs.declared.wrong_value.WrongValue.{WrongValue}
 use Rattle.tree_check.specs.Facts.{Facts, is_misplaced}
-use Rattle.tree_check.specs.KeyOrder.{DoKeysGoUp, shown_rank}
+use Rattle.tree_check.specs.KeyOrder.{IsAheadOf, ShowNothingTwice, shown_rank}
 use Rattle.tree_check.specs.Places.{wrong_alone, wrong_if, wrongs_behind}
 use Rattle.tree_check.specs.Seen.{same_told}
 use Rattle.tree_check.specs.declared.shown_leaf.Shown.{Shown}
@@ -18,12 +18,7 @@ use Rattle.tree_check.specs.declared.shown_leaf.ShownLeaf.{ShownLeaf}
 use Rattle.tree_check.proofs.SeenMore.{name_from}
 use Rattle.tree_check.proofs.TestLaws.{or_none}
 
--- leaves show what stands up to this place in the order
-abbrev pub AllUpTo : ℕ → List ShownLeaf → Type 0
-AllUpTo most [] = ⊤
-AllUpTo most (x ∷ leaves) = (0 < shown_rank x.shown) × (shown_rank x.shown ≤ most) × AllUpTo most leaves
-
-no : false ≡ true → ⊥
+pub no : false ≡ true → ⊥
 no e = absurd cc
 
 -- what two leaves show alike has one place
@@ -55,36 +50,94 @@ same_rank (Deletion d n) b h t = absurd (omega arith)
 same_rank (Truncation q m) b h t = absurd (omega arith)
 same_rank Nothing b h t = absurd (omega arith)
 
-further : (a b c : ℕ) → a ≤ b → b < c → a ≤ c
-further a b c l h = omega arith
+-- each of these leaves is ahead of those behind it
+abbrev pub DoKeysGoUp : List ShownLeaf → Type 0
+DoKeysGoUp [] = ⊤
+DoKeysGoUp (x ∷ leaves) = IsAheadOf x.shown leaves × DoKeysGoUp leaves
 
--- what stands further on is shown by none of them
-none_before : (before : List ShownLeaf) (s : Shown) (last : ℕ) → AllUpTo last before → last < shown_rank s → list_any (λ y. same_told y.shown s) before ≡ false
-none_before [] s last a h = refl
-none_before (y ∷ before) s last a h = by (same_told y.shown s) refl (none_before before s last a.2 h)
+-- what is ahead of others has a place in the order
+has_place : (s : Shown) (leaves : List ShownLeaf) → IsAheadOf s leaves → 0 < shown_rank s
+has_place s [] a = a
+has_place s (y ∷ leaves) (inl a) = a.0
+has_place s (y ∷ leaves) (inr a) = has_place s leaves a.2
+
+pub none_left : (leaves : List ShownLeaf) → length leaves ≡ 0 → DoKeysGoUp leaves
+none_left [] h = tt
+none_left (x ∷ leaves) h = absurd (omega (arith, h))
+
+through : (a b c : ℕ) → a < b → b < c → a < c
+through a b c h k = omega arith
+
+apart : (m n : ℕ) → m ≡ n → m < n → ⊥
+apart m n e h = omega arith
+
+-- what stands further on isn't shown by what has a lesser place
+not_shown : (s t : Shown) → 0 < shown_rank s → shown_rank s < shown_rank t → (b : Bool) → same_told s t ≡ b → b ≡ false
+not_shown s t p l false e = refl
+not_shown s t p l true e = absurd (apart (shown_rank s) (shown_rank t) (same_rank s t p e) l)
+
+none_and : (b c : Bool) → b ≡ false → c ≡ false → (b || c) ≡ false
+none_and false c e h = h
+none_and true c e h = absurd (no (sym e))
+
+-- where the first of some leaves stands further on, all do
+none_further : (s : Shown) → 0 < shown_rank s → (y : ShownLeaf) (leaves : List ShownLeaf) → shown_rank s < shown_rank y.shown → IsAheadOf y.shown leaves → DoKeysGoUp leaves
+    → list_any (λ z. same_told s z.shown) leaves ≡ false
+none_further s p y [] l a g = refl
+none_further s p y (z ∷ leaves) l (inl a) g =
+    let on = through (shown_rank s) (shown_rank y.shown) (shown_rank z.shown) l a.1 in
+    none_and (same_told s z.shown) (list_any (λ z. same_told s z.shown) leaves) (not_shown s z.shown p on (same_told s z.shown) refl) (none_further s p z leaves on g.0 g.1)
+none_further s p y (z ∷ leaves) l (inr a) g =
+    let on = subst (λ (n : ℕ). shown_rank s < n) a.0 l in
+    none_and (same_told s z.shown) (list_any (λ z. same_told s z.shown) leaves) (not_shown s z.shown p on (same_told s z.shown) refl) (none_further s p z leaves on g.0 g.1)
+
+-- what is ahead of leaves that go up shows none of them
+none_behind : (s : Shown) (leaves : List ShownLeaf) → IsAheadOf s leaves → DoKeysGoUp leaves → list_any (λ y. same_told s y.shown) leaves ≡ false
+none_behind s [] a g = refl
+none_behind s (y ∷ leaves) (inl a) g =
+    none_and (same_told s y.shown) (list_any (λ y. same_told s y.shown) leaves) (not_shown s y.shown a.0 a.1 (same_told s y.shown) refl) (none_further s a.0 y leaves a.1 g.0 g.1)
+none_behind s (y ∷ leaves) (inr a) g = none_and (same_told s y.shown) (list_any (λ y. same_told s y.shown) leaves) a.1 (none_behind s leaves a.2 g.1)
+
+pub nothing_twice : (leaves : List ShownLeaf) → DoKeysGoUp leaves → ShowNothingTwice leaves
+nothing_twice [] g = tt
+nothing_twice (x ∷ leaves) g = (none_behind x.shown leaves g.0 g.1, nothing_twice leaves g.1)
+
+-- ---- what is wrong with them
+-- none of these leaves is shown by some others
+abbrev pub AreNew : List ShownLeaf → List ShownLeaf → Type 0
+AreNew before [] = ⊤
+AreNew before (x ∷ leaves) = (list_any (λ y. same_told y.shown x.shown) before ≡ false) × AreNew before leaves
+
+any_more : (s : Shown) (before : List ShownLeaf) (x : ShownLeaf) → list_any (λ y. same_told y.shown s) before ≡ false → same_told x.shown s ≡ false
+    → list_any (λ y. same_told y.shown s) (before ++ x ∷ []) ≡ false
+any_more s [] x h e = none_and (same_told x.shown s) false e refl
+any_more s (y ∷ before) x h e = by (same_told y.shown s) h (λ k. any_more s before x k e)
   where
-    by : (b : Bool) → same_told y.shown s ≡ b → list_any (λ y. same_told y.shown s) before ≡ false → (b || list_any (λ y. same_told y.shown s) before) ≡ false
-    by false e rest = rest
-    by true e rest = absurd (apart (shown_rank y.shown) (shown_rank s) (same_rank y.shown s a.0 e) a.1 h)
-      where
-        apart : (m n : ℕ) → m ≡ n → m ≤ last → last < n → ⊥
-        apart m n e l h = omega arith
+    by : (b : Bool) → (b || list_any (λ y. same_told y.shown s) before) ≡ false
+        → (list_any (λ y. same_told y.shown s) before ≡ false → list_any (λ y. same_told y.shown s) (before ++ x ∷ []) ≡ false) → (b || list_any (λ y. same_told y.shown s) (before ++ x ∷ [])) ≡ false
+    by false h more = more h
+    by true h more = absurd (no (sym h))
 
-one_behind : (before : List ShownLeaf) (x : ShownLeaf) (last : ℕ) → AllUpTo last before → last < shown_rank x.shown → AllUpTo (shown_rank x.shown) (before ++ x ∷ [])
-one_behind [] x last a h = (above last (shown_rank x.shown) h, itself (shown_rank x.shown), tt)
+new_more : (before leaves : List ShownLeaf) (x : ShownLeaf) → AreNew before leaves → list_any (λ y. same_told x.shown y.shown) leaves ≡ false → AreNew (before ++ x ∷ []) leaves
+new_more before [] x a h = tt
+new_more before (z ∷ leaves) x a h = by (same_told x.shown z.shown) refl h (λ k. new_more before leaves x a.1 k)
   where
-    above : (m n : ℕ) → m < n → 0 < n
-    above m n h = omega arith
+    by : (b : Bool) → same_told x.shown z.shown ≡ b → (b || list_any (λ y. same_told x.shown y.shown) leaves) ≡ false
+        → (list_any (λ y. same_told x.shown y.shown) leaves ≡ false → AreNew (before ++ x ∷ []) leaves) → AreNew (before ++ x ∷ []) (z ∷ leaves)
+    by false e h more = (any_more z.shown before x a.0 e, more h)
+    by true e h more = absurd (no (sym h))
 
-    itself : (n : ℕ) → n ≤ n
-    itself n = omega arith
-one_behind (y ∷ before) x last a h = (a.0, further (shown_rank y.shown) last (shown_rank x.shown) a.1 h, one_behind before x last a.2 h)
+new_alone : (leaves : List ShownLeaf) → AreNew [] leaves
+new_alone [] = tt
+new_alone (x ∷ leaves) = (refl, new_alone leaves)
 
--- so each leaf is wrong by itself alone
-pub wrongs_alone : (facts : Facts) (before leaves : List ShownLeaf) (last : ℕ) → AllUpTo last before → DoKeysGoUp last leaves
-    → wrongs_behind facts before leaves ≡ map (wrong_alone facts) leaves
-wrongs_alone facts before [] last a h = refl
-wrongs_alone facts before (x ∷ leaves) last a h =
-    ap (λ (b : Bool). wrong_if (is_misplaced facts x.shown || b) x ∷ wrongs_behind facts (before ++ x ∷ []) leaves) (none_before before x.shown last a h.0)
+wrongs_new : (facts : Facts) (before leaves : List ShownLeaf) → AreNew before leaves → ShowNothingTwice leaves → wrongs_behind facts before leaves ≡ map (wrong_alone facts) leaves
+wrongs_new facts before [] a h = refl
+wrongs_new facts before (x ∷ leaves) a h =
+    ap (λ (b : Bool). wrong_if (is_misplaced facts x.shown || b) x ∷ wrongs_behind facts (before ++ x ∷ []) leaves) a.0
     ∙ ap (λ (b : Bool). wrong_if b x ∷ wrongs_behind facts (before ++ x ∷ []) leaves) (sym (or_none (is_misplaced facts x.shown)))
-    ∙ ap (λ (ws : List (Option WrongValue)). wrong_if (is_misplaced facts x.shown) x ∷ ws) (wrongs_alone facts (before ++ x ∷ []) leaves (shown_rank x.shown) (one_behind before x last a h.0) h.1)
+    ∙ ap (λ (ws : List (Option WrongValue)). wrong_if (is_misplaced facts x.shown) x ∷ ws) (wrongs_new facts (before ++ x ∷ []) leaves (new_more before leaves x a.1 h.0) h.1)
+
+-- each is wrong by itself alone
+pub wrongs_alone : (facts : Facts) (leaves : List ShownLeaf) → ShowNothingTwice leaves → wrongs_behind facts [] leaves ≡ map (wrong_alone facts) leaves
+wrongs_alone facts leaves h = wrongs_new facts [] leaves (new_alone leaves) h

@@ -1,7 +1,7 @@
 -- The links that leaves show, in whatever order.
-use Rattle.std.proofs.Common.{◌≡◌, ◌<◌, ◌+◌, ◌*◌, ◌^◌, ◌++◌, ◌||◌, ◌&&◌, ◌==◌, ℕ, zero, suc, Bool, true, false, cond, filter, sum_by, List, [], ◌∷◌, refl, sym, ap, ◌∙◌, IsPermutation, arith}
+use Rattle.std.proofs.Common.{◌≡◌, ◌+◌, ◌++◌, ◌||◌, ◌&&◌, ◌==◌, ℕ, zero, suc, Bool, true, false, cond, filter, sum_by, List, [], ◌∷◌, refl, sym, ap, ◌∙◌, IsPermutation, arith}
 use Rattle.std.specs.Prelude.{⊤}
-use Rattle.std.specs.BTreeMap.{insert_entry}
+use Rattle.std.specs.BTreeMap.{insert_entry, is_at}
 use Rattle.std.specs.List.{list_any}
 use Rattle.std.specs.Map.{values_of}
 use Rattle.std.specs.Ordering.{match_ordering}
@@ -9,90 +9,96 @@ use Rattle.std.specs.declared.cmp.Ordering.{Ordering}
 use Rattle.std.specs.declared.cmp.Ordering.TheVariants.{Less, Equal, Greater}
 use Rattle.std.proofs.lemmas.List.Sorted.{IsPermutation-append_left, IsPermutation-cons, IsPermutation-refl, IsPermutation-to_front, IsPermutation-trans, sum_by-IsPermutation}
 use Rattle.std.proofs.lemmas.List.Sums.{sum_by-cons}
-use Rattle.ubifs_base.specs.R5.{r5_of}
 use Rattle.fs_laws.specs.Orders.{named}
 use Rattle.fs_model.specs.Files.{name_cmp}
-use Rattle.tree_check.specs.KeyOrder.{DoKeysGoUp, shown_rank}
+use Rattle.fs_model.specs.Path.{is_same_name}
+use Rattle.tree_check.specs.KeyOrder.{ShowNothingTwice}
 use Rattle.tree_check.specs.Links.{LinkMap, entries_over, entry_link, entry_links, links_shown, with_link}
 use Rattle.tree_check.specs.Reach.{reaches}
+use Rattle.tree_check.specs.Seen.{same_name, same_told}
 use Rattle.tree_check.specs.declared.link.Link.{Link}
 use Rattle.tree_check.specs.declared.shown_leaf.Shown.{Shown}
 use Rattle.tree_check.specs.declared.shown_leaf.Shown.TheVariants.{Inode, Entry, Deletion, Block, Truncation, Nothing}
 use Rattle.tree_check.specs.declared.shown_leaf.ShownLeaf.{ShownLeaf}
+use Rattle.tree_check.proofs.GoingUp.{no}
+use Rattle.tree_check.proofs.SeenMore.{at_name}
+use Rattle.tree_check.proofs.TestLaws.{at_here}
 
--- ---- entries of leaves that go up
--- the place in the order of a name
-abbrev name_rank : ℕ × List ℕ → ℕ
-name_rank k = k.0 * 2 ^ 34 + (2 * 2 ^ 32 + r5_of k.1)
+-- ---- entries of leaves that show nothing twice
+-- none of these entries has this name
+abbrev AreOthers : ℕ × List ℕ → LinkMap → Type 0
+AreOthers k [] = ⊤
+AreOthers k (e ∷ entries) = (k ≡ e.0 → ⊥) × AreOthers k entries
 
--- names stand behind this place
-abbrev AllBehind : ℕ → LinkMap → Type 0
-AllBehind last [] = ⊤
-AllBehind last (e ∷ entries) = (last < name_rank e.0) × AllBehind last entries
-
-through : (a b c : ℕ) → a < b → b < c → a < c
-through a b c h k = omega arith
-
-behind_more : (last next : ℕ) (entries : LinkMap) → last < next → AllBehind next entries → AllBehind last entries
-behind_more last next [] h a = tt
-behind_more last next (e ∷ entries) h a = (through last next (name_rank e.0) h a.0, behind_more last next entries h a.1)
-
-insert_behind : (last : ℕ) (entries : LinkMap) (k : ℕ × List ℕ) (v : Link) → last < name_rank k → AllBehind last entries → AllBehind last (insert_entry name_cmp entries k v)
-insert_behind last [] k v h a = (h, tt)
-insert_behind last (e ∷ entries) k v h a = by (name_cmp k e.0) (insert_behind last entries k v h a.1)
+insert_others : (k : ℕ × List ℕ) (entries : LinkMap) (q : ℕ × List ℕ) (v : Link) → (k ≡ q → ⊥) → AreOthers k entries → AreOthers k (insert_entry name_cmp entries q v)
+insert_others k [] q v h a = (h, tt)
+insert_others k (e ∷ entries) q v h a = by (name_cmp q e.0) (insert_others k entries q v h a.1)
   where
-    by : (o : Ordering) → AllBehind last (insert_entry name_cmp entries k v) → AllBehind last (match_ordering o ((k, v) ∷ e ∷ entries) ((e.0, v) ∷ entries) (e ∷ insert_entry name_cmp entries k v))
+    by : (o : Ordering) → AreOthers k (insert_entry name_cmp entries q v) → AreOthers k (match_ordering o ((q, v) ∷ e ∷ entries) ((e.0, v) ∷ entries) (e ∷ insert_entry name_cmp entries q v))
     by Less more = (h, a)
     by Equal more = a
     by Greater more = (a.0, more)
 
-entries_behind : (leaves : List ShownLeaf) (last : ℕ) → DoKeysGoUp last leaves → AllBehind last (entries_over leaves [])
-entries_behind [] last h = tt
-entries_behind (x ∷ leaves) last h = by x.shown h.0 (behind_more last (shown_rank x.shown) (entries_over leaves []) h.0 (entries_behind leaves (shown_rank x.shown) h.1))
+-- two names are one
+abbrev IsName : ℕ × List ℕ → ℕ × List ℕ → Type 0
+IsName k q = k ≡ q
+
+other_name : (dir : ℕ) (name : List ℕ) (d : ℕ) (n : List ℕ) → ((d == dir) && is_same_name n name) ≡ false → IsName (dir, name) (d, n) → ⊥
+other_name dir name d n h e = by ((d == dir) && is_same_name n name) (at_name dir name d n) h
   where
-    by : (s : Shown) → last < shown_rank s → AllBehind last (entries_over leaves []) → AllBehind last (with_link s (entries_over leaves []))
-    by (Entry dir name ino kind) l a = insert_behind last (entries_over leaves []) (dir, name) (record { dir = dir; ino = ino }) l a
-    by (Inode ino kind links) l a = a
-    by (Deletion dir name) l a = a
-    by (Block ino block) l a = a
-    by (Truncation ino size) l a = a
-    by Nothing l a = a
+    by : (b : Bool) → is_at (name_cmp (dir, name)) (d, n) ≡ b → b ≡ false → ⊥
+    by false is h = no (sym is ∙ at_here name_cmp named (dir, name) (d, n) e)
+    by true is h = no (sym h)
+
+entries_others : (dir : ℕ) (name : List ℕ) (leaves : List ShownLeaf) → list_any (λ y. same_name dir name y.shown) leaves ≡ false → AreOthers (dir, name) (entries_over leaves [])
+entries_others dir name [] h = tt
+entries_others dir name (x ∷ leaves) h = by (same_name dir name x.shown) refl h (λ k. entries_others dir name leaves k)
+  where
+    one : (s : Shown) → same_name dir name s ≡ false → AreOthers (dir, name) (entries_over leaves []) → AreOthers (dir, name) (with_link s (entries_over leaves []))
+    one (Entry d n ino kind) e a = insert_others (dir, name) (entries_over leaves []) (d, n) (record { dir = d; ino = ino }) (other_name dir name d n e) a
+    one (Inode ino kind links) e a = a
+    one (Deletion d n) e a = a
+    one (Block ino block) e a = a
+    one (Truncation ino size) e a = a
+    one Nothing e a = a
+
+    by : (b : Bool) → same_name dir name x.shown ≡ b → (b || list_any (λ y. same_name dir name y.shown) leaves) ≡ false
+        → (list_any (λ y. same_name dir name y.shown) leaves ≡ false → AreOthers (dir, name) (entries_over leaves [])) → AreOthers (dir, name) (with_link x.shown (entries_over leaves []))
+    by false e h more = one x.shown e (more h)
+    by true e h more = absurd (no (sym h))
 
 -- ---- a new entry
 two_first : (a b : Link) (xs : List Link) → IsPermutation (a ∷ b ∷ xs) (b ∷ a ∷ xs)
 two_first a b xs = IsPermutation-append_left xs (a ∷ b ∷ []) (b ∷ a ∷ []) (IsPermutation-to_front (a ∷ []) b)
 
-new_entry : (entries : LinkMap) (k : ℕ × List ℕ) (v : Link) → AllBehind (name_rank k) entries → IsPermutation (v ∷ values_of entries) (values_of (insert_entry name_cmp entries k v))
+new_entry : (entries : LinkMap) (k : ℕ × List ℕ) (v : Link) → AreOthers k entries → IsPermutation (v ∷ values_of entries) (values_of (insert_entry name_cmp entries k v))
 new_entry [] k v a = IsPermutation-refl (v ∷ [])
 new_entry (e ∷ entries) k v a = by (name_cmp k e.0) refl (new_entry entries k v a.1)
   where
     by : (o : Ordering) → name_cmp k e.0 ≡ o → IsPermutation (v ∷ values_of entries) (values_of (insert_entry name_cmp entries k v))
         → IsPermutation (v ∷ values_of (e ∷ entries)) (values_of (match_ordering o ((k, v) ∷ e ∷ entries) ((e.0, v) ∷ entries) (e ∷ insert_entry name_cmp entries k v)))
     by Less is more = IsPermutation-refl (v ∷ values_of (e ∷ entries))
-    by Equal is more = absurd (apart (name_rank k) (name_rank e.0) (ap name_rank (named.exact k e.0 is)) a.0)
-      where
-        apart : (m n : ℕ) → m ≡ n → m < n → ⊥
-        apart m n e h = omega arith
+    by Equal is more = absurd (a.0 (named.exact k e.0 is))
     by Greater is more =
         IsPermutation-trans (v ∷ e.1 ∷ values_of entries) (e.1 ∷ v ∷ values_of entries) (e.1 ∷ values_of (insert_entry name_cmp entries k v)) (two_first v e.1 (values_of entries))
         (IsPermutation-cons e.1 (v ∷ values_of entries) (values_of (insert_entry name_cmp entries k v)) more)
 
--- the links of leaves that go up are those that they show
-pub same_links : (leaves : List ShownLeaf) (last : ℕ) → DoKeysGoUp last leaves → IsPermutation (entry_links leaves) (links_shown leaves)
-same_links [] last h = IsPermutation-refl []
-same_links (x ∷ leaves) last h = by x.shown (same_links leaves (shown_rank x.shown) h.1) (entries_behind leaves (shown_rank x.shown) h.1)
+-- the links of leaves that show nothing twice are those that they show
+pub same_links : (leaves : List ShownLeaf) → ShowNothingTwice leaves → IsPermutation (entry_links leaves) (links_shown leaves)
+same_links [] h = IsPermutation-refl []
+same_links (x ∷ leaves) h = by x.shown h.0 (same_links leaves h.1)
   where
-    by : (s : Shown) → IsPermutation (entry_links leaves) (values_of (entries_over leaves [])) → AllBehind (shown_rank s) (entries_over leaves [])
+    by : (s : Shown) → list_any (λ y. same_told s y.shown) leaves ≡ false → IsPermutation (entry_links leaves) (values_of (entries_over leaves []))
         → IsPermutation (entry_link s ++ entry_links leaves) (values_of (with_link s (entries_over leaves [])))
-    by (Entry dir name ino kind) more a =
+    by (Entry dir name ino kind) a more =
         let v : Link = record { dir = dir; ino = ino } in
         IsPermutation-trans (v ∷ entry_links leaves) (v ∷ values_of (entries_over leaves [])) (values_of (insert_entry name_cmp (entries_over leaves []) (dir, name) v))
-        (IsPermutation-cons v (entry_links leaves) (values_of (entries_over leaves [])) more) (new_entry (entries_over leaves []) (dir, name) v a)
-    by (Inode ino kind links) more a = more
-    by (Deletion dir name) more a = more
-    by (Block ino block) more a = more
-    by (Truncation ino size) more a = more
-    by Nothing more a = more
+        (IsPermutation-cons v (entry_links leaves) (values_of (entries_over leaves [])) more) (new_entry (entries_over leaves []) (dir, name) v (entries_others dir name leaves a))
+    by (Inode ino kind links) a more = more
+    by (Deletion dir name) a more = more
+    by (Block ino block) a more = more
+    by (Truncation ino size) a more = more
+    by Nothing a more = more
 
 -- ---- what is said of links in whatever order
 abbrev weight : (Link → Bool) → Link → ℕ

@@ -40,7 +40,7 @@ name_from n m Greater e k = absurd cc
 same_name_of : (n m : List ℕ) → n ≡ m → is_same_name n m ≡ true
 same_name_of n m e = subst (λ x. is_same_name n x ≡ true) e (ap is_eq (bytes_same n))
 
-at_name : (a : ℕ) (b : List ℕ) (c : ℕ) (d : List ℕ) → is_at (name_cmp (a, b)) (c, d) ≡ ((c == a) && is_same_name d b)
+pub at_name : (a : ℕ) (b : List ℕ) (c : ℕ) (d : List ℕ) → is_at (name_cmp (a, b)) (c, d) ≡ ((c == a) && is_same_name d b)
 at_name a b c d = same_tests (is_at (name_cmp (a, b)) (c, d)) ((c == a) && is_same_name d b)
     (λ h. let e = at_same name_cmp named (a, b) (c, d) h in and_from (c == a) (is_same_name d b) (eq-eqb c a (ap (λ (p : ℕ × List ℕ). p.0) (sym e))) (same_name_of d b (ap (λ (p : ℕ × List ℕ). p.1) (sym e))))
     (λ h.

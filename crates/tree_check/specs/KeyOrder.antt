@@ -1,6 +1,8 @@
 -- Leaves in order of what they show.
-use Rattle.std.specs.Prelude.{ℕ, ◌+◌, ◌*◌, ◌^◌, ◌<◌, ⊤, List, [], ◌∷◌}
+use Rattle.std.specs.Prelude.{◌≡◌, ◌⊎◌, ℕ, ◌+◌, ◌*◌, ◌^◌, ◌<◌, ⊤, IsFalse, List, [], ◌∷◌}
+use Rattle.std.specs.List.{list_any}
 use Rattle.ubifs_base.specs.R5.{r5_of}
+use Rattle.tree_check.specs.Seen.{same_told}
 use Rattle.tree_check.specs.declared.shown_leaf.Shown.{Shown}
 use Rattle.tree_check.specs.declared.shown_leaf.Shown.TheVariants.{Inode, Entry, Block}
 use Rattle.tree_check.specs.declared.shown_leaf.ShownLeaf.{ShownLeaf}
@@ -13,7 +15,15 @@ shown_rank (Block ino block) = ino * 2 ^ 34 + (2 ^ 32 + block)
 shown_rank (Entry dir name ino kind) = dir * 2 ^ 34 + (2 * 2 ^ 32 + r5_of name)
 shown_rank other = 0
 
--- what leaves show goes up from this place in the order on
-abbrev pub DoKeysGoUp : ℕ → List ShownLeaf → Type 0
-DoKeysGoUp last [] = ⊤
-DoKeysGoUp last (x ∷ leaves) = (last < shown_rank x.shown) × DoKeysGoUp (shown_rank x.shown) leaves
+-- something has a place in the order, and what stands behind it has greater ones, up to the first that has; before that stands nothing
+-- that is shown by it
+abbrev pub IsAheadOf : Shown → List ShownLeaf → Type 0
+IsAheadOf shown [] = 0 < shown_rank shown
+IsAheadOf shown (y ∷ leaves) =
+    ((0 < shown_rank shown) × (shown_rank shown < shown_rank y.shown))
+    ⊎ ((shown_rank shown ≡ shown_rank y.shown) × IsFalse (same_told shown y.shown) × IsAheadOf shown leaves)
+
+-- none of these leaves shows what one before it shows
+abbrev pub ShowNothingTwice : List ShownLeaf → Type 0
+ShowNothingTwice [] = ⊤
+ShowNothingTwice (x ∷ leaves) = IsFalse (list_any (λ y. same_told x.shown y.shown) leaves) × ShowNothingTwice leaves

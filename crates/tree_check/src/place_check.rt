@@ -24,8 +24,8 @@ use ubifs_base::Memory;
 /// one before it; inode 1, which is no directory; a directory that isn't the root, and has not one name or isn't reached from the root;
 /// a name that stands in no directory, or leads to no inode of its kind, or to the root. There the inode number is wanted to which a name leads, or else the one in the
 /// leaf's key, and 0 is found. Without inode 1 it is wanted at `root`, the LEB and offset of the root of the index. None if all is in its place.
-/// Takes memory for maps with an entry an inode. Where what leaves show doesn't go up, or two names of a directory have one hash, it takes
-/// memory for maps with an entry a leaf besides, and copies names twice.
+/// Takes memory for maps with an entry an inode. Where what leaves show doesn't go up, or more than 16 names behind one have its directory
+/// and hash, it takes memory for maps with an entry a leaf besides, and copies names twice.
 pub fn first_out_of_place(
     alloc: Global,
     leaves: &[ShownLeaf],

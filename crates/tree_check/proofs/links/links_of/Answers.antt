@@ -8,7 +8,7 @@ use Rattle.tree_check.proofs.links.links_of.Goals as goal
 pub returns-then-keys_go_up : goal.returns-then-keys_go_up
 returns-then-keys_go_up c =
     let P : List Link → Type 0 = λ ls. IsPermutation ls (links_shown c.args.leaves.now) in
-    subst P (sym c.in_ok-links.ensures) (same_links c.args.leaves.now 0 (c.keys_go_up.ensures c.if-keys_go_up.true))
+    subst P (sym c.in_ok-links.ensures) (same_links c.args.leaves.now (c.keys_go_up.ensures c.if-keys_go_up.true))
 
 pub returns : goal.returns
 returns c =
