@@ -41,31 +41,9 @@ pub new_file_group : (tree : Tree) (path : List ℕ) (dir mode : ℕ) → free_p
     → group_in (created (closed tree) 0 path mode) ≡ making tree dir (last_of (components path)) (new_file mode 0) 0
 new_file_group tree path dir mode e good numbers = let p = place_known tree path dir e in rw (good, p.good) (made_group tree path dir (new_file mode 0) p refl numbers)
 
--- few names make few links
-few_links : (tree : Tree) (dir : ℕ) → length tree.entries ≤ 60000 → is_linked_out (dir_links tree dir) ≡ false
-few_links tree dir few =
-    let a : dir_links tree dir ≤ 2 + length (entries_in tree dir) = omega (arith, count_by-le-length (λ e. is_dir e.kind) (entries_in tree dir)) in
-    let b : length (entries_in tree dir) ≤ length (values_of tree.entries) = omega (arith, length-filter (λ e. e.dir == dir) (values_of tree.entries), count_by-le-length (λ e. e.dir == dir) (values_of tree.entries)) in
-    let c : length (values_of tree.entries) ≡ length tree.entries = length-values_of tree.entries in
-    le-ltb 64999 (dir_links tree dir) (omega (arith, a, b, c, few))
-
-pub new_dir_group : (tree : Tree) (path : List ℕ) (dir mode : ℕ) → free_place tree path ≡ Some dir → is_bad_mode mode ≡ false → nat_le inode_limit tree.highest ≡ false → length tree.entries ≤ 60000
-    → group_in (dir_made (closed tree) 0 path mode) ≡ making tree dir (last_of (components path)) (new_dir mode 0) 0
-new_dir_group tree path dir mode e good numbers few = let p = place_known tree path dir e in rw (good, p.good) (made_group tree path dir (new_dir mode 0) p (few_links tree dir few) numbers)
-
 pub new_symlink_group : (tree : Tree) (path target : List ℕ) (dir : ℕ) → free_place tree path ≡ Some dir → is_bad_target target ≡ false → nat_le inode_limit tree.highest ≡ false
     → group_in (symlink_made (closed tree) 0 path target) ≡ making tree dir (last_of (components path)) (new_symlink target 0) 0
 new_symlink_group tree path target dir e good numbers = let p = place_known tree path dir e in rw (good, p.good) (made_group tree path dir (new_symlink target 0) p refl numbers)
-
-pub further_name_group : (tree : Tree) (old new : List ℕ) (dir : ℕ) (entry : Entry) (inode : Inode) → free_place tree new ≡ Some dir → walked tree old ≡ Ok entry → is_dir entry.kind ≡ false → inode_at tree entry.ino ≡ Some inode
-    → is_name_path old ≡ true → has_long_name old ≡ false → is_linked_out inode.nlink ≡ false
-    → group_in (linked (closed tree) 0 old new) ≡ linking tree entry inode dir (last_of (components new)) 0
-further_name_group tree old new dir entry inode e walks kind there good short links =
-    let p = place_known tree new dir e in
-    let R : ℕ → Type 0 = λ d. is_some (entry_at tree d (last_of (components new))) ≡ false in
-    let free = subst R (sym p.number) p.free in
-    let moved : linking tree entry inode p.parent.ino (last_of (components new)) 0 ≡ linking tree entry inode dir (last_of (components new)) 0 = ap (λ (d : ℕ). linking tree entry inode d (last_of (components new)) 0) p.number in
-    rw (good, p.good, short, p.short, walks, kind, there, links, p.there, free) (rw kind at moved)
 
 -- a tree that nobody has open is sound if it is proper
 pub closed_sound : (tree : Tree) → IsProper tree → IsSound (closed tree)
@@ -75,19 +53,3 @@ closed_sound tree h = record { proper = h; handles = refl }
 pub kept_by : (tree new : Tree) (dir : ℕ) (name last : List ℕ) (inode : Inode) (group : List Change) → name ≡ last → group ≡ making tree dir last inode 0 → IsProper (apply tree group) → new ≡ apply tree (making tree dir name inode 0) → IsProper new
 kept_by tree new dir name last inode group n e h m =
     subst (λ t. IsProper t) (sym m) (subst (λ g. IsProper (apply tree g)) (e ∙ ap (λ x. making tree dir x inode 0) (sym n)) h)
-
-pub kept_by_link : (tree new : Tree) (entry : Entry) (inode : Inode) (dir : ℕ) (name last : List ℕ) (group : List Change) → name ≡ last → group ≡ linking tree entry inode dir last 0 → IsProper (apply tree group) → new ≡ apply tree (linking tree entry inode dir name 0) → IsProper new
-kept_by_link tree new entry inode dir name last group n e h m =
-    subst (λ t. IsProper t) (sym m) (subst (λ g. IsProper (apply tree g)) (e ∙ ap (λ x. linking tree entry inode dir x 0) (sym n)) h)
-
-file_is : (other entry : Entry) (k : Kind) → other.kind ≡ k → cond (is_file k) (Some other) None ≡ Some entry → (other ≡ entry) × (is_dir entry.kind ≡ false)
-file_is other entry File e f = let same : other ≡ entry = cc in (same, rw (sym (ap (λ (x : Entry). x.kind) same) ∙ e) refl)
-file_is other entry k e f = absurd cc
-
--- a regular file was found by the walk, and is no directory
-pub regular : (tree : Tree) (path : List ℕ) (entry : Entry) → only_file (walked tree path) ≡ Some entry → (walked tree path ≡ Ok entry) × (is_dir entry.kind ≡ false)
-regular tree path entry e = by (walked tree path) refl e
-  where
-    by : (r : Result Entry Refusal) → walked tree path ≡ r → only_file r ≡ Some entry → (walked tree path ≡ Ok entry) × (is_dir entry.kind ≡ false)
-    by (Err refusal) w f = absurd cc
-    by (Ok other) w f = let p = file_is other entry other.kind refl f in (w ∙ ap Ok p.0, p.1)

@@ -3,3 +3,7 @@ pub mod Placing
 pub mod Groups
 pub mod Pages
 pub mod Lines
+pub mod InodeNodes
+pub mod BytesPages
+pub mod FurtherNames
+pub mod Linking

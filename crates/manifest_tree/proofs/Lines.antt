@@ -5,7 +5,9 @@ use Rattle.fs_model.specs.Files.{Tree}
 use Rattle.script_text.specs.declared.manifest.Manifest.{Manifest}
 use Rattle.script_text.specs.declared.manifest_line.ManifestLine.{ManifestLine}
 use Rattle.script_text.specs.ManifestLines.{HasNoVolume, IsListedManifest}
-use Rattle.manifest_tree.specs.ManifestTree.{IsFirstBadTreeLine, IsTreeManifest, line_made, lines_made, manifest_tree}
+use Rattle.manifest_tree.specs.ManifestTree.{IsFirstBadTreeLine, line_made, lines_made, manifest_tree}
+use Rattle.manifest_tree.specs.CopiedFiles.{IsMadeManifest, IsNamedManifest, copied_files, with_files}
+use Rattle.manifest_tree.specs.declared.copied.CopiedFile.{CopiedFile}
 
 -- what lines behind a line make
 after : ℕ → List ManifestLine → Option Tree → Result Tree ℕ
@@ -46,13 +48,19 @@ not_both : (tree : Tree) (n : ℕ) (r : Result Tree ℕ) → r ≡ Ok tree → r
 not_both tree n (Ok other) e f = absurd cc
 not_both tree n (Err m) e f = absurd cc
 
-pub tree_once : OneListing → (text : List ℕ) (this that : Manifest) (these those : Tree) → IsTreeManifest text this these → IsTreeManifest text that those → (this ≡ that) × (these ≡ those)
-tree_once one text this that these those h k =
+pub names_once : OneListing → (text : List ℕ) (this that : Manifest) (files others : List CopiedFile) (these those : Tree) → IsNamedManifest text this files these → IsNamedManifest text that others those
+    → (this ≡ that) × (files ≡ others) × (these ≡ those)
+names_once one text this that files others these those h k =
     let p = one text this that h.lines k.lines None None h.listed k.listed in
-    (p.0, one_ok these those (manifest_tree h.lines) h.made (ap manifest_tree p.1 ∙ k.made))
+    (p.0, h.copied_are ∙ (ap copied_files p.1 ∙ sym k.copied_are), one_ok these those (manifest_tree h.lines) h.made (ap manifest_tree p.1 ∙ k.made))
 
-pub tree_no_bad : OneListing → NeverBoth → (text : List ℕ) (volume : Manifest) (tree : Tree) (number : ℕ) → IsTreeManifest text volume tree → IsFirstBadTreeLine text number → ⊥
-tree_no_bad one never text volume tree number h bad = elim bad [
+pub made_once : OneListing → (text : List ℕ) (this that : Manifest) (files : List (List ℕ)) (these those : Tree) → IsMadeManifest text this files these → IsMadeManifest text that files those → (this ≡ that) × (these ≡ those)
+made_once one text this that files these those h k =
+    let p = names_once one text this that h.copied k.copied h.names k.names h.is k.is in
+    (p.0, h.filled ∙ (ap (λ (copied : List CopiedFile). with_files copied files h.names) p.1 ∙ (ap (with_files k.copied files) p.2 ∙ sym k.filled)))
+
+pub names_no_bad : OneListing → NeverBoth → (text : List ℕ) (volume : Manifest) (files : List CopiedFile) (tree : Tree) (number : ℕ) → IsNamedManifest text volume files tree → IsFirstBadTreeLine text number → ⊥
+names_no_bad one never text volume files tree number h bad = elim bad [
   | inl none ↦ never text volume h.lines None h.listed none.1
   | inr listed ↦
       let p = one text volume listed.0 h.lines listed.1 None listed.2 h.listed listed.3 in

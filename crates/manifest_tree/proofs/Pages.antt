@@ -21,10 +21,10 @@ copies_there : (n byte : ℕ) → 1 ≤ n → is_empty (replicate n byte) ≡ fa
 copies_there zero byte h = absurd (omega (arith, h))
 copies_there (suc n) byte h = refl
 
-le-is : (a b : ℕ) → a ≤ b → nat_le a b ≡ true
+pub le-is : (a b : ℕ) → a ≤ b → nat_le a b ≡ true
 le-is a b h = grind (arith, h)
 
-good_mode : (mode : ℕ) → is_bad_mode mode ≡ false → nat_lt mode 4096 ≡ true
+pub good_mode : (mode : ℕ) → is_bad_mode mode ≡ false → nat_lt mode 4096 ≡ true
 good_mode mode h = grind (arith, h)
 
 file_inode : (ino mode len : ℕ) → (ino ≡ 0 → ⊥) → is_bad_mode mode ≡ false → ino < 2 ^ 32 → len < 2 ^ 64 → is_inode_node (ino, (copies_page ino mode len 0 0).inode) ≡ true

@@ -1,2 +1,3 @@
 pub mod ManifestTree
+pub mod CopiedFiles
 pub mod Places

@@ -1,4 +1,4 @@
--- The tree that the lines of a manifest make, one after another.
+-- The tree that the lines of a manifest make, one after another. A file that is copied is empty in it: its bytes come once its lines are known to be good.
 use Rattle.std.specs.Prelude.{ℕ, ◌+◌, ◌-◌, ◌*◌, ◌/◌, ◌≡◌, ◌⊎◌, ◌&&◌, min, not, is_some, if◌then◌else◌, Option, Some, None, Result, Ok, Err, List, [], ◌∷◌, fold, replicate}
 use Rattle.std.specs.List.{range_with_len}
 use Rattle.std.specs.Option.{option_map, option_map_or}
@@ -15,7 +15,7 @@ use Rattle.fs_model.specs.Path.{components, has_long_name, is_file, last_of, par
 use Rattle.fs_model.specs.Worked.{fresh}
 use Rattle.script_text.specs.declared.manifest.Manifest.{Manifest}
 use Rattle.script_text.specs.declared.manifest_line.ManifestLine.{ManifestLine}
-use Rattle.script_text.specs.declared.manifest_line.ManifestLine.TheVariants.{Dir, File, Symlink, Link}
+use Rattle.script_text.specs.declared.manifest_line.ManifestLine.TheVariants.{Dir, File, Copy, Symlink, Link}
 use Rattle.script_text.specs.ManifestLines.{HasNoVolume, IsListedManifest}
 
 -- the directory that was found, if it has no entry of this name
@@ -57,6 +57,7 @@ with_name tree path entry =
 abbrev pub line_made : Tree → ManifestLine → Option Tree
 line_made tree (Dir path mode) = with_new tree path (new_dir mode 0)
 line_made tree (File path mode len byte) = option_map (with_copies (tree.highest + 1) mode len byte) (with_new tree path (new_file mode 0))
+line_made tree (Copy path mode name) = with_new tree path (new_file mode 0)
 line_made tree (Symlink path target) = if is_bad_target target then None else with_new tree path (new_symlink target 0)
 line_made tree (Link old new) = option_map_or (with_name tree new) (only_file (walked tree old)) None
 
@@ -68,12 +69,6 @@ lines_made number tree (line ∷ lines) = option_map_or (λ made. lines_made (nu
 -- what lines make of the root alone; they begin behind the line with the geometry
 abbrev pub manifest_tree : List ManifestLine → Result Tree ℕ
 manifest_tree lines = lines_made 2 fresh.tree lines
-
--- the text is a manifest of this geometry and of this tree
-pub record IsTreeManifest (text : List ℕ) (volume : Manifest) (tree : Tree) : Type 0 where
-  pub lines : List ManifestLine
-  pub listed : IsListedManifest text volume lines None
-  pub made : manifest_tree lines ≡ Ok tree
 
 -- The line of this number is the first that isn't in the grammar: no geometry stands there; or what stands in the tree refuses it; or its words do, and no line before it is refused.
 abbrev pub IsFirstBadTreeLine : List ℕ → ℕ → Type 0

@@ -8,7 +8,7 @@ ghost use Rattle.script_text.specs.ManifestLines.{IsGivenLine};
 ghost use Rattle.script_text.specs.Script.{OnLine};
 ghost use Rattle.manifest_tree.specs.ManifestTree.{line_made, manifest_tree};
 
-use crate::making::{make_dir, make_file, make_link, make_symlink};
+use crate::making::{make_dir, make_empty_file, make_file, make_link, make_symlink};
 use fs_laws::a_fresh_volume_is_sound;
 use fs_model::{Change, Group};
 use op_plans::new_dir;
@@ -17,7 +17,7 @@ use script_text::{ManifestLine, TextFault};
 use std::alloc::Global;
 use ubifs_base::Memory;
 
-/// The tree that lines make of the root alone, which has mode 755. The fault is want of memory, or the number of the first
+/// The tree that lines make of the root alone, which has mode 755. A file that is copied is empty in it. The fault is want of memory, or the number of the first
 /// line that isn't in the grammar because of what stands in the tree; the first of the lines has number 2. An inode of more
 /// than 65,000 links, and a directory behind 60,000 names, are answered by want of memory.
 pub fn make_lines(alloc: Global, lines: &[ManifestLine]) -> Result<Tree, TextFault>
@@ -60,6 +60,11 @@ fn make_line(alloc: Global, tree: &mut Tree, line: &ManifestLine) -> Result<bool
             len,
             byte,
         } => make_file(alloc, tree, path, *mode, *len, *byte),
+        ManifestLine::Copy {
+            path,
+            mode,
+            name: _,
+        } => make_empty_file(alloc, tree, path, *mode),
         ManifestLine::Symlink { path, target } => make_symlink(alloc, tree, path, target),
         ManifestLine::Link { old, new } => make_link(alloc, tree, old, new),
     }

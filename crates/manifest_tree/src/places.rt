@@ -2,6 +2,7 @@
 
 ghost use Rattle.std.specs.Prelude.{◌≡◌, None, Ok, IfOk, IfSome, IfNone};
 ghost use Rattle.std.specs.Option.{option_copied};
+ghost use Rattle.fs_model.specs.declared.inode.Kind.TheVariants.{File};
 ghost use Rattle.fs_model.specs.Path.{only_dir, walked};
 ghost use Rattle.manifest_tree.specs.ManifestTree.{free_in, free_place, only_file};
 ghost use Rattle.manifest_tree.specs.Places.{IsFreePlace, IsPlaceIn};
@@ -73,7 +74,8 @@ pub fn copied(inode: Option<&Inode>) -> Result<Option<Inode>, Memory>
 
 /// The regular file that a path names.
 pub fn find_file(alloc: Global, tree: &Tree, path: &Name) -> Result<Option<Entry>, Memory>
-    ensures { IfOk result (λ entry. entry ≡ only_file (walked tree.now path.now)) }
+    ensures found { IfOk result (λ entry. entry ≡ only_file (walked tree.now path.now)) }
+    ensures file { IfOk result (λ entry. IfSome entry (λ it. it.kind ≡ File)) }
 {
     let names = components(alloc, path)?;
     let Some(entry) = walk(alloc, tree, &names)? else {

@@ -2,10 +2,10 @@
 use Rattle.std.proofs.Common.{◌≡◌, ℕ, ◌≤◌, get_or, List, [], ◌∷◌, ◌++◌, length, arith, sym, refl, ap, subst, ◌∙◌}
 use Rattle.std.specs.Prelude.{codes}
 use Rattle.script_text.specs.declared.manifest_line.ManifestLine.{ManifestLine}
-use Rattle.script_text.specs.declared.manifest_line.ManifestLine.TheVariants.{Dir, File, Symlink, Link}
+use Rattle.script_text.specs.declared.manifest_line.ManifestLine.TheVariants.{Dir, File, Copy, Symlink, Link}
 use Rattle.script_text.specs.ManifestLines.{made_name, made_words, IsGivenLine, IsManifestLineOf}
 use Rattle.script_text.specs.MadeNames.{SaysMade}
-use Rattle.script_text.specs.Words.{AreWords, Word, Fixed, Number, Mode, Path, Target, Lacks}
+use Rattle.script_text.specs.Words.{AreWords, Word, Fixed, Number, Mode, Path, Target, FileName, Lacks}
 use Rattle.script_text.proofs.OneReading.{AllAlike, words_once}
 use Rattle.script_text.proofs.Sentences.{AllBare, Tight, begun, one_line, split, tight_lacks, tight_of, uncut}
 use Rattle.script_text.proofs.Spelling.{spelled_bytes}
@@ -14,12 +14,14 @@ use Rattle.script_text.proofs.Spelling.{spelled_bytes}
 abbrev letter : ManifestLine → ℕ
 letter (Dir path mode) = 100
 letter (File path mode len byte) = 102
+letter (Copy path mode name) = 99
 letter (Symlink path target) = 115
 letter (Link old new) = 108
 
 letter_is : (line : ManifestLine) → letter line ≡ get_or (made_name line) 0 0
 letter_is (Dir path mode) = refl
 letter_is (File path mode len byte) = refl
+letter_is (Copy path mode name) = refl
 letter_is (Symlink path target) = refl
 letter_is (Link old new) = refl
 
@@ -29,12 +31,14 @@ letter_of line name e = letter_is line ∙ ap (λ (t : List ℕ). get_or t 0 0) 
 made_tight : (line : ManifestLine) → Tight (made_name line)
 made_tight (Dir path mode) = tight_of (codes "dir") refl
 made_tight (File path mode len byte) = tight_of (codes "file") refl
+made_tight (Copy path mode name) = tight_of (codes "copy") refl
 made_tight (Symlink path target) = tight_of (codes "symlink") refl
 made_tight (Link old new) = tight_of (codes "link") refl
 
 made_bare : (line : ManifestLine) → AllBare (made_words line)
 made_bare (Dir path mode) = (tt, (tt, tt))
 made_bare (File path mode len byte) = (tt, (tt, (omega arith, (omega arith, tt))))
+made_bare (Copy path mode name) = (tt, (tt, (tt, tt)))
 made_bare (Symlink path target) = (tt, (tt, tt))
 made_bare (Link old new) = (tt, (tt, tt))
 
@@ -44,6 +48,7 @@ dir_none text none line s = by line (letter_of line (codes "dir") s.name_is) s.w
     by : (x : ManifestLine) → letter x ≡ 100 → AreWords (made_words x) text → ⊥
     by (Dir path mode) e h = none path mode h
     by (File path mode len byte) e h = omega (arith, e)
+    by (Copy path mode name) e h = omega (arith, e)
     by (Symlink path target) e h = omega (arith, e)
     by (Link old new) e h = omega (arith, e)
 
@@ -53,7 +58,18 @@ symlink_none text none line s = by line (letter_of line (codes "symlink") s.name
     by : (x : ManifestLine) → letter x ≡ 115 → AreWords (made_words x) text → ⊥
     by (Dir path mode) e h = omega (arith, e)
     by (File path mode len byte) e h = omega (arith, e)
+    by (Copy path mode name) e h = omega (arith, e)
     by (Symlink path target) e h = none path target h
+    by (Link old new) e h = omega (arith, e)
+
+pub copy_none : (text : List ℕ) → ((path : List ℕ) (mode : ℕ) (name : List ℕ) → AreWords (Path path ∷ Mode mode ∷ FileName name ∷ []) text → ⊥) → (line : ManifestLine) → SaysMade (codes "copy") line text → ⊥
+copy_none text none line s = by line (letter_of line (codes "copy") s.name_is) s.words
+  where
+    by : (x : ManifestLine) → letter x ≡ 99 → AreWords (made_words x) text → ⊥
+    by (Dir path mode) e h = omega (arith, e)
+    by (File path mode len byte) e h = omega (arith, e)
+    by (Copy path mode name) e h = none path mode name h
+    by (Symlink path target) e h = omega (arith, e)
     by (Link old new) e h = omega (arith, e)
 
 pub link_none : (text : List ℕ) → ((old new : List ℕ) → AreWords (Path old ∷ Path new ∷ []) text → ⊥) → (line : ManifestLine) → SaysMade (codes "link") line text → ⊥
@@ -62,6 +78,7 @@ link_none text none line s = by line (letter_of line (codes "link") s.name_is) s
     by : (x : ManifestLine) → letter x ≡ 108 → AreWords (made_words x) text → ⊥
     by (Dir path mode) e h = omega (arith, e)
     by (File path mode len byte) e h = omega (arith, e)
+    by (Copy path mode name) e h = omega (arith, e)
     by (Symlink path target) e h = omega (arith, e)
     by (Link old new) e h = none old new h
 
@@ -75,6 +92,7 @@ file_none text none line s = by line (letter_of line (codes "file") s.name_is) s
     by : (x : ManifestLine) → letter x ≡ 102 → SaysMade (codes "file") x text → ⊥
     by (Dir path mode) e h = omega (arith, e)
     by (File path mode len byte) e h = none path mode len byte h.words h.few
+    by (Copy path mode name) e h = omega (arith, e)
     by (Symlink path target) e h = omega (arith, e)
     by (Link old new) e h = omega (arith, e)
 
@@ -89,6 +107,8 @@ name_parts text name rest lacks e (Dir path mode) h =
     let s = split (Fixed (codes "dir")) (Path path) (Mode mode ∷ []) text name rest (made_tight (Dir path mode)) lacks e h.words in record { name_is = sym s.0; words = s.1; few = tt }
 name_parts text name rest lacks e (File path mode len byte) h =
     let s = split (Fixed (codes "file")) (Path path) (Mode mode ∷ Number 32 len ∷ Number 8 byte ∷ []) text name rest (made_tight (File path mode len byte)) lacks e h.words in record { name_is = sym s.0; words = s.1; few = h.few }
+name_parts text name rest lacks e (Copy path mode file) h =
+    let s = split (Fixed (codes "copy")) (Path path) (Mode mode ∷ FileName file ∷ []) text name rest (made_tight (Copy path mode file)) lacks e h.words in record { name_is = sym s.0; words = s.1; few = tt }
 name_parts text name rest lacks e (Symlink path target) h =
     let s = split (Fixed (codes "symlink")) (Path path) (Target target ∷ []) text name rest (made_tight (Symlink path target)) lacks e h.words in record { name_is = sym s.0; words = s.1; few = tt }
 name_parts text name rest lacks e (Link old new) h =
@@ -97,6 +117,7 @@ name_parts text name rest lacks e (Link old new) h =
 some_words : (line : ManifestLine) → made_words line ≡ [] → ⊥
 some_words (Dir path mode) e = absurd cc
 some_words (File path mode len byte) e = absurd cc
+some_words (Copy path mode name) e = absurd cc
 some_words (Symlink path target) e = absurd cc
 some_words (Link old new) e = absurd cc
 
@@ -104,6 +125,7 @@ some_words (Link old new) e = absurd cc
 pub no_word : (text : List ℕ) → Lacks 32 text → (line : ManifestLine) → IsManifestLineOf line text → ⊥
 no_word text lacks (Dir path mode) h = uncut (Fixed (codes "dir")) (Path path) (Mode mode ∷ []) text lacks h.words
 no_word text lacks (File path mode len byte) h = uncut (Fixed (codes "file")) (Path path) (Mode mode ∷ Number 32 len ∷ Number 8 byte ∷ []) text lacks h.words
+no_word text lacks (Copy path mode name) h = uncut (Fixed (codes "copy")) (Path path) (Mode mode ∷ FileName name ∷ []) text lacks h.words
 no_word text lacks (Symlink path target) h = uncut (Fixed (codes "symlink")) (Path path) (Target target ∷ []) text lacks h.words
 no_word text lacks (Link old new) h = uncut (Fixed (codes "link")) (Path old) (Path new ∷ []) text lacks h.words
 
@@ -126,18 +148,27 @@ made_no_end line text h e = no_word text (let P : List ℕ → Type 0 = λ t. La
 same_kind : (a b : ManifestLine) → letter a ≡ letter b → AllAlike (made_words a) (made_words b) × (made_words a ≡ made_words b → a ≡ b)
 same_kind (Dir p m) (Dir q n) e = ((tt, (tt, tt)), λ w. cc)
 same_kind (Dir p m) (File q n l b) e = absurd (omega (arith, e))
+same_kind (Dir p m) (Copy q n f) e = absurd (omega (arith, e))
 same_kind (Dir p m) (Symlink q t) e = absurd (omega (arith, e))
 same_kind (Dir p m) (Link q t) e = absurd (omega (arith, e))
 same_kind (File p m l b) (Dir q n) e = absurd (omega (arith, e))
 same_kind (File p m l b) (File q n k d) e = ((tt, (tt, (refl, (refl, tt)))), λ w. cc)
+same_kind (File p m l b) (Copy q n f) e = absurd (omega (arith, e))
 same_kind (File p m l b) (Symlink q t) e = absurd (omega (arith, e))
 same_kind (File p m l b) (Link q t) e = absurd (omega (arith, e))
+same_kind (Copy p m f) (Dir q n) e = absurd (omega (arith, e))
+same_kind (Copy p m f) (File q n k d) e = absurd (omega (arith, e))
+same_kind (Copy p m f) (Copy q n g) e = ((tt, (tt, (tt, tt))), λ w. cc)
+same_kind (Copy p m f) (Symlink q t) e = absurd (omega (arith, e))
+same_kind (Copy p m f) (Link q t) e = absurd (omega (arith, e))
 same_kind (Symlink p t) (Dir q n) e = absurd (omega (arith, e))
 same_kind (Symlink p t) (File q n l b) e = absurd (omega (arith, e))
+same_kind (Symlink p t) (Copy q n f) e = absurd (omega (arith, e))
 same_kind (Symlink p t) (Symlink q u) e = ((tt, (tt, tt)), λ w. cc)
 same_kind (Symlink p t) (Link q u) e = absurd (omega (arith, e))
 same_kind (Link p t) (Dir q n) e = absurd (omega (arith, e))
 same_kind (Link p t) (File q n l b) e = absurd (omega (arith, e))
+same_kind (Link p t) (Copy q n f) e = absurd (omega (arith, e))
 same_kind (Link p t) (Symlink q u) e = absurd (omega (arith, e))
 same_kind (Link p t) (Link q u) e = ((tt, (tt, tt)), λ w. cc)
 
@@ -153,6 +184,7 @@ made_once a b text h k =
     front : (line : ManifestLine) (text : List ℕ) → IsManifestLineOf line text → (rest : List ℕ) × (text ≡ made_name line ++ (32 ∷ rest))
     front (Dir path mode) text h = (h.words.1, h.words.4 ∙ ap (λ (t : List ℕ). t ++ (32 ∷ h.words.1)) h.words.2)
     front (File path mode len byte) text h = (h.words.1, h.words.4 ∙ ap (λ (t : List ℕ). t ++ (32 ∷ h.words.1)) h.words.2)
+    front (Copy path mode name) text h = (h.words.1, h.words.4 ∙ ap (λ (t : List ℕ). t ++ (32 ∷ h.words.1)) h.words.2)
     front (Symlink path target) text h = (h.words.1, h.words.4 ∙ ap (λ (t : List ℕ). t ++ (32 ∷ h.words.1)) h.words.2)
     front (Link old new) text h = (h.words.1, h.words.4 ∙ ap (λ (t : List ℕ). t ++ (32 ∷ h.words.1)) h.words.2)
 
@@ -160,5 +192,6 @@ made_once a b text h k =
 pub made_given : (line : ManifestLine) (text : List ℕ) → IsManifestLineOf line text → IsGivenLine line
 made_given (Dir path mode) text h = spelled_bytes path h.words.3.0 h.words.3.2.0
 made_given (File path mode len byte) text h = (spelled_bytes path h.words.3.0 h.words.3.2.0, h.few, h.words.3.3.3.3.0)
+made_given (Copy path mode name) text h = (spelled_bytes path h.words.3.0 h.words.3.2.0, h.words.3.3.3.1)
 made_given (Symlink path target) text h = (spelled_bytes path h.words.3.0 h.words.3.2.0, spelled_bytes target h.words.3.1 h.words.3.3)
 made_given (Link old new) text h = spelled_bytes new h.words.3.1 h.words.3.3.0

@@ -5,11 +5,11 @@ use Rattle.fs_model.specs.declared.op.Op.{Op}
 use Rattle.fs_model.specs.declared.op.Op.TheVariants.{Create, Mkdir, Symlink, Link, Unlink, Rmdir, Rename, OpenFile, Close, Read, Write, Truncate, Fsync, Flush, List as Listing, Stat, Readlink, Chmod}
 use Rattle.script_text.specs.declared.verb.Verb.{Verb}
 use Rattle.script_text.specs.Script.{op_name, op_words}
-use Rattle.script_text.specs.Words.{BeginsWithByte, IsSpelled, Word, Fixed, Number, Mode, Path, Target, IsWord, AreWords}
+use Rattle.script_text.specs.Words.{BeginsWithByte, IsSpelled, Word, Fixed, Number, Mode, Path, Target, FileName, IsWord, AreWords}
 use Rattle.script_text.proofs.Cutting.{cut_once, not_cut}
 use Rattle.script_text.proofs.Naming.{op_verb, of_verb, tight_name, verb_there}
 use Rattle.script_text.proofs.PartLines.{op_bare}
-use Rattle.script_text.proofs.Sentences.{Bare, AllBare, tight_lacks, tight_word, split, named}
+use Rattle.script_text.proofs.Sentences.{Bare, AllBare, tight_lacks, unbroken_word, split, named}
 use Rattle.script_text.proofs.Spelling.{begins_once, some_bytes}
 
 -- a word spells one row of bytes
@@ -30,6 +30,7 @@ Alike (Number bits m) (Number more n) = bits ≡ more
 Alike (Mode m) (Mode n) = Unit {0}
 Alike (Path x) (Path y) = Unit {0}
 Alike (Target x) (Target y) = Unit {0}
+Alike (FileName a) (FileName b) = Unit {0}
 Alike w v = ⊥
 
 abbrev pub AllAlike : List Word → List Word → Type 0
@@ -45,6 +46,7 @@ word_once (Number bits m) (Number more n) t s x y h k =
 word_once (Mode m) (Mode n) t s x y h k = ap Mode (sym h.value ∙ k.value)
 word_once (Path a) (Path b) t s x y h k = ap Path (spelled_once a b t h.0 k.0)
 word_once (Target a) (Target b) t s x y h k = ap Target (spelled_once a b t h k)
+word_once (FileName a) (FileName b) t s x y h k = ap FileName (sym h.0 ∙ k.0)
 word_once w v t s x y h k = absurd s
 
 pub words_once : (ws vs : List Word) (t : List ℕ) → AllAlike ws vs → AllBare ws → AllBare vs → AreWords ws t → AreWords vs t → ws ≡ vs
@@ -55,7 +57,7 @@ words_once (w ∷ []) (v ∷ []) t s x y h k = ap (λ (z : Word). z ∷ []) (wor
 words_once (w ∷ []) (v ∷ z ∷ vs) t s x y h k = absurd s.1
 words_once (w ∷ z ∷ ws) (v ∷ []) t s x y h k = absurd s.1
 words_once (w ∷ z ∷ ws) (v ∷ a ∷ vs) t s x y h k =
-    let p = split v a vs t h.0 h.1 y.0 (tight_lacks 32 h.0 (omega arith) (tight_word w h.0 x.0 h.2)) h.4 k in
+    let p = split v a vs t h.0 h.1 y.0 (unbroken_word w h.0 x.0 h.2).0 h.4 k in
     let rest = words_once (z ∷ ws) (a ∷ vs) h.1 s.1 x.1 y.1 h.3 p.1 in
     ap (λ (c : Word). c ∷ z ∷ ws) (word_once w v h.0 s.0 x.0 y.0 h.2 p.0) ∙ ap (λ (cs : List Word). v ∷ cs) rest
 

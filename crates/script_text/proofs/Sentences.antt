@@ -9,7 +9,7 @@ use Rattle.std.proofs.lemmas.Bool.Decides.{nat_tests}
 use Rattle.std.proofs.lemmas.Str.Parse.{IsNumeralModel, numerals_by_value, tells_digits}
 use Rattle.std.proofs.lemmas.Fmt.{digits_decimal}
 use Rattle.script_text.specs.Escapes.{hex_digit}
-use Rattle.script_text.specs.Words.{Lacks, BeginsWithByte, IsSpelled, is_octal_digit, Word, Fixed, Number, Mode, Path, Target, IsWord, AreWords}
+use Rattle.script_text.specs.Words.{Lacks, BeginsWithByte, IsSpelled, is_octal_digit, Word, Fixed, Number, Mode, Path, Target, FileName, IsWord, AreWords}
 use Rattle.script_text.proofs.Cutting.{lacks_append, cut_once, not_cut}
 
 -- each byte stands behind the blanks of ASCII
@@ -59,23 +59,32 @@ Bare (Number bits n) = 2 ^ bits ≤ 2 ^ 64
 Bare (Mode mode) = Unit {0}
 Bare (Path path) = Unit {0}
 Bare (Target target) = Unit {0}
+Bare (FileName name) = Unit {0}
 
 abbrev pub AllBare : List Word → Type 0
 AllBare [] = Unit {0}
 AllBare (word ∷ words) = Bare word × AllBare words
 
-pub tight_word : (w : Word) (t : List ℕ) → Bare w → IsWord w t → Tight t
-tight_word (Fixed text) t b h = subst Tight (sym h) b
-tight_word (Number bits n) t b h = subst Tight (sym h.1) (tight_digits (decimal n) (digits_decimal own n (omega (arith, b, h.0))))
-tight_word (Mode mode) t b h = tight_octal t h.octal
-tight_word (Path path) t b h = tight_spelled path t h.0
-tight_word (Target target) t b h = tight_spelled target t h
+-- a text without a space and without a newline
+abbrev pub IsUnbroken : List ℕ → Type 0
+IsUnbroken t = Lacks 32 t × Lacks 10 t
+
+tight_unbroken : (t : List ℕ) → Tight t → IsUnbroken t
+tight_unbroken t h = (tight_lacks 32 t (omega arith) h, tight_lacks 10 t (omega arith) h)
+
+pub unbroken_word : (w : Word) (t : List ℕ) → Bare w → IsWord w t → IsUnbroken t
+unbroken_word (Fixed text) t b h = tight_unbroken t (subst Tight (sym h) b)
+unbroken_word (Number bits n) t b h = tight_unbroken t (subst Tight (sym h.1) (tight_digits (decimal n) (digits_decimal own n (omega (arith, b, h.0)))))
+unbroken_word (Mode mode) t b h = tight_unbroken t (tight_octal t h.octal)
+unbroken_word (Path path) t b h = tight_unbroken t (tight_spelled path t h.0)
+unbroken_word (Target target) t b h = tight_unbroken t (tight_spelled target t h)
+unbroken_word (FileName name) t b h = subst IsUnbroken (sym h.0) (h.1.no_space, h.1.no_newline)
 
 -- what stands before the first space is the first word
 pub split : (w v : Word) (ws : List Word) (text front rest : List ℕ) → Bare w → Lacks 32 front → text ≡ front ++ (32 ∷ rest) → AreWords (w ∷ v ∷ ws) text
     → IsWord w front × AreWords (v ∷ ws) rest
 split w v ws text front rest b l e h =
-    let p = cut_once 32 front rest h.0 h.1 l (tight_lacks 32 h.0 (omega arith) (tight_word w h.0 b h.2)) (sym e ∙ h.4) in
+    let p = cut_once 32 front rest h.0 h.1 l (unbroken_word w h.0 b h.2).0 (sym e ∙ h.4) in
     let P : List ℕ → Type 0 = λ t. IsWord w t in
     let Q : List ℕ → Type 0 = λ t. AreWords (v ∷ ws) t in
     (subst P (sym p.0) h.2, subst Q (sym p.1) h.3)
@@ -87,10 +96,10 @@ uncut w v ws text l h = not_cut 32 text h.0 h.1 l h.4
 -- a line of words has one newline, at its end
 pub one_line : (ws : List Word) (text : List ℕ) → AllBare ws → AreWords ws text → Lacks 10 text
 one_line [] text b h = let P : List ℕ → Type 0 = λ t. Lacks 10 t in subst P (sym h) tt
-one_line (w ∷ []) text b h = tight_lacks 10 text (omega arith) (tight_word w text b.0 h)
+one_line (w ∷ []) text b h = (unbroken_word w text b.0 h).1
 one_line (w ∷ v ∷ ws) text b h =
     let P : List ℕ → Type 0 = λ t. Lacks 10 t in
-    subst P (sym h.4) (lacks_append 10 h.0 (32 ∷ h.1) (tight_lacks 10 h.0 (omega arith) (tight_word w h.0 b.0 h.2)) ((λ e. omega (arith, e)), one_line (v ∷ ws) h.1 b.1 h.3))
+    subst P (sym h.4) (lacks_append 10 h.0 (32 ∷ h.1) (unbroken_word w h.0 b.0 h.2).1 ((λ e. omega (arith, e)), one_line (v ∷ ws) h.1 b.1 h.3))
 
 -- what a fixed word begins
 pub record Follows (name : List ℕ) (ws : List Word) (whole : List ℕ) : Type 0 where

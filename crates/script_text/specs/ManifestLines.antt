@@ -1,18 +1,19 @@
--- The lines of a manifest behind its first one: a directory, a file, a symbolic link or a further name each.
+-- The lines of a manifest behind its first one: a directory, a file, a copy of a file, a symbolic link or a further name each.
 use Rattle.std.specs.Prelude.{ℕ, ◌+◌, ◌<◌, ◌≤◌, ◌≡◌, ◌≢◌, ◌⊎◌, Option, Some, None, IsTrue, List, [], ◌∷◌, ◌++◌, length, codes}
 use Rattle.fs_model.specs.Proper.{are_bytes}
 use Rattle.script_text.specs.declared.manifest.Manifest.{Manifest}
 use Rattle.script_text.specs.declared.manifest_line.ManifestLine.{ManifestLine}
-use Rattle.script_text.specs.declared.manifest_line.ManifestLine.TheVariants.{Dir, File, Symlink, Link}
+use Rattle.script_text.specs.declared.manifest_line.ManifestLine.TheVariants.{Dir, File, Copy, Symlink, Link}
 use Rattle.script_text.specs.Manifest.{HasRange, volume_line}
 use Rattle.script_text.specs.Script.{BeginsWithEnd, end_line}
-use Rattle.script_text.specs.Words.{Word, Fixed, Number, Mode, Path, Target, AreWords}
+use Rattle.script_text.specs.Words.{Word, Fixed, Number, Mode, Path, Target, FileName, IsFileWord, AreWords}
 use Rattle.text_lines.specs.Lines.{ended}
 
 -- the first word of a line
 abbrev pub made_name : ManifestLine → List ℕ
 made_name (Dir path mode) = codes "dir"
 made_name (File path mode len byte) = codes "file"
+made_name (Copy path mode name) = codes "copy"
 made_name (Symlink path target) = codes "symlink"
 made_name (Link old new) = codes "link"
 
@@ -20,6 +21,7 @@ made_name (Link old new) = codes "link"
 abbrev pub made_words : ManifestLine → List Word
 made_words (Dir path mode) = Path path ∷ Mode mode ∷ []
 made_words (File path mode len byte) = Path path ∷ Mode mode ∷ Number 32 len ∷ Number 8 byte ∷ []
+made_words (Copy path mode name) = Path path ∷ Mode mode ∷ FileName name ∷ []
 made_words (Symlink path target) = Path path ∷ Target target ∷ []
 made_words (Link old new) = Path old ∷ Path new ∷ []
 
@@ -69,9 +71,10 @@ pub record IsListedManifest (text : List ℕ) (volume : Manifest) (lines : List 
 abbrev pub HasNoVolume : List ℕ → Type 0
 HasNoVolume text = (volume : Manifest) (rest : List ℕ) → HasRange volume → text ≡ volume_line volume ++ rest → ⊥
 
--- what a line gives to keep is bytes, and no file has too many
+-- what a line gives to keep is bytes, no file has too many, and a file that is copied has a name
 abbrev pub IsGivenLine : ManifestLine → Type 0
 IsGivenLine (Dir path mode) = IsTrue (are_bytes path)
 IsGivenLine (File path mode len byte) = IsTrue (are_bytes path) × (len ≤ 16777216) × (byte < 256)
+IsGivenLine (Copy path mode name) = IsTrue (are_bytes path) × IsFileWord name
 IsGivenLine (Symlink path target) = IsTrue (are_bytes path) × IsTrue (are_bytes target)
 IsGivenLine (Link old new) = IsTrue (are_bytes new)

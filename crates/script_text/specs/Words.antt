@@ -2,6 +2,7 @@
 use Rattle.std.specs.Prelude.{ℕ, ◌+◌, ◌*◌, ◌-◌, ◌/◌, ◌%◌, ◌<◌, ◌≤◌, ◌^◌, ◌≡◌, ◌≢◌, ◌⊎◌, ◌&&◌, Bool, false, true, not, nat_lt, nat_le, List, [], ◌∷◌, ◌++◌, length, slice_index}
 use Rattle.std.specs.List.{list_any, list_all}
 use Rattle.std.specs.Fmt.{decimal, digits}
+use Rattle.std.specs.Str.{IsUtf8}
 use Rattle.fs_model.specs.Path.{components, is_absolute, is_empty}
 use Rattle.script_text.specs.Escapes.{is_shown, hex_digit}
 
@@ -47,13 +48,21 @@ pub record IsMode (word : List ℕ) (mode : ℕ) : Type 0 where
   pub octal : list_all is_octal_digit word ≡ true
   pub value : octal_number 0 word ≡ mode
 
--- a word of the grammar, with what it says: a fixed word, a number below a power of 2, a mode, a path or a target
+-- a word that names a file as it stands: UTF-8, without a space and without a newline
+pub record IsFileWord (word : List ℕ) : Type 0 where
+  pub some : word ≢ []
+  pub no_space : Lacks 32 word
+  pub no_newline : Lacks 10 word
+  pub text : IsUtf8 word
+
+-- a word of the grammar, with what it says: a fixed word, a number below a power of 2, a mode, a path, a target or a file's name
 pub data Word : Type 0 where
   Fixed : List ℕ → Word
   Number : ℕ → ℕ → Word
   Mode : ℕ → Word
   Path : List ℕ → Word
   Target : List ℕ → Word
+  FileName : List ℕ → Word
 
 -- the text is such a word
 abbrev pub IsWord : Word → List ℕ → Type 0
@@ -62,6 +71,7 @@ IsWord (Number bits n) word = (n < 2 ^ bits) × (word ≡ decimal n)
 IsWord (Mode mode) word = IsMode word mode
 IsWord (Path path) word = IsSpelled word path × (is_rooted path ≡ true)
 IsWord (Target target) word = IsSpelled word target
+IsWord (FileName name) word = (word ≡ name) × IsFileWord name
 
 -- the text is such words, with one space between them
 abbrev pub AreWords : List Word → List ℕ → Type 0

@@ -1,6 +1,6 @@
 // Cutting a text.
 
-ghost use Rattle.std.specs.Prelude.{◌≡◌, ◌++◌, ◌∷◌, ◌<◌, ◌≤◌, IfSome, IfNone, length, take, slice_index, ℕ, List};
+ghost use Rattle.std.specs.Prelude.{◌≡◌, ◌++◌, ◌∷◌, ◌<◌, ◌≤◌, IfSome, IfNone, true, false, length, take, slice_index, ℕ, List};
 ghost use Rattle.script_text.specs.Words.{Lacks};
 
 /// What stands before the first such byte, and what stands behind it.
@@ -29,6 +29,17 @@ fn place_of(bytes: &[u8], byte: u8) -> usize
         }
     }
     bytes.len()
+}
+
+/// Whether a byte is there.
+pub fn has_byte(bytes: &[u8], byte: u8) -> bool
+    ensures found { result ≡ true → Lacks byte bytes.now → ⊥ }
+    ensures none { result ≡ false → Lacks byte bytes.now }
+{
+    match cut(bytes, byte) {
+        Some(_) => true,
+        None => false,
+    }
 }
 
 /// What stands behind these bytes, where the text begins with them.

@@ -19,9 +19,9 @@ pub struct ListedManifest {
     pub bad: Option<u64>,
 }
 
-/// Lists a manifest: the line `volume L U M F`, then `dir PATH MODE`, `file PATH MODE LEN BYTE`, `symlink PATH TARGET` and
-/// `link OLD NEW`, and `end` as the last, in 100,000 lines at most, each of 10,000 bytes at most before its newline. Words
-/// are as in a script; LEN is 16,777,216 at most. A line that is missing or has no newline is bad, and so is one behind
+/// Lists a manifest: the line `volume L U M F` or `volume L U M F packed`, then `dir PATH MODE`, `file PATH MODE LEN BYTE`,
+/// `copy PATH MODE NAME`, `symlink PATH TARGET` and `link OLD NEW`, and `end` as the last, in 100,000 lines at most, each of
+/// 10,000 bytes at most before its newline. Words are as in a script; LEN is 16,777,216 at most, and NAME is UTF-8. A line that is missing or has no newline is bad, and so is one behind
 /// `end`; lines are counted from 1. The fault is want of memory, or line 1.
 pub fn list_manifest(alloc: Global, bytes: &[u8]) -> Result<ListedManifest, TextFault>
     ensures ok { IfOk result (λ m. IsListedManifest bytes.now m.volume m.lines.items m.bad) }

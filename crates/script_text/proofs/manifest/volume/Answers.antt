@@ -25,4 +25,4 @@ returns-in_err-fanout-clause-none c = rw c.from_residual-in_err-fanout.ensures (
     let w1 = behind_number 32 c.in_ok-leb_size.leb_size m.leb_size c.in_ok-words.words.now c.in_ok-leb_size.words.now (min_io_bytes m rest) (omega arith) (omega (arith, c.in_ok-leb_size.ensures.within)) (omega arith) c.in_ok-leb_size.ensures.found w0 in
     let w2 = behind_number 32 c.in_ok-min_io.min_io m.min_io c.in_ok-leb_size.words.now c.in_ok-min_io.words.now (main_bytes m rest) (omega arith) (omega (arith, c.in_ok-min_io.ensures.within)) (omega arith) c.in_ok-min_io.ensures.found w1 in
     let w3 = behind_number 32 c.in_ok-main.main m.main c.in_ok-min_io.words.now c.in_ok-main.words.now (fanout_bytes m rest) (omega arith) (omega (arith, c.in_ok-main.ensures.within)) (omega arith) c.in_ok-main.ensures.found w2 in
-    c.in_err-fanout.ensures.none m.fanout rest (omega arith) w3)
+    c.in_err-fanout.ensures.none m.fanout m.packed rest (omega arith) w3)
