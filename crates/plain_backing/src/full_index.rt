@@ -7,7 +7,7 @@ use ubifs_base::Geometry;
 
 /// What an index over so many leaves weighs, each of whose nodes is full but for the last of a level: its nodes, and the
 /// full ones.
-pub(crate) fn full_index_weight(geo: &Geometry, leaves: u64) -> u64
+pub fn full_index_weight(geo: &Geometry, leaves: u64) -> u64
     requires few { leaves ≤ 2 ^ 40 }
     ensures weight { result ≡ full_index_weight geo.now.fanout leaves }
     ensures lowest { leaves ≤ geo.now.fanout * result }

@@ -21,6 +21,7 @@ mod tree_reads;
 mod tree_rows;
 
 pub use crate::backing::PlainBacking;
+pub use crate::full_index::full_index_weight;
 pub use crate::tree::Tree;
 pub use crate::tree_law::last_blocks_are_greatest;
 pub use crate::tree_rows::{BlockRows, InodeRows};

@@ -188,7 +188,7 @@ impl Tree {
     }
 
     /// How many leaf nodes it has, or more where cells are empty; at most 2^40. They are kept, not counted.
-    pub(crate) fn leaves(&self) -> u64
+    pub fn leaves(&self) -> u64
         ensures all { leaf_count self.now ≤ result }
         ensures few { result ≤ 2 ^ 40 }
     {

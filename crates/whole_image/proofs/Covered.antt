@@ -1,4 +1,4 @@
--- The leaves of a covered tree leave room for their index.
+-- The leaves of a covered tree, or of one that is admitted, leave room for their index.
 use Rattle.std.proofs.Common.{◌≡◌, ℕ, suc, ◌+◌, ◌-◌, ◌*◌, ◌^◌, ◌<◌, ◌≤◌, [], ◌∷◌, length, refl, ap, arith, inl, inr}
 use Rattle.std.specs.List.{sum_by, flat_map}
 use Rattle.std.specs.Map.{values_of}
@@ -15,6 +15,7 @@ use Rattle.image_maker.specs.Leaves.{leaves_of, live_leaves}
 use Rattle.image_maker.specs.Packed.{packed_leaves}
 use Rattle.laid_index.specs.Packing.{index_used}
 use Rattle.plain_backing.specs.Covering.{leaf_count}
+use Rattle.tree_space.specs.Laid.{laid_weight}
 use Rattle.whole_image.specs.Made.{IsCoveredTree, IsCrowded, most_leaf_bytes}
 
 -- a LEB takes an index node at least
@@ -69,30 +70,63 @@ part_small geo kept g =
     let all = g.max_leb_cnt in
     omega (arith, part, all)
 
-pub not_full : (geo : RawGeometry) (tree : Tree) → IsCoveredTree geo tree → tree_bytes tree ≤ most_leaf_bytes geo
-not_full geo tree h =
-    let fits = h.fits in
-    let part = mul-le-mul_right (geo.leb_size - leb_reserve geo) (fewer (main_lebs geo) (3 * index_lebs geo h.weight)) in
+-- The leaves have room beside three times the LEBs that this weight asks for and six more, and the weight has a node for each `fanout` of them.
+pub record LeavesLebs (geo : RawGeometry) (tree : Tree) : Type 0 where
+  pub weight : ℕ
+  pub weighed : length (live_leaves tree) ≤ geo.fanout * weight
+  pub fits : tree_bytes tree ≤ (main_lebs geo - 3 * index_lebs geo weight - 6) * (geo.leb_size - leb_reserve geo)
+
+pub covered : (geo : RawGeometry) (tree : Tree) → IsCoveredTree geo tree → length (live_leaves tree) ≤ leaf_count tree → LeavesLebs geo tree
+covered geo tree h count = record { weight = h.weight; weighed = let w = h.weighed in omega (arith, count, w); fits = h.fits }
+
+-- a smaller reserve leaves more
+less_kept : (main three beside bytes : ℕ) → bytes ≤ (main - three - 10) * beside → bytes ≤ (main - three - 6) * beside
+less_kept main three beside bytes fits =
+    let part = mul-le-mul_right beside (fewer main three) in
+    omega (arith, fits, part)
+  where
+    fewer : (main three : ℕ) → main - three - 10 ≤ main - three - 6
+    fewer main three = omega arith
+
+pub admitted : (geo : RawGeometry) (tree : Tree) → length (live_leaves tree) ≤ geo.fanout * laid_weight geo tree
+    → tree_bytes tree ≤ (main_lebs geo - 3 * index_lebs geo (laid_weight geo tree) - 10) * (geo.leb_size - leb_reserve geo) → LeavesLebs geo tree
+admitted geo tree weighed fits = record {
+  weight = laid_weight geo tree;
+  weighed = weighed;
+  fits = less_kept (main_lebs geo) (3 * index_lebs geo (laid_weight geo tree)) (geo.leb_size - leb_reserve geo) (tree_bytes tree) fits;
+}
+
+few_bytes : (geo : RawGeometry) (tree : Tree) (kept : ℕ) → tree_bytes tree ≤ (main_lebs geo - kept - 6) * (geo.leb_size - leb_reserve geo) → tree_bytes tree ≤ most_leaf_bytes geo
+few_bytes geo tree kept fits =
+    let part = mul-le-mul_right (geo.leb_size - leb_reserve geo) (fewer (main_lebs geo) kept) in
     omega (arith, fits, part)
   where
     fewer : (main kept : ℕ) → main - kept - 6 ≤ main - 6
     fewer main kept = omega arith
 
+pub not_full : (geo : RawGeometry) (tree : Tree) → IsCoveredTree geo tree → tree_bytes tree ≤ most_leaf_bytes geo
+not_full geo tree h = few_bytes geo tree (3 * index_lebs geo h.weight) h.fits
+
+pub admitted_not_full : (geo : RawGeometry) (tree : Tree) → tree_bytes tree ≤ (main_lebs geo - 3 * index_lebs geo (laid_weight geo tree) - 10) * (geo.leb_size - leb_reserve geo) → tree_bytes tree ≤ most_leaf_bytes geo
+admitted_not_full geo tree fits =
+    let kept = 3 * index_lebs geo (laid_weight geo tree) in
+    few_bytes geo tree kept (less_kept (main_lebs geo) kept (geo.leb_size - leb_reserve geo) (tree_bytes tree) fits)
+
 -- no index is left without room
 roomy : (main three lebs leaves weight_lebs : ℕ) → three ≡ 3 * weight_lebs → 1 ≤ main - three - 6 → lebs ≤ 2 * weight_lebs + 1 → leaves ≤ main - three - 6 + 1 → lebs + leaves + 1 ≤ main
 roomy main three lebs leaves weight_lebs is some few many = omega (arith, is, some, few, many)
 
-pub not_crowded : (geo : RawGeometry) (tree : Tree) (need room : ℕ) → IsGeometry geo → IsCoveredTree geo tree → 0 < length (live_leaves tree) → length (live_leaves tree) ≤ leaf_count tree
+pub not_crowded : (geo : RawGeometry) (tree : Tree) (need room : ℕ) → IsGeometry geo → LeavesLebs geo tree → 0 < length (live_leaves tree)
     → ((leaves weight : ℕ) → 0 < leaves → leaves ≤ geo.fanout * weight → length (index_used geo leaves) * index_nodes_per_leb geo ≤ 2 * weight + index_nodes_per_leb geo)
     → (tree_bytes tree ≤ 2 ^ 30 → length (packed_leaves geo.leb_size 0 (live_leaves tree)) * (geo.leb_size - leb_reserve geo) ≤ tree_bytes tree + (geo.leb_size - leb_reserve geo))
     → IsCrowded geo tree need room → ⊥
-not_crowded geo tree need room g h some count index lebs crowded =
+not_crowded geo tree need room g h some index lebs crowded =
     let three = 3 * index_lebs geo h.weight in
     let beside = geo.leb_size - leb_reserve geo in
     let left = main_lebs geo - three - 6 in
     let fits = h.fits in
     let small = part_small geo three g in
-    let few = index_few geo (length (index_used geo (length (live_leaves tree)))) h.weight (node_fits geo g) (index (length (live_leaves tree)) h.weight some (let w = h.weighed in omega (arith, count, w))) in
+    let few = index_few geo (length (index_used geo (length (live_leaves tree)))) h.weight (node_fits geo g) (index (length (live_leaves tree)) h.weight some h.weighed) in
     let taken = lebs (omega (arith, fits, small)) in
     let bytes = some_bytes tree some in
     let reserve = g.leb_size.3 in

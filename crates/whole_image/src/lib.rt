@@ -10,6 +10,6 @@ mod make_fault;
 mod making;
 mod tests_of_trees;
 
-pub use crate::law::a_covered_tree_has_room;
+pub use crate::law::{a_covered_tree_has_room, an_admitted_tree_fits};
 pub use crate::make_fault::MakeFault;
 pub use crate::making::make_image;

@@ -1,0 +1,3 @@
+pub mod Weights
+pub mod CountedLeaves
+pub mod RoomSides
