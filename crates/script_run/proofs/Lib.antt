@@ -1,0 +1,9 @@
+pub mod Answering
+pub mod FirstFile
+pub mod Growth
+pub mod Heavier
+pub mod LeftCover
+pub mod Openings
+pub mod Running
+pub mod Storing
+pub mod Working

@@ -1,0 +1,71 @@
+use Rattle.std.proofs.Common.{◌+◌, ap, arith, length, refl, sym, ◌∙◌}
+use Rattle.std.specs.Prelude.{if◌then◌else◌}
+use Rattle.ubifs_base.specs.RawOf.{raw_of}
+use Rattle.cached_files.specs.Present.{present}
+use Rattle.fs_model.specs.Backing.{next_orphans}
+use Rattle.fs_model.specs.Orphan.{leaves_orphan}
+use Rattle.plain_backing.specs.PlainBacking.{state_of}
+use Rattle.vfs_ops.specs.Steps.{Passage}
+use Rattle.script_run.specs.Run.{nodes_added, nodes_for, orphans_told}
+use Rattle.script_run.specs.Sessions.{mounted_over}
+use Rattle.script_run.proofs.Answering.{answer_of, exact_of, grows_of, issued_of, no_room, reply_of, steady_next, told_of, weighed_of, written_of}
+use Rattle.script_run.proofs.Growth.{grown_of}
+use Rattle.script_run.proofs.Storing.{still_of, stored_of}
+use Rattle.vfs_ops.proofs.Truncating.{few_asked}
+use Rattle.script_run.proofs.session.replied.Goals as goal
+
+pub returns-clause-steady : goal.returns-clause-steady
+returns-clause-steady c =
+    let old = state_of c.args.fs.now.backing in
+    let new = state_of c.step-outcome.new.self.backing in
+    let before = c.args.fs.now.kept in
+    let after = c.step-outcome.new.self.kept in
+    let told = told_of old new before after _ _ c.args.caller c.args.now c.args.op c.step-outcome.result c.parts_of-told.result.0 c.parts_of-told.result.1 c.parts_of-told.ensures c.step-outcome.ensures.step.answered in
+    let issued = issued_of new.space.credits (length before.pages.dirty) old.space.credits (length after.pages.dirty) c.step-outcome.result c.parts_of-told.result.0 c.parts_of-told.result.1 c.parts_of-told.ensures c.step-outcome.ensures.step.issued in
+    steady_next (raw_of c.args.fs.now.backing.geo) c.args.fs.now.backing c.step-outcome.new.self.backing before after _ c.parts_of-told.result.1 c.requires.steady c.step-outcome.ensures.step.goes c.step-outcome.ensures.sure issued told.1
+
+pub returns-clause-replied : goal.returns-clause-replied
+returns-clause-replied c =
+    let geo = raw_of c.args.fs.now.backing.geo in
+    let old = c.args.fs.now.backing in
+    let new = c.step-outcome.new.self.backing in
+    let before = c.args.fs.now.kept in
+    let after = c.step-outcome.new.self.kept in
+    let was = mounted_over old before c.args.now in
+    let here = mounted_over new after c.args.now in
+    let reply = c.parts_of-told.result.0 in
+    let left = c.parts_of-told.result.1 in
+    let is = c.parts_of-told.ensures in
+    let step = c.step-outcome.ensures.step in
+    let steady = returns-clause-steady c in
+    let fits = c.step-outcome.new.self.ready.kept_fits in
+    let clean = c.clean_files_are_those_of_the_backing.ensures (state_of new).tree after in
+    let nameless = c.present_files_are_sound.ensures.nameless in
+    let told = told_of (state_of old) (state_of new) before after _ _ c.args.caller c.args.now c.args.op c.step-outcome.result reply left is step.answered in
+    let passage : Passage = record { old = state_of old; new = state_of new; before = before; after = after } in
+    record {
+      answer = answer_of geo (state_of old) (state_of new) after was here c.args.caller c.args.op reply _ _
+          (record {
+            was = c.requires.steady.mode;
+            is = steady.mode;
+            faults_were = c.requires.steady.faults;
+            faults = steady.faults;
+            limit = c.requires.steady.orphans;
+            orphans = ap (λ n. n + (state_of old).closed) (sym (nameless (state_of old).tree before c.args.fs.now.ready.kept_fits));
+          })
+          (no_room geo (state_of old) new after c.args.now steady fits clean)
+          (sym c.is_memory.ensures ∙ c.if-is_memory.false) refl told.0;
+      orphans = grows_of (orphans_told was) (orphans_told here) (next_orphans (state_of old)) (next_orphans (state_of new)) (if leaves_orphan was.files here.files then 1 else 0)
+          (ap (λ n. n + (state_of old).closed) (nameless (state_of old).tree before c.args.fs.now.ready.kept_fits)) (ap (λ n. n + (state_of new).closed) (nameless (state_of new).tree after fits))
+          step.orphans;
+      under = record { kept = after; fits = fits; seen = refl };
+      synced = stored_of old new before after c.args.now c.args.caller c.args.op reply fits clean (written_of (state_of old) (state_of new) before after c.args.caller c.args.now c.args.op c.step-outcome.result reply left c.requires.steady.mode is step.written);
+      still = still_of passage c.args.caller c.args.now c.args.op reply left c.a_plain_answer_is_no_refusal.ensures c.args.fs.now.ready.sound (exact_of passage c.args.caller c.args.now c.args.op c.step-outcome.result reply left is step.exact);
+      grown = grown_of old new before after c.args.now (nodes_added was c.args.caller c.args.op reply) (nodes_for was c.args.caller c.args.op) _
+          (weighed_of passage c.args.caller c.args.now c.args.op c.step-outcome.result reply left is step.weighed) step.goes (omega arith);
+      few = few_asked was.files c.args.caller c.args.now c.args.op c.args.fs.now.ready.sound;
+    }
+
+pub parts_of-told-requires : goal.parts_of-told-requires
+parts_of-told-requires c =
+    reply_of (state_of c.args.fs.now.backing) (state_of c.step-outcome.new.self.backing) c.args.fs.now.kept c.step-outcome.new.self.kept _ _ c.args.caller c.args.now c.args.op c.step-outcome.result c.step-outcome.ensures.step.answered

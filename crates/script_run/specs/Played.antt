@@ -1,0 +1,26 @@
+-- What a whole script leaves.
+use Rattle.std.specs.Prelude.{◌≡◌, ℕ, None, List}
+use Rattle.ubifs_base.specs.declared.raw_geometry.RawGeometry.{RawGeometry}
+use Rattle.ubifs_base.specs.Areas.{main_lebs}
+use Rattle.fs_model.specs.declared.space.Space.{Space}
+use Rattle.fs_model.specs.Cover.{tree_bytes}
+use Rattle.fs_model.specs.Files.{Tree}
+use Rattle.fs_model.specs.Orphan.{without_nameless}
+use Rattle.plain_backing.specs.Covering.{IsCovering}
+use Rattle.script_text.specs.declared.part.Part.{Part}
+use Rattle.script_run.specs.declared.whole.Run.{Run}
+use Rattle.script_run.specs.Run.{IsLeft, IsRun, Running, opening_on}
+
+-- The text is that of the lines, one after another, from a volume with this tree and an index of this weight on. The tree that is left is the one that is stored behind the last line, without what has no name.
+pub record IsPlayed (geo : RawGeometry) (tree : Tree) (weight : ℕ) (parts : List Part) (run : Run) : Type 0 where
+  pub last : Running
+  pub lines : IsRun geo (opening_on tree weight) parts run.text.items last
+  pub left : IsLeft last
+  pub named : run.tree ≡ without_nameless last.stored
+
+-- The tree has room on a volume of this geometry: with some weight of an index, all that is promised of it has room.
+pub record IsCoveredIn (geo : RawGeometry) (tree : Tree) : Type 0 where
+  pub space : Space
+  pub main : space.main ≡ main_lebs geo
+  pub used : space.used ≡ tree_bytes tree
+  pub covers : IsCovering geo tree space None

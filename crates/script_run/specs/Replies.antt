@@ -1,0 +1,18 @@
+-- Which calls a run makes, and which reply ends it.
+use Rattle.std.specs.Prelude.{Bool, true, false}
+use Rattle.fs_model.specs.declared.refusal.Refusal.TheVariants.{Enomem}
+use Rattle.fs_model.specs.declared.reply.Reply.{Reply}
+use Rattle.fs_model.specs.declared.reply.Reply.TheVariants.{Refused}
+use Rattle.fs_laws.specs.Sound.{IsCall}
+use Rattle.script_text.specs.declared.part.Part.{Part}
+use Rattle.script_text.specs.declared.part.Part.TheVariants.{Line}
+
+-- an operation that gives bytes
+abbrev pub IsCalled : Part → Type 0
+IsCalled (Line caller op) = IsCall op
+IsCalled part = Unit {0}
+
+-- whether there was no memory for an operation
+abbrev pub is_memory : Reply → Bool
+is_memory (Refused Enomem) = true
+is_memory reply = false

@@ -1,0 +1,160 @@
+-- What a script does: what each of its lines answers, the files that it leaves and what is stored of them, and the text that is printed.
+use Rattle.std.specs.Prelude.{◌≡◌, ◌⊎◌, ℕ, ◌+◌, ◌-◌, ◌*◌, ◌<◌, ◌≤◌, max, if◌then◌else◌, Bool, true, false, Some, Ok, Err, List, [], ◌∷◌, ◌++◌, length, codes}
+use Rattle.ubifs_base.specs.declared.raw_geometry.RawGeometry.{RawGeometry}
+use Rattle.ubifs_base.specs.Areas.{main_lebs}
+use Rattle.small_areas.specs.Orphans.{orphan_limit}
+use Rattle.fs_model.specs.declared.op.Op.{Op}
+use Rattle.fs_model.specs.declared.op.Op.TheVariants.{Flush, Fsync}
+use Rattle.fs_model.specs.declared.refusal.NoSpace.{NoSpace}
+use Rattle.fs_model.specs.declared.refusal.Refusal.{Refusal}
+use Rattle.fs_model.specs.declared.refusal.Refusal.TheVariants.{Enospc}
+use Rattle.fs_model.specs.declared.reply.Reply.{Reply}
+use Rattle.fs_model.specs.declared.reply.Reply.TheVariants.{Done, Refused}
+use Rattle.fs_model.specs.declared.space.Need.{Need}
+use Rattle.fs_model.specs.declared.space.Space.{Space}
+use Rattle.fs_model.specs.Cover.{index_lebs, needed, room_for, tree_bytes}
+use Rattle.fs_model.specs.Files.{Tree, Files, handle_at}
+use Rattle.fs_model.specs.Legal.{pages_in}
+use Rattle.fs_model.specs.Orphan.{leaves_orphan, nameless, without_nameless}
+use Rattle.fs_model.specs.Outcome.{Outcome}
+use Rattle.fs_model.specs.Worked.{fresh}
+use Rattle.cached_files.specs.Alike.{IsAlike}
+use Rattle.vfs_ops.specs.Kinds.{added_by, is_question}
+use Rattle.vfs_ops.specs.Operations.{has_group, nodes_asked}
+use Rattle.vfs_ops.specs.Steps.{IsDone, allowed, asked, is_write}
+use Rattle.script_text.specs.declared.part.Part.{Part}
+use Rattle.script_text.specs.declared.part.Part.TheVariants.{Mount, Unmount, Now, Line}
+use Rattle.script_text.specs.Reply.{reply_line}
+use Rattle.text_lines.specs.Lines.{ended}
+use Rattle.script_run.specs.Stored.{IsFileStored, IsUnder, is_early}
+
+-- where a script is
+pub record Running : Type 0 where
+  -- the files as callers see them, and the tree that is stored under them
+  pub files : Files
+  pub stored : Tree
+  -- what the index weighs once all dirty pages are put, at most, and how many LEBs it takes
+  pub weight : ℕ
+  pub index : ℕ
+  -- how many inodes without a name, which the last commit's list names, were closed since its start
+  pub closed : ℕ
+  -- whether the volume is mounted, the time, and how many lines of the caller stand behind the last line of another kind
+  pub mounted : Bool
+  pub now : ℕ
+  pub number : ℕ
+
+-- A volume with this tree, which isn't mounted, beside an index of this weight. How many LEBs the index takes isn't asked: no more than its weight asks for.
+abbrev pub opening_on : Tree → ℕ → Running
+opening_on tree weight = record { files = record { tree = tree; handles = [] }; stored = tree; weight = weight; index = 0; closed = 0; mounted = false; now = 0; number = 0 }
+
+-- a fresh volume: the root's node is all that its index has
+abbrev pub opening : Running
+opening = opening_on fresh.tree 1
+
+-- how many numbers the next list of orphans has: the inodes without a name, and those that were closed since the last list
+abbrev pub orphans_told : Running → ℕ
+orphans_told before = length (nameless before.files.tree) + before.closed
+
+-- The plain operation. What takes the last name of an open file is refused if the next list of orphans is full.
+abbrev pub plain : RawGeometry → Running → ℕ → Op → Outcome
+plain geo before caller op = allowed (orphan_limit geo.leb_size - orphans_told before) (orphan_limit geo.leb_size) before.files caller before.now op
+
+-- what admission reckons with where no page is dirty: the bytes of the files, and the index
+abbrev pub clean_space : RawGeometry → Running → Space
+clean_space geo here = record { used = tree_bytes here.files.tree; held = 0; credits = 0; empty = 0; index = here.index; weight = here.weight; main = main_lebs geo }
+
+-- with no page dirty there is no room for what is asked: the two sides of the test
+pub record HasNoRoom (geo : RawGeometry) (here : Running) (need : Need) (sides : NoSpace) : Type 0 where
+  pub need_is : sides.need ≡ needed (clean_space geo here) need
+  pub room_is : sides.room ≡ room_for geo (clean_space geo here) need
+  pub full : sides.room < sides.need
+
+-- Refused for want of room for what is asked, where nothing else refuses. It is a write, or has a group of changes to put.
+pub record IsFull (geo : RawGeometry) (before : Running) (caller : ℕ) (op : Op) (reply : Reply) (after : Running) : Type 0 where
+  pub sides : NoSpace
+  pub told : reply ≡ Refused (Enospc sides)
+  pub asks : (is_write op ≡ true) ⊎ (has_group op ≡ true)
+  pub free : (done : Reply × Files) × (plain geo before caller op ≡ Ok done)
+  pub room : HasNoRoom geo after (asked before.files caller before.now 0 op) sides
+
+-- Refused, as the plain operation is or for want of room; the files are as before.
+pub record IsRefusal (geo : RawGeometry) (before : Running) (caller : ℕ) (op : Op) (reply : Reply) (after : Running) : Type 0 where
+  pub why : ((refusal : Refusal) × (plain geo before caller op ≡ Err refusal) × (reply ≡ Refused refusal)) ⊎ IsFull geo before caller op reply after
+  pub same : IsAlike before.files after.files
+
+-- What a caller's operation answers, and the files then: but for zeros at the ends of blocks, which nobody sees, those that the plain operation leaves.
+abbrev pub IsAnswer : RawGeometry → Running → ℕ → Op → Reply → Running → Type 0
+IsAnswer geo before caller op reply after = IsDone (plain geo before caller op) after.files reply ⊎ IsRefusal geo before caller op reply after
+
+-- The next list of orphans gets longer by one at most, and only if an open file lost its last name.
+abbrev pub OrphansGrow : Running → Running → Type 0
+OrphansGrow before after = orphans_told after ≤ orphans_told before + (if leaves_orphan before.files after.files then 1 else 0)
+
+-- After a sync that is done that is stored which it names: all that callers see, or the file of its slot.
+abbrev pub HasStored : Running → ℕ → Op → Reply → Running → Type 0
+HasStored before caller Flush Done after = after.stored ≡ after.files.tree
+HasStored before caller (Fsync slot) Done after = (ino : ℕ) → handle_at before.files caller slot ≡ Some ino → IsFileStored after.stored after.files.tree ino
+HasStored before caller op reply after = Unit {0}
+
+-- The index got heavier by so many nodes at most. It takes no more LEBs than before, or than twice those that it asks for with so many nodes on top.
+pub record HasGrown (geo : RawGeometry) (added put : ℕ) (before after : Running) : Type 0 where
+  pub weight : after.weight ≤ before.weight + added
+  pub index : after.index ≤ max before.index (2 * index_lebs geo (before.weight + put))
+
+-- An unmount puts the files as they are. Then nobody has a file open any more, and what has no name is gone. The index gets no heavier.
+pub record IsUnmounted (geo : RawGeometry) (before after : Running) : Type 0 where
+  pub put : Tree
+  pub same : IsAlike before.files (record before.files { tree = put })
+  pub stored : after.stored ≡ without_nameless put
+  pub files : after.files ≡ record { tree = without_nameless put; handles = [] }
+  pub grown : HasGrown geo 0 0 before after
+  pub closed : after.closed ≡ 0
+  pub mounted : after.mounted ≡ false
+  pub now : after.now ≡ before.now
+  pub number : after.number ≡ 0
+
+-- how many nodes an operation's group asks for
+abbrev pub nodes_for : Running → ℕ → Op → ℕ
+nodes_for before caller op = nodes_asked before.files caller before.now op
+
+-- how many nodes the index gets heavier by at most: two for each page that a write touches, and those of the group; a refusal adds none
+abbrev pub nodes_added : Running → ℕ → Op → Reply → ℕ
+nodes_added before caller op reply = added_by (2 * pages_in op + nodes_for before caller op) (max 2 (nodes_for before caller op)) reply
+
+-- What a caller's operation answers and leaves.
+pub record IsReplied (geo : RawGeometry) (before : Running) (caller : ℕ) (op : Op) (reply : Reply) (after : Running) : Type 0 where
+  pub answer : IsAnswer geo before caller op reply after
+  pub orphans : OrphansGrow before after
+  -- What is stored is joined to the files by what is kept in memory; after a sync it is what that names.
+  pub under : IsUnder after.stored after.files
+  pub synced : HasStored before caller op reply after
+  -- What only looks, or is refused before anything is put, stores nothing.
+  pub still : (is_question op ≡ true) ⊎ (is_early reply ≡ true) → after.stored ≡ before.stored
+  -- The index gets heavier by what is put at most; a group has five nodes at most.
+  pub grown : HasGrown geo (nodes_added before caller op reply) (nodes_for before caller op) before after
+  pub few : nodes_for before caller op ≤ 5
+
+-- a caller's line: the reply to it, under the next number
+pub record IsServed (geo : RawGeometry) (before : Running) (caller : ℕ) (op : Op) (text : List ℕ) (after : Running) : Type 0 where
+  pub reply : Reply
+  pub replied : IsReplied geo before caller op reply after
+  pub printed : text ≡ reply_line caller (before.number + 1) reply
+  pub rest : after ≡ record before { files = after.files; stored = after.stored; weight = after.weight; index = after.index; closed = after.closed; number = before.number + 1 }
+
+-- what one line prints, and what it leaves
+abbrev pub IsPart : RawGeometry → Running → Part → List ℕ → Running → Type 0
+IsPart geo before Mount text after = (text ≡ ended (codes "mount rw")) × (after ≡ record before { mounted = true; number = 0 })
+IsPart geo before Unmount text after = (text ≡ ended (codes "unmount clean")) × IsUnmounted geo before after
+IsPart geo before (Now now) text after = (text ≡ []) × (after ≡ record before { now = now; number = 0 })
+IsPart geo before (Line caller op) text after = IsServed geo before caller op text after
+
+-- The lines, one after another: the text of them all, and what the last one leaves.
+abbrev pub IsRun : RawGeometry → Running → List Part → List ℕ → Running → Type 0
+IsRun geo before [] text after = (text ≡ []) × (after ≡ before)
+IsRun geo before (part ∷ parts) text after =
+    (line : List ℕ) × (next : Running) × (rest : List ℕ) × IsPart geo before part line next × IsRun geo next parts rest after × (text ≡ line ++ rest)
+
+-- What is stored at the end is under what callers saw last. If the volume isn't mounted then, it is the same.
+pub record IsLeft (last : Running) : Type 0 where
+  pub under : IsUnder last.stored last.files
+  pub unmounted : last.mounted ≡ false → last.files ≡ record { tree = last.stored; handles = [] }

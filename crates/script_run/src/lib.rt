@@ -1,0 +1,17 @@
+//! What does a script do on a volume in memory?
+//!
+//! A session has files over a plain backing. Each line of a script is one step of it: a mount, an unmount, a time, or a caller's operation, which is
+//! answered as the plain operation answers, or for want of room. Behind the last line the tree that was put is left, without what has no name.
+//! What makes it work is one invariant of the session: no call of its backing fails, and all that the backing promised has room.
+#![tactic(auto)]
+
+mod law;
+mod lines;
+mod nameless;
+mod opening;
+mod session;
+mod whole;
+
+pub use crate::law::{a_first_file_is_made, what_has_room_is_not_refused_for_want_of_it};
+pub use crate::opening::Opening;
+pub use crate::whole::{Run, play};

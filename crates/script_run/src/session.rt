@@ -1,0 +1,281 @@
+// The session of a run: files over a volume in memory, and where the script is.
+
+ghost use Rattle.std.specs.Prelude.{◌≡◌, ℕ, ◌<◌, ◌≤◌, ◌+◌, ◌++◌, ◌^◌, [], IfOk, OnOk, false, true, List};
+ghost use Rattle.ubifs_base.specs.RawOf.{raw_of};
+ghost use Rattle.cached_files.specs.Alike.{IsAlike};
+ghost use Rattle.cached_files.specs.Present.{present};
+ghost use Rattle.fs_model.specs.declared.backing_answers.Mode.TheVariants.{ReadWrite};
+ghost use Rattle.plain_backing.specs.PlainBacking.{state_of};
+ghost use Rattle.script_text.specs.declared.part.Part.TheVariants.{Line, Mount, Unmount};
+ghost use Rattle.script_text.specs.Script.{MayStand};
+ghost use Rattle.vfs_ops.specs.declared.event.Outcome.TheVariants.{Replied};
+ghost use Rattle.vfs_ops.specs.Background.{is_work};
+ghost use Rattle.vfs_ops.specs.Events.{HasSynced, IsCalled as IsCalledEvent, IsReply, grant_of};
+ghost use Rattle.script_run.specs.Replies.{IsCalled, is_memory};
+ghost use Rattle.fs_model.specs.Files.{Tree};
+ghost use Rattle.fs_model.specs.Orphan.{without_nameless};
+ghost use Rattle.script_run.specs.Run.{HasGrown, IsPart, IsReplied, opening_on};
+ghost use Rattle.script_run.specs.Sessions.{IsBare, IsSession, IsSteady, running_of, mounted_over, state_in};
+
+use crate::nameless::without_nameless;
+use crate::opening::{Opening, backing_of};
+use cached_files::{clean_files_are_those_of_the_backing, present_files_are_sound};
+use fs_laws::a_mount_keeps_trees_proper;
+use fs_model::{Backing, Op, Refusal, Reply};
+use plain_backing::PlainBacking;
+use script_text::{Part, write_reply};
+use space_sums::more_never_lowers_the_need;
+use std::alloc::Global;
+use ubifs_base::{Geometry, Memory};
+use vfs_ops::{Event, Fs, Outcome, a_plain_answer_is_no_refusal};
+
+/// How many clean pages are kept in memory.
+const CLEAN: u32 = 1024;
+
+/// Files over a volume in memory, its geometry, whether it is mounted, the time in seconds since 1970, and how many lines of the caller stand
+/// behind the last line of another kind.
+#[derive(Drop)]
+pub(crate) struct Session {
+    pub(crate) fs: Fs<PlainBacking>,
+    pub(crate) geometry: Geometry,
+    pub(crate) mounted: bool,
+    pub(crate) now: u64,
+    pub(crate) number: u64,
+}
+
+/// A session on a volume, which isn't mounted.
+pub(crate) fn first_session(alloc: Global, opening: Opening) -> Result<Session, Memory>
+    ensures session { IfOk result (λ session. IsSession (raw_of opening.geometry) session) }
+    ensures opening { IfOk result (λ session. running_of session ≡ opening_on opening.tree opening.space.weight) }
+{
+    let Opening {
+        geometry,
+        tree,
+        space,
+    } = opening;
+    let backing = backing_of(alloc, geometry, tree, space)?;
+    match Fs::new(alloc, backing, CLEAN) {
+        Ok(fs) => Ok(Session {
+            fs,
+            geometry,
+            mounted: false,
+            now: 0,
+            number: 0,
+        }),
+        Err((fault, _)) => Err(fault),
+    }
+}
+
+/// Does what a line of a script says, and appends what it prints. The error is want of memory.
+pub(crate) fn next(
+    alloc: Global,
+    session: Session,
+    part: Part,
+    text: &mut Vec<u8>,
+) -> Result<Session, Memory>
+    requires session { IsSession (state_in session).geometry session }
+    requires call { IsCalled part }
+    requires stands { MayStand session.mounted part }
+    requires few { session.number < 2 ^ 32 }
+    ensures session { IfOk result (λ new. IsSession (state_in session).geometry new) }
+    ensures part { IfOk result (λ new. (line : List ℕ) × IsPart (state_in session).geometry (running_of session) part line (running_of new) × (text.new.items ≡ text.old.items ++ line)) }
+    ensures few { IfOk result (λ new. new.number ≤ session.number + 1) }
+{
+    match part {
+        Part::Mount => mounted(session, text),
+        Part::Unmount => unmounted(alloc, session, text),
+        Part::Now { now } => Ok(Session {
+            fs: session.fs,
+            geometry: session.geometry,
+            mounted: session.mounted,
+            now,
+            number: 0,
+        }),
+        Part::Line { caller, op } => served(session, caller, op, text),
+    }
+}
+
+// Mounts the volume.
+fn mounted(session: Session, text: &mut Vec<u8>) -> Result<Session, Memory>
+    requires session { IsSession (state_in session).geometry session }
+    ensures session { IfOk result (λ new. IsSession (state_in session).geometry new) }
+    ensures part { IfOk result (λ new. (line : List ℕ) × IsPart (state_in session).geometry (running_of session) Mount line (running_of new) × (text.new.items ≡ text.old.items ++ line)) }
+    ensures few { IfOk result (λ new. new.number ≡ 0) }
+{
+    text.extend_from_slice(b"mount rw\n".as_slice())?;
+    Ok(Session {
+        fs: session.fs,
+        geometry: session.geometry,
+        mounted: true,
+        now: session.now,
+        number: 0,
+    })
+}
+
+// Unmounts it: all is put, nobody has a file open any more, and what has no name is gone.
+fn unmounted(alloc: Global, session: Session, text: &mut Vec<u8>) -> Result<Session, Memory>
+    requires session { IsSession (state_in session).geometry session }
+    ensures session { IfOk result (λ new. IsSession (state_in session).geometry new) }
+    ensures part { IfOk result (λ new. (line : List ℕ) × IsPart (state_in session).geometry (running_of session) Unmount line (running_of new) × (text.new.items ≡ text.old.items ++ line)) }
+    ensures few { IfOk result (λ new. new.number ≡ 0) }
+{
+    let fs = put_away(alloc, session.geometry, session.fs)?;
+    text.extend_from_slice(b"unmount clean\n".as_slice())?;
+    Ok(Session {
+        fs,
+        geometry: session.geometry,
+        mounted: false,
+        now: session.now,
+        number: 0,
+    })
+}
+
+// Does a caller's operation, and prints the reply.
+fn served(session: Session, caller: u16, op: Op, text: &mut Vec<u8>) -> Result<Session, Memory>
+    requires session { IsSession (state_in session).geometry session }
+    requires call { IsCalled (Line caller op) }
+    requires mounted { session.mounted ≡ true }
+    requires few { session.number < 2 ^ 32 }
+    ensures session { IfOk result (λ new. IsSession (state_in session).geometry new) }
+    ensures part { IfOk result (λ new. (line : List ℕ) × IsPart (state_in session).geometry (running_of session) (Line caller op) line (running_of new) × (text.new.items ≡ text.old.items ++ line)) }
+    ensures few { IfOk result (λ new. new.number ≡ session.number + 1) }
+{
+    let mut fs = session.fs;
+    let reply = replied(&mut fs, caller, session.now, op)?;
+    let number = session.number + 1;
+    write_reply(caller, number, &reply, text)?;
+    Ok(Session {
+        fs,
+        geometry: session.geometry,
+        mounted: session.mounted,
+        now: session.now,
+        number,
+    })
+}
+
+// Puts all that is dirty and commits it, closes all that is open, and drops what has no name then. Nothing was put since on the volume.
+fn put_away(
+    alloc: Global,
+    geometry: Geometry,
+    fs: Fs<PlainBacking>,
+) -> Result<Fs<PlainBacking>, Memory>
+    requires steady { IsSteady (raw_of geometry) fs.backing fs.kept }
+    ensures steady { IfOk result (λ new. IsSteady (raw_of geometry) new.backing new.kept) }
+    ensures bare { IfOk result (λ new. IsBare new.kept) }
+    ensures closed { IfOk result (λ new. (state_of new.backing).closed ≡ 0) }
+    ensures files { IfOk result (λ new. (put : Tree) × IsAlike (present (state_of fs.backing).tree fs.kept) (record (present (state_of fs.backing).tree fs.kept) { tree = put })
+        × ((state_of new.backing).tree ≡ without_nameless put) × (present (state_of new.backing).tree new.kept ≡ record { tree = without_nameless put; handles = [] })) }
+    ensures grown { IfOk result (λ new. HasGrown (raw_of geometry) 0 0 (mounted_over fs.backing fs.kept 0) (mounted_over new.backing new.kept 0)) }
+{
+    a_mount_keeps_trees_proper();
+    more_never_lowers_the_need();
+    let mut fs = fs;
+    flush(&mut fs)?;
+    commit(&mut fs)?;
+    let backing = fs.into_parts();
+    let space = backing.space();
+    let tree = without_nameless(alloc, backing.into_tree())?;
+    let backing = backing_of(alloc, geometry, tree, space)?;
+    match Fs::new(alloc, backing, CLEAN) {
+        Ok(fs) => Ok(fs),
+        Err((fault, _)) => Err(fault),
+    }
+}
+
+// Puts all that is dirty. Want of memory alone keeps it from that.
+fn flush(fs: &mut Fs<PlainBacking>) -> Result<(), Memory>
+    requires steady { IsSteady (state_of fs.old.backing).geometry fs.old.backing fs.old.kept }
+    ensures steady { OnOk result (IsSteady (state_of fs.old.backing).geometry fs.new.backing fs.new.kept) }
+    ensures pages { OnOk result (fs.new.kept.pages.dirty ≡ []) }
+    ensures inodes { OnOk result (fs.new.kept.inodes ≡ []) }
+    ensures files { OnOk result (IsAlike (present (state_of fs.old.backing).tree fs.old.kept) (present (state_of fs.new.backing).tree fs.new.kept)) }
+    ensures grown { OnOk result (HasGrown (state_of fs.old.backing).geometry 0 0 (mounted_over fs.old.backing fs.old.kept 0) (mounted_over fs.new.backing fs.new.kept 0)) }
+{
+    match replied(fs, 1, 0, Op::Flush)? {
+        Reply::Done => Ok(()),
+        _ => Err(Memory),
+    }
+}
+
+// Commits what was put, as a mount does that ends.
+fn commit(fs: &mut Fs<PlainBacking>) -> Result<(), Memory>
+    requires steady { IsSteady (state_of fs.old.backing).geometry fs.old.backing fs.old.kept }
+    ensures steady { OnOk result (IsSteady (state_of fs.old.backing).geometry fs.new.backing fs.new.kept) }
+    ensures tree { OnOk result ((state_of fs.new.backing).tree ≡ (state_of fs.old.backing).tree) }
+    ensures kept { OnOk result (fs.new.kept ≡ fs.old.kept) }
+    ensures grown { OnOk result (HasGrown (state_of fs.old.backing).geometry 0 0 (mounted_over fs.old.backing fs.old.kept 0) (mounted_over fs.new.backing fs.new.kept 0)) }
+{
+    work(fs, &Event::CommitStart)?;
+    work(fs, &Event::CommitStep)?;
+    work(fs, &Event::CommitEnd)?;
+    Ok(())
+}
+
+// Asks the backing for work on what was put. Want of memory alone keeps it from that.
+fn work(fs: &mut Fs<PlainBacking>, event: &Event) -> Result<(), Memory>
+    requires steady { IsSteady (state_of fs.old.backing).geometry fs.old.backing fs.old.kept }
+    requires work { is_work event.now ≡ true }
+    requires call { IsCalledEvent event.now }
+    requires grant { grant_of event.now ≡ 0 }
+    ensures steady { IsSteady (state_of fs.old.backing).geometry fs.new.backing fs.new.kept }
+    ensures tree { (state_of fs.new.backing).tree ≡ (state_of fs.old.backing).tree }
+    ensures kept { fs.new.kept ≡ fs.old.kept }
+    ensures grown { HasGrown (state_of fs.old.backing).geometry 0 0 (mounted_over fs.old.backing fs.old.kept 0) (mounted_over fs.new.backing fs.new.kept 0) }
+{
+    let outcome = fs.step(event);
+    fault_of(&outcome)
+}
+
+// The fault that an outcome tells. Want of memory is the only one that comes.
+fn fault_of(outcome: &Outcome) -> Result<(), Memory> {
+    match outcome {
+        Outcome::Fault { .. } => Err(Memory),
+        _ => Ok(()),
+    }
+}
+
+// The reply to a caller's operation. Want of memory ends the run.
+fn replied(fs: &mut Fs<PlainBacking>, caller: u16, now: u64, op: Op) -> Result<Reply, Memory>
+    requires steady { IsSteady (state_of fs.old.backing).geometry fs.old.backing fs.old.kept }
+    requires call { IsCalled (Line caller op) }
+    ensures steady { OnOk result (IsSteady (state_of fs.old.backing).geometry fs.new.backing fs.new.kept) }
+    ensures replied { IfOk result (λ reply. IsReplied (state_of fs.old.backing).geometry (mounted_over fs.old.backing fs.old.kept now) caller op reply (mounted_over fs.new.backing fs.new.kept now)) }
+    ensures written { IfOk result (λ reply. HasSynced ReadWrite (state_of fs.new.backing) fs.old.kept fs.new.kept caller op reply) }
+{
+    clean_files_are_those_of_the_backing();
+    present_files_are_sound();
+    a_plain_answer_is_no_refusal();
+    let event = Event::Call {
+        caller,
+        now,
+        grant: 0,
+        op,
+    };
+    let outcome = fs.step(&event);
+    let told = parts_of(outcome);
+    if is_memory(&told.0) {
+        return Err(Memory);
+    }
+    Ok(told.0)
+}
+
+// The reply that an outcome has, and what is left of the grant.
+fn parts_of(outcome: Outcome) -> (Reply, u64)
+    requires { IsReply outcome }
+    ensures { outcome ≡ Replied result.0 result.1 }
+{
+    let Outcome::Replied { reply, left } = outcome else {
+        unreachable!()
+    };
+    (reply, left)
+}
+
+// Whether an operation was refused for want of memory.
+fn is_memory(reply: &Reply) -> bool
+    ensures { result ≡ is_memory reply.now }
+{
+    match reply {
+        Reply::Refused { refusal } => *refusal == Refusal::Enomem,
+        _ => false,
+    }
+}
