@@ -1,7 +1,7 @@
 #!/usr/bin/env python3
 """Writes to standard output the image that a run is to leave.
 
-Words: a manifest, and a description of the tree, with the lines
+Words: a manifest, whose first line may have further sizes SIZE=VALUE as tests/flash.py does, and a description of the tree, with the lines
 
     inode INO KIND MODE NLINK SIZE TIMES [TARGET]
     entry DIR NAME INO KIND
@@ -84,10 +84,12 @@ def leaves_of(inodes, entries, blocks):
 def main():
     manifest, description = sys.argv[1:]
     with open(manifest) as text:
-        leb_size, unit, lebs, fanout = (int(word) for word in text.readline().split()[1:])
+        _, *words = text.readline().split()
+    leb_size, unit, lebs, fanout = (int(word) for word in words if "=" not in word)
+    sizes = {name: int(value) for name, value in (word.split("=") for word in words if "=" in word)}
     with open(description) as text:
         inodes, entries, blocks, highest = tree_of(text)
-    shape = volume.Shape(lebs, leb_size=leb_size, unit=unit, fanout=fanout)
+    shape = volume.Shape(lebs, leb_size=leb_size, unit=unit, fanout=fanout, **sizes)
     content = volume.Content(shape, leaves_of(inodes, entries, blocks), [], [], superblock_last=True, highest=highest)
     medium, _ = volume.lay(content)
     sys.stdout.buffer.write(medium.image)

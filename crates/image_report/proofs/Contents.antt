@@ -1,8 +1,8 @@
 -- What the volume of an image holds.
-use Rattle.std.proofs.Common.{◌≡◌, ℕ, ◌-◌, ◌*◌, ◌<◌, ◌≤◌, Bool, true, false, List, [], length, take, drop, replicate, refl, sym, subst, ◌∙◌, inr, arith, length-take, length-append}
+use Rattle.std.proofs.Common.{◌≡◌, ℕ, ◌-◌, ◌*◌, ◌<◌, ◌≤◌, Bool, true, false, List, [], length, take, drop, replicate, refl, sym, subst, ◌∙◌, inl, inr, arith, length-take, length-append}
 use Rattle.std.specs.Prelude.{nat_lt, if◌then◌else◌}
 use Rattle.std.proofs.Math.Path.{fun_ext}
-use Rattle.std.proofs.lemmas.Bool.{lt-ltb, ltb-true, ltb-false}
+use Rattle.std.proofs.lemmas.Bool.{cases_lt, lt-ltb, ltb-true, ltb-false}
 use Rattle.std.proofs.lemmas.List.{take-append-le, take-take}
 use Rattle.ubifs_base.specs.NodeLaws.{IsBytes}
 use Rattle.ubifs_base.specs.declared.raw_geometry.RawGeometry.{RawGeometry}
@@ -21,6 +21,8 @@ use Rattle.sound_image.specs.Image.{Image}
 use Rattle.sound_image.specs.Sound.{SoundImage}
 use Rattle.sound_image.specs.Superblock.{BeginsWithSuper, HasSuperblock}
 use Rattle.sound_image.specs.declared.breach.Breach.{Breach}
+use Rattle.fs_model.specs.Proper.{IsProper}
+use Rattle.recovered_tree.specs.Files.{files_of_image}
 use Rattle.sound_check.specs.Shape.{HasShapeOfImage}
 use Rattle.image_dump.specs.Listing.{IsListing}
 use Rattle.image_dump.specs.Opening.{HasVolume, IsOpened, contents_of, shape_of}
@@ -125,3 +127,18 @@ listed_of bytes geo v out text loaded listing is =
     let Q : ℕ → Type 0 = λ n. IsListing geo (contents_of geo bytes) n text in
     let R : List ℕ → Type 0 = λ t. IsListing geo (contents_of geo bytes) geo.leb_cnt t in
     subst R (sym is) (subst Q loaded.leb_cnt (subst P (holds_are bytes geo v loaded) listing))
+
+-- what recovered_tree says: the files of a sound image are a proper tree
+abbrev pub ProperFiles : Type 0
+ProperFiles = (contents : ℕ → List ℕ) (image : Image) → ((k : ℕ) → IsBytes (contents k)) → SoundImage contents image → IsProper (files_of_image image)
+
+-- LEBs that the volume hasn't have no bytes
+pub all_bytes : (v : ImageVolume) (k : ℕ) → IsBytes ((state_of v).holds k)
+all_bytes v k = elim (cases_lt k (state_of v).leb_cnt) [
+  | inl less ↦ leb_bytes_of v k less
+  | inr high ↦ let P : List ℕ → Type 0 = λ bytes. IsBytes bytes in subst P (sym (none_of v k high)) (λ i. omega arith)
+]
+
+-- the files of a sound image that it holds are proper
+pub proper_in : ProperFiles → (v : ImageVolume) (image : Image) → SoundImage (state_of v).holds image → IsProper (files_of_image image)
+proper_in proper v image sound = proper (state_of v).holds image (all_bytes v) sound

@@ -1,6 +1,10 @@
 -- What is told of the bytes of an image.
 use Rattle.std.specs.Prelude.{◌≡◌, ◌⊎◌, ℕ, List}
+use Rattle.ubifs_base.specs.RawOf.{raw_of}
 use Rattle.ubifs_base.specs.declared.raw_geometry.RawGeometry.{RawGeometry}
+use Rattle.fs_model.specs.Files.{Tree}
+use Rattle.fs_model.specs.Proper.{IsProper}
+use Rattle.recovered_tree.specs.Files.{files_of_image}
 use Rattle.sound_image.specs.Breaches.{IsFirstBreach}
 use Rattle.sound_image.specs.Image.{Image}
 use Rattle.sound_image.specs.Sound.{SoundImage}
@@ -11,6 +15,8 @@ use Rattle.image_dump.specs.Opening.{HasVolume, IsFaulty, contents_of}
 use Rattle.image_dump.specs.declared.fault.ImageFault.{ImageFault}
 use Rattle.image_dump.specs.declared.fault.ImageFault.TheVariants as fault
 use Rattle.image_report.specs.Lines.{breach_line, fault_line, sound_line}
+use Rattle.image_report.specs.declared.files.ImageFiles.{ImageFiles}
+use Rattle.image_report.specs.declared.files.ImageFiles.TheVariants as read
 use Rattle.image_report.specs.declared.texts.ImageText.{ImageText}
 use Rattle.image_report.specs.declared.texts.ImageText.TheVariants.{Unsound, Sound}
 
@@ -37,3 +43,16 @@ ListsSound bytes text = (image : Image) × HoldsSoundImage bytes image × IsList
 abbrev pub IsText : (List ℕ → Type 0) → List ℕ → ImageText → Type 0
 IsText Is bytes (Unsound line) = IsUnsound bytes line.items
 IsText Is bytes (Sound text) = Is text.items
+
+-- The bytes hold a sound image of this geometry, and this is the tree of which a mount makes its files. It is proper.
+pub record HoldsFiles (bytes : List ℕ) (geo : RawGeometry) (tree : Tree) : Type 0 where
+  pub image : Image
+  pub holds : HoldsSoundImage bytes image
+  pub geometry : image.geo ≡ geo
+  pub files : tree ≡ files_of_image image
+  pub proper : IsProper tree
+
+-- what is wrong with bytes, or the files that they hold
+abbrev pub AreImageFiles : List ℕ → ImageFiles → Type 0
+AreImageFiles bytes (read.Unsound line) = IsUnsound bytes line.items
+AreImageFiles bytes (read.Sound geometry tree) = HoldsFiles bytes (raw_of geometry) tree

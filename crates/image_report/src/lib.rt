@@ -6,10 +6,12 @@
 #![tactic(auto)]
 
 mod breach_line;
+mod files;
 mod law;
 mod looking;
 mod sound_line;
 mod texts;
 
+pub use crate::files::{ImageFiles, image_files};
 pub use crate::law::one_text_is_told;
 pub use crate::texts::{ImageText, check_text, dump_text};

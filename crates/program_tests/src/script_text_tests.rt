@@ -153,6 +153,7 @@ const MANIFESTS: &[(&str, Result<Manifest, TextFault>)] = &[
             min_io: 512,
             main: 64,
             fanout: 8,
+            packed: false,
         }),
     ),
     (
@@ -162,9 +163,14 @@ const MANIFESTS: &[(&str, Result<Manifest, TextFault>)] = &[
             min_io: 0,
             main: 2147483647,
             fanout: 4294967295,
+            packed: false,
         }),
     ),
     ("end\n", Err(TextFault::Line { number: 1 })),
+    (
+        "volume 16384 512 64 8 packed\nend\n",
+        Err(TextFault::Line { number: 1 }),
+    ),
     ("volume 16384 512 64 8", Err(TextFault::Line { number: 1 })),
     (
         "volume 16384 512 64 8\nend\nend\n",

@@ -30,7 +30,13 @@ fn words(alloc: Global, names: &[&str]) -> Result<Vec<String>, Memory> {
     Ok(words)
 }
 
-// A keeper that has the texts of a run as `a` and `b`, and fails at one call.
+// What goes on where that run ended.
+const MORE: &[u8] = b"mount\n1 stat /f\n1 open /f 0\n1 read 0 4095 9\nunmount\nend\n";
+
+const MORE_TRACE: &[u8] =
+    b"mount rw\n1 1 ok f 65 644 1 4096 0\n1 2 ok 65\n1 3 ok 1 1x61\nunmount clean\n";
+
+// A keeper that has the texts of a run as `a` and `b`, and one more script as `m`, and fails at one call.
 fn keeper(alloc: Global, fails_at: u64) -> Result<MemKeeper, Memory> {
     let mut files = BTreeMap::new(alloc);
     files.insert(
@@ -40,6 +46,10 @@ fn keeper(alloc: Global, fails_at: u64) -> Result<MemKeeper, Memory> {
     files.insert(
         String::from_str(alloc, "b")?,
         Bytes::from_slice(alloc, SCRIPT)?,
+    )?;
+    files.insert(
+        String::from_str(alloc, "m")?,
+        Bytes::from_slice(alloc, MORE)?,
     )?;
     Ok(MemKeeper::new(alloc, files, vec![in alloc; fails_at]?))
 }
@@ -56,7 +66,7 @@ const ROWS: &[Row] = &[
     (&["run", "d", "b", "c"], 0, 0, 4, b"file d\n"),
     (&["run", "a", "d", "c"], 0, 0, 4, b"file d\n"),
     (&["run", "d", "e", "c"], 0, 0, 4, b"file d\n"),
-    (&["run", "b", "b", "c"], 0, 0, 2, b"manifest line 1\n"),
+    (&["run", "b", "b", "c"], 0, 0, 3, b"image short 100\n"),
     (&["run", "a", "a", "c"], 0, 0, 2, b"script line 1\n"),
     (&["run", "b", "d", "c"], 0, 0, 4, b"file d\n"),
     (&["run", "a", "b", "c"], 0, 1, 5, b""),
@@ -117,4 +127,21 @@ fn is_told_as_sound<R: Threads + Sync>(rt: &R, alloc: Global) -> Result<bool, Me
 #[test]
 fn an_image_of_a_run_is_told_as_sound(rt: HostRuntime) {
     assert_eq!(rt; is_told_as_sound(&rt, rt.alloc()), Ok(true));
+}
+
+// Whether a run on the image that another left begins on the files of that one.
+fn goes_on<R: Threads + Sync>(rt: &R, alloc: Global) -> Result<bool, Memory> {
+    let mut keeper = keeper(alloc, 0)?;
+    let mut trace = MemSink::new(alloc, vec![in alloc; 0]?);
+    let run = words(alloc, &["run", "a", "b", "c"])?;
+    let ran = ubifs(rt, alloc, &run, &mut keeper, &mut trace);
+    let mut told = MemSink::new(alloc, vec![in alloc; 0]?);
+    let more = words(alloc, &["run", "c", "m", "d"])?;
+    let answer = ubifs(rt, alloc, &more, &mut keeper, &mut told);
+    Ok(ran == 0 && answer == 0 && told.text() == MORE_TRACE)
+}
+
+#[test]
+fn a_run_begins_where_another_ended(rt: HostRuntime) {
+    assert_eq!(rt; goes_on(&rt, rt.alloc()), Ok(true));
 }

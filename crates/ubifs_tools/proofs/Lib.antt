@@ -1,10 +1,7 @@
-pub mod Answering
+pub mod Covered
 pub mod FourWords
-pub mod FreshCover
 pub mod Imaging
-pub mod LeftCover
 pub mod Making
 pub mod Performing
-pub mod Running
+pub mod Readings
 pub mod ThreeWords
-pub mod Working

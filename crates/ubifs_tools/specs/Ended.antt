@@ -1,9 +1,12 @@
 -- How a run ended, over a keeper's files before and after it.
 use Rattle.std.specs.Prelude.{◌≡◌, ℕ, IsTrue, List}
 use Rattle.io_edges.specs.Keeper.{KeeperState, SameFiles, SetsFile}
-use Rattle.ubifs_tools.specs.Command.{IsRead, IsUnread, file_line, IsBadText, IsBadGeometry, IsDone}
+use Rattle.ubifs_tools.specs.Command.{IsRead, IsUnread, file_line}
+use Rattle.ubifs_tools.specs.RunCommand.{IsBadText, IsBadVolume, IsBadGeometry, IsDone}
 use Rattle.ubifs_tools.specs.declared.command.Ended.{Ended}
 use Rattle.ubifs_tools.specs.declared.command.Ended.TheVariants.{Unread, BadText, BadGeometry, Done}
+use Rattle.ubifs_tools.specs.declared.command.RunEnded.{RunEnded}
+use Rattle.ubifs_tools.specs.declared.command.RunEnded.TheVariants as run
 
 -- the work was done, over these texts and with this image, which the keeper has now
 pub record IsFinished (old new : KeeperState) (manifest script image : List ℕ) (text : List ℕ) : Type 0 where
@@ -21,11 +24,20 @@ pub record IsTurnedDown (old new : KeeperState) (manifest script : List ℕ) (Wh
   pub same : SameFiles old new
 
 -- how a run ended
-abbrev pub IsEnded : KeeperState → KeeperState → List ℕ → List ℕ → List ℕ → Ended → Type 0
-IsEnded old new manifest script image (Unread line) = IsUnread old new manifest script image line.items × SameFiles old new
-IsEnded old new manifest script image (BadText line) = IsTurnedDown old new manifest script (λ texts. IsBadText texts line.items)
-IsEnded old new manifest script image (BadGeometry line) = IsTurnedDown old new manifest script (λ texts. IsBadGeometry texts line.items)
-IsEnded old new manifest script image (Done text) = IsFinished old new manifest script image text.items
+abbrev pub IsEnded : KeeperState → KeeperState → List ℕ → List ℕ → List ℕ → RunEnded → Type 0
+IsEnded old new manifest script image (run.Unread line) = IsUnread old new manifest script image line.items × SameFiles old new
+IsEnded old new manifest script image (run.BadText line) = IsTurnedDown old new manifest script (λ texts. IsBadText texts line.items)
+IsEnded old new manifest script image (run.BadImage line) = IsTurnedDown old new manifest script (λ texts. IsBadVolume texts line.items)
+IsEnded old new manifest script image (run.BadGeometry line) = IsTurnedDown old new manifest script (λ texts. IsBadGeometry texts line.items)
+IsEnded old new manifest script image (run.Done text) = IsFinished old new manifest script image text.items
+
+-- the line names this file, which a run didn't read or write
+abbrev pub NamesRunFile : List ℕ → RunEnded → Type 0
+NamesRunFile name (run.Unread line) = line.items ≡ file_line name
+NamesRunFile name (run.BadText line) = ⊥
+NamesRunFile name (run.BadImage line) = ⊥
+NamesRunFile name (run.BadGeometry line) = ⊥
+NamesRunFile name (run.Done text) = ⊥
 
 -- the line names this file
 abbrev pub NamesFile : List ℕ → Ended → Type 0

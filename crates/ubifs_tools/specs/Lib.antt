@@ -3,7 +3,6 @@ pub mod ImageCommand
 pub mod Reported
 pub mod Ended
 pub mod Performed
-pub mod Replies
-pub mod Run
-pub mod Sessions
+pub mod Copies
 pub mod Making
+pub mod RunCommand

@@ -9,14 +9,18 @@ use Rattle.ubifs_base.specs.declared.raw_geometry.RawGeometry.{RawGeometry}
 use Rattle.ubi_volume.specs.Volume.{image_of}
 use Rattle.text_lines.specs.Lines.{line_of}
 use Rattle.fs_model.specs.Files.{Tree}
+use Rattle.fs_model.specs.Proper.{IsProper}
 use Rattle.script_text.specs.declared.manifest.Manifest.{Manifest}
-use Rattle.manifest_tree.specs.ManifestTree.{IsFirstBadTreeLine, IsTreeManifest}
-use Rattle.whole_image.specs.declared.make_fault.MakeFault.TheVariants.{Crowded, Full}
-use Rattle.whole_image.specs.Made.{IsMadeImage, IsRefused}
+use Rattle.manifest_tree.specs.ManifestTree.{IsFirstBadTreeLine}
+use Rattle.tree_space.specs.Laid.{IsAdmitted, bytes_needed, bytes_of_room}
+use Rattle.whole_image.specs.Made.{IsMadeImage}
 use Rattle.io_edges.specs.Keeper.{KeeperState, SameFiles, SetsFile}
+use Rattle.ubifs_tools.specs.Copies.{CopiesFile, IsFilledManifest, IsUnfilled}
 use Rattle.ubifs_tools.specs.Command.{IsFileName, IsMissing, Told, bad_line, field_name, file_line, geometry_of, no_identifier}
 use Rattle.ubifs_tools.specs.declared.command.Ended.{Ended}
 use Rattle.ubifs_tools.specs.declared.command.Ended.TheVariants.{Unread, BadText, BadGeometry, Done}
+use Rattle.ubifs_tools.specs.declared.mkfs.Filled.{Filled}
+use Rattle.ubifs_tools.specs.declared.mkfs.Filled.TheVariants as filled
 use Rattle.ubifs_tools.specs.declared.perform.Performed.{Performed}
 use Rattle.ubifs_tools.specs.declared.perform.Performed.TheVariants as performed
 
@@ -39,56 +43,59 @@ pub record IsBadTree (text line : List ℕ) : Type 0 where
   pub bad : IsFirstBadTreeLine text number
   pub line_is : line ≡ bad_line (codes "manifest") number
 
--- the leaves of a tree, or an index behind them, have no room
+-- admission refuses the tree, and the line tells the two sides of its test
 pub record IsTooFull (geo : RawGeometry) (tree : Tree) (line : List ℕ) : Type 0 where
-  pub need : ℕ
-  pub room : ℕ
-  pub why : IsRefused geo tree (Full need room) ⊎ IsRefused geo tree (Crowded need room)
-  pub line_is : line ≡ line_of (codes "full" ∷ decimal need ∷ decimal room ∷ [])
+  pub more : bytes_of_room geo tree < bytes_needed geo tree
+  pub line_is : line ≡ line_of (codes "full" ∷ decimal (bytes_needed geo tree) ∷ decimal (bytes_of_room geo tree) ∷ [])
 
--- The image's bytes are those of a volume that holds a sound image of exactly this tree, and the line tells how many LEBs that are.
+-- Admission takes the tree. The image's bytes are those of a volume that holds a sound image of exactly this tree, and the line tells how many LEBs that are.
 pub record IsToldImage (geo : RawGeometry) (tree : Tree) (told image : List ℕ) : Type 0 where
+  pub admitted : IsAdmitted geo tree
   pub holds : ℕ → List ℕ
   pub made : IsMadeImage holds geo no_identifier tree
   pub image_is : image ≡ image_of holds geo.leb_cnt
   pub told_is : told ≡ line_of (codes "made" ∷ decimal geo.leb_cnt ∷ [])
 
--- The text is a manifest, but its geometry has a field out of range, or fewer than 24 main LEBs, or the tree has no room there.
-pub record HasNoImage (text line : List ℕ) : Type 0 where
+-- The text is a manifest whose files were read, but its geometry has a field out of range, or fewer than 24 main LEBs, or admission refuses the tree.
+pub record HasNoImage (files : KeeperState) (text line : List ℕ) : Type 0 where
   pub volume : Manifest
   pub tree : Tree
-  pub is : IsTreeManifest text volume tree
+  pub is : IsFilledManifest files text volume tree
   pub why : ((fault : GeomFault) × IsFirstOut (geometry_of volume) tested_fields fault × (line ≡ line_of (codes "geometry" ∷ field_name fault.field ∷ decimal fault.value ∷ [])))
       ⊎ (IsGeometry (geometry_of volume) × (volume.main < 24) × (line ≡ line_of (codes "small" ∷ decimal volume.main ∷ codes "24" ∷ [])))
       ⊎ (IsGeometry (geometry_of volume) × (24 ≤ volume.main) × IsTooFull (geometry_of volume) tree line)
 
--- An image of a tree was made, and the line tells how many LEBs it has; or the tree has no room.
+-- An image of a tree was made, and the line tells how many LEBs it has; or admission refuses the tree.
 abbrev pub IsImageMade : RawGeometry → Tree → Performed → Type 0
-IsImageMade geo tree (performed.BadText line) = ⊥
 IsImageMade geo tree (performed.BadGeometry line) = IsTooFull geo tree line.items
 IsImageMade geo tree (performed.Done told image) = IsToldImage geo tree told.items image.items
 
--- the text is a manifest, and an image of its tree was made
-pub record IsMadeOf (text told image : List ℕ) : Type 0 where
+-- the text is a manifest whose files were read, and an image of its tree was made
+pub record IsMadeOf (files : KeeperState) (text told image : List ℕ) : Type 0 where
   pub volume : Manifest
   pub tree : Tree
-  pub is : IsTreeManifest text volume tree
+  pub is : IsFilledManifest files text volume tree
   pub geometry : IsGeometry (geometry_of volume)
   pub main : 24 ≤ volume.main
   pub made : IsToldImage (geometry_of volume) tree told image
 
--- what became of a manifest's text
-abbrev pub IsMkfsMade : List ℕ → Performed → Type 0
-IsMkfsMade text (performed.BadText line) = IsBadTree text line.items
-IsMkfsMade text (performed.BadGeometry line) = HasNoImage text line.items
-IsMkfsMade text (performed.Done told image) = IsMadeOf text told.items image.items
+-- what became of a manifest's text and of the files that it copies
+abbrev pub IsFilledAs : KeeperState → KeeperState → List ℕ → Filled → Type 0
+IsFilledAs old new text (filled.Unread line) = IsUnfilled old new text line.items
+IsFilledAs old new text (filled.BadText line) = IsBadTree text line.items
+IsFilledAs old new text (filled.Made made) = IsFilledManifest old text made.volume made.tree × IsProper made.tree
+
+-- what became of a manifest whose files were read
+abbrev pub IsMkfsMade : KeeperState → List ℕ → Performed → Type 0
+IsMkfsMade files text (performed.BadGeometry line) = HasNoImage files text line.items
+IsMkfsMade files text (performed.Done told image) = IsMadeOf files text told.items image.items
 
 -- the work was done, over this text and with this image, which the keeper has now
 pub record IsMkfsFinished (old new : KeeperState) (manifest image : List ℕ) (told : List ℕ) : Type 0 where
   pub text : List ℕ
   pub bytes : List ℕ
   pub read : Told old manifest text
-  pub made : IsMadeOf text told bytes
+  pub made : IsMadeOf old text told bytes
   pub written : IsTrue old.tells → SetsFile old image bytes new
 
 -- nothing was done, because of what was read; the files are as they were
@@ -98,10 +105,17 @@ pub record IsMkfsTurnedDown (old new : KeeperState) (manifest : List ℕ) (Why :
   pub why : Why text
   pub same : SameFiles old new
 
--- A call of the keeper failed, or there is no such manifest; the line names the file.
+-- the manifest copies a file of this name, and those that it copies before were read
+pub record ReadsCopy (files : KeeperState) (manifest name : List ℕ) : Type 0 where
+  pub text : List ℕ
+  pub read : Told files manifest text
+  pub copies : CopiesFile files text name
+
+-- A call of the keeper failed, or a file that is to be read isn't there, the first of them; the line names the file.
 pub record IsMkfsUnread (old new : KeeperState) (manifest image line : List ℕ) : Type 0 where
   pub name : List ℕ
-  pub why : (Rose old.faults new.faults × ((name ≡ manifest) ⊎ (name ≡ image))) ⊎ (IsMissing old manifest × (name ≡ manifest))
+  pub why : (Rose old.faults new.faults × ((name ≡ manifest) ⊎ (name ≡ image) ⊎ ReadsCopy old manifest name))
+      ⊎ (IsMissing old name × ((name ≡ manifest) ⊎ ReadsCopy old manifest name))
   pub line_is : line ≡ file_line name
   pub same : SameFiles old new
 
@@ -109,5 +123,5 @@ pub record IsMkfsUnread (old new : KeeperState) (manifest image line : List ℕ)
 abbrev pub IsMkfsEnded : KeeperState → KeeperState → List ℕ → List ℕ → Ended → Type 0
 IsMkfsEnded old new manifest image (Unread line) = IsMkfsUnread old new manifest image line.items
 IsMkfsEnded old new manifest image (BadText line) = IsMkfsTurnedDown old new manifest (λ text. IsBadTree text line.items)
-IsMkfsEnded old new manifest image (BadGeometry line) = IsMkfsTurnedDown old new manifest (λ text. HasNoImage text line.items)
+IsMkfsEnded old new manifest image (BadGeometry line) = IsMkfsTurnedDown old new manifest (λ text. HasNoImage old text line.items)
 IsMkfsEnded old new manifest image (Done text) = IsMkfsFinished old new manifest image text.items

@@ -2,15 +2,16 @@
 
 ghost use Rattle.std.specs.Prelude.{IfOk, OnErr};
 ghost use Rattle.io_edges.specs.Keeper.{SameFiles};
-ghost use Rattle.ubifs_tools.specs.Ended.{IsEnded, NamesFile};
+ghost use Rattle.ubifs_tools.specs.Ended.{IsEnded, NamesFile, NamesRunFile};
 
-use crate::perform::{Performed, perform};
+use crate::perform::{Ran, perform};
 use io_edges::{KeepFault, Keeper};
 use std::alloc::Global;
+use std::thread::Threads;
 use text_lines::line_of_two;
 use ubifs_base::Memory;
 
-/// How a run ended: a line that says why nothing was done, or the text of what was done.
+/// How a making of an image ended: a line that says why nothing was done, or the text of what was done.
 #[derive(Drop)]
 pub(crate) enum Ended {
     Unread { line: Vec<u8> },
@@ -19,36 +20,56 @@ pub(crate) enum Ended {
     Done { text: Vec<u8> },
 }
 
-/// Reads the manifest and the script, does the work, and writes the image.
-pub(crate) fn run<K: Keeper>(
+/// How a run ended: the same, or a line that says what is wrong with an image.
+#[derive(Drop)]
+pub(crate) enum RunEnded {
+    Unread { line: Vec<u8> },
+    BadText { line: Vec<u8> },
+    BadImage { line: Vec<u8> },
+    BadGeometry { line: Vec<u8> },
+    Done { text: Vec<u8> },
+}
+
+/// Reads the manifest or the image, and the script, does the work, and writes the image.
+pub(crate) fn run<R: Threads + Sync, K: Keeper>(
+    rt: &R,
     alloc: Global,
     manifest: &str,
     script: &str,
     image: &str,
     keeper: &mut K,
-) -> Result<Ended, Memory>
+) -> Result<RunEnded, Memory>
     ensures ended { IfOk result (IsEnded (K.state keeper.old) (K.state keeper.new) manifest.now script.now image.now) }
     ensures err { OnErr result (SameFiles (K.state keeper.old) (K.state keeper.new)) }
 {
-    let manifest_text = match keeper.read(manifest) {
-        Ok(text) => text,
+    let volume = match keeper.read(manifest) {
+        Ok(volume) => volume,
         Err(KeepFault::Memory) => return Err(Memory),
-        Err(_) => return unread(alloc, manifest),
+        Err(_) => return run_unread(alloc, manifest),
     };
     let script_text = match keeper.read(script) {
         Ok(text) => text,
         Err(KeepFault::Memory) => return Err(Memory),
-        Err(_) => return unread(alloc, script),
+        Err(_) => return run_unread(alloc, script),
     };
-    match perform(alloc, &manifest_text, &script_text)? {
-        Performed::BadText { line } => Ok(Ended::BadText { line }),
-        Performed::BadGeometry { line } => Ok(Ended::BadGeometry { line }),
-        Performed::Done { text, image: bytes } => match keeper.write(image, &bytes) {
-            Ok(()) => Ok(Ended::Done { text }),
+    match perform(rt, alloc, &volume, &script_text)? {
+        Ran::BadText { line } => Ok(RunEnded::BadText { line }),
+        Ran::BadImage { line } => Ok(RunEnded::BadImage { line }),
+        Ran::BadGeometry { line } => Ok(RunEnded::BadGeometry { line }),
+        Ran::Done { text, image: bytes } => match keeper.write(image, &bytes) {
+            Ok(()) => Ok(RunEnded::Done { text }),
             Err(KeepFault::Memory) => Err(Memory),
-            Err(_) => unread(alloc, image),
+            Err(_) => run_unread(alloc, image),
         },
     }
+}
+
+// The line for a file that a run didn't read or write.
+fn run_unread(alloc: Global, name: &str) -> Result<RunEnded, Memory>
+    ensures { IfOk result (NamesRunFile name.now) }
+{
+    let line = line_of_two(alloc, b"file".as_slice(), name.as_bytes())?;
+    Ok(RunEnded::Unread { line })
 }
 
 // The line for a file that wasn't read or written.

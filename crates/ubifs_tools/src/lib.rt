@@ -1,15 +1,13 @@
 //! The program's commands, over any keeper of files and any sink of text.
 #![tactic(auto)]
 
+mod beginning;
 mod command;
-mod fresh;
+mod copies;
 mod image;
 mod image_command;
 mod mkfs;
-mod nameless;
 mod perform;
-mod run;
-mod session;
 mod top;
 mod words;
 

@@ -1,27 +1,39 @@
 // The command `mkfs`.
 
-ghost use Rattle.std.specs.Prelude.{◌≡◌, ◌≤◌, ◌∷◌, ◌↔◌, [], ℕ, List, IsTrue, IfOk, IfSome, IfNone, OnErr, false, map, codes};
+ghost use Rattle.std.specs.Prelude.{◌≡◌, ◌<◌, ◌≤◌, ◌∷◌, ◌↔◌, [], ℕ, List, IsTrue, IfOk, IfSome, IfNone, OnErr, false, map, codes};
 ghost use Rattle.std.specs.Fmt.{decimal};
 ghost use Rattle.std.specs.String.{string_bytes};
 ghost use Rattle.ubifs_base.specs.Areas.{main_lebs};
 ghost use Rattle.ubifs_base.specs.RawOf.{raw_of};
 ghost use Rattle.text_lines.specs.Lines.{line_of};
 ghost use Rattle.fs_model.specs.Proper.{IsProper};
-ghost use Rattle.io_edges.specs.Keeper.{SameFiles};
-ghost use Rattle.ubifs_tools.specs.Making.{IsImageMade, IsMkfsMade, IsMkfs, IsMkfsEnded};
+ghost use Rattle.io_edges.specs.Keeper.{KeeperState, SameFiles};
+ghost use Rattle.tree_space.specs.Laid.{IsAdmitted};
+ghost use Rattle.ubifs_tools.specs.Copies.{FilesStay, IsFilledManifest};
+ghost use Rattle.ubifs_tools.specs.Making.{IsFilledAs, IsImageMade, IsMkfsMade, IsMkfs, IsMkfsEnded};
 
 use crate::command::{Ended, unread};
+use crate::copies::{Copies, read_copies};
 use crate::image::blank_volume;
 use crate::perform::{Performed, bad_geometry_line, bad_text_line, small_line};
 use crate::words::is_file_name;
 use io_edges::{KeepFault, Keeper};
-use manifest_tree::read_tree;
+use manifest_tree::{MadeManifest, fill_copied, read_names};
 use plain_backing::Tree;
 use std::alloc::Global;
 use text_lines::{line_of_three, line_of_two};
+use tree_space::tree_room;
 use ubi_volume::save_image;
 use ubifs_base::{Geometry, Memory, RawGeometry};
-use whole_image::{MakeFault, make_image};
+use whole_image::{MakeFault, an_admitted_tree_fits, make_image};
+
+/// A manifest whose files were read, or a line that says why it isn't one, or which file wasn't read.
+#[derive(Drop)]
+pub(crate) enum Filled {
+    Unread { line: Vec<u8> },
+    BadText { line: Vec<u8> },
+    Made { made: MadeManifest },
+}
 
 /// The files that the words `mkfs MANIFEST IMAGE` name.
 pub(crate) fn mkfs_words(words: &[String]) -> Option<(&str, &str)>
@@ -49,7 +61,7 @@ fn is_mkfs(word: &[u8]) -> bool
     word == b"mkfs".as_slice()
 }
 
-/// Reads the manifest, makes the image of its tree, and writes it.
+/// Reads the manifest and the files that it copies, makes the image of its tree, and writes it.
 pub(crate) fn mkfs<K: Keeper>(
     alloc: Global,
     manifest: &str,
@@ -64,8 +76,12 @@ pub(crate) fn mkfs<K: Keeper>(
         Err(KeepFault::Memory) => return Err(Memory),
         Err(_) => return unread(alloc, manifest),
     };
-    match make(alloc, &text)? {
-        Performed::BadText { line } => Ok(Ended::BadText { line }),
+    let made = match fill_manifest(alloc, &text, keeper)? {
+        Filled::Unread { line } => return Ok(Ended::Unread { line }),
+        Filled::BadText { line } => return Ok(Ended::BadText { line }),
+        Filled::Made { made } => made,
+    };
+    match make(alloc, &made)? {
         Performed::BadGeometry { line } => Ok(Ended::BadGeometry { line }),
         Performed::Done { text, image: bytes } => match keeper.write(image, &bytes) {
             Ok(()) => Ok(Ended::Done { text }),
@@ -75,17 +91,40 @@ pub(crate) fn mkfs<K: Keeper>(
     }
 }
 
-// Makes the image of a manifest's tree.
-fn make(alloc: Global, text: &[u8]) -> Result<Performed, Memory>
-    ensures { IfOk result (IsMkfsMade text.now) }
+// Reads a manifest's text and the files that it copies. One whose main area is to be packed is answered by want of memory.
+fn fill_manifest<K: Keeper>(alloc: Global, text: &[u8], keeper: &mut K) -> Result<Filled, Memory>
+    ensures stay { FilesStay (K.state keeper.old) (K.state keeper.new) }
+    ensures filled { IfOk result (IsFilledAs (K.state keeper.old) (K.state keeper.new) text.now) }
 {
-    let made = match read_tree(alloc, text) {
-        Ok(made) => made,
+    let named = match read_names(alloc, text) {
+        Ok(named) => named,
         Err(fault) => {
             let line = bad_text_line(alloc, b"manifest".as_slice(), fault)?;
-            return Ok(Performed::BadText { line });
+            return Ok(Filled::BadText { line });
         }
     };
+    if named.volume.packed {
+        return Err(Memory);
+    }
+    match read_copies(alloc, &named.copied, keeper)? {
+        Copies::Unread { line } => Ok(Filled::Unread { line }),
+        Copies::Read { files } => {
+            let mut tree = named.tree;
+            fill_copied(alloc, &mut tree, &named.copied, &files)?;
+            let volume = named.volume;
+            Ok(Filled::Made {
+                made: MadeManifest { volume, tree },
+            })
+        }
+    }
+}
+
+// Makes the image of a manifest's tree.
+fn make(alloc: Global, made: &MadeManifest) -> Result<Performed, Memory>
+    requires proper { IsProper made.now.tree }
+    requires range { made.now.volume.main < 2147483648 }
+    ensures { (files : KeeperState) → (text : List ℕ) → IsFilledManifest files text made.now.volume made.now.tree → IfOk result (IsMkfsMade files text) }
+{
     let volume = made.volume;
     let raw = RawGeometry::plain(volume.leb_size, volume.min_io, volume.main, volume.fanout);
     let geometry = match Geometry::new(&raw) {
@@ -99,16 +138,33 @@ fn make(alloc: Global, text: &[u8]) -> Result<Performed, Memory>
         let line = small_line(alloc, volume.main)?;
         return Ok(Performed::BadGeometry { line });
     }
-    image_of_tree(alloc, &geometry, &made.tree)
+    admitted_image(alloc, &geometry, &made.tree)
 }
 
-// The image of a tree, or the line for one that has no room. The identifier is zeros.
-fn image_of_tree(alloc: Global, geometry: &Geometry, tree: &Tree) -> Result<Performed, Memory>
+// The image of a tree, or the line for one that admission refuses.
+fn admitted_image(alloc: Global, geometry: &Geometry, tree: &Tree) -> Result<Performed, Memory>
     requires proper { IsProper tree.now }
     requires main { 24 ≤ main_lebs (raw_of geometry.now) }
     requires small { geometry.now.big ≡ false }
     ensures { IfOk result (IsImageMade (raw_of geometry.now) tree.now) }
 {
+    let room = tree_room(alloc, geometry, tree)?;
+    if room.need > room.limit {
+        let line = full_line(alloc, room.need, room.limit)?;
+        return Ok(Performed::BadGeometry { line });
+    }
+    image_of_tree(alloc, geometry, tree)
+}
+
+// The image of a tree that has room. The identifier is zeros.
+fn image_of_tree(alloc: Global, geometry: &Geometry, tree: &Tree) -> Result<Performed, Memory>
+    requires proper { IsProper tree.now }
+    requires main { 24 ≤ main_lebs (raw_of geometry.now) }
+    requires small { geometry.now.big ≡ false }
+    requires admitted { IsAdmitted (raw_of geometry.now) tree.now }
+    ensures { IfOk result (IsImageMade (raw_of geometry.now) tree.now) }
+{
+    an_admitted_tree_fits();
     let mut volume = blank_volume(alloc, geometry)?;
     match make_image(alloc, &mut volume, geometry, tree, &[0; 16]) {
         Ok(()) => {
@@ -116,14 +172,8 @@ fn image_of_tree(alloc: Global, geometry: &Geometry, tree: &Tree) -> Result<Perf
             let text = made_line(alloc, geometry.leb_cnt)?;
             Ok(Performed::Done { text, image })
         }
-        Err(MakeFault::Full { need, room }) => {
-            let line = full_line(alloc, need, room)?;
-            Ok(Performed::BadGeometry { line })
-        }
-        Err(MakeFault::Crowded { need, room }) => {
-            let line = full_line(alloc, need, room)?;
-            Ok(Performed::BadGeometry { line })
-        }
+        Err(MakeFault::Full { .. }) => unreachable!(),
+        Err(MakeFault::Crowded { .. }) => unreachable!(),
         Err(_fault) => Err(Memory),
     }
 }

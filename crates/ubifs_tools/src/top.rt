@@ -5,13 +5,14 @@ ghost use Rattle.std.specs.String.{string_bytes};
 ghost use Rattle.ubifs_base.specs.Faults.{Rose};
 ghost use Rattle.text_lines.specs.Lines.{line_of};
 ghost use Rattle.io_edges.specs.Keeper.{SameFiles};
-ghost use Rattle.ubifs_tools.specs.Command.{IsRun, OnRun, IsPrinted, IsTold, IsUnread, IsBadText, IsBadGeometry};
+ghost use Rattle.ubifs_tools.specs.Command.{IsRun, OnRun, IsPrinted, IsTold, IsUnread};
+ghost use Rattle.ubifs_tools.specs.RunCommand.{IsBadText, IsBadVolume, IsBadGeometry};
 ghost use Rattle.ubifs_tools.specs.ImageCommand.{IsBadImage, IsNoImage, IsOfImage, IsTextOf, OnImage};
 ghost use Rattle.ubifs_tools.specs.Ended.{IsFinished, IsTurnedDown};
 ghost use Rattle.ubifs_tools.specs.Making.{HasNoImage, IsBadTree, IsMkfs, IsMkfsFinished, IsMkfsTurnedDown, IsMkfsUnread, OnMkfs};
 ghost use Rattle.ubifs_tools.specs.declared.image_command.ImageCommand.{ImageCommand as Command};
 
-use crate::command::{Ended, run};
+use crate::command::{Ended, RunEnded, run};
 use crate::image_command::{ImageCommand, Reported, report};
 use crate::mkfs::{mkfs, mkfs_words};
 use crate::words::{image_words, run_words};
@@ -53,13 +54,16 @@ pub fn ubifs<R: Threads + Sync, K: Keeper, O: Sink>(
         ⊎ OnMkfs (map string_bytes words.now) (λ manifest image. (line : List ℕ)
         × IsMkfsTurnedDown (K.state keeper.old) (K.state keeper.new) manifest (λ text. IsBadTree text line)
         × IsPrinted (O.state out.old) (O.state out.new) line) }
-    ensures image { result ≡ 3 → OnImage (map string_bytes words.now) (λ command image. (line : List ℕ)
+    ensures image { result ≡ 3 → OnRun (map string_bytes words.now) (λ manifest script image. (line : List ℕ)
+        × IsTurnedDown (K.state keeper.old) (K.state keeper.new) manifest script (λ texts. IsBadVolume texts line)
+        × IsPrinted (O.state out.old) (O.state out.new) line)
+        ⊎ OnImage (map string_bytes words.now) (λ command image. (line : List ℕ)
         × IsBadImage (K.state keeper.old) (K.state keeper.new) image line × IsPrinted (O.state out.old) (O.state out.new) line) }
     ensures geometry { result ≡ 7 → OnRun (map string_bytes words.now) (λ manifest script image. (line : List ℕ)
         × IsTurnedDown (K.state keeper.old) (K.state keeper.new) manifest script (λ texts. IsBadGeometry texts line)
         × IsPrinted (O.state out.old) (O.state out.new) line)
         ⊎ OnMkfs (map string_bytes words.now) (λ manifest image. (line : List ℕ)
-        × IsMkfsTurnedDown (K.state keeper.old) (K.state keeper.new) manifest (λ text. HasNoImage text line)
+        × IsMkfsTurnedDown (K.state keeper.old) (K.state keeper.new) manifest (λ text. HasNoImage (K.state keeper.old) text line)
         × IsPrinted (O.state out.old) (O.state out.new) line) }
     ensures files { result ≡ 4 → OnRun (map string_bytes words.now) (λ manifest script image. (line : List ℕ)
         × IsUnread (K.state keeper.old) (K.state keeper.new) manifest script image line
@@ -90,7 +94,7 @@ pub fn ubifs<R: Threads + Sync, K: Keeper, O: Sink>(
         × IsMkfsFinished (K.state keeper.old) (K.state keeper.new) manifest image text) }
 {
     if let Some((manifest, script, image)) = run_words(words) {
-        return run_told(alloc, manifest, script, image, keeper, out);
+        return run_told(rt, alloc, manifest, script, image, keeper, out);
     }
     if let Some((command, image)) = image_words(words) {
         return image_told(rt, alloc, command, image, keeper, out);
@@ -102,7 +106,8 @@ pub fn ubifs<R: Threads + Sync, K: Keeper, O: Sink>(
 }
 
 // Runs a script, and prints what became of it.
-fn run_told<K: Keeper, O: Sink>(
+fn run_told<R: Threads + Sync, K: Keeper, O: Sink>(
+    rt: &R,
     alloc: Global,
     manifest: &str,
     script: &str,
@@ -110,11 +115,14 @@ fn run_told<K: Keeper, O: Sink>(
     keeper: &mut K,
     out: &mut O,
 ) -> u8
-    ensures known { (result ≤ 7) × (result ≢ 1) × (result ≢ 3) }
+    ensures known { (result ≤ 7) × (result ≢ 1) }
     ensures done { result ≡ 0 → (text : List ℕ)
         × IsFinished (K.state keeper.old) (K.state keeper.new) manifest.now script.now image.now text × IsTold (O.state out.old) (O.state out.new) text }
     ensures text { result ≡ 2 → (line : List ℕ)
         × IsTurnedDown (K.state keeper.old) (K.state keeper.new) manifest.now script.now (λ texts. IsBadText texts line)
+        × IsPrinted (O.state out.old) (O.state out.new) line }
+    ensures image { result ≡ 3 → (line : List ℕ)
+        × IsTurnedDown (K.state keeper.old) (K.state keeper.new) manifest.now script.now (λ texts. IsBadVolume texts line)
         × IsPrinted (O.state out.old) (O.state out.new) line }
     ensures geometry { result ≡ 7 → (line : List ℕ)
         × IsTurnedDown (K.state keeper.old) (K.state keeper.new) manifest.now script.now (λ texts. IsBadGeometry texts line)
@@ -129,11 +137,12 @@ fn run_told<K: Keeper, O: Sink>(
     ensures kept { SameFiles (K.state keeper.old) (K.state keeper.new)
         ⊎ ((text : List ℕ) × IsFinished (K.state keeper.old) (K.state keeper.new) manifest.now script.now image.now text) }
 {
-    match run(alloc, manifest, script, image, keeper) {
-        Ok(Ended::Unread { line }) => told(out, &line, 4),
-        Ok(Ended::BadText { line }) => told(out, &line, 2),
-        Ok(Ended::BadGeometry { line }) => told(out, &line, 7),
-        Ok(Ended::Done { text }) => printed(out, &text),
+    match run(rt, alloc, manifest, script, image, keeper) {
+        Ok(RunEnded::Unread { line }) => told(out, &line, 4),
+        Ok(RunEnded::BadText { line }) => told(out, &line, 2),
+        Ok(RunEnded::BadImage { line }) => told(out, &line, 3),
+        Ok(RunEnded::BadGeometry { line }) => told(out, &line, 7),
+        Ok(RunEnded::Done { text }) => printed(out, &text),
         Err(Memory) => told(out, b"memory\n".as_slice(), 6),
     }
 }
@@ -153,7 +162,7 @@ fn mkfs_told<K: Keeper, O: Sink>(
         × IsMkfsTurnedDown (K.state keeper.old) (K.state keeper.new) manifest.now (λ text. IsBadTree text line)
         × IsPrinted (O.state out.old) (O.state out.new) line }
     ensures geometry { result ≡ 7 → (line : List ℕ)
-        × IsMkfsTurnedDown (K.state keeper.old) (K.state keeper.new) manifest.now (λ text. HasNoImage text line)
+        × IsMkfsTurnedDown (K.state keeper.old) (K.state keeper.new) manifest.now (λ text. HasNoImage (K.state keeper.old) text line)
         × IsPrinted (O.state out.old) (O.state out.new) line }
     ensures files { result ≡ 4 → (line : List ℕ)
         × IsMkfsUnread (K.state keeper.old) (K.state keeper.new) manifest.now image.now line × IsPrinted (O.state out.old) (O.state out.new) line }

@@ -5,14 +5,14 @@ use Rattle.ubifs_base.specs.RawOf.{raw_of}
 use Rattle.ubifs_tools.proofs.Making.{all_made}
 use Rattle.ubifs_tools.proofs.mkfs.make.Goals as goal
 
-pub returns-in-Err-new : goal.returns-in-Err-new
-returns-in-Err-new c = record {
-  volume = c.in-Ok.made.volume;
-  tree = c.in-Ok.made.tree;
-  is = c.in-Ok.ensures.made;
-  why = inl (c.in-Err-new.fault, let P : RawGeometry → Type 0 = λ g. IsFirstOut g tested_fields c.in-Err-new.fault in subst P c.plain-raw.ensures c.in-Err-new.ensures.first, c.in_ok-line-in-Err-new.ensures);
+pub returns-in-Err : goal.returns-in-Err
+returns-in-Err c = λ files text is. record {
+  volume = c.args.made.now.volume;
+  tree = c.args.made.now.tree;
+  is = is;
+  why = inl (c.in-Err.fault, let P : RawGeometry → Type 0 = λ g. IsFirstOut g tested_fields c.in-Err.fault in subst P c.plain-raw.ensures c.in-Err.ensures.first, c.in_ok-line-in-Err.ensures);
 }
 
 pub returns : goal.returns
-returns c = all_made c.image_of_tree.result c.args.text.now c.in-Ok.made.volume c.in-Ok.made.tree (raw_of c.in-Ok-new.geometry) c.image_of_tree.ensures
-    c.in-Ok.ensures.made c.in-Ok-new.geometry.in_range (c.in-Ok-new.ensures.fields ∙ c.plain-raw.ensures) (omega arith)
+returns c = λ files text is. all_made c.admitted_image.result files text c.args.made.now.volume c.args.made.now.tree (raw_of c.in-Ok.geometry) c.admitted_image.ensures
+    is c.in-Ok.geometry.in_range (c.in-Ok.ensures.fields ∙ c.plain-raw.ensures) (omega arith)

@@ -1,0 +1,70 @@
+// The files of an image.
+
+ghost use Rattle.std.specs.Prelude.{IfOk};
+ghost use Rattle.image_dump.specs.Opening.{IsOpened};
+ghost use Rattle.image_report.specs.Told.{AreImageFiles};
+
+use crate::breach_line::{breach_line, fault_line};
+use image_check::CheckFault;
+use image_dump::{ImageFault, Opened, open_image};
+use plain_backing::Tree;
+use recovered_tree::{read_tree_of, the_files_of_an_image_are_proper};
+use sound_image::contents_say_one_thing;
+use std::alloc::Global;
+use std::thread::Threads;
+use ubifs_base::{Geometry, Memory};
+
+/// A line that says what is wrong with an image first, or its geometry and its files.
+#[derive(Drop)]
+pub enum ImageFiles {
+    Unsound { line: Vec<u8> },
+    Sound { geometry: Geometry, tree: Tree },
+}
+
+/// The files of a sound image: those of which a mount makes its files, a proper tree. Memory is the only error.
+pub fn image_files<R: Threads + Sync>(
+    rt: &R,
+    alloc: Global,
+    bytes: &[u8],
+) -> Result<ImageFiles, Memory>
+    ensures { IfOk result (AreImageFiles bytes.now) }
+{
+    match open_image(alloc, bytes) {
+        Ok(opened) => files_in(rt, alloc, bytes, opened),
+        Err(ImageFault::Memory) => Err(Memory),
+        Err(fault) => {
+            let line = fault_line(alloc, fault)?;
+            Ok(ImageFiles::Unsound { line })
+        }
+    }
+}
+
+// The files that the volume of an image holds.
+fn files_in<R: Threads + Sync>(
+    rt: &R,
+    alloc: Global,
+    bytes: &[u8],
+    opened: Opened<'_>,
+) -> Result<ImageFiles, Memory>
+    requires { IsOpened bytes.now opened }
+    ensures { IfOk result (AreImageFiles bytes.now) }
+{
+    contents_say_one_thing();
+    the_files_of_an_image_are_proper();
+    let Opened {
+        mut volume,
+        geometry,
+    } = opened;
+    match read_tree_of(rt, alloc, &mut volume) {
+        Ok(files) => Ok(ImageFiles::Sound {
+            geometry,
+            tree: files.tree,
+        }),
+        Err(CheckFault::Unsound { breach }) => {
+            let line = breach_line(alloc, breach)?;
+            Ok(ImageFiles::Unsound { line })
+        }
+        Err(CheckFault::Memory) => Err(Memory),
+        Err(CheckFault::Volume { .. }) => unreachable!(),
+    }
+}
