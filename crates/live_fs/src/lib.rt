@@ -3,6 +3,8 @@
 //! need no answer of their own. Keys that stop workers lie behind a lock of their own.
 #![tactic(auto)]
 
+mod keys;
 mod live;
 
+pub use crate::keys::StopKind;
 pub use crate::live::{Closed, Live};

@@ -1,16 +1,17 @@
 // Files behind their lock.
 
-ghost use Rattle.std.specs.Prelude.{◌≡◌, ◌⊎◌, true, [], All, length};
+ghost use Rattle.std.specs.Prelude.{◌≡◌, ◌⊎◌, true, [], All, IfSome, length};
 ghost use Rattle.fs_laws.specs.Sound.{IsCall};
+ghost use Rattle.live_fs.specs.Steps.{WasAnswered};
 ghost use Rattle.traced_files.specs.Calls.{AreLegal, IsEntered, IsUndone, StandsIn};
 ghost use Rattle.traced_files.specs.States.{PassState};
 ghost use Rattle.vfs_ops.specs.declared.event.Event.TheVariants.{Pick, Put};
 ghost use Rattle.vfs_ops.specs.Background.{is_work};
 ghost use Rattle.vfs_ops.specs.Fs.{files_state};
 
+use crate::keys::{LeftKeys, StopKind};
 use fs_model::{Backing, Op, Reply, TraceLine};
 use std::alloc::Global;
-use std::mem::replace;
 use std::sync::{Mutex, Wait};
 use trace_word::{Recorder, TraceWord};
 use traced_files::{Finished, Pass, Site, TracedFs, meet_all};
@@ -18,10 +19,10 @@ use vfs_ops::{Done, Encoded, Event, Fs};
 
 /// Files over a backing that callers share, and workers, who stop with a key. A `Live` makes no key.
 #[derive(Drop)]
-pub struct Live<B: Backing, K: Send + Drop, J: Site> {
+pub struct Live<B: Backing, K: StopKind, J: Site> {
     word: TraceWord,
     traced: Mutex<TracedFs<B, J>>,
-    keys: Mutex<Vec<K>>,
+    keys: Mutex<LeftKeys<K>>,
     ghost of_word: { word ≡ J.word },
 }
 
@@ -32,7 +33,7 @@ pub struct Closed<B: Backing> {
     pub trace: Vec<TraceLine>,
 }
 
-impl<B: Backing, K: Send + Drop, J: Site> Live<B, K, J> {
+impl<B: Backing, K: StopKind, J: Site> Live<B, K, J> {
     /// Files behind a lock, with no line yet. The recorder has made the passes of all callers.
     pub fn new(alloc: Global, fs: Fs<B>, word: TraceWord, recorder: Recorder) -> Live<B, K, J>
         requires word { word ≡ J.word }
@@ -44,7 +45,7 @@ impl<B: Backing, K: Send + Drop, J: Site> Live<B, K, J> {
         Live {
             word,
             traced: Mutex::new(TracedFs::new(alloc, fs, recorder)),
-            keys: Mutex::new(Vec::new(alloc)),
+            keys: Mutex::new(LeftKeys::new(alloc)),
         }
     }
 
@@ -60,14 +61,16 @@ impl<B: Backing, K: Send + Drop, J: Site> Live<B, K, J> {
 
     /// The page that became dirty first, as it is now.
     pub fn pick<R: Wait>(&self, rt: &R) -> Done<B>
-        ensures { result.event ≡ Pick }
+        ensures event { result.event ≡ Pick }
+        ensures step { WasAnswered Pick result.outcome }
     {
         self.traced.lock(rt).pick()
     }
 
     /// Puts a page that was picked, if it is still as it was then.
     pub fn put<R: Wait>(&self, rt: &R, page: Encoded) -> Done<B>
-        ensures { result.event ≡ Put page }
+        ensures event { result.event ≡ Put page }
+        ensures step { WasAnswered (Put page) result.outcome }
     {
         self.traced.lock(rt).put(page)
     }
@@ -75,19 +78,26 @@ impl<B: Backing, K: Send + Drop, J: Site> Live<B, K, J> {
     /// Syncs all that was put, collects a LEB, or goes on with a commit.
     pub fn chore<R: Wait>(&self, rt: &R, event: Event) -> Done<B>
         requires { is_work event ≡ true }
-        ensures { result.event ≡ event }
+        ensures event { result.event ≡ event }
+        ensures step { WasAnswered event result.outcome }
     {
         self.traced.lock(rt).chore(event)
     }
 
     /// Leaves these keys for workers, and hands back those that were left before.
-    pub fn stop<R: Wait>(&self, rt: &R, keys: Vec<K>) -> Vec<K> {
-        replace(&mut *self.keys.lock(rt), keys)
+    pub fn stop<R: Wait>(&self, rt: &R, keys: Vec<K>) -> Vec<K>
+        requires { All (λ key. K.may_stop key) keys.items }
+        ensures { All (λ key. K.may_stop key) result.items }
+    {
+        self.keys.lock(rt).exchange(keys)
     }
 
-    /// A key that was left. There may be none, and then a worker looks for a page again.
-    pub fn wait_work<R: Wait>(&self, rt: &R) -> Option<K> {
-        self.keys.lock(rt).pop()
+    /// A key that was left: what holds of each key that is left holds of it. There may be none, and then a worker looks for a
+    /// page again.
+    pub fn wait_work<R: Wait>(&self, rt: &R) -> Option<K>
+        ensures { IfSome result (λ key. K.may_stop key) }
+    {
+        self.keys.lock(rt).take()
     }
 
     /// The files and the lines of all calls, which are legal from the start to these files. They begin with what each pass has seen,

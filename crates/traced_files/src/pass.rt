@@ -1,5 +1,8 @@
 // A caller's pass.
 
+ghost use Rattle.std.specs.Prelude.{◌≡◌};
+ghost use Rattle.trace_word.specs.Knowledge.{lines_of};
+
 use std::marker::Model;
 
 /// A caller's right to make calls. Contracts see it as a `PassState`: its trace's word, whose it is, how many calls it has made,
@@ -22,4 +25,13 @@ impl Model for Pass {
     ghost view = { pass_state };
 
     ghost invariant = { IsPass };
+}
+
+impl Pass {
+    /// The pass has seen as many lines of its caller as it has made calls.
+    pub fn has_its_lines(&self)
+        ensures { lines_of self.now.caller self.now.seen ≡ self.now.made }
+    {
+        let _ = &self.ticket;
+    }
 }

@@ -1,0 +1,4 @@
+pub mod JobLines
+pub mod Lists
+pub mod Running
+pub mod Tasking

@@ -1,0 +1,47 @@
+-- The tasks of a phase.
+use Rattle.std.specs.Prelude.{◌≡◌, ℕ, zero, suc, ◌<◌, List, [], ◌∷◌, ◌++◌, length, map, Option, Some, None, slice_index_or, option_to_list}
+use Rattle.atomic_table.specs.Seated.{TableId}
+use Rattle.traced_files.specs.States.{PassState}
+use Rattle.writeback.specs.declared.job.Job.{Job}
+use Rattle.writeback.specs.declared.together.Task.{Task}
+use Rattle.writeback.specs.Runs.{HasRun, MayRun}
+
+abbrev pub task_of : Job → Task
+task_of j = record { job = Some j; pass = None; worker = 0 }
+
+abbrev pub work_of : ℕ → Task
+work_of worker = record { job = None; pass = None; worker = worker }
+
+-- the tasks of the workers from 1 on
+abbrev pub workers_to : ℕ → List Task
+workers_to zero = []
+workers_to (suc n) = workers_to n ++ work_of (suc n) ∷ []
+
+-- callers stand first
+abbrev pub tasks_for : List Job → ℕ → List Task
+tasks_for jobs workers = map task_of jobs ++ workers_to workers
+
+-- its job, if it has one, may run
+abbrev MayBegin : TableId → Option Job → Type 0
+MayBegin word None = Unit {0}
+MayBegin word (Some j) = MayRun word j
+
+abbrev pub IsTaskReady : TableId → Task → Type 0
+IsTaskReady word t = MayBegin word t.job
+
+-- its job, if it had one, has run
+abbrev pub IsOver : Option Job → Option PassState → Option PassState → Type 0
+IsOver None old new = new ≡ old
+IsOver (Some j) old new = (p : PassState) × (new ≡ Some p) × HasRun j.pass j.now j.ops.items p
+
+abbrev pub IsTaskDone : Task → Task → Type 0
+IsTaskDone old new = IsOver old.job old.pass new.pass
+
+-- all are done
+abbrev pub AreTasksDone : List Task → List Task → Type 0
+AreTasksDone olds news = (k : ℕ) (d : Task) → k < length olds → IsTaskDone (slice_index_or olds k d) (slice_index_or news k d)
+
+-- the passes that they have
+abbrev pub passes_in : List Task → List PassState
+passes_in [] = []
+passes_in (t ∷ ts) = option_to_list t.pass ++ passes_in ts
