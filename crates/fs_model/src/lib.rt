@@ -11,7 +11,6 @@
 mod backing;
 mod backing_answers;
 mod blocks;
-pub mod caller;
 mod change;
 mod group;
 mod inode;

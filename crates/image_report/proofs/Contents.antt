@@ -23,7 +23,7 @@ use Rattle.sound_image.specs.Superblock.{BeginsWithSuper, HasSuperblock}
 use Rattle.sound_image.specs.declared.breach.Breach.{Breach}
 use Rattle.fs_model.specs.Proper.{IsProper}
 use Rattle.recovered_tree.specs.Files.{files_of_image}
-use Rattle.sound_check.specs.Shape.{HasShapeOfImage}
+use Rattle.recovered_tree.specs.Checked.{HasShapeOfImage}
 use Rattle.image_dump.specs.Listing.{IsListing}
 use Rattle.image_dump.specs.Opening.{HasVolume, IsOpened, contents_of, shape_of}
 use Rattle.image_dump.specs.declared.opening.Opened.{Opened}

@@ -2,7 +2,7 @@
 use Rattle.std.specs.Prelude.{◌≡◌, ℕ, List}
 use Rattle.ubifs_base.specs.RawOf.{raw_of}
 use Rattle.sound_image.specs.Image.{Image}
-use Rattle.sound_check.specs.Reads.{told_of}
+use Rattle.recovered_tree.specs.Checked.{told_of}
 use Rattle.image_dump.specs.Opening.{IsOpened}
 use Rattle.image_report.specs.Told.{HoldsSoundImage, IsUnsound}
 use Rattle.image_report.specs.declared.looking.Looked.{Looked as LookedAt}

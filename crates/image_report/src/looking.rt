@@ -7,7 +7,7 @@ ghost use Rattle.image_report.specs.Looked.{IsLooked};
 use crate::breach_line::{breach_line, fault_line};
 use image_check::CheckFault;
 use image_dump::{ImageFault, Opened, open_image};
-use sound_check::{Sound, check};
+use recovered_tree::{Sound, check};
 use sound_image::contents_say_one_thing;
 use std::alloc::Global;
 use std::thread::Threads;

@@ -6,7 +6,6 @@ ghost use Rattle.plain_backing.specs.PlainBacking.{state_of};
 ghost use Rattle.operation_tests.specs.Sample.{sample_group, sample_page};
 
 use crate::vfs_ops_tests::{answered, fresh_backing, fresh_files, path, root};
-use fs_model::caller::{CallFault, make_and_read};
 use fs_model::{
     Change, Class, Entry, Group, Inode, Kind, Mode, Need, PageNode, Refusal, StoreFault,
 };
@@ -125,12 +124,20 @@ fn file_page(alloc: Global) -> Result<PageNode, Memory>
     })
 }
 
+// What came of a file that was to be made with a page.
+#[derive(PartialEq, Eq)]
+enum Made {
+    Read { stored: u32 },
+    Refused { need: u64, room: u64 },
+    Failed,
+}
+
 // Makes the file with its page on a fresh volume, asking for so many bytes, and reads the page.
 fn made_and_read(
     alloc: Global,
     bytes: u64,
     out: &mut [u8],
-) -> Result<Result<u32, CallFault>, Memory>
+) -> Result<Made, Memory>
     requires enough { 384 ≤ bytes }
     requires few { bytes ≤ 4294967295 }
     requires out { length out.old ≡ 4096 }
@@ -144,20 +151,33 @@ fn made_and_read(
         nodes: 3,
         class: Class::Ordinary,
     };
-    Ok(make_and_read(&mut backing, &need, &group, &page, out))
+    if let Err(space) = backing.admit(&need) {
+        return Ok(Made::Refused {
+            need: space.need,
+            room: space.room,
+        });
+    }
+    if backing.put_group(&group).is_err() || backing.put_page(&page).is_err() {
+        return Ok(Made::Failed);
+    }
+    match backing.read_block(page.ino, page.block, out) {
+        Ok(stored) => Ok(Made::Read { stored }),
+        Err(_) => Ok(Made::Failed),
+    }
 }
 
 // A caller of a backing reads the page that it put, or is told that there is no room for what it asks.
 fn what_is_put_is_read(alloc: Global) -> Result<bool, Memory> {
     let mut out = [255; 4096];
     let read = made_and_read(alloc, 384, &mut out)?;
-    let is_read = read == Ok(3) && out.as_slice().starts_with(b"abc\0".as_slice());
-    match made_and_read(alloc, 1_000_000, &mut out)? {
-        Err(CallFault::NoSpace { space }) => Ok(
-            is_read && (space.need, space.room) == (160 + 4304 + 1_000_000, 514_080),
-        ),
-        _ => Ok(false),
-    }
+    let is_read = read == (Made::Read { stored: 3 }) && out.as_slice().starts_with(b"abc\0".as_slice());
+    let refused = made_and_read(alloc, 1_000_000, &mut out)?;
+    Ok(is_read
+        && refused
+            == (Made::Refused {
+                need: 160 + 4304 + 1_000_000,
+                room: 514_080,
+            }))
 }
 
 #[test]

@@ -1,3 +1,4 @@
+pub mod Checked
 pub mod Files
 pub mod Highest
 pub mod Sets

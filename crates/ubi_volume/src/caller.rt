@@ -76,25 +76,6 @@ pub fn change_and_unmap<V: Volume>(volume: &mut V, fresh: &[u8]) -> Result<(), V
     volume.change(2, fresh)
 }
 
-/// Copies LEB 1 to LEB 2. A cut at any moment leaves LEB 1 as it was, and LEB 2 old or as LEB 1.
-pub fn copy_leb<V: Volume>(alloc: Global, volume: &mut V) -> Result<(), AreaFault>
-    requires lebs { 2 < (V.state volume.old).leb_cnt }
-    requires units { AreUnits (V.state volume.old).min_io 0 (V.state volume.old).leb_size }
-    requires first { Only ((V.state volume.old).holds 1) ((V.state volume.old).left_now 1) }
-    requires second { Only ((V.state volume.old).holds 2) ((V.state volume.old).left_now 2) }
-    ensures done { OnOk result ((V.state volume.new).holds 2 ≡ (V.state volume.old).holds 1) }
-    ensures any_moment { Leaves (V.state volume.old) (V.state volume.new) (λ c.
-        (c 1 ≡ (V.state volume.old).holds 1) × ((c 2 ≡ (V.state volume.old).holds 2) ⊎ (c 2 ≡ (V.state volume.old).holds 1))) }
-    ensures shape { SameShape (V.state volume.old) (V.state volume.new) }
-    ensures cause { HasAreaCause (V.state volume.old).faults (V.state volume.new).faults result }
-    ensures sure { StaysSureArea (V.state volume.old) (V.state volume.new) result }
-{
-    let mut bytes = vec![in alloc; 0; volume.leb_size() as usize]?;
-    volume.read(1, 0, &mut bytes)?;
-    volume.change(2, &bytes)?;
-    Ok(())
-}
-
 /// Makes all LEBs unwritten.
 pub fn unmap_all<V: Volume>(volume: &mut V) -> Result<(), VolFault>
     ensures done { OnOk result ((k : ℕ) → k < (V.state volume.old).leb_cnt → (V.state volume.new).holds k ≡ filled (V.state volume.old).leb_size []) }

@@ -6,7 +6,7 @@ use Rattle.image_volume.specs.ImageVolumeLaws.{never_spent}
 use Rattle.image_check.specs.Told.{IsNoVolumeFault, TellsBreach}
 use Rattle.image_check.specs.declared.fault.CheckFault.{CheckFault}
 use Rattle.sound_image.specs.Breaches.{IsFirstBreach}
-use Rattle.sound_check.specs.declared.sound.Sound.{Sound}
+use Rattle.recovered_tree.specs.Checked.{Sound}
 use Rattle.image_report.specs.Lines.{breach_line}
 use Rattle.image_report.proofs.Contents.{broken, held, shape_at, still_opened}
 use Rattle.image_report.proofs.looking.check_opened.Goals as goal
