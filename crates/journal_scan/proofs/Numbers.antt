@@ -7,7 +7,7 @@ use Rattle.ubifs_base.specs.declared.key.Key.TheVariants.{Dent, Ino, Xent}
 use Rattle.media_leaf.specs.LeafNode.{LeafNode, inode, block, entry, truncation}
 use Rattle.media_leaf.specs.declared.dent_node.DentNode.{DentNode}
 use Rattle.media_leaf.specs.declared.ino_node.InoNode.{InoNode}
-use Rattle.change_nodes.specs.Nodes.{bits_of, kind_of_bits}
+use Rattle.leaf_map.specs.Kept.{bits_of, kind_of_bits}
 use Rattle.leaf_map.specs.Kept.{Placed, node_key}
 use Rattle.leaf_map.specs.Recovered.{highest_key}
 use Rattle.journal_scan.specs.Content.{content_of, number_told, told}

@@ -6,8 +6,7 @@ use Rattle.ubifs_base.specs.declared.key.Key.TheVariants.{Ino, Xent}
 use Rattle.media_leaf.specs.LeafNode.{LeafNode, inode, block, entry, truncation}
 use Rattle.media_leaf.specs.declared.dent_node.DentNode.{DentNode}
 use Rattle.media_leaf.specs.declared.ino_node.InoNode.{InoNode}
-use Rattle.change_nodes.specs.Nodes.{bits_of, kind_of_bits}
-use Rattle.leaf_map.specs.Kept.{Placed}
+use Rattle.leaf_map.specs.Kept.{Placed, bits_of, kind_of_bits}
 use Rattle.journal_scan.specs.declared.node_content.NodeContent.{NodeContent}
 use Rattle.journal_scan.specs.declared.node_content.NodeContent.TheVariants.{Inode, Block, Entry, Truncation, Unknown}
 use Rattle.journal_scan.specs.declared.journal_node.JournalNode.{JournalNode}

@@ -7,7 +7,7 @@ ghost use Rattle.media_leaf.specs.declared.dent_node.DentNode.{DentNode};
 ghost use Rattle.media_leaf.specs.declared.ino_node.InoNode.{InoNode};
 ghost use Rattle.media_leaf.specs.declared.trun_node.TrunNode.{TrunNode};
 ghost use Rattle.leb_scan.specs.Text.{leaf_type};
-ghost use Rattle.change_nodes.specs.Nodes.{bits_of, kind_of_bits};
+ghost use Rattle.leaf_map.specs.Kept.{bits_of, kind_of_bits};
 ghost use Rattle.journal_scan.specs.Content.{content_of, inode_content, entry_content};
 
 use crate::node_content::NodeContent;

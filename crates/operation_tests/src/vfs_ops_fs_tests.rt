@@ -1,13 +1,17 @@
 // The looks of a file system, and a caller of the backing's own.
 
 ghost use Rattle.std.specs.Prelude.{◌≡◌, ◌≤◌, ◌+◌, length, IfOk};
+ghost use Rattle.fs_model.specs.Backing.{FitsGroup, FitsOrphans, FitsPage, IsModest};
+ghost use Rattle.fs_model.specs.Change.{apply};
 ghost use Rattle.fs_model.specs.Making.{new_file};
+ghost use Rattle.fs_model.specs.Proper.{IsProper};
 ghost use Rattle.plain_backing.specs.PlainBacking.{state_of};
 ghost use Rattle.operation_tests.specs.Sample.{sample_group, sample_page};
 
 use crate::vfs_ops_tests::{answered, fresh_backing, fresh_files, path, root};
 use fs_model::{
-    Change, Class, Entry, Group, Inode, Kind, Mode, Need, PageNode, Refusal, StoreFault,
+    Backing, Change, Class, Entry, Group, Inode, Kind, Mode, Need, NoSpace, PageNode, Refusal,
+    StoreFault,
 };
 use plain_backing::PlainBacking;
 use std::alloc::Global;
@@ -124,12 +128,45 @@ fn file_page(alloc: Global) -> Result<PageNode, Memory>
     })
 }
 
-// What came of a file that was to be made with a page.
-#[derive(PartialEq, Eq)]
-enum Made {
-    Read { stored: u32 },
-    Refused { need: u64, room: u64 },
-    Failed,
+// Why a file wasn't made with its page.
+#[derive(Clone, Copy, PartialEq, Eq)]
+enum CallFault {
+    NoSpace { space: NoSpace },
+    Store { fault: StoreFault },
+}
+
+impl From<NoSpace> for CallFault {
+    fn from(space: NoSpace) -> CallFault {
+        CallFault::NoSpace { space }
+    }
+}
+
+impl From<StoreFault> for CallFault {
+    fn from(fault: StoreFault) -> CallFault {
+        CallFault::Store { fault }
+    }
+}
+
+// Admits a group and a page, puts both, and reads the page back; answers how many bytes the page has.
+fn put_and_read(
+    backing: &mut PlainBacking,
+    need: &Need,
+    group: &Group,
+    page: &PageNode,
+    out: &mut [u8],
+) -> Result<u32, CallFault>
+    requires modest { IsModest need.now }
+    requires credit { 1 ≤ need.now.credits }
+    requires proper { IsProper (state_of backing.old).tree }
+    requires group { FitsGroup (state_of backing.old).tree (record { bytes = need.now.bytes; nodes = need.now.nodes }) group.now }
+    requires orphans { FitsOrphans (state_of backing.old).tree (state_of backing.old).closed (state_of backing.old).orphan_limit group.now }
+    requires page { FitsPage (apply (state_of backing.old).tree group.now) page.now }
+    requires out { length out.old ≡ 4096 }
+{
+    backing.admit(need)?;
+    backing.put_group(group)?;
+    backing.put_page(page)?;
+    Ok(backing.read_block(page.ino, page.block, out)?)
 }
 
 // Makes the file with its page on a fresh volume, asking for so many bytes, and reads the page.
@@ -137,7 +174,7 @@ fn made_and_read(
     alloc: Global,
     bytes: u64,
     out: &mut [u8],
-) -> Result<Made, Memory>
+) -> Result<Result<u32, CallFault>, Memory>
     requires enough { 384 ≤ bytes }
     requires few { bytes ≤ 4294967295 }
     requires out { length out.old ≡ 4096 }
@@ -151,33 +188,20 @@ fn made_and_read(
         nodes: 3,
         class: Class::Ordinary,
     };
-    if let Err(space) = backing.admit(&need) {
-        return Ok(Made::Refused {
-            need: space.need,
-            room: space.room,
-        });
-    }
-    if backing.put_group(&group).is_err() || backing.put_page(&page).is_err() {
-        return Ok(Made::Failed);
-    }
-    match backing.read_block(page.ino, page.block, out) {
-        Ok(stored) => Ok(Made::Read { stored }),
-        Err(_) => Ok(Made::Failed),
-    }
+    Ok(put_and_read(&mut backing, &need, &group, &page, out))
 }
 
 // A caller of a backing reads the page that it put, or is told that there is no room for what it asks.
 fn what_is_put_is_read(alloc: Global) -> Result<bool, Memory> {
     let mut out = [255; 4096];
     let read = made_and_read(alloc, 384, &mut out)?;
-    let is_read = read == (Made::Read { stored: 3 }) && out.as_slice().starts_with(b"abc\0".as_slice());
-    let refused = made_and_read(alloc, 1_000_000, &mut out)?;
-    Ok(is_read
-        && refused
-            == (Made::Refused {
-                need: 160 + 4304 + 1_000_000,
-                room: 514_080,
-            }))
+    let is_read = read == Ok(3) && out.as_slice().starts_with(b"abc\0".as_slice());
+    match made_and_read(alloc, 1_000_000, &mut out)? {
+        Err(CallFault::NoSpace { space }) => Ok(
+            is_read && (space.need, space.room) == (160 + 4304 + 1_000_000, 514_080),
+        ),
+        _ => Ok(false),
+    }
 }
 
 #[test]

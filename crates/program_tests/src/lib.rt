@@ -4,10 +4,6 @@
 #![tactic(auto)]
 
 #[cfg(test)]
-mod image_dump_tests;
-#[cfg(test)]
-mod image_maker_tests;
-#[cfg(test)]
 mod io_edges_tests;
 #[cfg(test)]
 mod script_text_tests;

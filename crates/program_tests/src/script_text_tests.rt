@@ -1,11 +1,7 @@
 // Texts and their answers.
 
 use fs_model::{Cause, Kind, NoSpace, Op, Refusal, Reply, Scarce, Table};
-use script_text::{
-    Manifest, Part, TextFault, manifest_has_no_bad_line, one_bad_line, one_bad_manifest_line,
-    one_manifest, one_script, parts_are_in_range, read_manifest, read_script,
-    script_has_no_bad_line, write_reply,
-};
+use script_text::{Manifest, Part, TextFault, read_manifest, read_script, write_reply};
 use std::alloc::Global;
 use ubifs_base::{Bytes, Memory};
 
@@ -307,15 +303,4 @@ fn refusals_are_written(rt: HostRuntime) {
         let reply = Reply::Refused { refusal: *refusal };
         assert_eq!(rt; is_written(rt.alloc(), &reply, text), Ok(true), "{text}");
     }
-}
-
-#[test]
-fn laws_are_called() {
-    parts_are_in_range();
-    one_script();
-    script_has_no_bad_line();
-    one_bad_line();
-    one_manifest();
-    manifest_has_no_bad_line();
-    one_bad_manifest_line();
 }
