@@ -1,4 +1,5 @@
-//! The program: `ubifs run MANIFEST SCRIPT IMAGE`, `ubifs check IMAGE` and `ubifs dump IMAGE`, over the host's files and standard output.
+//! The program: `ubifs run VOLUME SCRIPT IMAGE`, `ubifs mkfs MANIFEST IMAGE`, `ubifs check IMAGE` and `ubifs dump IMAGE`, over the host's files and standard
+//! output.
 #![tactic(auto)]
 
 use io_edges::{FileKeeper, OutSink};
