@@ -151,7 +151,7 @@ IsLaid-close raw leaves before after old new full some most closed h =
 
 -- once the last LEB is written, all leaves are laid
 pub AreLaid-close : (raw : RawGeometry) (leaves : List LeafNode) (before after : OpenLeb) (old new : ℕ → List ℕ) (laid : LaidLeaves)
-    → before.lnum + 6 ≤ raw.leb_cnt
+    → before.lnum + 2 ≤ raw.leb_cnt
     → 0 < length before.bytes.items
     → length before.bytes.items ≤ raw.leb_size
     → AllByRecursion IsWrittenLeaf (numbered_leaves 1 leaves)

@@ -1,6 +1,6 @@
 -- How a LEB takes leaves as long as they fit.
-use Rattle.std.proofs.Common.{◌≡◌, ℕ, ◌+◌, ◌<◌, ◌≤◌, List, [], ◌∷◌, ◌++◌, length, refl, sym, ap, ◌∙◌, arith, append_assoc}
-use Rattle.std.proofs.lemmas.Bool.{le-leb, lt-leb}
+use Rattle.std.proofs.Common.{◌≡◌, ℕ, ◌+◌, ◌<◌, ◌≤◌, List, [], ◌∷◌, ◌++◌, length, refl, sym, ap, ◌∙◌, arith, append_assoc, length-append, inl, inr}
+use Rattle.std.proofs.lemmas.Bool.{cases_lt, le-leb, lt-leb}
 use Rattle.ubifs_base.specs.declared.raw_geometry.RawGeometry.{RawGeometry}
 use Rattle.media_leaf.specs.LeafNode.{LeafNode}
 use Rattle.change_nodes.specs.Texts.{leaf_bytes}
@@ -21,6 +21,49 @@ packed_fits size taken leaf leaves le = let e = le-leb (taken + leaf_bytes leaf)
 pub packed_over : (size taken : ℕ) (leaf : LeafNode) (leaves : List LeafNode) → size < taken + leaf_bytes leaf → packed_leaves size taken (leaf ∷ leaves) ≡ taken ∷ packed_leaves size (leaf_bytes leaf) leaves
 unfolding packed_leaves
 packed_over size taken leaf leaves lt = let e = lt-leb (taken + leaf_bytes leaf) size lt in rw e refl
+
+-- some LEB is taken, and no fewer by more leaves
+pub packed_some : (size taken : ℕ) (leaves : List LeafNode) → 1 ≤ length (packed_leaves size taken leaves)
+packed_some size taken [] = let e = ap length (packed_none size taken) in omega (arith, e)
+packed_some size taken (leaf ∷ leaves) = elim (cases_lt size (taken + leaf_bytes leaf)) [
+  | inl over ↦ let e = ap length (packed_over size taken leaf leaves over) in omega (arith, e)
+  | inr fits ↦
+      let e = ap length (packed_fits size taken leaf leaves (omega (arith, fits))) in
+      let more = packed_some size (taken + leaf_bytes leaf) leaves in
+      omega (arith, e, more)
+]
+
+packed_grows : (size taken : ℕ) (first more : List LeafNode) → length (packed_leaves size taken first) ≤ length (packed_leaves size taken (first ++ more))
+packed_grows size taken [] more =
+    let e = ap length (packed_none size taken) in
+    let some = packed_some size taken more in
+    omega (arith, e, some)
+packed_grows size taken (leaf ∷ first) more = elim (cases_lt size (taken + leaf_bytes leaf)) [
+  | inl over ↦
+      let a = ap length (packed_over size taken leaf first over) in
+      let b = ap length (packed_over size taken leaf (first ++ more) over) in
+      let grows = packed_grows size (leaf_bytes leaf) first more in
+      omega (arith, a, b, grows)
+  | inr fits ↦
+      let a = ap length (packed_fits size taken leaf first (omega (arith, fits))) in
+      let b = ap length (packed_fits size taken leaf (first ++ more) (omega (arith, fits))) in
+      let grows = packed_grows size (taken + leaf_bytes leaf) first more in
+      omega (arith, a, b, grows)
+]
+
+pub packed_after_grows : (raw : RawGeometry) (leb : OpenLeb) (first more : List LeafNode) → length (packed_after raw leb first) ≤ length (packed_after raw leb (first ++ more))
+packed_after_grows raw leb first more =
+    let a = length-append leb.used.items (packed_leaves raw.leb_size (length leb.bytes.items) first) in
+    let b = length-append leb.used.items (packed_leaves raw.leb_size (length leb.bytes.items) (first ++ more)) in
+    let grows = packed_grows raw.leb_size (length leb.bytes.items) first more in
+    omega (arith, a, b, grows)
+
+-- the open LEB is among those that are taken
+pub packed_after_some : (raw : RawGeometry) (leb : OpenLeb) (leaves : List LeafNode) → length leb.used.items < length (packed_after raw leb leaves)
+packed_after_some raw leb leaves =
+    let a = length-append leb.used.items (packed_leaves raw.leb_size (length leb.bytes.items) leaves) in
+    let some = packed_some raw.leb_size (length leb.bytes.items) leaves in
+    omega (arith, a, some)
 
 -- a LEB is closed before a leaf that doesn't fit
 pub closed_packs : (raw : RawGeometry) (before after : OpenLeb) (old new : ℕ → List ℕ) (leaf : LeafNode) (leaves : List LeafNode) → IsClosed raw before after old new

@@ -5,13 +5,14 @@ use Rattle.std.proofs.lemmas.List.{append-nil}
 use Rattle.std.proofs.lemmas.Bool.{cases_lt}
 use Rattle.std.proofs.lemmas.List.Sums.{sum_by-append}
 use Rattle.ubifs_base.specs.declared.raw_geometry.RawGeometry.{RawGeometry}
-use Rattle.ubifs_base.specs.Geometry.{IsGeometry}
+use Rattle.ubifs_base.specs.Areas.{main_lebs}
 use Rattle.ubi_volume.specs.Volume.{VolumeState}
 use Rattle.media_leaf.specs.LeafNode.{LeafNode, IsLeaf}
 use Rattle.change_nodes.specs.Texts.{leaf_bytes}
 use Rattle.image_maker.specs.declared.open_leb.OpenLeb.{OpenLeb}
 use Rattle.image_maker.specs.Laying.{IsLaid, IsReady, Lays, IsUnderWay}
 use Rattle.image_maker.specs.Packed.{packed_after}
+use Rattle.image_maker.proofs.Packing.{packed_after_grows}
 use Rattle.image_maker.proofs.Room.{HasRoom, room}
 
 all_front : (xs ys : List LeafNode) → AllByRecursion IsLeaf (xs ++ ys) → AllByRecursion IsLeaf xs
@@ -22,30 +23,36 @@ all_back : (xs ys : List LeafNode) → AllByRecursion IsLeaf (xs ++ ys) → AllB
 all_back [] ys h = h
 all_back (x ∷ xs) ys h = all_back xs ys h.1
 
--- where leaves are ready there is a LEB for them
-pub ready_room : (raw : RawGeometry) (next : List LeafNode) (open_leb : OpenLeb) (state : VolumeState) → IsGeometry raw → IsReady raw next open_leb state → HasRoom raw open_leb
-ready_room raw next open_leb state geo r =
-    let budget = r.budget in
-    room raw r.done open_leb state.holds geo r.main (omega (arith, budget)) r.laid
+-- where leaves are ready there is a LEB for them, and one behind it
+pub ready_room : (raw : RawGeometry) (next : List LeafNode) (open_leb : OpenLeb) (state : VolumeState) → IsReady raw next open_leb state → HasRoom raw open_leb
+ready_room raw next open_leb state r = let few = r.few in room raw r.done next open_leb state.holds r.room (omega (arith, few)) r.laid
+
+-- the LEBs that are taken once leaves are laid are those that they were to take
+after_laid : (raw : RawGeometry) (first more : List LeafNode) (before after : OpenLeb) (was state : VolumeState) → Lays raw first before was after state
+    → length (packed_after raw before (first ++ more)) < main_lebs raw → length (packed_after raw after more) < main_lebs raw
+after_laid raw first more before after was state l fits = let same = ap length (l.packed more) in omega (arith, same, fits)
 
 -- and after all leaves too
-pub done_room : (raw : RawGeometry) (next : List LeafNode) (before after : OpenLeb) (was state : VolumeState) → IsGeometry raw → IsReady raw next before was → Lays raw next before was after state → HasRoom raw after
-done_room raw next before after was state geo r l =
-    let budget = r.budget in
+pub done_room : (raw : RawGeometry) (next : List LeafNode) (before after : OpenLeb) (was state : VolumeState) → IsReady raw next before was → Lays raw next before was after state → HasRoom raw after
+done_room raw next before after was state r l =
+    let few = r.few in
     let sum = sum_by-append leaf_bytes r.done next in
-    room raw (r.done ++ next) after state.holds geo r.main (omega (arith, budget, sum)) (l.laid r.done r.laid)
+    let all : length (packed_after raw before (next ++ [])) < main_lebs raw = subst (λ leaves. length (packed_after raw before leaves) < main_lebs raw) (sym (append-nil next)) r.room in
+    room raw (r.done ++ next) [] after state.holds (after_laid raw next [] before after was state l all) (omega (arith, few, sum)) (l.laid r.done r.laid)
 
 -- the first of leaves that are ready are ready
 pub ready_first : (raw : RawGeometry) (first more : List LeafNode) (open_leb : OpenLeb) (state : VolumeState) → IsReady raw (first ++ more) open_leb state → IsReady raw first open_leb state
 ready_first raw first more open_leb state r =
-    let budget = r.budget in
+    let few = r.few in
+    let room = r.room in
     let sum = sum_by-append leaf_bytes first more in
+    let grows = packed_after_grows raw open_leb first more in
     record {
       nodes = all_front first more r.nodes;
       done = r.done;
       laid = r.laid;
-      main = r.main;
-      budget = omega (arith, budget, sum);
+      room = omega (arith, room, grows);
+      few = omega (arith, few, sum);
       fits = r.fits;
       geometry = r.geometry;
     }
@@ -54,15 +61,15 @@ ready_first raw first more open_leb state r =
 pub ready_next : (raw : RawGeometry) (first more : List LeafNode) (before after : OpenLeb) (was state : VolumeState)
     → IsReady raw (first ++ more) before was → Lays raw first before was after state → IsReady raw more after state
 ready_next raw first more before after was state r l =
-    let budget = r.budget in
+    let few = r.few in
     let sum = sum_by-append leaf_bytes first more in
     let laid = sum_by-append leaf_bytes r.done first in
     record {
       nodes = all_back first more r.nodes;
       done = r.done ++ first;
       laid = l.laid r.done r.laid;
-      main = r.main;
-      budget = omega (arith, budget, sum, laid);
+      room = after_laid raw first more before after was state l r.room;
+      few = omega (arith, few, sum, laid);
       fits = l.fits;
       geometry = l.geometry;
     }

@@ -1,5 +1,5 @@
 -- An image that is under way: LEBs that are written, and one that still takes nodes.
-use Rattle.std.specs.Prelude.{◌≡◌, ◌≢◌, ℕ, ◌+◌, ◌-◌, ◌*◌, ◌<◌, ◌≤◌, suc, List, [], ◌∷◌, ◌++◌, length, map, sum_by}
+use Rattle.std.specs.Prelude.{◌≡◌, ◌≢◌, ℕ, ◌+◌, ◌-◌, ◌*◌, ◌^◌, ◌<◌, ◌≤◌, suc, List, [], ◌∷◌, ◌++◌, length, map, sum_by}
 use Rattle.std.specs.List.{concat, flat_map, AllByRecursion}
 use Rattle.ubifs_base.specs.declared.raw_geometry.RawGeometry.{RawGeometry}
 use Rattle.ubifs_base.specs.Areas.{main_first, main_lebs}
@@ -57,13 +57,13 @@ pub record IsClosed (raw : RawGeometry) (before after : OpenLeb) (old new : ℕ 
   pub holds : new before.lnum ≡ filled raw.leb_size (to_unit raw.min_io before.bytes.items)
   pub others : (n : ℕ) → n ≢ before.lnum → new n ≡ old n
 
--- These leaves can be laid next: they are nodes, and some were laid before, so that all together fit.
+-- These leaves can be laid next: they are nodes, and some were laid before. All together take few bytes, and a main LEB fewer than there are.
 pub record IsReady (raw : RawGeometry) (next : List LeafNode) (open_leb : OpenLeb) (state : VolumeState) : Type 0 where
   pub nodes : AllByRecursion IsLeaf next
   pub done : List LeafNode
   pub laid : IsLaid raw done open_leb state.holds
-  pub main : 24 ≤ main_lebs raw
-  pub budget : sum_by leaf_bytes done + sum_by leaf_bytes next ≤ (main_lebs raw - 6) * (raw.leb_size - leb_reserve raw)
+  pub room : length (packed_after raw open_leb next) < main_lebs raw
+  pub few : sum_by leaf_bytes done + sum_by leaf_bytes next ≤ 2 ^ 30
   pub fits : length open_leb.bytes.items ≤ raw.leb_size
   pub geometry : HasGeometry raw state
 

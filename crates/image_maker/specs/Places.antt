@@ -47,7 +47,7 @@ abbrev pub IsWrittenLeaf : ℕ × LeafNode → Type 0
 IsWrittenLeaf n = IsLeafNode (written n.0 0 n.1) n.0 0 n.1
 
 -- The leaves, numbered from 1 on and divided in order into rows, stand in the first main LEBs, each of which took leaves as long as they fit. Answered are the leaf
--- that each node is at its place, the bytes that the row of each LEB takes, and the next number. At least five LEBs are left.
+-- that each node is at its place, the bytes that the row of each LEB takes, and the next number. A LEB is left at least.
 pub record AreLaid (raw : RawGeometry) (leaves : List LeafNode) (holds : ℕ → List ℕ) (laid : LaidLeaves) : Type 0 where
   pub rows : List (List (ℕ × LeafNode))
   pub all : flat_map (λ row. row) rows ≡ numbered_leaves 1 leaves
@@ -59,4 +59,4 @@ pub record AreLaid (raw : RawGeometry) (leaves : List LeafNode) (holds : ℕ →
   pub packed : laid.used.items ≡ packed_leaves raw.leb_size 0 leaves
   pub sqnum : laid.sqnum ≡ suc (length leaves)
   pub few : length leaves ≤ 2 ^ 30
-  pub room : main_first raw + length rows + 5 ≤ raw.leb_cnt
+  pub room : main_first raw + length rows < raw.leb_cnt

@@ -1,8 +1,7 @@
 // A tree, laid into the main LEBs of a fresh volume.
 
-ghost use Rattle.std.specs.Prelude.{◌≡◌, ◌-◌, ◌*◌, ◌^◌, ◌<◌, ◌≤◌, ◌==◌, map, filter, OnOk, IfOk};
+ghost use Rattle.std.specs.Prelude.{◌≡◌, ◌^◌, ◌<◌, ◌≤◌, ◌==◌, length, map, filter, OnOk, IfOk};
 ghost use Rattle.ubifs_base.specs.Areas.{main_lebs};
-ghost use Rattle.ubifs_base.specs.Geometry.{leb_reserve};
 ghost use Rattle.ubifs_base.specs.RawOf.{raw_of};
 ghost use Rattle.ubi_volume.specs.MemVolume.{state_of, IsBlank};
 ghost use Rattle.ubi_volume.specs.Volume.{SameShape};
@@ -10,6 +9,7 @@ ghost use Rattle.fs_model.specs.Cover.{tree_bytes};
 ghost use Rattle.fs_model.specs.Proper.{IsProper};
 ghost use Rattle.image_maker.specs.Leaves.{block_leaf, entry_leaf, leaves_of, live_leaves};
 ghost use Rattle.image_maker.specs.Image.{IsImage, shape_of};
+ghost use Rattle.image_maker.specs.Packed.{packed_leaves};
 ghost use Rattle.image_maker.specs.Places.{AreLaid};
 ghost use Rattle.image_maker.specs.Laying.{HasGeometry, IsReady, Lays, HavePlainModes};
 
@@ -25,8 +25,8 @@ use ubifs_base::{Geometry, Memory};
 
 /// Lays the nodes of a tree into the main LEBs of a fresh volume: inode by inode in order of number, behind each inode's
 /// node those of its blocks in order of number, and then those of the entries in it in order of hash and name (the node
-/// table of ubifs-media.h). A directory's links and size are reckoned. A LEB takes nodes while they fit, and no other LEB
-/// is written. Answers where each node stands, how many bytes nodes take of each LEB, and the next sequence number.
+/// table of ubifs-media.h). A directory's links and size are reckoned. A LEB takes nodes while they fit; a main LEB at least is
+/// left behind them, and no other LEB is written. Answers where each node stands, how many bytes nodes take of each LEB, and the next sequence number.
 /// The error is want of memory, and some LEBs may be written then.
 pub fn lay_tree(
     alloc: Global,
@@ -35,9 +35,9 @@ pub fn lay_tree(
     tree: &Tree,
 ) -> Result<LaidLeaves, Memory>
     requires volume { IsBlank (shape_of (raw_of geometry.now)) (state_of volume.old) }
-    requires main { 24 ≤ main_lebs (raw_of geometry.now) }
     requires proper { IsProper tree.now }
-    requires fits { tree_bytes tree.now ≤ (main_lebs (raw_of geometry.now) - 6) * (geometry.now.leb_size - leb_reserve (raw_of geometry.now)) }
+    requires few { tree_bytes tree.now ≤ 2 ^ 30 }
+    requires room { length (packed_leaves geometry.now.leb_size 0 (live_leaves tree.now)) < main_lebs (raw_of geometry.now) }
     ensures image { OnOk result (IsImage (raw_of geometry.now) (live_leaves tree.now) (state_of volume.new).holds) }
     ensures laid { IfOk result (λ laid. AreLaid (raw_of geometry.now) (live_leaves tree.now) (state_of volume.new).holds laid) }
     ensures shape { SameShape (state_of volume.old) (state_of volume.new) }

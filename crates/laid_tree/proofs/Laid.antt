@@ -61,7 +61,7 @@ unwritten_lebs geo leaves contents laid h n inside (inr late) =
     let used = used_rows geo leaves contents laid h in
     h.held.behind n (omega (arith, late, rows, used)) inside
 
-pub room_left : (geo : RawGeometry) (leaves : List LeafNode) (contents : ℕ → List ℕ) (laid : LaidLeaves) → AreLaid geo leaves contents laid → main_first geo + length laid.used.items + 5 ≤ geo.leb_cnt
+pub room_left : (geo : RawGeometry) (leaves : List LeafNode) (contents : ℕ → List ℕ) (laid : LaidLeaves) → AreLaid geo leaves contents laid → main_first geo + length laid.used.items < geo.leb_cnt
 room_left geo leaves contents laid h = let used = used_rows geo leaves contents laid h in let room = h.room in omega (arith, used, room)
 
 -- ---- in contents that have the same LEBs

@@ -22,14 +22,14 @@ ghost use Rattle.laid_tree.specs.Leaves.{AreLeavesLaid};
 use tree_nodes::live_nodes_show_their_tree;
 
 /// What image_maker answers of a tree that it laid are the leaves of nodes that stand, from the first main LEB on one behind another, with the bytes that
-/// they take of each LEB, and the number behind theirs. Every other LEB is unwritten, of which five are left at least. Where these LEBs stay, the nodes do.
+/// they take of each LEB, and the number behind theirs. Every other LEB is unwritten, of which one is left at least. Where these LEBs stay, the nodes do.
 pub fn laid_leaves_stand()
     ensures stand { (geo : RawGeometry) (tree : Tree) (contents : ℕ → List ℕ) (laid : ALaidLeaves) → IsGeometry geo → AreLaid geo (live_leaves tree) contents laid
         → (nodes : List Placed) × AreLeavesLaid geo contents tree nodes laid.used.items × (laid.leaves.items ≡ map leaf_of nodes) × (laid.sqnum ≡ length nodes + 1) }
     ensures unwritten { (geo : RawGeometry) (tree : Tree) (contents : ℕ → List ℕ) (laid : ALaidLeaves) → AreLaid geo (live_leaves tree) contents laid
         → (n : ℕ) → n < geo.leb_cnt → (n < main_first geo) ⊎ (main_first geo + length laid.used.items ≤ n) → contents n ≡ filled geo.leb_size [] }
     ensures room { (geo : RawGeometry) (tree : Tree) (contents : ℕ → List ℕ) (laid : ALaidLeaves) → AreLaid geo (live_leaves tree) contents laid
-        → (main_first geo + length laid.used.items + 5 ≤ geo.leb_cnt) × (laid.sqnum ≤ 2 ^ 30 + 1) }
+        → (main_first geo + length laid.used.items < geo.leb_cnt) × (laid.sqnum ≤ 2 ^ 30 + 1) }
     ensures kept { (geo : RawGeometry) (old new : ℕ → List ℕ) (tree : Tree) (nodes : List Placed) (used : List ℕ) → ((k : ℕ) → k < length used → new (main_first geo + k) ≡ old (main_first geo + k))
         → AreLeavesLaid geo old tree nodes used → AreLeavesLaid geo new tree nodes used }
 {}

@@ -34,7 +34,7 @@ weight_fits geo weight some =
     omega (arith, whole, rest, some)
 
 -- the factor of a product that is no greater
-factor_le : (a b each : ℕ) → 1 ≤ each → a * each ≤ b * each → a ≤ b
+pub factor_le : (a b each : ℕ) → 1 ≤ each → a * each ≤ b * each → a ≤ b
 factor_le a b each some le = elim (cases_lt b a) [
   | inl more ↦
       let part : suc b * each ≤ a * each = mul-le-mul_right each more in
@@ -63,7 +63,7 @@ some_bytes tree some = by tree.inodes refl
         omega (arith, all, first)
 
 -- part of the volume
-part_small : (geo : RawGeometry) (kept : ℕ) → IsGeometry geo → (main_lebs geo - kept - 6) * (geo.leb_size - leb_reserve geo) ≤ 2 ^ 30
+pub part_small : (geo : RawGeometry) (kept : ℕ) → IsGeometry geo → (main_lebs geo - kept - 6) * (geo.leb_size - leb_reserve geo) ≤ 2 ^ 30
 part_small geo kept g =
     let most = g.leb_cnt.1 in
     let part = mul-le (main_lebs geo - kept - 6) (geo.leb_size - leb_reserve geo) geo.max_leb_cnt geo.leb_size (omega (arith, most)) (omega arith) in

@@ -38,7 +38,7 @@ use Rattle.laid_index.specs.Packing.{index_used}
 use Rattle.laid_index.specs.declared.laid_index.LaidIndex.{LaidIndex}
 use Rattle.made_image.specs.Around.{IsBlankLeb, StandsPlain, made_master}
 use Rattle.made_image.specs.declared.filled_main.FilledMain.{FilledMain}
-use Rattle.whole_image.specs.Made.{CanBeLaid, HoldsTree}
+use Rattle.whole_image.specs.Made.{HoldsTree, IsPlainTree}
 
 -- what other laws give
 pub record TreeLaws : Type 0 where
@@ -84,7 +84,7 @@ module _ (geo : RawGeometry) (tree : Tree) (main : FilledMain) (state : VolumeSt
   all_plain [] laid = tt
   all_plain (x ∷ xs) laid = (record { stands = laid.0.stands; plain = laid.0.plain; shows = laid.0.shows }, all_plain xs laid.1)
 
-  module _ (proper : IsProper tree) (can : CanBeLaid geo tree) (leaves : AreLeavesLaid geo state.holds tree nodes main.leaves.items)
+  module _ (proper : IsProper tree) (can : IsPlainTree tree) (leaves : AreLeavesLaid geo state.holds tree nodes main.leaves.items)
       (index : IsStoredIndex state.holds geo.fanout main.root placed) (key : map (λ (branch : Branch). branch.key) (take 1 (branches_of index.children)) ≡ main.root.key ∷ [])
       (said : leaves_in (plain placed) ≡ map leaf_of nodes) (takes : Takes (main_first geo + length main.leaves.items) main.index.items (all_nodes placed))
       (filled_there : AreFilled geo state.holds (main_first geo + length main.leaves.items) main.index.items) (room : length main.leaves.items + length main.index.items < main_lebs geo)
@@ -143,7 +143,7 @@ LeavesStay = (geo : RawGeometry) (old new : ℕ → List ℕ) (tree : Tree) (nod
 abbrev pub StandLaid : RawGeometry → Tree → (ℕ → List ℕ) → LaidLeaves → Type 0
 StandLaid geo tree contents laid = (nodes : List Placed) × AreLeavesLaid geo contents tree nodes laid.used.items × (laid.leaves.items ≡ map leaf_of nodes) × (laid.sqnum ≡ length nodes + 1)
 
-module _ (laws : TreeLaws) (kept : LeavesStay) (geo : RawGeometry) (g : IsGeometry geo) (tree : Tree) (proper : IsProper tree) (can : CanBeLaid geo tree) (v1 v2 v3 : VolumeState)
+module _ (laws : TreeLaws) (kept : LeavesStay) (geo : RawGeometry) (g : IsGeometry geo) (tree : Tree) (proper : IsProper tree) (can : IsPlainTree tree) (v1 v2 v3 : VolumeState)
     (laid : LaidLeaves) (stand : StandLaid geo tree v1.holds laid)
     (unwritten : (n : ℕ) → n < geo.leb_cnt → (n < main_first geo) ⊎ (main_first geo + length laid.used.items ≤ n) → v1.holds n ≡ filled geo.leb_size [])
     (opened : (lnum : ℕ) → IsMasterLeb lnum → IsBlankLeb v2 lnum) (second : (lnum : ℕ) → (IsMasterLeb lnum → ⊥) → IsSameLeb v1 v2 lnum)

@@ -1,4 +1,5 @@
 pub mod Covered
+pub mod Refusals
 pub mod Stored
 pub mod Filled
 pub mod Whole

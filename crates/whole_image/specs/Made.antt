@@ -44,12 +44,24 @@ pub record IsMadeImage (contents : ℕ → List ℕ) (geo : RawGeometry) (uuid :
 abbrev pub most_leaf_bytes : RawGeometry → ℕ
 most_leaf_bytes geo = (main_lebs geo - 6) * (geo.leb_size - leb_reserve geo)
 
--- numbers up to 64 are used, each inode has a name, none is an attribute's, and the leaves have room
-pub record CanBeLaid (geo : RawGeometry) (tree : Tree) : Type 0 where
+-- numbers up to 64 are used, each inode has a name, and none is an attribute's
+pub record IsPlainTree (tree : Tree) : Type 0 where
   pub reserved : 64 ≤ tree.highest
   pub named : nameless tree ≡ []
   pub plain : IsTrue (list_all is_plain tree.inodes)
+
+-- the tree is such a one, and its leaves have room
+pub record CanBeLaid (geo : RawGeometry) (tree : Tree) : Type 0 where
+  pub plain_tree : IsPlainTree tree
   pub fits : tree_bytes tree ≤ most_leaf_bytes geo
+
+-- how many main LEBs an image of the tree takes with none to spare: those of its leaves, those of an index of them, and one that stays empty
+abbrev pub packed_lebs : RawGeometry → Tree → ℕ
+packed_lebs geo tree = length (packed_leaves geo.leb_size 0 (live_leaves tree)) + length (index_used geo (length (live_leaves tree))) + 1
+
+-- a volume like this one, of just as many main LEBs as an image of the tree takes; it may still have as many LEBs later
+abbrev pub packed_geometry : RawGeometry → Tree → RawGeometry
+packed_geometry geo tree = record geo { leb_cnt = main_first geo + packed_lebs geo tree }
 
 -- An index of the tree's leaves takes so many LEBs. That is more than the main LEBs that are left behind the leaves, which take LEBs as long as they fit, but for one that stays empty.
 pub record IsCrowded (geo : RawGeometry) (tree : Tree) (need room : ℕ) : Type 0 where
@@ -71,6 +83,24 @@ IsRefused geo tree (Nameless count) = (count ≡ length (nameless tree)) × (0 <
 IsRefused geo tree Attribute = list_all is_plain tree.inodes ≡ false
 IsRefused geo tree (Full need room) = (need ≡ tree_bytes tree) × (room ≡ most_leaf_bytes geo) × (room < need)
 IsRefused geo tree (Crowded need room) = IsCrowded geo tree need room
+
+-- why the main LEBs don't take a tree whose leaves they take
+abbrev pub IsOutOfLebs : RawGeometry → Tree → MakeFault → Type 0
+IsOutOfLebs geo tree Memory = ⊤
+IsOutOfLebs geo tree (Unreserved highest) = ⊥
+IsOutOfLebs geo tree (Nameless count) = ⊥
+IsOutOfLebs geo tree Attribute = ⊥
+IsOutOfLebs geo tree (Full need room) = ⊥
+IsOutOfLebs geo tree (Crowded need room) = IsCrowded geo tree need room
+
+-- why no image of a tree is made that the main LEBs take
+abbrev pub IsNotPlain : Tree → MakeFault → Type 0
+IsNotPlain tree Memory = ⊤
+IsNotPlain tree (Unreserved highest) = (highest ≡ tree.highest) × (highest < 64)
+IsNotPlain tree (Nameless count) = (count ≡ length (nameless tree)) × (0 < count)
+IsNotPlain tree Attribute = list_all is_plain tree.inodes ≡ false
+IsNotPlain tree (Full need room) = ⊥
+IsNotPlain tree (Crowded need room) = ⊥
 
 -- The leaves of the tree and an index of them stand in the main LEBs, as this tells, and in front of these nothing is written.
 pub record HoldsTree (geo : RawGeometry) (state : VolumeState) (tree : Tree) (main : FilledMain) : Type 0 where

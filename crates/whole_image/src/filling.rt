@@ -1,16 +1,19 @@
 // The main LEBs of a tree's image.
 
-ghost use Rattle.std.specs.Prelude.{◌≡◌, ◌≤◌, ◌<◌, ◌^◌, ℕ, IfOk, IfErr, OnOk};
+ghost use Rattle.std.specs.Prelude.{◌≡◌, ◌≤◌, ◌<◌, ◌^◌, ℕ, length, IfOk, IfErr, OnOk};
 ghost use Rattle.ubifs_base.specs.Areas.{main_lebs};
 ghost use Rattle.ubifs_base.specs.RawOf.{raw_of};
 ghost use Rattle.ubi_volume.specs.MemVolume.{IsBlank, state_of};
 ghost use Rattle.ubi_volume.specs.Volume.{SameShape};
+ghost use Rattle.fs_model.specs.Cover.{tree_bytes};
 ghost use Rattle.fs_model.specs.Proper.{IsProper};
 ghost use Rattle.image_maker.specs.Image.{shape_of};
+ghost use Rattle.image_maker.specs.Leaves.{live_leaves};
+ghost use Rattle.image_maker.specs.Packed.{packed_leaves};
 ghost use Rattle.ubi_volume.specs.Frame.{IsSameLeb};
 ghost use Rattle.small_areas.specs.Copies.{IsMasterLeb};
 ghost use Rattle.made_image.specs.Around.{IsBlankLeb};
-ghost use Rattle.whole_image.specs.Made.{CanBeLaid, HoldsTree, IsRefused};
+ghost use Rattle.whole_image.specs.Made.{HoldsTree, IsOutOfLebs, IsPlainTree};
 
 use crate::make_fault::MakeFault;
 use image_maker::{LaidLeaves, lay_tree};
@@ -44,12 +47,13 @@ pub(crate) fn fill_main(
     tree: &Tree,
 ) -> Result<Filling, MakeFault>
     requires volume { IsBlank (shape_of (raw_of geometry.now)) (state_of volume.old) }
-    requires main { 24 ≤ main_lebs (raw_of geometry.now) }
     requires proper { IsProper tree.now }
-    requires fits { CanBeLaid (raw_of geometry.now) tree.now }
+    requires plain { IsPlainTree tree.now }
+    requires few { tree_bytes tree.now ≤ 2 ^ 30 }
+    requires room { length (packed_leaves geometry.now.leb_size 0 (live_leaves tree.now)) < main_lebs (raw_of geometry.now) }
     ensures laid { IfOk result (λ filling. HoldsTree (raw_of geometry.now) (state_of volume.new) tree.now filling.main) }
     ensures number { IfOk result (λ filling. filling.sqnum < 2 ^ 63) }
-    ensures refused { IfErr result (IsRefused (raw_of geometry.now) tree.now) }
+    ensures refused { IfErr result (IsOutOfLebs (raw_of geometry.now) tree.now) }
     ensures shape { SameShape (state_of volume.old) (state_of volume.new) }
 {
     laid_leaves_stand();

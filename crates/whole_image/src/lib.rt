@@ -8,8 +8,10 @@ mod filling;
 mod law;
 mod make_fault;
 mod making;
+mod packing;
 mod tests_of_trees;
 
 pub use crate::law::{a_covered_tree_has_room, an_admitted_tree_fits};
 pub use crate::make_fault::MakeFault;
-pub use crate::making::make_image;
+pub use crate::making::{make_image, make_packed};
+pub use crate::packing::packed_geometry;

@@ -7,17 +7,31 @@ ghost use Rattle.ubifs_base.specs.Geometry.{leb_reserve};
 ghost use Rattle.ubifs_base.specs.RawOf.{raw_of};
 ghost use Rattle.fs_model.specs.Orphan.{nameless};
 ghost use Rattle.laid_tree.specs.Standing.{is_plain};
-ghost use Rattle.whole_image.specs.Made.{CanBeLaid, IsRefused, most_leaf_bytes};
+ghost use Rattle.whole_image.specs.Made.{CanBeLaid, IsNotPlain, IsPlainTree, IsRefused, most_leaf_bytes};
 
 use crate::make_fault::MakeFault;
 use plain_backing::Tree;
 use ubifs_base::Geometry;
 
-// Tests the tree: numbers up to 64 are reserved, each inode has a name, none is an attribute's, and its leaves have room.
+// Tests the tree and the room of its leaves.
 pub(crate) fn test_tree(geometry: &Geometry, tree: &Tree) -> Result<(), MakeFault>
     requires main { 24 ≤ main_lebs (raw_of geometry.now) }
     ensures ok { OnOk result (CanBeLaid (raw_of geometry.now) tree.now) }
     ensures err { IfErr result (IsRefused (raw_of geometry.now) tree.now) }
+{
+    test_inodes(tree)?;
+    let need = tree.bytes();
+    let room = most_bytes(geometry);
+    if need > room {
+        return Err(MakeFault::Full { need, room });
+    }
+    Ok(())
+}
+
+// Tests the tree: numbers up to 64 are reserved, each inode has a name, and none is an attribute's.
+pub(crate) fn test_inodes(tree: &Tree) -> Result<(), MakeFault>
+    ensures ok { OnOk result (IsPlainTree tree.now) }
+    ensures err { IfErr result (IsNotPlain tree.now) }
 {
     let highest = tree.highest();
     if highest < 64 {
@@ -29,11 +43,6 @@ pub(crate) fn test_tree(geometry: &Geometry, tree: &Tree) -> Result<(), MakeFaul
     }
     if !are_plain(tree) {
         return Err(MakeFault::Attribute);
-    }
-    let need = tree.bytes();
-    let room = most_bytes(geometry);
-    if need > room {
-        return Err(MakeFault::Full { need, room });
     }
     Ok(())
 }

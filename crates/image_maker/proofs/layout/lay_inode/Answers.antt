@@ -1,4 +1,4 @@
-use Rattle.std.proofs.Common.{◌≡◌, List, sym, ◌∙◌, ap, subst, arith}
+use Rattle.std.proofs.Common.{◌≡◌, List, [], ◌∷◌, sym, ◌∙◌, ap, subst, arith}
 use Rattle.std.specs.Prelude.{map}
 use Rattle.std.specs.List.{sum_by}
 use Rattle.ubifs_base.specs.RawOf.{raw_of}
@@ -9,7 +9,7 @@ use Rattle.fs_model.specs.Directory.{by_hash, entries_in}
 use Rattle.change_nodes.specs.Nodes.{node_of}
 use Rattle.image_maker.specs.Laying.{IsReady, Lays}
 use Rattle.image_maker.specs.Leaves.{inode_leaf, entry_leaf}
-use Rattle.image_maker.proofs.Ready.{second_ready, third_ready, three_laid, same_laid}
+use Rattle.image_maker.proofs.Ready.{ready_first, second_ready, third_ready, three_laid, same_laid}
 use Rattle.image_maker.proofs.TreeNodes.{sum_by-entries_in}
 use Rattle.image_maker.proofs.layout.lay_inode.Goals as goal
 
@@ -19,6 +19,14 @@ inode_leaf-requires-clause-few c =
     let less = sum_by-entries_in c.args.tree.now c.args.ino in
     let few = c.requires.few in
     omega (arith, sum, less, few)
+
+pub lay-requires-clause-ready : goal.lay-requires-clause-ready
+lay-requires-clause-ready c =
+    let raw = raw_of c.args.geometry.now in
+    let node = inode_leaf c.args.tree.now c.args.ino c.args.inode.now in
+    let same : node_of c.in_ok-leaf.leaf ≡ node = c.in_ok-leaf.ensures.node c.args.tree.now (sym (c.as_slice.ensures.value ∙ c.in_ok-entries.ensures)) in
+    let P : LeafNode → Type 0 = λ n. IsReady raw (n ∷ []) c.args.open_leb.now (state_of c.args.volume.now) in
+    subst P (sym same) (ready_first raw (node ∷ []) _ _ _ c.requires.ready)
 
 pub lay_blocks-requires : goal.lay_blocks-requires
 lay_blocks-requires c =

@@ -47,7 +47,7 @@ returns-clause-laid c =
       disjoint = c.nodes_in_order_are_apart.ensures.disjoint;
       distinct = c.nodes_in_order_are_apart.ensures.distinct;
       leaves = c.laid_lebs_have_their_properties.ensures.leaves;
-    }) c.laid_leaves_stand.ensures.kept geo c.args.geometry.now.in_range c.args.tree.now c.requires.proper c.requires.fits v1 v2 v3 laid stand
+    }) c.laid_leaves_stand.ensures.kept geo c.args.geometry.now.in_range c.args.tree.now c.requires.proper c.requires.plain v1 v2 v3 laid stand
     (c.laid_leaves_stand.ensures.unwritten geo c.args.tree.now v1.holds laid c.in_ok-leaves.ensures.laid)
     c.in_ok-open_masters.ensures.opened c.open_masters.ensures.others c.deref.result.now c.deref.ensures.value (c.main_first.result + c.len-lebs.result) _ (omega (arith, main, lebs))
     c.in_ok-index.index c.in_ok-index.ensures.laid c.lay_index.ensures.others (omega (arith, need, same, test, mains, lebs, room)) size2 (c.lay_index.ensures.shape.leb_size ∙ size2) c.highest.result c.highest.ensures

@@ -1,11 +1,16 @@
 use Rattle.ubifs_base.specs.RawOf.{raw_of}
-use Rattle.ubi_volume.specs.MemVolume.{state_of}
-use Rattle.whole_image.proofs.Whole.{is_made}
+use Rattle.whole_image.proofs.Refusals.{all_out_of_lebs, few_bytes, lebs_left}
 use Rattle.whole_image.proofs.making.make_image.Goals as goal
 
-pub returns-clause-made : goal.returns-clause-made
-returns-clause-made c =
-    let held = c.in_ok-filling.ensures.laid in
-    is_made (record { sound = c.a_laid_image_is_sound.ensures.sound; tree = c.a_laid_image_is_sound.ensures.tree; shown = c.live_nodes_are_laid_as_their_tree.ensures.tree })
-    (raw_of c.args.geometry.now) c.args.uuid.now c.args.tree.now c.requires.proper c.in_ok-filling.filling.main (state_of c.fill_main.new.volume) held
-    (state_of c.finish_image.new.volume).holds c.in_ok-filling.filling.sqnum (c.in_ok-finish_image.ensures.made held.placed held.nodes held.indexed)
+pub lay_image-requires-clause-few : goal.lay_image-requires-clause-few
+lay_image-requires-clause-few c = few_bytes (raw_of c.args.geometry.now) c.args.tree.now c.args.geometry.now.in_range c.in_ok-test_tree.ensures.ok.fits
+
+pub lay_image-requires-clause-room : goal.lay_image-requires-clause-room
+lay_image-requires-clause-room c =
+    let geo = raw_of c.args.geometry.now in
+    let ranges = c.args.geometry.now.in_range in
+    let fits = c.in_ok-test_tree.ensures.ok.fits in
+    lebs_left geo c.args.tree.now ranges c.requires.main fits (c.leaves_of_a_tree_are_few.ensures.lebs geo c.args.tree.now ranges c.requires.proper (few_bytes geo c.args.tree.now ranges fits))
+
+pub returns-clause-refused : goal.returns-clause-refused
+returns-clause-refused c = all_out_of_lebs (raw_of c.args.geometry.now) c.args.tree.now c.lay_image.result c.lay_image.ensures.refused

@@ -6,13 +6,13 @@ use Rattle.image_maker.proofs.open_leb.OpenLeb.lay.Goals as goal
 
 pub take_node-requires-clause-room : goal.take_node-requires-clause-room
 take_node-requires-clause-room c =
-    let room : HasRoom (raw_of c.args.geometry.now) c.args.self.now = ready_room (raw_of c.args.geometry.now) _ _ _ c.args.geometry.now.in_range c.requires.ready in
+    let room : HasRoom (raw_of c.args.geometry.now) c.args.self.now = ready_room (raw_of c.args.geometry.now) _ _ _ c.requires.ready in
     let lnum = room.lnum in
     omega (arith, lnum)
 
 pub take_node-requires-clause-number : goal.take_node-requires-clause-number
 take_node-requires-clause-number c =
-    let room : HasRoom (raw_of c.args.geometry.now) c.args.self.now = ready_room (raw_of c.args.geometry.now) _ _ _ c.args.geometry.now.in_range c.requires.ready in
+    let room : HasRoom (raw_of c.args.geometry.now) c.args.self.now = ready_room (raw_of c.args.geometry.now) _ _ _ c.requires.ready in
     room.sqnum
 
 pub returns-clause-laid : goal.returns-clause-laid
