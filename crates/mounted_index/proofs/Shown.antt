@@ -1,5 +1,5 @@
 -- What an index shows, by where its nodes are, and while a volume is only read.
-use Rattle.std.proofs.Common.{◌≡◌, ◌≤◌, ℕ, List, ap, sym, ◌∙◌, subst}
+use Rattle.std.proofs.Common.{◌≡◌, ℕ, List, ap, sym, ◌∙◌, subst}
 use Rattle.index_cache.specs.Paged.{fanout_of, tree_of}
 use Rattle.index_cache.specs.declared.calls.Staged.{Staged}
 use Rattle.index_cache.specs.declared.paged.PagedIndex.{PagedIndex}
@@ -13,9 +13,6 @@ use Rattle.node_table.specs.Changing.{changed_by}
 use Rattle.node_table.specs.NodeView.{tree_at}
 use Rattle.node_table.specs.Staging.{IsSoundRoot}
 use Rattle.node_table.specs.declared.change.Change.{Change}
-use Rattle.ubi_volume.specs.Geometry.{IsGeometryOf}
-use Rattle.ubifs_base.specs.RawOf.{raw_of}
-use Rattle.ubifs_base.specs.declared.geometry.Geometry.{Geometry}
 use Rattle.ubi_volume.specs.Volume.{VolumeState, Keeps, SameShape}
 use Rattle.mounted_index.specs.Shown.{IsRowOfNodes, IsStagedRow}
 use Rattle.mounted_index.specs.declared.mounted.IndexNodes.{IndexNodes}

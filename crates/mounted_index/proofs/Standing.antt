@@ -1,6 +1,6 @@
 -- After a list of changes clean nodes stand where they stood.
 use Rattle.std.proofs.Common.{◌≡◌, ℕ, ◌+◌, ◌<◌, ◌≤◌, true, List, [], ◌∷◌, length, take, drop, refl, sym, subst, arith, inl, inr}
-use Rattle.std.specs.Prelude.{◌==◌, IsTrue, Option, None, Some, slice_get}
+use Rattle.std.specs.Prelude.{IsTrue, Option, None, Some, slice_get}
 use Rattle.std.proofs.lemmas.Bool.{cases_Bool}
 use Rattle.std.proofs.lemmas.Bool.Decides.{nat_tests}
 use Rattle.ubifs_base.specs.declared.key.Key.{Key}
@@ -14,12 +14,10 @@ use Rattle.index_media.specs.KeyedRange.{pruned_by_keys, without_range_by_keys}
 use Rattle.index_media.specs.KeyedRemoval.{keyed_collapsed, removed_by_keys, replaced_by_keys, without_leaf_by_keys}
 use Rattle.index_media.specs.KeyedRow.{KeyedRow, no_more, leaf_in, node_in, bare}
 use Rattle.index_media.specs.PlacedRow.{Stretch, branches_of}
-use Rattle.index_media.specs.Stored.{IsIndexNodeAt}
 use Rattle.media_sys.specs.Index.{Index}
 use Rattle.media_sys.specs.SystemNode.{IsSystemNode, index as index_node}
 use Rattle.node_table.specs.Changing.{changed, changed_by}
 use Rattle.node_table.specs.Clean.{node_branch, placed_of}
-use Rattle.node_table.specs.Exchange.{tree_without}
 use Rattle.node_table.specs.NodeView.{NodeView, node_before, tree_at, views}
 use Rattle.node_table.specs.declared.change.Change.{Change}
 use Rattle.node_table.specs.declared.change.Change.TheVariants.{Insert, Remove, RemoveRange, Replace}

@@ -1,4 +1,4 @@
-use Rattle.std.proofs.Common.{◌≡◌, ℕ, List, [], ◌∷◌, ap, ◌∙◌, subst}
+use Rattle.std.proofs.Common.{◌≡◌, List, ap, ◌∙◌, subst}
 use Rattle.std.specs.Prelude.{IfOk, None, slice_get}
 use Rattle.index_tree.specs.Order.{leaf_rank, of_rank, placed}
 use Rattle.index_tree.specs.Shape.{Shape, contents}

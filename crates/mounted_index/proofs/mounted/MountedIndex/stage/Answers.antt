@@ -1,4 +1,4 @@
-use Rattle.std.proofs.Common.{rules, ◌≡◌, ℕ, List, ap, sym, ◌∙◌, subst}
+use Rattle.std.proofs.Common.{rules, ◌≡◌, ap, sym, ◌∙◌, subst}
 use Rattle.ubifs_base.specs.declared.geometry.Geometry.{Geometry}
 use Rattle.index_cache.specs.Paged.{fanout_of, tree_of}
 use Rattle.index_media.specs.KeyedRow.{KeyedRow}
