@@ -1,0 +1,58 @@
+use Rattle.std.proofs.Common.{rules, ◌≡◌, ap, sym, ◌∙◌, subst}
+use Rattle.ubifs_base.specs.declared.geometry.Geometry.{Geometry}
+use Rattle.index_cache.specs.Paged.{fanout_of, tree_of}
+use Rattle.index_media.specs.KeyedRow.{KeyedRow}
+use Rattle.node_table.specs.Changing.{changed_by}
+use Rattle.mounted_index.specs.Shown.{StandsIn}
+use Rattle.mounted_index.specs.declared.mounted.IndexNodes.TheVariants.{InMemory}
+use Rattle.mounted_index.proofs.Shown.{made_there, nodes_as, staged_row}
+use Rattle.mounted_index.proofs.Standing.{ChangesFit, IsFitRow, all_stand, one_at, stands_kept}
+use Rattle.mounted_index.proofs.mounted.MountedIndex.stage.Goals as goal
+
+pub returns-in_err-load-clause-staged : goal.returns-in_err-load-clause-staged
+returns-in_err-load-clause-staged g c = λ row h. record { shown = c.load.ensures.shown row h; staged = search rules; stands = λ kept stands. search rules }
+
+pub returns-in_err-staged-in-InMemory-clause-staged : goal.returns-in_err-staged-in-InMemory-clause-staged
+returns-in_err-staged-in-InMemory-clause-staged g c = λ row h.
+    let b = g.V.Volume.state c.load.new.volume in
+    let loaded = c.load.new.self in
+    let index = c.in-InMemory.index in
+    let s = c.load.ensures.shown row h in
+    let own = nodes_as b loaded.geometry.fanout row loaded.nodes (InMemory index) c.in-InMemory.is s.nodes in
+    record {
+      shown = record { nodes = (own.0 ∙ sym c.stage.ensures.tree, c.stage.ensures.kept.fanout ∙ own.1); kept = s.kept };
+      staged = search rules;
+      stands = λ kept stands. search rules;
+    }
+
+pub returns-in_ok-staged-in-InMemory-clause-staged : goal.returns-in_ok-staged-in-InMemory-clause-staged
+returns-in_ok-staged-in-InMemory-clause-staged g c = λ row h.
+    let a = g.V.Volume.state c.args.volume.now in
+    let b = g.V.Volume.state c.load.new.volume in
+    let loaded = c.load.new.self in
+    let f = c.args.self.now.geometry.fanout in
+    let changes = c.args.changes.now in
+    let index = c.in-InMemory.index in
+    let new = c.stage.new.self in
+    let s = c.load.ensures.shown row h in
+    let own = nodes_as b loaded.geometry.fanout row loaded.nodes (InMemory index) c.in-InMemory.is s.nodes in
+    let same : loaded.geometry.fanout ≡ f = ap (λ (geo : Geometry). geo.fanout) c.load.ensures.geometry in
+    let sound = c.trees_are_sound.ensures in
+    let laws : ChangesFit = record {
+      removed = c.a_removal_keeps_what_nodes_are.ensures.children;
+      removed_number = c.a_removal_keeps_what_nodes_are.ensures.number;
+      replaced = c.a_replacement_keeps_what_nodes_are.ensures.children;
+      replaced_number = c.a_replacement_keeps_what_nodes_are.ensures.number;
+      pruned = c.a_range_removal_keeps_what_nodes_are.ensures.children;
+      pruned_number = c.a_range_removal_keeps_what_nodes_are.ensures.number;
+    } in
+    record {
+      shown = record { nodes = (own.0 ∙ sym c.stage.ensures.tree, c.stage.ensures.kept.fanout ∙ own.1); kept = s.kept };
+      staged = record { nodes = staged_row f loaded.geometry.fanout row changes index new c.in_ok-staged-in-InMemory.staged same own c.in_ok-staged-in-InMemory.ensures.made c.stage.ensures.kept.fanout c.in_ok-staged-in-InMemory.ensures.root; kept = s.kept };
+      stands = λ kept stands.
+          let S : KeyedRow → Type 0 = λ r. StandsIn a kept r in
+          let M : KeyedRow → Type 0 = λ r. StandsIn b kept r in
+          let fit : IsFitRow (fanout_of index) (tree_of index) = record { sound = sound.fits; one = one_at index.table.nodes.items index.root } in
+          let after = all_stand c.changes_keep_what_stands.ensures.changed laws a kept (fanout_of index) changes (tree_of index) sound.least fit (subst S own.0 stands) in
+          subst M (sym (made_there f loaded.geometry.fanout row changes index same own)) (stands_kept a b kept (changed_by (fanout_of index) changes (tree_of index)) c.load.ensures.reads.keeps c.load.ensures.reads.shape after);
+    }
