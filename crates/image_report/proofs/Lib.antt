@@ -1,3 +1,4 @@
 pub mod Contents
 pub mod OneTold
 pub mod OneFault
+pub mod Laid

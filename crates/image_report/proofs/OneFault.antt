@@ -16,10 +16,10 @@ use Rattle.sound_image.specs.Breaches.{IsFirstBreach}
 use Rattle.sound_image.specs.Wrong.{needs}
 use Rattle.sound_image.specs.declared.breach.Breach.{Breach}
 use Rattle.sound_image.specs.declared.breach.Breach.TheVariants.{Super as InSuper, Feature as NeedsOne, NoMaster}
-use Rattle.image_dump.specs.Opening.{HasGeometry, HasVolume, IsFaulty, contents_of}
+use Rattle.image_dump.specs.Opening.{HasGeometry, IsFaulty, contents_of}
 use Rattle.image_dump.specs.declared.fault.ImageFault.{ImageFault}
 use Rattle.image_dump.specs.declared.fault.ImageFault.TheVariants as fault
-use Rattle.image_report.specs.Lines.{breach_line, breach_words, fault_line, fault_words}
+use Rattle.image_report.specs.Lines.{breach_line, breach_words, fault_words}
 use Rattle.image_report.specs.Told.{IsUnsound}
 use Rattle.image_report.proofs.OneTold.{NeverFaulty, OneShape, contents_bytes}
 

@@ -41,7 +41,7 @@ erased_bytes : (n : ℕ) → IsBytes (replicate n 255)
 erased_bytes zero = λ i. omega arith
 erased_bytes (suc n) = cons_bytes 255 (replicate n 255) (omega arith) (erased_bytes n)
 
-joined_bytes : (front back : List ℕ) → IsBytes front → IsBytes back → IsBytes (front ++ back)
+pub joined_bytes : (front back : List ℕ) → IsBytes front → IsBytes back → IsBytes (front ++ back)
 joined_bytes [] back a b = b
 joined_bytes (x ∷ front) back a b = cons_bytes x (front ++ back) (a 0) (joined_bytes front back (λ i. a (suc i)) b)
 

@@ -1,3 +1,4 @@
+pub mod Lebs
 pub mod Lines
 pub mod Looked
 pub mod Told

@@ -11,7 +11,9 @@ mod law;
 mod looking;
 mod sound_line;
 mod texts;
+mod volume_law;
 
 pub use crate::files::{ImageFiles, image_files};
 pub use crate::law::one_text_is_told;
 pub use crate::texts::{ImageText, check_text, dump_text};
+pub use crate::volume_law::{bytes_hold_one_tree, the_bytes_of_a_volume_hold_what_it_holds};

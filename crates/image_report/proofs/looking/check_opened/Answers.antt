@@ -1,5 +1,5 @@
 use Rattle.std.specs.Prelude.{Err}
-use Rattle.std.proofs.Common.{◌≡◌, ◌∙◌, ap, sym, inl, inr, subst}
+use Rattle.std.proofs.Common.{◌≡◌, ◌∙◌, ap, inl, inr, subst}
 use Rattle.ubifs_base.specs.RawOf.{raw_of}
 use Rattle.image_volume.specs.ImageVolume.{state_of}
 use Rattle.image_volume.specs.ImageVolumeLaws.{never_spent}
