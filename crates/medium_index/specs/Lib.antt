@@ -1,2 +1,0 @@
-pub mod OnMedium
-pub mod OnMediumLaws
