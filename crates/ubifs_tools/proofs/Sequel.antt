@@ -1,23 +1,29 @@
 -- Where a run begins that is given what another left.
-use Rattle.std.proofs.Common.{◌≡◌, ℕ, cond, Bool, true, false, List, [], ◌∷◌, get_or, map, refl, ap, sym, subst, ◌∙◌, inl, inr, arith, take}
+use Rattle.std.proofs.Common.{◌≡◌, ℕ, cond, Bool, true, false, Option, Some, List, [], ◌∷◌, get_or, map, refl, ap, sym, subst, ◌∙◌, inl, inr, arith, take}
 use Rattle.std.specs.Prelude.{IsTrue, codes, filter, is_some}
 use Rattle.std.specs.BTreeMap.{is_at}
 use Rattle.std.specs.List.{list_all, list_any}
 use Rattle.std.specs.Map.{keys_of}
+use Rattle.std.specs.Option.{unwrap_or}
 use Rattle.std.specs.Ordering.{nat_cmp}
+use Rattle.std.specs.Str.{bytes_eq}
 use Rattle.std.proofs.lemmas.List.{take-take}
+use Rattle.std.proofs.lemmas.Map.{update_same}
 use Rattle.std.proofs.lemmas.Map.Made.{is_some-lookup}
+use Rattle.std.proofs.lemmas.Slice.Eq.{bytes_eq-Decides}
 use Rattle.ubifs_base.specs.NodeLaws.{IsBytes}
 use Rattle.ubifs_base.specs.declared.raw_geometry.RawGeometry.{RawGeometry}
 use Rattle.ubi_volume.specs.Volume.{image_of}
-use Rattle.fs_model.specs.Files.{Blocks, Files, Handles, Inodes, Tree, inode_at}
+use Rattle.fs_model.specs.Files.{Blocks, Handles, Inodes, Tree, inode_at}
 use Rattle.fs_model.specs.Same.{IsSame}
 use Rattle.image_report.specs.Lebs.{AreLebsOf, AreSoundLebs}
 use Rattle.image_report.specs.Told.{HoldsFiles}
+use Rattle.io_edges.specs.Keeper.{KeeperState, SetsFile}
 use Rattle.script_text.specs.declared.part.Part.{Part}
 use Rattle.tree_nodes.specs.Stored.{as_stored, is_owned, stored_tree}
 use Rattle.whole_image.specs.Made.{IsMadeImage}
-use Rattle.ubifs_tools.specs.Command.{IsLeftImage, no_identifier}
+use Rattle.ubifs_tools.specs.Command.{IsLeftImage, Told, no_identifier}
+use Rattle.ubifs_tools.specs.Ended.{IsFinished}
 use Rattle.ubifs_tools.specs.RunCommand.{BeginsAsManifest, IsRunOf, IsVolumeOf, files_left}
 
 -- what the crates below say of the bytes of a volume, and of a stored tree
@@ -97,6 +103,21 @@ pub left_only : HoldFiles → AreBytes → BeginWithMagic → HoldOneTree → (g
 left_only hold bytes magic one geo other tree files parts text image ended volume =
     let P : List ℕ → Type 0 = λ b. IsBytes b in
     one_volume one image geo other (files_left ended.run) files (subst P (sym ended.image_is) (bytes ended.holds geo ended.lebs)) (left_holds hold magic geo tree parts text image ended) volume
+
+-- a file that was written is read as it was written
+read_back : (old mid : KeeperState) (name written read : List ℕ) → IsTrue old.tells → IsTrue mid.tells → (IsTrue old.tells → SetsFile old name written mid) → Told mid name read → read ≡ written
+read_back old mid name written read tells still sets told =
+    let set = sets tells name ∙ update_same bytes_eq old.content name (Some written) name ((bytes_eq-Decides name name).1 refl) in
+    ap (λ (file : Option (List ℕ)). unwrap_or file []) (sym (told still) ∙ set)
+
+-- So a run on the file to which another's image was written begins with its files.
+pub next_begins : HoldFiles → AreBytes → BeginWithMagic → HoldOneTree → (old mid new : KeeperState) (manifest script image other_script other_image text more : List ℕ) → IsTrue old.tells → IsTrue mid.tells
+    → (first : IsFinished old mid manifest script image text) (second : IsFinished mid new image other_script other_image more)
+    → (second.done.geo ≡ first.done.geo) × (second.done.tree ≡ files_left first.done.run.run)
+next_begins hold bytes magic one old mid new manifest script image other_script other_image text more tells still first second =
+    let same = read_back old mid image first.bytes second.texts.0 tells still first.written second.read.manifest_told in
+    let P : List ℕ → Type 0 = λ b. IsVolumeOf b second.done.geo second.done.tree in
+    left_only hold bytes magic one first.done.geo second.done.geo first.done.tree second.done.tree first.done.parts text first.bytes first.done.run (subst P same second.done.volume)
 
 -- To every caller a stored tree is the tree without blocks of no inode.
 pub left_same : StoredIsSame → (tree : Tree) (handles : Handles)
