@@ -7,7 +7,6 @@ use Rattle.media_sys.specs.Features.{features_of, first_of, has_flags, is_known_
 use Rattle.media_sys.specs.declared.feature.Feature.{Feature}
 use Rattle.media_sys.specs.declared.feature.Feature.TheVariants.{KeyHash, KeyFmt, Version, Heads, DoubleHash, Encryption, Authentication, Flags, BigModel}
 use Rattle.media_sys.specs.declared.super_node.Super.{Super}
-use Rattle.fs_model.specs.declared.space.Class.{Class}
 use Rattle.fs_model.specs.declared.space.Class.TheVariants.{Ordinary, Removal}
 use Rattle.fs_model.specs.Files.{Tree}
 use Rattle.script_text.specs.declared.fault.TextFault.{TextFault}

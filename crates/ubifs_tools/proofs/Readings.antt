@@ -1,13 +1,12 @@
 -- What the keeper has of files, over readings of it.
 use Rattle.std.proofs.Common.{◌≡◌, List, ℕ, [], ◌∷◌, ◌++◌, ◌⊎◌, inl, inr, refl, sym, subst, ◌∙◌, arith, length}
-use Rattle.std.specs.Prelude.{IsTrue}
 use Rattle.std.proofs.lemmas.List.{append-nil}
 use Rattle.ubifs_base.specs.Faults.{Rose, Rose-before}
 use Rattle.manifest_tree.specs.CopiedFiles.{IsNamedManifest, with_files}
 use Rattle.manifest_tree.specs.declared.copied.CopiedFile.{CopiedFile}
 use Rattle.script_text.specs.declared.manifest.Manifest.{Manifest}
 use Rattle.fs_model.specs.Files.{Tree}
-use Rattle.io_edges.specs.Keeper.{KeeperState, SameFiles}
+use Rattle.io_edges.specs.Keeper.{KeeperState}
 use Rattle.ubifs_tools.specs.Command.{IsMissing, Told}
 use Rattle.ubifs_tools.specs.Copies.{AreCopiesTold, ComesTo, CopiesFile, FilesStay, IsFilledManifest, IsUnfilled, IsUnreadCopy}
 use Rattle.ubifs_tools.specs.Making.{HasNoImage, IsMadeOf, IsMkfsUnread, ReadsCopy}

@@ -11,6 +11,7 @@ use Rattle.fs_model.specs.declared.refusal.NoSpace.{NoSpace}
 use Rattle.fs_model.specs.declared.space.Class.{Class}
 use Rattle.fs_model.specs.declared.space.Class.TheVariants.{Ordinary, Removal}
 use Rattle.fs_model.specs.Files.{Tree}
+use Rattle.image_report.specs.Lebs.{AreLebsOf}
 use Rattle.image_report.specs.Told.{HoldsFiles, IsUnsound}
 use Rattle.script_text.specs.declared.part.Part.{Part}
 use Rattle.script_text.specs.declared.manifest.Manifest.{Manifest}
@@ -20,6 +21,7 @@ use Rattle.script_run.specs.declared.whole.Run.{Run}
 use Rattle.script_run.specs.Opening.{HasNoRoomFor}
 use Rattle.script_run.specs.Played.{IsPlayed}
 use Rattle.text_lines.specs.Lines.{line_of}
+use Rattle.tree_nodes.specs.Stored.{stored_tree}
 use Rattle.tree_space.specs.Laid.{laid_weight}
 use Rattle.ubifs_tools.specs.Command.{IsLeftImage, bad_line, field_name, geometry_of}
 use Rattle.ubifs_tools.specs.Making.{IsBadTree}
@@ -83,6 +85,7 @@ pub record IsRunOf (geo : RawGeometry) (tree : Tree) (parts : List Part) (text i
   pub text_is : text ≡ run.text.items
   pub holds : ℕ → List ℕ
   pub image_left : IsLeftImage geo run.tree holds
+  pub lebs : AreLebsOf holds geo
   pub image_is : image ≡ image_of holds geo.leb_cnt
 
 -- The work was done: the volume is a manifest or a sound image, the script is in its grammar, and it was run from the volume's tree on.
@@ -93,3 +96,7 @@ pub record IsDone (texts : List ℕ × List ℕ) (text image : List ℕ) : Type 
   pub volume : IsVolumeOf texts.0 geo tree
   pub script : IsScript texts.1 parts
   pub run : IsRunOf geo tree parts text image
+
+-- The files that a run leaves, as its image says them: each directory has the links and the size that are reckoned, and a block of no inode isn't there.
+abbrev pub files_left : Run → Tree
+files_left run = stored_tree run.tree

@@ -7,6 +7,7 @@ ghost use Rattle.ubi_volume.specs.MemVolume.{IsBlank, state_of};
 ghost use Rattle.ubi_volume.specs.Volume.{image_of};
 ghost use Rattle.fs_model.specs.Proper.{IsProper};
 ghost use Rattle.image_maker.specs.Image.{shape_of};
+ghost use Rattle.image_report.specs.Lebs.{AreLebsOf};
 ghost use Rattle.whole_image.specs.Made.{IsCoveredTree};
 ghost use Rattle.ubifs_tools.specs.Command.{IsLeftImage};
 
@@ -28,7 +29,7 @@ pub(crate) fn image_bytes(
     requires small { geometry.now.big ≡ false }
     requires covered { IsCoveredTree (raw_of geometry.now) tree.now }
     ensures { IfOk result (λ image. (holds : ℕ → List ℕ) × IsLeftImage (raw_of geometry.now) tree.now holds
-        × (image.items ≡ image_of holds geometry.now.leb_cnt)) }
+        × AreLebsOf holds (raw_of geometry.now) × (image.items ≡ image_of holds geometry.now.leb_cnt)) }
 {
     a_covered_tree_has_room();
     let mut volume = blank_volume(alloc, geometry)?;

@@ -6,10 +6,12 @@ mod command;
 mod copies;
 mod image;
 mod image_command;
+mod laws;
 mod mkfs;
 mod perform;
 mod top;
 mod words;
 
 pub use crate::image_command::ImageCommand;
+pub use crate::laws::a_run_begins_where_another_ended;
 pub use crate::top::ubifs;

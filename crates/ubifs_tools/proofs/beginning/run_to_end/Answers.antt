@@ -21,6 +21,7 @@ returns c =
       text_is = refl;
       holds = laid.0;
       image_left = laid.1;
-      image_is = laid.2;
+      lebs = laid.2;
+      image_is = laid.3;
     } in
     λ class. done
