@@ -1,4 +1,4 @@
-use Rattle.std.proofs.Common.{◌∙◌, subst, inl, inr}
+use Rattle.std.proofs.Common.{◌∙◌, subst, inl}
 use Rattle.ubifs_base.specs.declared.raw_geometry.RawGeometry.{RawGeometry}
 use Rattle.ubifs_base.specs.GeometryFaults.{IsFirstOut, tested_fields}
 use Rattle.ubifs_base.specs.RawOf.{raw_of}
