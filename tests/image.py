@@ -1,7 +1,7 @@
 #!/usr/bin/env python3
 """Writes to standard output the image that a run is to leave.
 
-Words: a manifest, whose first line may have further sizes SIZE=VALUE as tests/flash.py does, and a description of the tree, with the lines
+Words: a manifest, whose first line may have further sizes SIZE=VALUE as tests/flash.py does, or the word `packed`, and a description of the tree, with the lines
 
     inode INO KIND MODE NLINK SIZE TIMES [TARGET]
     entry DIR NAME INO KIND
@@ -81,16 +81,27 @@ def leaves_of(inodes, entries, blocks):
     return leaves
 
 
+def lebs_of(leaves, leb_size, **sizes):
+    """The main LEBs that leaves and their index take, laid into as many as there are leaves and nodes at most, and one that stays empty."""
+    content = volume.Content(volume.Shape(2 * len(leaves) + 2, leb_size=leb_size, **sizes), leaves, [], [])
+    medium = volume.Medium(content.shape)
+    index, _ = volume.lay_index(medium, content, volume.lay_leaves(medium, content).lnum)
+    return index.lnum - content.shape.main_first + 1
+
+
 def main():
     manifest, description = sys.argv[1:]
     with open(manifest) as text:
         _, *words = text.readline().split()
-    leb_size, unit, lebs, fanout = (int(word) for word in words if "=" not in word)
+    leb_size, unit, lebs, fanout = (int(word) for word in words if word.isdigit())
     sizes = {name: int(value) for name, value in (word.split("=") for word in words if "=" in word)}
     with open(description) as text:
         inodes, entries, blocks, highest = tree_of(text)
-    shape = volume.Shape(lebs, leb_size=leb_size, unit=unit, fanout=fanout, **sizes)
-    content = volume.Content(shape, leaves_of(inodes, entries, blocks), [], [], superblock_last=True, highest=highest)
+    leaves = leaves_of(inodes, entries, blocks)
+    sizes.update(leb_size=leb_size, unit=unit, fanout=fanout)
+    if words[-1] == "packed":
+        lebs, sizes["max_main"] = lebs_of(leaves, **sizes), lebs
+    content = volume.Content(volume.Shape(lebs, **sizes), leaves, [], [], superblock_last=True, highest=highest)
     medium, _ = volume.lay(content)
     sys.stdout.buffer.write(medium.image)
 

@@ -1,5 +1,5 @@
 -- What the command `mkfs` answers, over the files that it is given.
-use Rattle.std.specs.Prelude.{◌≡◌, ◌⊎◌, ℕ, ◌<◌, ◌≤◌, IsTrue, List, [], ◌∷◌, codes}
+use Rattle.std.specs.Prelude.{◌≡◌, ◌⊎◌, ℕ, ◌<◌, ◌≤◌, false, IsTrue, if◌then◌else◌, List, [], ◌∷◌, codes}
 use Rattle.std.specs.Fmt.{decimal}
 use Rattle.ubifs_base.specs.Faults.{Rose}
 use Rattle.ubifs_base.specs.Geometry.{IsGeometry}
@@ -13,7 +13,7 @@ use Rattle.fs_model.specs.Proper.{IsProper}
 use Rattle.script_text.specs.declared.manifest.Manifest.{Manifest}
 use Rattle.manifest_tree.specs.ManifestTree.{IsFirstBadTreeLine}
 use Rattle.tree_space.specs.Laid.{IsAdmitted, bytes_needed, bytes_of_room}
-use Rattle.whole_image.specs.Made.{IsMadeImage}
+use Rattle.whole_image.specs.Made.{IsMadeImage, packed_geometry}
 use Rattle.io_edges.specs.Keeper.{KeeperState, SameFiles, SetsFile}
 use Rattle.ubifs_tools.specs.Copies.{CopiesFile, IsFilledManifest, IsUnfilled}
 use Rattle.ubifs_tools.specs.Command.{IsFileName, IsMissing, Told, bad_line, field_name, file_line, geometry_of, no_identifier}
@@ -48,36 +48,50 @@ pub record IsTooFull (geo : RawGeometry) (tree : Tree) (line : List ℕ) : Type 
   pub more : bytes_of_room geo tree < bytes_needed geo tree
   pub line_is : line ≡ line_of (codes "full" ∷ decimal (bytes_needed geo tree) ∷ decimal (bytes_of_room geo tree) ∷ [])
 
--- Admission takes the tree. The image's bytes are those of a volume that holds a sound image of exactly this tree, and the line tells how many LEBs that are.
+-- The image's bytes are those of a volume that holds a sound image of exactly this tree, and the line tells how many LEBs that are.
 pub record IsToldImage (geo : RawGeometry) (tree : Tree) (told image : List ℕ) : Type 0 where
-  pub admitted : IsAdmitted geo tree
   pub holds : ℕ → List ℕ
   pub made : IsMadeImage holds geo no_identifier tree
   pub image_is : image ≡ image_of holds geo.leb_cnt
   pub told_is : told ≡ line_of (codes "made" ∷ decimal geo.leb_cnt ∷ [])
 
--- The text is a manifest whose files were read, but its geometry has a field out of range, or fewer than 24 main LEBs, or admission refuses the tree.
+-- the geometry of the image that is made of a manifest: of just as many main LEBs as its tree takes, if it says `packed`, and else of as many as it says
+abbrev pub made_geometry : Manifest → Tree → RawGeometry
+made_geometry volume tree = if volume.packed then packed_geometry (geometry_of volume) tree else geometry_of volume
+
+-- the first field of a geometry that is out of its range, and the line that tells it
+abbrev pub IsOutOfRange : RawGeometry → List ℕ → Type 0
+IsOutOfRange geo line = (fault : GeomFault) × IsFirstOut geo tested_fields fault × (line ≡ line_of (codes "geometry" ∷ field_name fault.field ∷ decimal fault.value ∷ []))
+
+-- The text is a manifest whose files were read, but its geometry has a field out of range. Or the image's geometry has, if it says `packed`; if it doesn't, it has fewer than 24
+-- main LEBs, or admission refuses the tree.
 pub record HasNoImage (files : KeeperState) (text line : List ℕ) : Type 0 where
   pub volume : Manifest
   pub tree : Tree
   pub is : IsFilledManifest files text volume tree
-  pub why : ((fault : GeomFault) × IsFirstOut (geometry_of volume) tested_fields fault × (line ≡ line_of (codes "geometry" ∷ field_name fault.field ∷ decimal fault.value ∷ [])))
-      ⊎ (IsGeometry (geometry_of volume) × (volume.main < 24) × (line ≡ line_of (codes "small" ∷ decimal volume.main ∷ codes "24" ∷ [])))
-      ⊎ (IsGeometry (geometry_of volume) × (24 ≤ volume.main) × IsTooFull (geometry_of volume) tree line)
+  pub why : IsOutOfRange (geometry_of volume) line
+      ⊎ (IsGeometry (geometry_of volume) × IsTrue volume.packed × IsOutOfRange (packed_geometry (geometry_of volume) tree) line)
+      ⊎ (IsGeometry (geometry_of volume) × (volume.packed ≡ false) × (volume.main < 24) × (line ≡ line_of (codes "small" ∷ decimal volume.main ∷ codes "24" ∷ [])))
+      ⊎ (IsGeometry (geometry_of volume) × (volume.packed ≡ false) × (24 ≤ volume.main) × IsTooFull (geometry_of volume) tree line)
 
 -- An image of a tree was made, and the line tells how many LEBs it has; or admission refuses the tree.
 abbrev pub IsImageMade : RawGeometry → Tree → Performed → Type 0
 IsImageMade geo tree (performed.BadGeometry line) = IsTooFull geo tree line.items
-IsImageMade geo tree (performed.Done told image) = IsToldImage geo tree told.items image.items
+IsImageMade geo tree (performed.Done told image) = IsAdmitted geo tree × IsToldImage geo tree told.items image.items
 
--- the text is a manifest whose files were read, and an image of its tree was made
+-- An image of a tree was made on a volume with no LEB to spare, and the line tells how many LEBs it has; or that volume has a field out of range.
+abbrev pub IsPackedMade : RawGeometry → Tree → Performed → Type 0
+IsPackedMade geo tree (performed.BadGeometry line) = IsOutOfRange (packed_geometry geo tree) line.items
+IsPackedMade geo tree (performed.Done told image) = IsToldImage (packed_geometry geo tree) tree told.items image.items
+
+-- The text is a manifest whose files were read, and an image of its tree was made. If it doesn't say `packed`, it has 24 main LEBs at least, and admission takes the tree.
 pub record IsMadeOf (files : KeeperState) (text told image : List ℕ) : Type 0 where
   pub volume : Manifest
   pub tree : Tree
   pub is : IsFilledManifest files text volume tree
   pub geometry : IsGeometry (geometry_of volume)
-  pub main : 24 ≤ volume.main
-  pub made : IsToldImage (geometry_of volume) tree told image
+  pub roomy : volume.packed ≡ false → (24 ≤ volume.main) × IsAdmitted (geometry_of volume) tree
+  pub made : IsToldImage (made_geometry volume tree) tree told image
 
 -- what became of a manifest's text and of the files that it copies
 abbrev pub IsFilledAs : KeeperState → KeeperState → List ℕ → Filled → Type 0

@@ -10,7 +10,7 @@ ghost use Rattle.fs_model.specs.Proper.{IsProper};
 ghost use Rattle.io_edges.specs.Keeper.{KeeperState, SameFiles};
 ghost use Rattle.tree_space.specs.Laid.{IsAdmitted};
 ghost use Rattle.ubifs_tools.specs.Copies.{FilesStay, IsFilledManifest};
-ghost use Rattle.ubifs_tools.specs.Making.{IsFilledAs, IsImageMade, IsMkfsMade, IsMkfs, IsMkfsEnded};
+ghost use Rattle.ubifs_tools.specs.Making.{IsFilledAs, IsImageMade, IsMkfsMade, IsMkfs, IsMkfsEnded, IsPackedMade};
 
 use crate::command::{Ended, unread};
 use crate::copies::{Copies, read_copies};
@@ -25,7 +25,7 @@ use text_lines::{line_of_three, line_of_two};
 use tree_space::tree_room;
 use ubi_volume::save_image;
 use ubifs_base::{Geometry, Memory, RawGeometry};
-use whole_image::{MakeFault, an_admitted_tree_fits, make_image};
+use whole_image::{MakeFault, an_admitted_tree_fits, make_image, make_packed, packed_geometry};
 
 /// A manifest whose files were read, or a line that says why it isn't one, or which file wasn't read.
 #[derive(Drop)]
@@ -91,7 +91,7 @@ pub(crate) fn mkfs<K: Keeper>(
     }
 }
 
-// Reads a manifest's text and the files that it copies. One whose main area is to be packed is answered by want of memory.
+// Reads a manifest's text and the files that it copies.
 fn fill_manifest<K: Keeper>(alloc: Global, text: &[u8], keeper: &mut K) -> Result<Filled, Memory>
     ensures stay { FilesStay (K.state keeper.old) (K.state keeper.new) }
     ensures filled { IfOk result (IsFilledAs (K.state keeper.old) (K.state keeper.new) text.now) }
@@ -103,9 +103,6 @@ fn fill_manifest<K: Keeper>(alloc: Global, text: &[u8], keeper: &mut K) -> Resul
             return Ok(Filled::BadText { line });
         }
     };
-    if named.volume.packed {
-        return Err(Memory);
-    }
     match read_copies(alloc, &named.copied, keeper)? {
         Copies::Unread { line } => Ok(Filled::Unread { line }),
         Copies::Read { files } => {
@@ -134,6 +131,9 @@ fn make(alloc: Global, made: &MadeManifest) -> Result<Performed, Memory>
             return Ok(Performed::BadGeometry { line });
         }
     };
+    if volume.packed {
+        return packed_image(alloc, &geometry, &made.tree);
+    }
     if volume.main < 24 {
         let line = small_line(alloc, volume.main)?;
         return Ok(Performed::BadGeometry { line });
@@ -174,6 +174,32 @@ fn image_of_tree(alloc: Global, geometry: &Geometry, tree: &Tree) -> Result<Perf
         }
         Err(MakeFault::Full { .. }) => unreachable!(),
         Err(MakeFault::Crowded { .. }) => unreachable!(),
+        Err(_fault) => Err(Memory),
+    }
+}
+
+// The image of a tree on a volume like this one with no LEB to spare, or the line for one that would have too many. Nothing else is tested. The
+// identifier is zeros.
+fn packed_image(alloc: Global, geometry: &Geometry, tree: &Tree) -> Result<Performed, Memory>
+    requires proper { IsProper tree.now }
+    requires small { geometry.now.big ≡ false }
+    ensures { IfOk result (IsPackedMade (raw_of geometry.now) tree.now) }
+{
+    let raw = packed_geometry(alloc, geometry, tree)?;
+    let geometry = match Geometry::new(&raw) {
+        Ok(geometry) => geometry,
+        Err(fault) => {
+            let line = bad_geometry_line(alloc, fault)?;
+            return Ok(Performed::BadGeometry { line });
+        }
+    };
+    let mut volume = blank_volume(alloc, &geometry)?;
+    match make_packed(alloc, &mut volume, &geometry, tree, &[0; 16]) {
+        Ok(()) => {
+            let image = save_image(alloc, &volume)?;
+            let text = made_line(alloc, geometry.leb_cnt)?;
+            Ok(Performed::Done { text, image })
+        }
         Err(_fault) => Err(Memory),
     }
 }
