@@ -1,6 +1,6 @@
 // A manifest, read whole.
 
-ghost use Rattle.std.specs.Prelude.{◌≡◌, ℕ, List, IfOk, IfErr};
+ghost use Rattle.std.specs.Prelude.{◌≡◌, ℕ, false, List, IfOk, IfErr};
 ghost use Rattle.fs_model.specs.Files.{Tree as AnyTree};
 ghost use Rattle.fs_model.specs.Proper.{IsProper};
 ghost use Rattle.script_text.specs.Script.{OnLine};
@@ -62,6 +62,7 @@ pub fn read_names(alloc: Global, bytes: &[u8]) -> Result<NamedManifest, TextFaul
 pub fn read_tree(alloc: Global, bytes: &[u8]) -> Result<MadeManifest, TextFault>
     ensures made { IfOk result (λ m. IsTreeManifest bytes.now m.volume m.tree) }
     ensures proper { IfOk result (λ m. IsProper m.tree) }
+    ensures plain { IfOk result (λ m. m.volume.packed ≡ false) }
     ensures line { IfErr result (λ fault. OnLine fault (IsFirstBadTreeLine bytes.now)) }
 {
     let named = read_names(alloc, bytes)?;

@@ -48,9 +48,10 @@ are_on_medium (InMemory index) = false
 abbrev pub on_volume_alone : MountedIndex → Bool
 on_volume_alone index = are_on_medium index.nodes
 
--- an index shows over a volume what it showed before, and nothing of it was loaded, or let go
+-- an index shows over a volume what it showed before, once changes are adopted too, and nothing of it was loaded, or let go
 pub record KeepsShown (old new : VolumeState) (before after : MountedIndex) : Type 0 where
   pub shown : (row : KeyedRow) → Shows old before row → Shows new after row
+  pub staged : (staged : Staged) (row : KeyedRow) → ShowsStaged old before staged row → ShowsStaged new after staged row
   pub alone : on_volume_alone after ≡ on_volume_alone before
   pub geometry : after.geometry ≡ before.geometry
 

@@ -1,7 +1,10 @@
 // A caller of several calls, proved from their contracts alone.
 
-ghost use Rattle.std.specs.Prelude.{◌≡◌, IfOk, slice_get};
+ghost use Rattle.std.specs.Prelude.{◌≡◌, IfOk, OnOk, slice_get};
 ghost use Rattle.ubifs_base.specs.Key.{IsKey};
+ghost use Rattle.index_media.specs.KeyedRow.{KeyedRow};
+ghost use Rattle.mounted_index.specs.Shown.{Shows};
+ghost use Rattle.node_table.specs.Changing.{AreChanges, changed_by};
 ghost use Rattle.index_tree.specs.Order.{leaf_rank, of_rank, placed};
 ghost use Rattle.index_tree.specs.Shape.{contents};
 ghost use Rattle.index_media.specs.PlacedRow.{PlacedRow, plain};
@@ -14,7 +17,7 @@ use media_sys::Branch;
 use node_table::Change;
 use std::alloc::Global;
 use ubi_volume::{AreaFault, Volume};
-use ubifs_base::Geometry;
+use ubifs_base::{Geometry, Key};
 
 /// Takes up the index that stands on a volume, puts a leaf, and looks the leaf's key up: it answers the first leaf of that key, of the
 /// leaves of before and the one that came.
@@ -35,4 +38,24 @@ pub fn put_and_find<V: Volume>(
     let changes: &[Change] = &[Change::Insert(leaf)];
     index.change(alloc, volume, changes)?;
     index.find(alloc, volume, &leaf.key, 0)
+}
+
+/// Stages changes, looks a key up, lets the nodes go that look-ups keep, and adopts what was staged.
+pub fn stage_look_adopt<V: Volume>(
+    alloc: Global,
+    volume: &mut V,
+    index: &mut MountedIndex,
+    changes: &[Change],
+    key: &Key,
+) -> Result<(), AreaFault>
+    requires shown { (row : KeyedRow) × Shows (V.state volume.old) index.old row }
+    requires changes { AreChanges changes.now }
+    ensures adopted { (row : KeyedRow) → Shows (V.state volume.old) index.old row
+        → OnOk result (Shows (V.state volume.new) index.new (changed_by index.old.geometry.fanout changes.now row)) }
+{
+    let staged = index.stage(alloc, volume, changes)?;
+    let _ = index.find(alloc, volume, key, 0);
+    index.clear_cache(volume);
+    index.adopt(volume, staged);
+    Ok(())
 }

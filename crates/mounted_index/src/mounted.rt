@@ -4,7 +4,8 @@ ghost use Rattle.std.specs.Prelude.{◌≡◌, ◌≤◌, true, IfOk};
 ghost use Rattle.index_media.specs.KeyedRow.{KeyedRow, all_clean};
 ghost use Rattle.index_media.specs.PlacedRow.{PlacedRow};
 ghost use Rattle.node_cache.specs.Loaded.{IsIndexOn};
-ghost use Rattle.mounted_index.specs.Shown.{IsTakenUp, Shows, on_volume_alone};
+ghost use Rattle.index_cache.specs.declared.calls.Staged.{Staged as AStaged};
+ghost use Rattle.mounted_index.specs.Shown.{IsStagedRow, IsTakenUp, Shows, ShowsStaged, on_volume_alone};
 
 use index_cache::PagedIndex;
 use media_sys::Branch;
@@ -74,6 +75,7 @@ impl MountedIndex {
     /// before the next look-up: what is kept might be of these LEBs.
     pub fn clear_cache<V: Volume>(&mut self, volume: &V)
         ensures shown { (row : KeyedRow) → IsTakenUp (V.state volume.now) self.old row → Shows (V.state volume.now) self.new row }
+        ensures staged { (staged : AStaged) (row : KeyedRow) → IsStagedRow self.old.geometry.fanout row staged self.old.nodes → ShowsStaged (V.state volume.now) self.new staged row }
         ensures geometry { self.new.geometry ≡ self.old.geometry }
         ensures alone { on_volume_alone self.new ≡ on_volume_alone self.old }
     {

@@ -28,19 +28,19 @@ bad_script Memory volume script line word e good bad told never = absurd (never 
 bad_script (Line number) volume script line word e good bad told never = inr (good, (number, bad, told ∙ ap (λ w. bad_line w number) e))
 
 -- what became of a run from a manifest's tree on
-ran_of : (text script : List ℕ) (m : Manifest) (tree : Tree) (parts : List Part) (raw : RawGeometry) (ran : Ran) → BeginsAsManifest text → IsTreeManifest text m tree → IsScript script parts → IsGeometry raw → raw ≡ geometry_of m
+ran_of : (text script : List ℕ) (m : Manifest) (tree : Tree) (parts : List Part) (raw : RawGeometry) (ran : Ran) → BeginsAsManifest text → IsTreeManifest text m tree → m.packed ≡ false → IsScript script parts → IsGeometry raw → raw ≡ geometry_of m
     → IsRunFrom raw tree Ordinary parts ran → IsRan (text, script) ran
-ran_of text script m tree parts raw (BadText line) begins is is_script ranges e from = absurd from
-ran_of text script m tree parts raw (BadImage line) begins is is_script ranges e from = absurd from
-ran_of text script m tree parts raw (BadGeometry line) begins is is_script ranges e from =
-    record { parts = parts; script = is_script; bad = inl (begins, record { m = m; tree = tree; is = is; why = inr (subst (λ g. IsGeometry g) e ranges, subst (λ g. CannotBegin g tree Ordinary line.items) e from) }) }
-ran_of text script m tree parts raw (Done told image) begins is is_script ranges e from =
-    record { geo = raw; tree = tree; parts = parts; volume = inl (begins, (m, is, ranges, e)); script = is_script; run = from }
+ran_of text script m tree parts raw (BadText line) begins is plain is_script ranges e from = absurd from
+ran_of text script m tree parts raw (BadImage line) begins is plain is_script ranges e from = absurd from
+ran_of text script m tree parts raw (BadGeometry line) begins is plain is_script ranges e from =
+    record { parts = parts; script = is_script; bad = inl (begins, record { m = m; tree = tree; is = is; plain = plain; why = inr (subst (λ g. IsGeometry g) e ranges, subst (λ g. CannotBegin g tree Ordinary line.items) e from) }) }
+ran_of text script m tree parts raw (Done told image) begins is plain is_script ranges e from =
+    record { geo = raw; tree = tree; parts = parts; volume = inl (begins, (m, is, plain, ranges, e)); script = is_script; run = from }
 
-pub manifest_ran : {E : Type 0} (r : Result Ran E) (text script : List ℕ) (m : Manifest) (tree : Tree) (parts : List Part) (raw : RawGeometry) → IfOk r (IsRunFrom raw tree Ordinary parts) → BeginsAsManifest text → IsTreeManifest text m tree → IsScript script parts
+pub manifest_ran : {E : Type 0} (r : Result Ran E) (text script : List ℕ) (m : Manifest) (tree : Tree) (parts : List Part) (raw : RawGeometry) → IfOk r (IsRunFrom raw tree Ordinary parts) → BeginsAsManifest text → IsTreeManifest text m tree → m.packed ≡ false → IsScript script parts
     → IsGeometry raw → raw ≡ geometry_of m → IfOk r (IsRan (text, script))
-manifest_ran (Ok ran) text script m tree parts raw from begins is is_script ranges e = ran_of text script m tree parts raw ran begins is is_script ranges e from
-manifest_ran (Err fault) text script m tree parts raw from begins is is_script ranges e = tt
+manifest_ran (Ok ran) text script m tree parts raw from begins is plain is_script ranges e = ran_of text script m tree parts raw ran begins is plain is_script ranges e from
+manifest_ran (Err fault) text script m tree parts raw from begins is plain is_script ranges e = tt
 
 -- and from the files of an image on
 files_ran : (bytes script : List ℕ) (geo : RawGeometry) (tree : Tree) (parts : List Part) (ran : Ran) → (BeginsAsManifest bytes → ⊥) → HoldsFiles bytes geo tree → IsScript script parts → IsRunFrom geo tree Removal parts ran → IsRan (bytes, script) ran

@@ -13,6 +13,7 @@ use Rattle.fs_model.specs.Proper.{IsProper}
 use Rattle.script_text.specs.declared.manifest.Manifest.{Manifest}
 use Rattle.manifest_tree.specs.ManifestTree.{IsFirstBadTreeLine}
 use Rattle.tree_space.specs.Laid.{IsAdmitted, bytes_needed, bytes_of_room}
+use Rattle.image_report.specs.Lebs.{AreLebsOf}
 use Rattle.whole_image.specs.Made.{IsMadeImage, packed_geometry}
 use Rattle.io_edges.specs.Keeper.{KeeperState, SameFiles, SetsFile}
 use Rattle.ubifs_tools.specs.Copies.{CopiesFile, IsFilledManifest, IsUnfilled}
@@ -52,6 +53,7 @@ pub record IsTooFull (geo : RawGeometry) (tree : Tree) (line : List ℕ) : Type 
 pub record IsToldImage (geo : RawGeometry) (tree : Tree) (told image : List ℕ) : Type 0 where
   pub holds : ℕ → List ℕ
   pub made : IsMadeImage holds geo no_identifier tree
+  pub lebs : AreLebsOf holds geo
   pub image_is : image ≡ image_of holds geo.leb_cnt
   pub told_is : told ≡ line_of (codes "made" ∷ decimal geo.leb_cnt ∷ [])
 

@@ -1,5 +1,5 @@
 -- What the command `run` makes of a volume and a script.
-use Rattle.std.specs.Prelude.{◌≡◌, ◌⊎◌, ℕ, ◌<◌, ◌≤◌, List, [], ◌∷◌, take, codes}
+use Rattle.std.specs.Prelude.{◌≡◌, ◌⊎◌, ℕ, ◌<◌, ◌≤◌, false, List, [], ◌∷◌, take, codes}
 use Rattle.std.specs.Fmt.{decimal}
 use Rattle.ubifs_base.specs.Areas.{main_lebs}
 use Rattle.ubifs_base.specs.Geometry.{IsGeometry}
@@ -30,10 +30,10 @@ use Rattle.ubifs_tools.specs.Making.{IsBadTree}
 abbrev pub BeginsAsManifest : List ℕ → Type 0
 BeginsAsManifest bytes = take 7 bytes ≡ codes "volume "
 
--- the bytes are a manifest of this geometry and tree, or a sound image with these files
+-- the bytes are a manifest of this geometry and tree, which doesn't say `packed`, or a sound image with these files
 abbrev pub IsVolumeOf : List ℕ → RawGeometry → Tree → Type 0
 IsVolumeOf bytes geo tree =
-    (BeginsAsManifest bytes × ((m : Manifest) × IsTreeManifest bytes m tree × IsGeometry geo × (geo ≡ geometry_of m)))
+    (BeginsAsManifest bytes × ((m : Manifest) × IsTreeManifest bytes m tree × (m.packed ≡ false) × IsGeometry geo × (geo ≡ geometry_of m)))
     ⊎ ((BeginsAsManifest bytes → ⊥) × HoldsFiles bytes geo tree)
 
 -- nothing is wrong with the text of a volume: it is a manifest, or no text
@@ -61,11 +61,12 @@ CannotBegin geo tree class line =
     ⊎ ((24 ≤ main_lebs geo) × ((sides : NoSpace) × HasNoRoomFor geo tree (laid_weight geo tree) class sides
     × (line ≡ line_of (codes "full" ∷ decimal sides.need ∷ decimal sides.room ∷ []))))
 
--- The text is a manifest, but its geometry has a field out of range, or no run begins on its tree: one that `mkfs` makes no image of.
+-- The text is a manifest that doesn't say `packed`, but its geometry has a field out of range, or no run begins on its tree: one that `mkfs` makes no image of.
 pub record IsBadManifest (text line : List ℕ) : Type 0 where
   pub m : Manifest
   pub tree : Tree
   pub is : IsTreeManifest text m tree
+  pub plain : m.packed ≡ false
   pub why : ((fault : GeomFault) × IsFirstOut (geometry_of m) tested_fields fault × (line ≡ line_of (codes "geometry" ∷ field_name fault.field ∷ decimal fault.value ∷ [])))
       ⊎ (IsGeometry (geometry_of m) × CannotBegin (geometry_of m) tree Ordinary line)
 

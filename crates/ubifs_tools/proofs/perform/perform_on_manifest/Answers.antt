@@ -28,6 +28,7 @@ returns-in-Err-new c = record {
       m = c.in-Ok.made.volume;
       tree = c.in-Ok.made.tree;
       is = c.in-Ok.ensures.made;
+      plain = c.in-Ok.ensures.plain;
       why = inl (c.in-Err-new.fault, let P : RawGeometry → Type 0 = λ g. IsFirstOut g tested_fields c.in-Err-new.fault in subst P c.plain-raw.ensures c.in-Err-new.ensures.first, c.in_ok-line-in-Err-new.ensures);
     },
   );
@@ -39,4 +40,4 @@ run_from-requires-clause-range c = c.parts_are_in_range.ensures c.args.script.no
 pub returns : goal.returns
 returns c =
     manifest_ran c.run_from.result c.args.manifest.now c.args.script.now c.in-Ok.made.volume c.in-Ok.made.tree c.in-Ok-read_script.script.parts.items (raw_of c.in-Ok-new.geometry) c.run_from.ensures c.requires
-    c.in-Ok.ensures.made c.in-Ok-read_script.ensures.ok c.in-Ok-new.geometry.in_range (c.in-Ok-new.ensures.fields ∙ c.plain-raw.ensures)
+    c.in-Ok.ensures.made c.in-Ok.ensures.plain c.in-Ok-read_script.ensures.ok c.in-Ok-new.geometry.in_range (c.in-Ok-new.ensures.fields ∙ c.plain-raw.ensures)

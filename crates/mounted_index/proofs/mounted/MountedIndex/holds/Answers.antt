@@ -19,6 +19,7 @@ returns-in-OnMedium-clause-kept g c =
     let nodes = c.args.self.now.nodes in
     record {
       shown = λ row h. record { nodes = nodes_moved a b f row nodes c.holds.ensures.reads.keeps c.holds.ensures.reads.shape h.nodes; kept = c.holds.ensures.kept };
+      staged = λ staged row h. record { nodes = h.nodes; kept = c.holds.ensures.kept };
       alone = refl;
       geometry = refl;
     }

@@ -19,6 +19,7 @@ returns-in-OnMedium-clause-kept g c =
     let nodes = c.args.self.now.nodes in
     record {
       shown = λ row h. record { nodes = nodes_moved a b f row nodes c.last_of.ensures.reads.keeps c.last_of.ensures.reads.shape h.nodes; kept = c.last_of.ensures.kept };
+      staged = λ staged row h. record { nodes = h.nodes; kept = c.last_of.ensures.kept };
       alone = refl;
       geometry = refl;
     }

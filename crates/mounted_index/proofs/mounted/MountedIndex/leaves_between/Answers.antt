@@ -20,6 +20,7 @@ returns-in-OnMedium-clause-kept g c =
     let nodes = c.args.self.now.nodes in
     record {
       shown = λ row h. record { nodes = nodes_moved a b f row nodes c.leaves_between.ensures.reads.keeps c.leaves_between.ensures.reads.shape h.nodes; kept = c.leaves_between.ensures.kept };
+      staged = λ staged row h. record { nodes = h.nodes; kept = c.leaves_between.ensures.kept };
       alone = refl;
       geometry = refl;
     }

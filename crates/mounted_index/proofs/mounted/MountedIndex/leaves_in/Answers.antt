@@ -18,6 +18,7 @@ returns-in-OnMedium-clause-kept g c =
     let nodes = c.args.self.now.nodes in
     record {
       shown = λ row h. record { nodes = nodes_moved a b f row nodes c.leaves_in.ensures.reads.keeps c.leaves_in.ensures.reads.shape h.nodes; kept = c.leaves_in.ensures.kept };
+      staged = λ staged row h. record { nodes = h.nodes; kept = c.leaves_in.ensures.kept };
       alone = refl;
       geometry = refl;
     }
