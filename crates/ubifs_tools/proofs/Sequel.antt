@@ -24,6 +24,7 @@ use Rattle.tree_nodes.specs.Stored.{as_stored, is_owned, stored_tree}
 use Rattle.whole_image.specs.Made.{IsMadeImage}
 use Rattle.ubifs_tools.specs.Command.{IsLeftImage, Told, no_identifier}
 use Rattle.ubifs_tools.specs.Ended.{IsFinished}
+use Rattle.ubifs_tools.specs.Making.{IsToldImage}
 use Rattle.ubifs_tools.specs.RunCommand.{BeginsAsManifest, IsRunOf, IsVolumeOf, files_left}
 
 -- what the crates below say of the bytes of a volume, and of a stored tree
@@ -103,6 +104,23 @@ pub left_only : HoldFiles → AreBytes → BeginWithMagic → HoldOneTree → (g
 left_only hold bytes magic one geo other tree files parts text image ended volume =
     let P : List ℕ → Type 0 = λ b. IsBytes b in
     one_volume one image geo other (files_left ended.run) files (subst P (sym ended.image_is) (bytes ended.holds geo ended.lebs)) (left_holds hold magic geo tree parts text image ended) volume
+
+-- An image that is told as made holds the tree as an image says it, and isn't a manifest.
+pub told_holds : HoldFiles → BeginWithMagic → (geo : RawGeometry) (tree : Tree) (told image : List ℕ) → IsToldImage geo tree told image
+    → (BeginsAsManifest image → ⊥) × HoldsFiles image geo (stored_tree tree)
+told_holds hold magic geo tree told image made =
+    let left = stored_tree tree in
+    let P : List ℕ → Type 0 = λ bytes. HoldsFiles bytes geo left in
+    let lebs : AreSoundLebs made.holds geo left = record { all = made.lebs; image = made.made.image; sound = made.made.sound; geometry = made.made.geometry; recovered = made.made.files } in
+    let holds : HoldsFiles image geo left = subst P (sym made.image_is) (hold made.holds geo left lebs (stored_owned tree)) in
+    (not_manifest image (magic image geo left holds), holds)
+
+-- so it is one volume alone
+pub told_only : HoldFiles → AreBytes → BeginWithMagic → HoldOneTree → (geo other : RawGeometry) (tree files : Tree) (told image : List ℕ) → IsToldImage geo tree told image
+    → IsVolumeOf image other files → (other ≡ geo) × (files ≡ stored_tree tree)
+told_only hold bytes magic one geo other tree files told image made volume =
+    let P : List ℕ → Type 0 = λ b. IsBytes b in
+    one_volume one image geo other (stored_tree tree) files (subst P (sym made.image_is) (bytes made.holds geo made.lebs)) (told_holds hold magic geo tree told image made) volume
 
 -- a file that was written is read as it was written
 read_back : (old mid : KeeperState) (name written read : List ℕ) → IsTrue old.tells → IsTrue mid.tells → (IsTrue old.tells → SetsFile old name written mid) → Told mid name read → read ≡ written

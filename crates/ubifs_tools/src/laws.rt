@@ -7,8 +7,9 @@ ghost use Rattle.fs_model.specs.Same.{IsSame};
 ghost use Rattle.io_edges.specs.Keeper.{KeeperState};
 ghost use Rattle.script_run.specs.declared.whole.Run.{Run};
 ghost use Rattle.script_text.specs.declared.part.Part.{Part};
-ghost use Rattle.tree_nodes.specs.Stored.{is_owned};
+ghost use Rattle.tree_nodes.specs.Stored.{is_owned, stored_tree};
 ghost use Rattle.ubifs_tools.specs.Ended.{IsFinished};
+ghost use Rattle.ubifs_tools.specs.Making.{IsMadeOf, made_geometry};
 ghost use Rattle.ubifs_tools.specs.RunCommand.{IsRunOf, IsVolumeOf, files_left};
 
 use image_report::{bytes_hold_one_tree, the_bytes_of_a_volume_hold_what_it_holds};
@@ -30,4 +31,16 @@ pub fn a_run_begins_where_another_ended()
     the_bytes_of_a_volume_hold_what_it_holds();
     bytes_hold_one_tree();
     a_stored_tree_is_the_same();
+}
+
+/// A run begins on what `mkfs` made. The image is a volume of its geometry, packed or not, with the files of the manifest's tree as an image
+/// says them, and with no others.
+pub fn a_run_begins_on_what_mkfs_made()
+    ensures volume { (files : KeeperState) (text told image : List ℕ) (made : IsMadeOf files text told image)
+        → IsVolumeOf image (made_geometry made.volume made.tree) (stored_tree made.tree) }
+    ensures only { (files : KeeperState) (other : RawGeometry) (tree : Tree) (text told image : List ℕ) (made : IsMadeOf files text told image)
+        → IsVolumeOf image other tree → (other ≡ made_geometry made.volume made.tree) × (tree ≡ stored_tree made.tree) }
+{
+    the_bytes_of_a_volume_hold_what_it_holds();
+    bytes_hold_one_tree();
 }

@@ -13,5 +13,5 @@ mod top;
 mod words;
 
 pub use crate::image_command::ImageCommand;
-pub use crate::laws::a_run_begins_where_another_ended;
+pub use crate::laws::{a_run_begins_on_what_mkfs_made, a_run_begins_where_another_ended};
 pub use crate::top::ubifs;
