@@ -2,6 +2,7 @@
 use Rattle.std.specs.Prelude.{◌≡◌, ◌⊎◌, ℕ, List}
 use Rattle.ubifs_base.specs.RawOf.{raw_of}
 use Rattle.ubifs_base.specs.declared.raw_geometry.RawGeometry.{RawGeometry}
+use Rattle.fs_model.specs.declared.space.Space.{Space}
 use Rattle.fs_model.specs.Files.{Tree}
 use Rattle.fs_model.specs.Proper.{IsProper}
 use Rattle.recovered_tree.specs.Files.{files_of_image}
@@ -52,7 +53,12 @@ pub record HoldsFiles (bytes : List ℕ) (geo : RawGeometry) (tree : Tree) : Typ
   pub files : tree ≡ files_of_image image
   pub proper : IsProper tree
 
--- what is wrong with bytes, or the files that they hold
+-- The same, and this is the space of the image once it is recovered, before any commit.
+pub record HoldsVolume (bytes : List ℕ) (geo : RawGeometry) (tree : Tree) (space : Space) : Type 0 where
+  pub files : HoldsFiles bytes geo tree
+  pub space_is : space ≡ space_of_image files.image
+
+-- what is wrong with bytes, or what they hold
 abbrev pub AreImageFiles : List ℕ → ImageFiles → Type 0
 AreImageFiles bytes (read.Unsound line) = IsUnsound bytes line.items
-AreImageFiles bytes (read.Sound geometry tree) = HoldsFiles bytes (raw_of geometry) tree
+AreImageFiles bytes (read.Sound geometry tree space) = HoldsVolume bytes (raw_of geometry) tree space

@@ -18,4 +18,4 @@ mod tree_made;
 pub use crate::laws::{one_tree_is_read, the_files_of_an_image_are_proper};
 pub use crate::reading::read_tree_of;
 pub use crate::recovered_files::RecoveredFiles;
-pub use sound_check::{Sound, check};
+pub use sound_check::{Sound, check, summary_of};

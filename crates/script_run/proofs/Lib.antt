@@ -1,9 +1,11 @@
 pub mod Answering
+pub mod Closed
 pub mod FirstFile
 pub mod Growth
 pub mod Heavier
 pub mod LeftCover
 pub mod Openings
+pub mod ReadLines
 pub mod Running
 pub mod Storing
 pub mod Working

@@ -1,57 +1,60 @@
--- A volume on which a run begins has room for all that it has.
-use Rattle.std.proofs.Common.{◌≡◌, ℕ, ◌+◌, ◌-◌, ◌*◌, ◌<◌, ◌≤◌, None, ap, sym, subst, ◌∙◌, arith}
+-- A volume that may be written has room for all that it has.
+use Rattle.std.proofs.Common.{◌≡◌, ℕ, ◌+◌, ◌*◌, ◌≤◌, Option, Some, None, true, false, Bool, refl, subst, arith}
+use Rattle.std.specs.Prelude.{nat_le, if◌then◌else◌}
+use Rattle.std.specs.Option.{option_or}
 use Rattle.ubifs_base.specs.declared.raw_geometry.RawGeometry.{RawGeometry}
-use Rattle.ubifs_base.specs.Areas.{main_lebs}
-use Rattle.ubifs_base.specs.Geometry.{leb_reserve}
-use Rattle.fs_model.specs.declared.space.Class.{Class}
-use Rattle.fs_model.specs.declared.space.Class.TheVariants.{Ordinary, Removal}
+use Rattle.fs_model.specs.declared.backing_answers.Mode.TheVariants.{ReadOnly}
+use Rattle.fs_model.specs.declared.refusal.Cause.{Cause}
+use Rattle.fs_model.specs.declared.refusal.Cause.TheVariants.{Tight, Faulted, Spent}
+use Rattle.fs_model.specs.declared.refusal.Scarce.{Scarce}
+use Rattle.fs_model.specs.declared.refusal.Scarce.TheVariants as scarce
 use Rattle.fs_model.specs.declared.space.Need.{Need}
 use Rattle.fs_model.specs.declared.space.Space.{Space}
-use Rattle.fs_model.specs.Cover.{index_lebs, index_room, needed, reserve, room_for, tree_bytes}
+use Rattle.fs_model.specs.Cover.{index_lebs, tree_bytes}
 use Rattle.fs_model.specs.Files.{Tree}
 use Rattle.fs_model.specs.Proper.{IsProper}
-use Rattle.fs_model.specs.Settled.{nothing}
+use Rattle.fs_model.specs.Settled.{IsCovered, cause_of, leaf_room, nothing, settled}
 use Rattle.space_sums.specs.Spaces.{AsksNoLess, HasRoom}
 use Rattle.plain_backing.specs.Covering.{IsCovering, leaf_count}
-use Rattle.script_run.specs.Opening.{HasNoRoomFor, asking_nothing, space_of_tree}
+use Rattle.plain_backing.specs.Spending.{is_spent}
 
--- three times the LEBs that a weight asks for are no fewer than those that an index has, and once more
-same_index : (geo : RawGeometry) (weight later : ℕ) → later ≡ weight → index_room geo 0 later ≡ index_room geo (index_lebs geo weight) later
-same_index geo weight later e = let same = ap (index_lebs geo) e in omega (arith, same)
-
--- so the room doesn't depend on the LEBs that the index has
-pub same_room : (geo : RawGeometry) (tree : Tree) (weight : ℕ) (class : Class)
-    → room_for geo (record (space_of_tree geo tree weight) { index = 0 }) (asking_nothing class) ≡ room_for geo (space_of_tree geo tree weight) (asking_nothing class)
-same_room geo tree weight class =
-    ap (λ (kept : ℕ). (main_lebs geo - kept - reserve class) * (geo.leb_size - leb_reserve geo)) (same_index geo weight (weight + 2 * (0 + 0) + 0) (omega arith))
-
-least : (class : Class) → 6 ≤ reserve class
-least Ordinary = omega arith
-least Removal = omega arith
-
--- what passes the test of any class has room for removals
-pub opening_covers : (geo : RawGeometry) (tree : Tree) (space : Space) (weight : ℕ) (class : Class) → space ≡ record (space_of_tree geo tree weight) { index = 0 }
-    → IsProper tree → leaf_count tree ≤ geo.fanout * weight
+-- What is used has room, so it has where no LEB of the index is counted.
+pub opening_covers : (geo : RawGeometry) (tree : Tree) (space plain : Space) → plain ≡ record { used = space.used; held = 0; credits = 0; empty = space.empty; index = 0; weight = space.weight; main = space.main }
+    → IsProper tree → leaf_count tree ≤ geo.fanout * space.weight → space.used ≡ tree_bytes tree
     → ((g : RawGeometry) (less more : Space) (asked asked_more : Need) → AsksNoLess less asked more asked_more → HasRoom g more asked_more → HasRoom g less asked)
-    → needed space (asking_nothing class) ≤ room_for geo space (asking_nothing class) → IsCovering geo tree (record space { used = tree_bytes tree; held = 0 }) None
-opening_covers geo tree space weight class e proper weighed law fits =
-    let plain : Space = record (space_of_tree geo tree weight) { index = 0 } in
-    let P : Space → Type 0 = λ s. needed s (asking_nothing class) ≤ room_for geo s (asking_nothing class) in
+    → IsCovered geo space → IsCovering geo tree (record plain { used = tree_bytes tree; held = 0 }) None
+opening_covers geo tree space plain e proper weighed used law covered =
+    let bare : Space = record { used = tree_bytes tree; held = 0; credits = 0; empty = space.empty; index = 0; weight = space.weight; main = space.main } in
     let Q : Space → Type 0 = λ s. IsCovering geo tree (record s { used = tree_bytes tree; held = 0 }) None in
-    let few = least class in
-    subst Q (sym e) (record {
+    rw e (record {
       proper = proper;
-      room = law geo plain plain nothing (asking_nothing class)
-          (record { used = omega arith; held = omega arith; credits = omega arith; bytes = omega arith; nodes = omega arith; index = omega arith; weight = omega arith; main = omega arith; reserve = omega (arith, few) })
-          (record { fits = subst P e fits });
+      room = law geo bare space nothing nothing
+          (record { used = omega (arith, used); held = omega arith; credits = omega arith; bytes = omega arith; nodes = omega arith; index = omega arith; weight = omega arith; main = omega arith; reserve = omega arith })
+          (record { fits = covered.fits });
       weighed = weighed;
     })
 
--- and what doesn't has none beside an index in the LEBs that it asks for
-pub no_opening : (geo : RawGeometry) (tree : Tree) (space : Space) (weight : ℕ) (class : Class) (need room : ℕ) → space ≡ record (space_of_tree geo tree weight) { index = 0 }
-    → need ≡ needed space (asking_nothing class) → room ≡ room_for geo space (asking_nothing class) → room < need → HasNoRoomFor geo tree weight class (record { need = need; room = room })
-no_opening geo tree space weight class need room e needs rooms less = record {
-  need_is = needs ∙ ap (λ s. needed s (asking_nothing class)) e;
-  room_is = rooms ∙ ap (λ s. room_for geo s (asking_nothing class)) e ∙ same_room geo tree weight class;
-  full = less;
-}
+-- a cause that the numbers give is that something is scarce, so no number is used up
+tight_of : (what : Scarce) (need room : ℕ) (cause : Cause) → cause_of what need room ≡ Some cause → is_spent (ReadOnly cause) ≡ false
+tight_of what need room (Tight scarce n r) e = refl
+tight_of what need room (Faulted count) e = refl
+tight_of what need room (Spent sqnum cmt_no) e = absurd (by (nat_le need room) e)
+  where
+    by : (b : Bool) → (if b then None else Some (Tight what need room)) ≡ Some (Spent sqnum cmt_no) → ⊥
+    by true h = absurd cc
+    by false h = absurd cc
+
+first_tight : (a : Option Cause) (b : Option Cause) (cause : Cause) → ((x : Cause) → a ≡ Some x → is_spent (ReadOnly x) ≡ false) → ((x : Cause) → b ≡ Some x → is_spent (ReadOnly x) ≡ false)
+    → option_or a b ≡ Some cause → is_spent (ReadOnly cause) ≡ false
+first_tight (Some x) b cause left right e = left cause e
+first_tight None b cause left right e = right cause e
+
+pub settled_unspent : (geo : RawGeometry) (space : Space) (cause : Cause) → settled geo space ≡ Some cause → is_spent (ReadOnly cause) ≡ false
+settled_unspent geo space cause e =
+    let kept = space.used + space.held in
+    let bytes = leaf_room geo space in
+    let next = 1 + index_lebs geo space.weight in
+    let later = 1 + 3 * index_lebs geo space.weight in
+    let lebs = space.empty + space.index in
+    first_tight (cause_of scarce.Space kept bytes) (option_or (cause_of scarce.Empty next space.empty) (cause_of scarce.Index later lebs)) cause (tight_of scarce.Space kept bytes)
+    (λ x. first_tight (cause_of scarce.Empty next space.empty) (cause_of scarce.Index later lebs) x (tight_of scarce.Empty next space.empty) (tight_of scarce.Index later lebs)) e

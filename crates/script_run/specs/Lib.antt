@@ -1,6 +1,8 @@
 pub mod Heaviest
 pub mod Opening
 pub mod Played
+pub mod Readers
+pub mod Reading
 pub mod Replies
 pub mod Run
 pub mod Sessions

@@ -1,6 +1,6 @@
 -- Which calls a run makes, and which reply ends it.
 use Rattle.std.specs.Prelude.{Bool, true, false}
-use Rattle.fs_model.specs.declared.refusal.Refusal.TheVariants.{Enomem}
+use Rattle.fs_model.specs.declared.refusal.Refusal.TheVariants.{Eio, Enomem}
 use Rattle.fs_model.specs.declared.reply.Reply.{Reply}
 use Rattle.fs_model.specs.declared.reply.Reply.TheVariants.{Refused}
 use Rattle.fs_laws.specs.Sound.{IsCall}
@@ -16,3 +16,9 @@ IsCalled part = Unit {0}
 abbrev pub is_memory : Reply → Bool
 is_memory (Refused Enomem) = true
 is_memory reply = false
+
+-- whether there was no memory for it, or the volume failed
+abbrev pub is_fault : Reply → Bool
+is_fault (Refused Enomem) = true
+is_fault (Refused (Eio count)) = true
+is_fault reply = false

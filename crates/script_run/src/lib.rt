@@ -9,9 +9,10 @@ mod law;
 mod lines;
 mod nameless;
 mod opening;
+mod reader;
+mod reading;
 mod session;
 mod whole;
 
 pub use crate::law::{a_first_file_is_made, what_has_room_is_not_refused_for_want_of_it};
-pub use crate::opening::Opening;
-pub use crate::whole::{Run, play};
+pub use crate::whole::{Played, Run, play};

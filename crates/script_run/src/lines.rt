@@ -16,7 +16,7 @@ use ubifs_base::Memory;
 
 /// What the lines printed, and the session that they left.
 #[derive(Drop)]
-pub(crate) struct Played {
+pub(crate) struct PlayedLines {
     pub(crate) text: Vec<u8>,
     pub(crate) session: Session,
 }
@@ -26,7 +26,7 @@ pub(crate) fn play_lines(
     alloc: Global,
     opening: Opening,
     parts: Vec<Part>,
-) -> Result<Played, Memory>
+) -> Result<PlayedLines, Memory>
     requires order { (last : Bool) × Leads false parts.items last }
     requires calls { AllByRecursion IsCalled parts.items }
     requires few { length parts.items ≤ 100000 }
@@ -38,5 +38,5 @@ pub(crate) fn play_lines(
     for part in parts {
         session = next(alloc, session, part, &mut text)?;
     }
-    Ok(Played { text, session })
+    Ok(PlayedLines { text, session })
 }

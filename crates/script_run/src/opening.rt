@@ -1,25 +1,27 @@
 // A volume in memory on which a run begins.
 
-ghost use Rattle.std.specs.Prelude.{◌≡◌, ◌<◌, ◌^◌, None, IfOk};
+ghost use Rattle.std.specs.Prelude.{◌≡◌, ◌≤◌, ◌*◌, ◌<◌, ◌^◌, None, IfOk};
 ghost use Rattle.ubifs_base.specs.Areas.{main_lebs};
 ghost use Rattle.ubifs_base.specs.RawOf.{raw_of};
 ghost use Rattle.small_areas.specs.Orphans.{orphan_limit};
 ghost use Rattle.fs_model.specs.Backing.{IsSmall};
-ghost use Rattle.fs_model.specs.Cover.{needed, room_for, tree_bytes};
-ghost use Rattle.plain_backing.specs.Covering.{IsCovering};
-ghost use Rattle.plain_backing.specs.PlainBacking.{Covers, outlook_of, state_of};
+ghost use Rattle.fs_model.specs.Cover.{tree_bytes};
+ghost use Rattle.fs_model.specs.Proper.{IsProper};
+ghost use Rattle.fs_model.specs.Settled.{settled};
+ghost use Rattle.plain_backing.specs.Covering.{IsCovering, leaf_count};
+ghost use Rattle.plain_backing.specs.PlainBacking.{Covers, state_of};
 ghost use Rattle.fs_model.specs.declared.backing_answers.Mode.TheVariants.{ReadWrite};
-ghost use Rattle.script_run.specs.Opening.{asking_nothing, space_of_tree};
+ghost use Rattle.script_run.specs.Opening.{mounted_space};
 
-use fs_model::{Class, Mode, Need, NoSpace, Space};
+use fs_model::{Mode, Space};
 use plain_backing::{PlainBacking, Tree};
-use space_sums::{Room, more_never_lowers_the_need, room};
+use space_sums::{a_settled_store_has_no_cause, more_never_lowers_the_need};
 use std::alloc::Global;
 use ubifs_base::{Geometry, Memory};
 
 /// A volume on which a run begins: its geometry, its tree of files, and the numbers of its LEBs. All that it has fits.
 #[derive(Drop)]
-pub struct Opening {
+pub(crate) struct Opening {
     pub(crate) geometry: Geometry,
     pub(crate) tree: Tree,
     pub(crate) space: Space,
@@ -30,77 +32,64 @@ pub struct Opening {
     ghost covers: { IsCovering (raw_of geometry) tree (record space { used = tree_bytes tree; held = 0 }) None },
 }
 
-impl Opening {
-    ghost use Rattle.std.specs.Prelude.{◌≡◌, ◌≤◌, ◌*◌, ◌<◌, ◌^◌, IfOk, IfErr};
-    ghost use Rattle.ubifs_base.specs.RawOf.{raw_of};
-    ghost use Rattle.fs_model.specs.Proper.{IsProper};
-    ghost use Rattle.plain_backing.specs.Covering.{leaf_count};
-    ghost use Rattle.script_run.specs.Opening.{HasNoRoomFor};
-
-    /// A volume of this geometry and tree, with an index of this weight, which has a node for each `fanout` leaves at least. If an
-    /// operation of this class that asks for nothing would have no room on it, the error tells the two sides of the test.
-    pub fn new(
-        geometry: Geometry,
-        tree: Tree,
-        weight: u64,
-        class: Class,
-    ) -> Result<Opening, NoSpace>
-        requires proper { IsProper tree }
-        requires weighed { leaf_count tree ≤ geometry.fanout * weight }
-        requires light { weight < 2 ^ 40 }
-        ensures geometry { IfOk result (λ opening. opening.geometry ≡ geometry) }
-        ensures tree { IfOk result (λ opening. opening.tree ≡ tree) }
-        ensures weight { IfOk result (λ opening. opening.space.weight ≡ weight) }
-        ensures full { IfErr result (HasNoRoomFor (raw_of geometry) tree weight class) }
-    {
-        more_never_lowers_the_need();
-        let space = plain_space(&geometry, &tree, weight);
-        let sides = sides_of(&geometry, &space, class);
-        if sides.need > sides.limit {
-            return Err(NoSpace {
-                need: sides.need,
-                room: sides.limit,
-            });
-        }
-        Ok(Opening {
-            geometry,
-            tree,
-            space,
-        })
+/// A volume with this tree and these numbers, which may be written. An index takes no more LEBs behind a commit than twice those that its weight
+/// asks for, and three times these are kept; so no sum of a run asks how many it takes now.
+pub(crate) fn writable_volume(geometry: Geometry, tree: Tree, space: &Space) -> Opening
+    requires proper { IsProper tree }
+    requires weighed { leaf_count tree ≤ geometry.fanout * space.now.weight }
+    requires small { IsSmall space.now }
+    requires main { space.now.main ≡ main_lebs (raw_of geometry) }
+    requires used { space.now.used ≡ tree_bytes tree }
+    requires credits { space.now.credits ≡ 0 }
+    requires settled { settled (raw_of geometry) space.now ≡ None }
+    ensures geometry { result.geometry ≡ geometry }
+    ensures tree { result.tree ≡ tree }
+    ensures weight { result.space.weight ≡ space.now.weight }
+{
+    a_settled_store_has_no_cause();
+    more_never_lowers_the_need();
+    Opening {
+        geometry,
+        tree,
+        space: Space {
+            used: space.used,
+            held: 0,
+            credits: 0,
+            empty: space.empty,
+            index: 0,
+            weight: space.weight,
+            main: space.main,
+        },
     }
 }
 
-// The numbers of a volume with this tree and an index of this weight. An index takes no more LEBs than its weight asks for, and three times these are
-// kept; so no sum of a run asks how many it takes.
-fn plain_space(geometry: &Geometry, tree: &Tree, weight: u64) -> Space
-    requires { weight < 2 ^ 40 }
-    ensures space { result ≡ record (space_of_tree (raw_of geometry.now) tree.now weight) { index = 0 } }
-    ensures small { IsSmall result }
+/// The numbers with which a volume is mounted that has these files, and whose image has this space. Want of memory is also told of a weight of
+/// 2^40 or more, or of one with fewer nodes than the leaves ask for, which no index has.
+pub(crate) fn mounted_space(
+    geometry: &Geometry,
+    tree: &Tree,
+    space: &Space,
+) -> Result<Space, Memory>
+    ensures space { IfOk result (λ found. found ≡ mounted_space (raw_of geometry.now) tree.now space.now) }
+    ensures small { IfOk result IsSmall }
+    ensures weighed { IfOk result (λ found. leaf_count tree.now ≤ geometry.now.fanout * found.weight) }
 {
-    Space {
+    let weight = space.weight;
+    if weight >= 1 << 40 {
+        return Err(Memory);
+    }
+    if tree.leaves() > geometry.fanout as u64 * weight {
+        return Err(Memory);
+    }
+    Ok(Space {
         used: tree.bytes(),
         held: 0,
         credits: 0,
-        empty: 0,
-        index: 0,
+        empty: space.empty,
+        index: space.index,
         weight,
         main: geometry.main_lebs(),
-    }
-}
-
-// The two sides of the test of an operation of this class that asks for nothing.
-fn sides_of(geometry: &Geometry, space: &Space, class: Class) -> Room
-    requires { IsSmall space.now }
-    ensures need { result.need ≡ needed space.now (asking_nothing class) }
-    ensures limit { result.limit ≡ room_for (raw_of geometry.now) space.now (asking_nothing class) }
-{
-    let need = Need {
-        credits: 0,
-        bytes: 0,
-        nodes: 0,
-        class,
-    };
-    room(geometry, space, &need)
+    })
 }
 
 /// A volume of this geometry and tree, with LEBs and a weight of this space, on which nothing was put since. All that it has

@@ -30,7 +30,7 @@ use ubifs_base::{Geometry, Memory};
 use vfs_ops::{Event, Fs, Outcome, a_plain_answer_is_no_refusal};
 
 /// How many clean pages are kept in memory.
-const CLEAN: u32 = 1024;
+pub(crate) const CLEAN: u32 = 1024;
 
 /// Files over a volume in memory, its geometry, whether it is mounted, the time in seconds since 1970, and how many lines of the caller stand
 /// behind the last line of another kind.
@@ -259,8 +259,8 @@ fn replied(fs: &mut Fs<PlainBacking>, caller: u16, now: u64, op: Op) -> Result<R
     Ok(told.0)
 }
 
-// The reply that an outcome has, and what is left of the grant.
-fn parts_of(outcome: Outcome) -> (Reply, u64)
+/// The reply that an outcome has, and what is left of the grant.
+pub(crate) fn parts_of(outcome: Outcome) -> (Reply, u64)
     requires { IsReply outcome }
     ensures { outcome ≡ Replied result.0 result.1 }
 {

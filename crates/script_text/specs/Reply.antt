@@ -61,6 +61,10 @@ cause_words (Tight what need room) = codes "tight" ∷ scarce_word what ∷ deci
 cause_words (Faulted count) = codes "faulted" ∷ decimal count ∷ []
 cause_words (Spent sqnum cmt_no) = codes "spent" ∷ decimal sqnum ∷ decimal cmt_no ∷ []
 
+-- the line of a mount after which a volume can only be read, and why
+abbrev pub mount_for_reading_line : Cause → List ℕ
+mount_for_reading_line cause = ended (codes "mount ro" ++ spaced (cause_words cause))
+
 -- a refusal's number, and what it carries
 abbrev pub refusal_words : Refusal → List (List ℕ)
 refusal_words Enoent = codes "E1" ∷ []

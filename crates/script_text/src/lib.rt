@@ -35,5 +35,5 @@ pub use crate::listed::{ListedManifest, list_manifest};
 pub use crate::manifest::{Manifest, read_manifest};
 pub use crate::manifest_line::ManifestLine;
 pub use crate::part::Part;
-pub use crate::reply::write_reply;
+pub use crate::reply::{write_mount_for_reading, write_reply};
 pub use crate::script::{Script, read_script};

@@ -3,7 +3,7 @@
 ghost use Rattle.std.specs.Prelude.{◌≡◌, ◌<◌, ◌++◌, ◌∷◌, OnOk, OnErr};
 ghost use Rattle.std.specs.Fmt.{decimal};
 ghost use Rattle.text_lines.specs.Lines.{spaced};
-ghost use Rattle.script_text.specs.Reply.{reply_line, reply_words, bytes_words, refusal_words, cause_words, scarce_word, table_word, runs_text, runs_of};
+ghost use Rattle.script_text.specs.Reply.{mount_for_reading_line, reply_line, reply_words, bytes_words, refusal_words, cause_words, scarce_word, table_word, runs_text, runs_of};
 
 use crate::listing::{push_escaped_word, push_kind_word, push_octal_word, push_rows};
 use crate::run::push_runs;
@@ -22,6 +22,18 @@ pub fn write_reply(caller: u16, number: u64, reply: &Reply, out: &mut Vec<u8>) -
     push_number(&mut line, u64::from(caller))?;
     push_number_word(&mut line, number)?;
     push_reply(&mut line, reply)?;
+    line.push(b'\n')?;
+    out.extend_from_slice(&line)?;
+    Ok(())
+}
+
+/// Appends the line of a mount after which a volume can only be read: `mount ro`, and why. A fault leaves `out` as it was.
+pub fn write_mount_for_reading(cause: Cause, out: &mut Vec<u8>) -> Result<(), Memory>
+    ensures ok { OnOk result (out.new.items ≡ out.old.items ++ mount_for_reading_line cause) }
+    ensures err { OnErr result (out.new.items ≡ out.old.items) }
+{
+    let mut line = Vec::from_slice(*out.allocator(), b"mount ro".as_slice())?;
+    push_cause(&mut line, cause)?;
     line.push(b'\n')?;
     out.extend_from_slice(&line)?;
     Ok(())

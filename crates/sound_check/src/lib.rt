@@ -21,4 +21,4 @@ pub use crate::image_read::ImageRead;
 pub use crate::laws::one_thing_is_told;
 pub use crate::reading::read_image;
 pub use crate::sound::Sound;
-pub use crate::summary::check;
+pub use crate::summary::{check, summary_of};

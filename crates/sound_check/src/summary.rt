@@ -36,14 +36,14 @@ pub fn check<R: Threads + Sync, V: Volume>(
     ensures sure { StaysSureCheck (V.state volume.old) (V.state volume.new) result }
 {
     let read = read_image(rt, alloc, volume)?;
-    match told(alloc, &read) {
+    match summary_of(alloc, &read) {
         Ok(sound) => Ok(sound),
         Err(_fault) => Err(CheckFault::Memory),
     }
 }
 
-// What is told of an image that was read so.
-fn told(alloc: Global, read: &ImageRead) -> Result<Sound, Memory>
+/// What is told of a sound image that was read so, as [`check`] tells it. Want of memory is also told of bytes or of a weight that pass 64 bits.
+pub fn summary_of(alloc: Global, read: &ImageRead) -> Result<Sound, Memory>
     ensures { (contents : ℕ → List ℕ) (image : Image) → SoundImage contents image → IsReadImage contents read.now image → IfOk result (λ sound. sound ≡ told_of image) }
 {
     let nodes = read.buds.read.nodes.as_slice();

@@ -1,4 +1,5 @@
 pub mod Covered
+pub mod Ending
 pub mod FourWords
 pub mod Imaging
 pub mod Making

@@ -1,58 +1,92 @@
 -- The answers of a run.
-use Rattle.std.proofs.Common.{◌≡◌, ℕ, Bool, true, false, None, List, [], ◌∷◌, ap, refl, sym, ◌∙◌, subst, inl, inr}
+use Rattle.std.proofs.Common.{◌≡◌, ℕ, Bool, true, false, Option, Some, None, List, [], ◌∷◌, ap, refl, sym, ◌∙◌, subst, inl, inr}
 use Rattle.std.specs.Prelude.{◌==◌, not, codes, Result, Ok, Err, IfOk, IsErr}
 use Rattle.ubifs_base.specs.declared.raw_geometry.RawGeometry.{RawGeometry}
-use Rattle.ubifs_base.specs.Geometry.{IsGeometry}
+use Rattle.ubi_volume.specs.Volume.{image_of}
 use Rattle.media_sys.specs.Features.{features_of, first_of, has_flags, is_known_version}
 use Rattle.media_sys.specs.declared.feature.Feature.{Feature}
 use Rattle.media_sys.specs.declared.feature.Feature.TheVariants.{KeyHash, KeyFmt, Version, Heads, DoubleHash, Encryption, Authentication, Flags, BigModel}
 use Rattle.media_sys.specs.declared.super_node.Super.{Super}
-use Rattle.fs_model.specs.declared.space.Class.TheVariants.{Ordinary, Removal}
+use Rattle.fs_model.specs.declared.refusal.Cause.{Cause}
+use Rattle.fs_model.specs.declared.space.Space.{Space}
 use Rattle.fs_model.specs.Files.{Tree}
+use Rattle.fs_model.specs.Settled.{settled}
 use Rattle.script_text.specs.declared.fault.TextFault.{TextFault}
 use Rattle.script_text.specs.declared.fault.TextFault.TheVariants.{Memory, Line}
-use Rattle.script_text.specs.declared.manifest.Manifest.{Manifest}
 use Rattle.script_text.specs.declared.part.Part.{Part}
 use Rattle.script_text.specs.Script.{IsScript, IsFirstBadLine, OnLine}
-use Rattle.manifest_tree.specs.CopiedFiles.{IsTreeManifest}
+use Rattle.script_run.specs.declared.whole.Played.TheVariants.{Written}
+use Rattle.script_run.specs.declared.whole.Run.{Run}
+use Rattle.script_run.specs.Opening.{mounted_space}
+use Rattle.script_run.specs.Played.{IsPlayedOn, IsReadText}
+use Rattle.image_report.specs.Lebs.{AreLebsOf}
 use Rattle.image_report.specs.Told.{HoldsFiles}
-use Rattle.ubifs_tools.specs.Command.{bad_line, geometry_of}
-use Rattle.ubifs_tools.specs.Performed.{IsRan, IsRunFrom}
-use Rattle.ubifs_tools.specs.RunCommand.{BeginsAsManifest, CannotBegin, HasGoodText, IsBadText}
-use Rattle.ubifs_tools.specs.declared.perform.Ran.{Ran}
-use Rattle.ubifs_tools.specs.declared.perform.Ran.TheVariants.{BadText, BadImage, BadGeometry, Done}
+use Rattle.io_edges.specs.Keeper.{KeeperState}
+use Rattle.ubifs_tools.specs.Command.{IsLeftImage, bad_line}
+use Rattle.ubifs_tools.specs.Copies.{IsUnfilled}
+use Rattle.ubifs_tools.specs.Making.{IsMadeOf}
+use Rattle.ubifs_tools.specs.Performed.{IsRunFrom}
+use Rattle.ubifs_tools.specs.RunCommand.{BeginsAsManifest, HasGoodText, IsBadText, IsCopyUnread, IsDone, IsRunFor, IsRunOf, files_left}
 
 pub bad_script : (fault : TextFault) (volume script line word : List ℕ) → word ≡ codes "script" → HasGoodText volume → OnLine fault (IsFirstBadLine script) → OnLine fault (λ number. line ≡ bad_line word number) → (fault ≡ Memory → ⊥)
     → IsBadText (volume, script) line
 bad_script Memory volume script line word e good bad told never = absurd (never refl)
 bad_script (Line number) volume script line word e good bad told never = inr (good, (number, bad, told ∙ ap (λ w. bad_line w number) e))
 
--- what became of a run from a manifest's tree on
-ran_of : (text script : List ℕ) (m : Manifest) (tree : Tree) (parts : List Part) (raw : RawGeometry) (ran : Ran) → BeginsAsManifest text → IsTreeManifest text m tree → m.packed ≡ false → IsScript script parts → IsGeometry raw → raw ≡ geometry_of m
-    → IsRunFrom raw tree Ordinary parts ran → IsRan (text, script) ran
-ran_of text script m tree parts raw (BadText line) begins is plain is_script ranges e from = absurd from
-ran_of text script m tree parts raw (BadImage line) begins is plain is_script ranges e from = absurd from
-ran_of text script m tree parts raw (BadGeometry line) begins is plain is_script ranges e from =
-    record { parts = parts; script = is_script; bad = inl (begins, record { m = m; tree = tree; is = is; plain = plain; why = inr (subst (λ g. IsGeometry g) e ranges, subst (λ g. CannotBegin g tree Ordinary line.items) e from) }) }
-ran_of text script m tree parts raw (Done told image) begins is plain is_script ranges e from =
-    record { geo = raw; tree = tree; parts = parts; volume = inl (begins, (m, is, plain, ranges, e)); script = is_script; run = from }
+-- A run on what was made of a manifest is one on the manifest.
+pub made_done : (files : KeeperState) (text script told image : List ℕ) (parts : List Part) (out left : List ℕ) → BeginsAsManifest text → IsMadeOf files text told image → IsScript script parts → IsRunFrom image parts out left
+    → IsDone files (text, script) out left
+made_done files text script told image parts out left begins made is_script from = record {
+  start = image;
+  begun = inl (begins, (told, made));
+  bytes = from.bytes;
+  geo = from.geo;
+  tree = from.tree;
+  space = from.space;
+  volume = from.volume;
+  parts = parts;
+  script = is_script;
+  left = from.left;
+  run = from.run;
+}
 
-pub manifest_ran : {E : Type 0} (r : Result Ran E) (text script : List ℕ) (m : Manifest) (tree : Tree) (parts : List Part) (raw : RawGeometry) → IfOk r (IsRunFrom raw tree Ordinary parts) → BeginsAsManifest text → IsTreeManifest text m tree → m.packed ≡ false → IsScript script parts
-    → IsGeometry raw → raw ≡ geometry_of m → IfOk r (IsRan (text, script))
-manifest_ran (Ok ran) text script m tree parts raw from begins is plain is_script ranges e = ran_of text script m tree parts raw ran begins is plain is_script ranges e from
-manifest_ran (Err fault) text script m tree parts raw from begins is plain is_script ranges e = tt
+-- a run on an image
+pub image_done : (files : KeeperState) (bytes script : List ℕ) (parts : List Part) (out left : List ℕ) → (BeginsAsManifest bytes → ⊥) → IsScript script parts → IsRunFrom bytes parts out left
+    → IsDone files (bytes, script) out left
+image_done files bytes script parts out left none is_script from = record {
+  start = bytes;
+  begun = inr (none, refl);
+  bytes = from.bytes;
+  geo = from.geo;
+  tree = from.tree;
+  space = from.space;
+  volume = from.volume;
+  parts = parts;
+  script = is_script;
+  left = from.left;
+  run = from.run;
+}
 
--- and from the files of an image on
-files_ran : (bytes script : List ℕ) (geo : RawGeometry) (tree : Tree) (parts : List Part) (ran : Ran) → (BeginsAsManifest bytes → ⊥) → HoldsFiles bytes geo tree → IsScript script parts → IsRunFrom geo tree Removal parts ran → IsRan (bytes, script) ran
-files_ran bytes script geo tree parts (BadText line) none holds is_script from = absurd from
-files_ran bytes script geo tree parts (BadImage line) none holds is_script from = absurd from
-files_ran bytes script geo tree parts (BadGeometry line) none holds is_script from = record { parts = parts; script = is_script; bad = inr (none, (geo, tree, holds, from)) }
-files_ran bytes script geo tree parts (Done told image) none holds is_script from = record { geo = geo; tree = tree; parts = parts; volume = inr (none, holds); script = is_script; run = from }
+-- what was put of a volume that may be written
+pub written_run : (geo : RawGeometry) (start : List ℕ) (tree : Tree) (space : Space) (parts : List Part) (run : Run) (image : List ℕ) → IsPlayedOn geo tree space parts (Written run)
+    → (x : ℕ → List ℕ) × IsLeftImage geo run.tree x × AreLebsOf x geo × (image ≡ image_of x geo.leb_cnt) → (left : Tree) × IsRunOf geo start tree space parts run.text.items image left
+written_run geo start tree space parts run image played (holds, left, lebs, is) =
+    let numbers = mounted_space geo tree space in
+    let P : Option Cause → Type 0 = λ cause. IsRunFor cause geo start tree numbers.weight parts run.text.items image (files_left run) in
+    (files_left run, subst P (sym played.0) (record { run = run; played = played.1; text_is = refl; holds = holds; image_left = left; lebs = lebs; image_is = is; left_is = refl }))
 
-pub image_ran : {E : Type 0} (r : Result Ran E) (bytes script : List ℕ) (geo : RawGeometry) (tree : Tree) (parts : List Part) → IfOk r (IsRunFrom geo tree Removal parts) → (BeginsAsManifest bytes → ⊥) → HoldsFiles bytes geo tree → IsScript script parts
-    → IfOk r (IsRan (bytes, script))
-image_ran (Ok ran) bytes script geo tree parts from none holds is_script = files_ran bytes script geo tree parts ran none holds is_script from
-image_ran (Err fault) bytes script geo tree parts from none holds is_script = tt
+-- what is left of one that may only be read
+pub unchanged_run : (geo : RawGeometry) (start : List ℕ) (tree : Tree) (space : Space) (parts : List Part) (text : List ℕ) (cause : Cause) → settled geo (mounted_space geo tree space) ≡ Some cause → IsReadText cause tree parts text
+    → (left : Tree) × IsRunOf geo start tree space parts text start left
+unchanged_run geo start tree space parts text cause closed printed =
+    let numbers = mounted_space geo tree space in
+    let P : Option Cause → Type 0 = λ why. IsRunFor why geo start tree numbers.weight parts text start tree in
+    (tree, subst P (sym closed) (record { printed = printed; image_is = refl; left_is = refl }))
+
+-- a file that the manifest copies wasn't read
+pub copy_unread : (old new : KeeperState) (text script line : List ℕ) (parts : List Part) → BeginsAsManifest text → IsScript script parts → IsUnfilled old new text line → IsCopyUnread old new (text, script) line
+copy_unread old new text script line parts begins is_script unread =
+    record { parts = parts; script = is_script; manifest = begins; name = unread.name; copies = unread.copies; why = unread.why; line_is = unread.line_is }
 
 -- where no feature is needed, the first isn't, nor any behind it
 none_of : (line : Bool × Feature) (rest : List (Bool × Feature)) → first_of (line ∷ rest) ≡ None → (line.0 ≡ false) × (first_of rest ≡ None)

@@ -10,6 +10,7 @@ use Rattle.io_edges.specs.Keeper.{KeeperState}
 use Rattle.ubifs_tools.specs.Command.{IsMissing, Told}
 use Rattle.ubifs_tools.specs.Copies.{AreCopiesTold, ComesTo, CopiesFile, FilesStay, IsFilledManifest, IsUnfilled, IsUnreadCopy}
 use Rattle.ubifs_tools.specs.Making.{HasNoImage, IsMadeOf, IsMkfsUnread, ReadsCopy}
+use Rattle.ubifs_tools.specs.RunCommand.{IsBadGeometry, IsBegunOn, IsCopyUnread, IsDone}
 
 pub stay_all : (old mid new : KeeperState) → FilesStay old mid → FilesStay mid new → FilesStay old new
 stay_all old mid new a b = record {
@@ -101,3 +102,37 @@ made_before old mid text told image stay made =
 pub no_image_before : (old mid : KeeperState) (text line : List ℕ) → FilesStay old mid → HasNoImage mid text line → HasNoImage old text line
 no_image_before old mid text line stay none =
     record { volume = none.volume; tree = none.tree; is = filled_before old mid text none.volume none.tree stay none.is; why = none.why }
+
+-- the same of what a run made, and of why it made nothing
+pub begun_before : (old mid : KeeperState) (bytes start : List ℕ) → FilesStay old mid → IsBegunOn mid bytes start → IsBegunOn old bytes start
+begun_before old mid bytes start stay (inl (begins, (told, made))) = inl (begins, (told, made_before old mid bytes told start stay made))
+begun_before old mid bytes start stay (inr none) = inr none
+
+pub done_before : (old mid : KeeperState) (texts : List ℕ × List ℕ) (text image : List ℕ) → FilesStay old mid → IsDone mid texts text image → IsDone old texts text image
+done_before old mid texts text image stay done = record {
+  start = done.start;
+  begun = begun_before old mid texts.0 done.start stay done.begun;
+  bytes = done.bytes;
+  geo = done.geo;
+  tree = done.tree;
+  space = done.space;
+  volume = done.volume;
+  parts = done.parts;
+  script = done.script;
+  left = done.left;
+  run = done.run;
+}
+
+pub bad_before : (old mid : KeeperState) (texts : List ℕ × List ℕ) (line : List ℕ) → FilesStay old mid → IsBadGeometry mid texts line → IsBadGeometry old texts line
+bad_before old mid texts line stay bad = record { parts = bad.parts; script = bad.script; manifest = bad.manifest; none = no_image_before old mid texts.0 line stay bad.none }
+
+pub copy_before : (old mid new : KeeperState) (texts : List ℕ × List ℕ) (line : List ℕ) → FilesStay old mid → IsCopyUnread mid new texts line → IsCopyUnread old new texts line
+copy_before old mid new texts line stay unread = record {
+  parts = unread.parts;
+  script = unread.script;
+  manifest = unread.manifest;
+  name = unread.name;
+  copies = file_before old mid texts.0 unread.name stay unread.copies;
+  why = why_before old mid new unread.name stay unread.why;
+  line_is = unread.line_is;
+}

@@ -1,5 +1,5 @@
 -- Where a run begins that is given what another left.
-use Rattle.std.proofs.Common.{◌≡◌, ℕ, cond, Bool, true, false, Option, Some, List, [], ◌∷◌, get_or, map, refl, ap, sym, subst, ◌∙◌, inl, inr, arith, take}
+use Rattle.std.proofs.Common.{◌≡◌, ℕ, cond, Bool, true, false, Option, Some, None, List, [], ◌∷◌, get_or, map, refl, ap, sym, subst, ◌∙◌, inl, inr, arith, take}
 use Rattle.std.specs.Prelude.{IsTrue, codes, filter, is_some}
 use Rattle.std.specs.BTreeMap.{is_at}
 use Rattle.std.specs.List.{list_all, list_any}
@@ -14,18 +14,21 @@ use Rattle.std.proofs.lemmas.Slice.Eq.{bytes_eq-Decides}
 use Rattle.ubifs_base.specs.NodeLaws.{IsBytes}
 use Rattle.ubifs_base.specs.declared.raw_geometry.RawGeometry.{RawGeometry}
 use Rattle.ubi_volume.specs.Volume.{image_of}
+use Rattle.fs_model.specs.declared.refusal.Cause.{Cause}
+use Rattle.fs_model.specs.Settled.{settled}
 use Rattle.fs_model.specs.Files.{Blocks, Handles, Inodes, Tree, inode_at}
 use Rattle.fs_model.specs.Same.{IsSame}
 use Rattle.image_report.specs.Lebs.{AreLebsOf, AreSoundLebs}
 use Rattle.image_report.specs.Told.{HoldsFiles}
 use Rattle.io_edges.specs.Keeper.{KeeperState, SetsFile}
+use Rattle.script_run.specs.Opening.{mounted_space}
 use Rattle.script_text.specs.declared.part.Part.{Part}
 use Rattle.tree_nodes.specs.Stored.{as_stored, is_owned, stored_tree}
 use Rattle.whole_image.specs.Made.{IsMadeImage}
 use Rattle.ubifs_tools.specs.Command.{IsLeftImage, Told, no_identifier}
 use Rattle.ubifs_tools.specs.Ended.{IsFinished}
 use Rattle.ubifs_tools.specs.Making.{IsToldImage}
-use Rattle.ubifs_tools.specs.RunCommand.{BeginsAsManifest, IsRunOf, IsVolumeOf, files_left}
+use Rattle.ubifs_tools.specs.RunCommand.{BeginsAsManifest, IsBegunOn, IsDone, IsRunFor, IsVolumeOf, IsWritten, files_left}
 
 -- what the crates below say of the bytes of a volume, and of a stored tree
 abbrev pub HoldFiles : Type 0
@@ -83,44 +86,79 @@ left_lebs geo tree holds left lebs =
     let made : IsMadeImage holds geo no_identifier tree = left in
     record { all = lebs; image = made.image; sound = made.sound; geometry = made.geometry; recovered = made.files }
 
--- The image of a run holds the files that it left, and isn't a manifest.
-pub left_holds : HoldFiles → BeginWithMagic → (geo : RawGeometry) (tree : Tree) (parts : List Part) (text image : List ℕ) (ended : IsRunOf geo tree parts text image)
-    → (BeginsAsManifest image → ⊥) × HoldsFiles image geo (files_left ended.run)
-left_holds hold magic geo tree parts text image ended =
-    let left = files_left ended.run in
-    let P : List ℕ → Type 0 = λ bytes. HoldsFiles bytes geo left in
-    let holds : HoldsFiles image geo left = subst P (sym ended.image_is) (hold ended.holds geo left (left_lebs geo ended.run.tree ended.holds ended.image_left ended.lebs) (stored_owned ended.run.tree)) in
-    (not_manifest image (magic image geo left holds), holds)
+-- The image of what was put holds the files that are left of it.
+written_holds : HoldFiles → (geo : RawGeometry) (tree : Tree) (weight : ℕ) (parts : List Part) (text image : List ℕ) (left : Tree) → IsWritten geo tree weight parts text image left → HoldsFiles image geo left
+written_holds hold geo tree weight parts text image left ended =
+    let files = files_left ended.run in
+    let P : List ℕ → Type 0 = λ bytes. HoldsFiles bytes geo files in
+    let Q : Tree → Type 0 = λ t. HoldsFiles image geo t in
+    subst Q (sym ended.left_is) (subst P (sym ended.image_is) (hold ended.holds geo files (left_lebs geo ended.run.tree ended.holds ended.image_left ended.lebs) (stored_owned ended.run.tree)))
 
--- bytes that are an image are a volume in one way
-one_volume : HoldOneTree → (image : List ℕ) (geo other : RawGeometry) (left files : Tree) → IsBytes image → (BeginsAsManifest image → ⊥) × HoldsFiles image geo left → IsVolumeOf image other files
-    → (other ≡ geo) × (files ≡ left)
-one_volume one image geo other left files bytes holds (inl manifest) = absurd (holds.0 manifest.0)
-one_volume one image geo other left files bytes holds (inr also) = one image other geo files left bytes also.1 holds.1
+-- So does the image that was there, where the volume may only be read.
+run_holds : HoldFiles → (cause : Option Cause) (geo : RawGeometry) (start : List ℕ) (tree : Tree) (weight : ℕ) (parts : List Part) (text image : List ℕ) (left : Tree)
+    → IsRunFor cause geo start tree weight parts text image left → HoldsFiles start geo tree → HoldsFiles image geo left
+run_holds hold None geo start tree weight parts text image left run holds = written_holds hold geo tree weight parts text image left run
+run_holds hold (Some cause) geo start tree weight parts text image left run holds =
+    let P : List ℕ → Type 0 = λ bytes. HoldsFiles bytes geo tree in
+    let Q : Tree → Type 0 = λ t. HoldsFiles image geo t in
+    subst Q (sym run.left_is) (subst P (sym run.image_is) holds)
 
--- so the image of a run is one volume alone
-pub left_only : HoldFiles → AreBytes → BeginWithMagic → HoldOneTree → (geo other : RawGeometry) (tree files : Tree) (parts : List Part) (text image : List ℕ) (ended : IsRunOf geo tree parts text image)
-    → IsVolumeOf image other files → (other ≡ geo) × (files ≡ files_left ended.run)
-left_only hold bytes magic one geo other tree files parts text image ended volume =
-    let P : List ℕ → Type 0 = λ b. IsBytes b in
-    one_volume one image geo other (files_left ended.run) files (subst P (sym ended.image_is) (bytes ended.holds geo ended.lebs)) (left_holds hold magic geo tree parts text image ended) volume
+run_bytes : AreBytes → (cause : Option Cause) (geo : RawGeometry) (start : List ℕ) (tree : Tree) (weight : ℕ) (parts : List Part) (text image : List ℕ) (left : Tree)
+    → IsRunFor cause geo start tree weight parts text image left → IsBytes start → IsBytes image
+run_bytes bytes None geo start tree weight parts text image left run are = let P : List ℕ → Type 0 = λ b. IsBytes b in subst P (sym run.image_is) (bytes run.holds geo run.lebs)
+run_bytes bytes (Some cause) geo start tree weight parts text image left run are = let P : List ℕ → Type 0 = λ b. IsBytes b in subst P (sym run.image_is) are
 
--- An image that is told as made holds the tree as an image says it, and isn't a manifest.
-pub told_holds : HoldFiles → BeginWithMagic → (geo : RawGeometry) (tree : Tree) (told image : List ℕ) → IsToldImage geo tree told image
-    → (BeginsAsManifest image → ⊥) × HoldsFiles image geo (stored_tree tree)
-told_holds hold magic geo tree told image made =
+done_holds : HoldFiles → (files : KeeperState) (texts : List ℕ × List ℕ) (text image : List ℕ) (done : IsDone files texts text image) → HoldsFiles image done.geo done.left
+done_holds hold files texts text image done =
+    let space = mounted_space done.geo done.tree done.space in
+    run_holds hold (settled done.geo space) done.geo done.start done.tree space.weight done.parts text image done.left done.run done.volume.files
+
+done_bytes : AreBytes → (files : KeeperState) (texts : List ℕ × List ℕ) (text image : List ℕ) → IsDone files texts text image → IsBytes image
+done_bytes bytes files texts text image done =
+    let space = mounted_space done.geo done.tree done.space in
+    run_bytes bytes (settled done.geo space) done.geo done.start done.tree space.weight done.parts text image done.left done.run done.bytes
+
+-- a sound image is a volume
+volume_of : BeginWithMagic → (other : KeeperState) (image : List ℕ) (geo : RawGeometry) (tree : Tree) → HoldsFiles image geo tree → IsVolumeOf other image geo tree
+volume_of magic other image geo tree holds = record { start = image; begun = inr (not_manifest image (magic image geo tree holds), refl); holds = holds }
+
+-- in one way
+one_volume : BeginWithMagic → HoldOneTree → (other : KeeperState) (image : List ℕ) (geo more : RawGeometry) (left tree : Tree) → IsBytes image → HoldsFiles image geo left → IsVolumeOf other image more tree
+    → (more ≡ geo) × (tree ≡ left)
+one_volume magic one other image geo more left tree bytes holds volume = by volume.begun
+  where
+    by : IsBegunOn other image volume.start → (more ≡ geo) × (tree ≡ left)
+    by (inl manifest) = absurd (not_manifest image (magic image geo left holds) manifest.0)
+    by (inr (none, same)) = let P : List ℕ → Type 0 = λ b. HoldsFiles b more tree in one image more geo tree left bytes (subst P same volume.holds) holds
+
+-- The image of a run is a volume of its geometry with the files that it left, and with no others.
+pub done_volume : HoldFiles → BeginWithMagic → (files other : KeeperState) (texts : List ℕ × List ℕ) (text image : List ℕ) (done : IsDone files texts text image) → IsVolumeOf other image done.geo done.left
+done_volume hold magic files other texts text image done = volume_of magic other image done.geo done.left (done_holds hold files texts text image done)
+
+pub done_only : HoldFiles → AreBytes → BeginWithMagic → HoldOneTree → (files other : KeeperState) (texts : List ℕ × List ℕ) (geo : RawGeometry) (tree : Tree) (text image : List ℕ) (done : IsDone files texts text image)
+    → IsVolumeOf other image geo tree → (geo ≡ done.geo) × (tree ≡ done.left)
+done_only hold bytes magic one files other texts geo tree text image done volume =
+    one_volume magic one other image done.geo geo done.left tree (done_bytes bytes files texts text image done) (done_holds hold files texts text image done) volume
+
+-- An image that is told as made holds the tree as an image says it.
+pub told_holds : HoldFiles → (geo : RawGeometry) (tree : Tree) (told image : List ℕ) → IsToldImage geo tree told image → HoldsFiles image geo (stored_tree tree)
+told_holds hold geo tree told image made =
     let left = stored_tree tree in
     let P : List ℕ → Type 0 = λ bytes. HoldsFiles bytes geo left in
     let lebs : AreSoundLebs made.holds geo left = record { all = made.lebs; image = made.made.image; sound = made.made.sound; geometry = made.made.geometry; recovered = made.made.files } in
-    let holds : HoldsFiles image geo left = subst P (sym made.image_is) (hold made.holds geo left lebs (stored_owned tree)) in
-    (not_manifest image (magic image geo left holds), holds)
+    subst P (sym made.image_is) (hold made.holds geo left lebs (stored_owned tree))
 
--- so it is one volume alone
-pub told_only : HoldFiles → AreBytes → BeginWithMagic → HoldOneTree → (geo other : RawGeometry) (tree files : Tree) (told image : List ℕ) → IsToldImage geo tree told image
-    → IsVolumeOf image other files → (other ≡ geo) × (files ≡ stored_tree tree)
-told_only hold bytes magic one geo other tree files told image made volume =
-    let P : List ℕ → Type 0 = λ b. IsBytes b in
-    one_volume one image geo other (stored_tree tree) files (subst P (sym made.image_is) (bytes made.holds geo made.lebs)) (told_holds hold magic geo tree told image made) volume
+pub told_bytes : AreBytes → (geo : RawGeometry) (tree : Tree) (told image : List ℕ) → IsToldImage geo tree told image → IsBytes image
+told_bytes bytes geo tree told image made = let P : List ℕ → Type 0 = λ b. IsBytes b in subst P (sym made.image_is) (bytes made.holds geo made.lebs)
+
+pub told_volume : HoldFiles → BeginWithMagic → (other : KeeperState) (geo : RawGeometry) (tree : Tree) (told image : List ℕ) → IsToldImage geo tree told image → IsVolumeOf other image geo (stored_tree tree)
+told_volume hold magic other geo tree told image made = volume_of magic other image geo (stored_tree tree) (told_holds hold geo tree told image made)
+
+-- and no other
+pub told_only : HoldFiles → AreBytes → BeginWithMagic → HoldOneTree → (other : KeeperState) (geo more : RawGeometry) (tree files : Tree) (told image : List ℕ) → IsToldImage geo tree told image
+    → IsVolumeOf other image more files → (more ≡ geo) × (files ≡ stored_tree tree)
+told_only hold bytes magic one other geo more tree files told image made volume =
+    one_volume magic one other image geo more (stored_tree tree) files (told_bytes bytes geo tree told image made) (told_holds hold geo tree told image made) volume
 
 -- a file that was written is read as it was written
 read_back : (old mid : KeeperState) (name written read : List ℕ) → IsTrue old.tells → IsTrue mid.tells → (IsTrue old.tells → SetsFile old name written mid) → Told mid name read → read ≡ written
@@ -129,13 +167,14 @@ read_back old mid name written read tells still sets told =
     ap (λ (file : Option (List ℕ)). unwrap_or file []) (sym (told still) ∙ set)
 
 -- So a run on the file to which another's image was written begins with its files.
-pub next_begins : HoldFiles → AreBytes → BeginWithMagic → HoldOneTree → (old mid new : KeeperState) (manifest script image other_script other_image text more : List ℕ) → IsTrue old.tells → IsTrue mid.tells
+pub next_begins : HoldFiles → AreBytes → BeginWithMagic → HoldOneTree → (old mid new : KeeperState) (manifest script image other_script other_image text more : List ℕ) → IsTrue old.tells
     → (first : IsFinished old mid manifest script image text) (second : IsFinished mid new image other_script other_image more)
-    → (second.done.geo ≡ first.done.geo) × (second.done.tree ≡ files_left first.done.run.run)
-next_begins hold bytes magic one old mid new manifest script image other_script other_image text more tells still first second =
-    let same = read_back old mid image first.bytes second.texts.0 tells still first.written second.read.manifest_told in
-    let P : List ℕ → Type 0 = λ b. IsVolumeOf b second.done.geo second.done.tree in
-    left_only hold bytes magic one first.done.geo second.done.geo first.done.tree second.done.tree first.done.parts text first.bytes first.done.run (subst P same second.done.volume)
+    → (second.done.geo ≡ first.done.geo) × (second.done.tree ≡ first.done.left)
+next_begins hold bytes magic one old mid new manifest script image other_script other_image text more tells first second =
+    let same = read_back old mid image first.bytes second.texts.0 tells (first.telling ∙ tells) first.written second.read.manifest_told in
+    let P : List ℕ → Type 0 = λ b. IsVolumeOf mid b second.done.geo second.done.tree in
+    let begins : IsVolumeOf mid second.texts.0 second.done.geo second.done.tree = record { start = second.done.start; begun = second.done.begun; holds = second.done.volume.files } in
+    done_only hold bytes magic one old mid first.texts second.done.geo second.done.tree text first.bytes first.done (subst P same begins)
 
 -- To every caller a stored tree is the tree without blocks of no inode.
 pub left_same : StoredIsSame → (tree : Tree) (handles : Handles)

@@ -77,13 +77,6 @@ IsMissing files name = IsTrue files.tells × (files.content name ≡ None)
 abbrev pub file_line : List ℕ → List ℕ
 file_line name = line_of (codes "file" ∷ name ∷ [])
 
--- A call of the keeper failed, or a file that is to be read isn't there, the first of them; the line names the file.
-abbrev pub IsUnread : KeeperState → KeeperState → List ℕ → List ℕ → List ℕ → List ℕ → Type 0
-IsUnread old new manifest script image line =
-    (Rose old.faults new.faults × ((name : List ℕ) × ((name ≡ manifest) ⊎ (name ≡ script) ⊎ (name ≡ image)) × (line ≡ file_line name)))
-    ⊎ (IsMissing old manifest × (line ≡ file_line manifest))
-    ⊎ (((bytes : List ℕ) × Told old manifest bytes) × IsMissing old script × (line ≡ file_line script))
-
 -- Where text is told: all of it was added, or a first part where the sink failed, or nothing where it found no memory.
 abbrev pub IsPrinted : SinkState → SinkState → List ℕ → Type 0
 IsPrinted old new text = IsTrue old.tells

@@ -1,8 +1,9 @@
 -- How a run ended, over a keeper's files before and after it.
 use Rattle.std.specs.Prelude.{◌≡◌, ℕ, IsTrue, List}
+use Rattle.ubifs_base.specs.Faults.{Rose}
 use Rattle.io_edges.specs.Keeper.{KeeperState, SameFiles, SetsFile}
-use Rattle.ubifs_tools.specs.Command.{IsRead, IsUnread, file_line}
-use Rattle.ubifs_tools.specs.RunCommand.{IsBadText, IsBadVolume, IsBadGeometry, IsDone}
+use Rattle.ubifs_tools.specs.Command.{IsRead, file_line}
+use Rattle.ubifs_tools.specs.RunCommand.{IsBadText, IsBadVolume, IsBadGeometry, IsDone, IsUnread}
 use Rattle.ubifs_tools.specs.declared.command.Ended.{Ended}
 use Rattle.ubifs_tools.specs.declared.command.Ended.TheVariants.{Unread, BadText, BadGeometry, Done}
 use Rattle.ubifs_tools.specs.declared.command.RunEnded.{RunEnded}
@@ -13,8 +14,9 @@ pub record IsFinished (old new : KeeperState) (manifest script image : List ℕ)
   pub texts : List ℕ × List ℕ
   pub bytes : List ℕ
   pub read : IsRead old manifest script texts
-  pub done : IsDone texts text bytes
+  pub done : IsDone old texts text bytes
   pub written : IsTrue old.tells → SetsFile old image bytes new
+  pub telling : new.tells ≡ old.tells
 
 -- nothing was done, because of what was read; the files are as they were
 pub record IsTurnedDown (old new : KeeperState) (manifest script : List ℕ) (Why : List ℕ × List ℕ → Type 0) : Type 0 where
@@ -28,8 +30,16 @@ abbrev pub IsEnded : KeeperState → KeeperState → List ℕ → List ℕ → L
 IsEnded old new manifest script image (run.Unread line) = IsUnread old new manifest script image line.items × SameFiles old new
 IsEnded old new manifest script image (run.BadText line) = IsTurnedDown old new manifest script (λ texts. IsBadText texts line.items)
 IsEnded old new manifest script image (run.BadImage line) = IsTurnedDown old new manifest script (λ texts. IsBadVolume texts line.items)
-IsEnded old new manifest script image (run.BadGeometry line) = IsTurnedDown old new manifest script (λ texts. IsBadGeometry texts line.items)
+IsEnded old new manifest script image (run.BadGeometry line) = IsTurnedDown old new manifest script (λ texts. IsBadGeometry old texts line.items)
 IsEnded old new manifest script image (run.Done text) = IsFinished old new manifest script image text.items
+
+-- the image of a run was written, which printed this; or the keeper failed, and the line names the image
+abbrev pub IsWrittenOut : KeeperState → KeeperState → List ℕ → List ℕ → List ℕ → RunEnded → Type 0
+IsWrittenOut old new image bytes text (run.Done told) = (told.items ≡ text) × (IsTrue old.tells → SetsFile old image bytes new) × (new.tells ≡ old.tells)
+IsWrittenOut old new image bytes text (run.Unread line) = Rose old.faults new.faults × (line.items ≡ file_line image) × SameFiles old new
+IsWrittenOut old new image bytes text (run.BadText line) = ⊥
+IsWrittenOut old new image bytes text (run.BadImage line) = ⊥
+IsWrittenOut old new image bytes text (run.BadGeometry line) = ⊥
 
 -- the line names this file, which a run didn't read or write
 abbrev pub NamesRunFile : List ℕ → RunEnded → Type 0

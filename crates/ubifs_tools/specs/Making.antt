@@ -20,6 +20,8 @@ use Rattle.ubifs_tools.specs.Copies.{CopiesFile, IsFilledManifest, IsUnfilled}
 use Rattle.ubifs_tools.specs.Command.{IsFileName, IsMissing, Told, bad_line, field_name, file_line, geometry_of, no_identifier}
 use Rattle.ubifs_tools.specs.declared.command.Ended.{Ended}
 use Rattle.ubifs_tools.specs.declared.command.Ended.TheVariants.{Unread, BadText, BadGeometry, Done}
+use Rattle.ubifs_tools.specs.declared.mkfs.Copied.{Copied}
+use Rattle.ubifs_tools.specs.declared.mkfs.Copied.TheVariants as copied
 use Rattle.ubifs_tools.specs.declared.mkfs.Filled.{Filled}
 use Rattle.ubifs_tools.specs.declared.mkfs.Filled.TheVariants as filled
 use Rattle.ubifs_tools.specs.declared.perform.Performed.{Performed}
@@ -101,6 +103,11 @@ IsFilledAs old new text (filled.Unread line) = IsUnfilled old new text line.item
 IsFilledAs old new text (filled.BadText line) = IsBadTree text line.items
 IsFilledAs old new text (filled.Made made) = IsFilledManifest old text made.volume made.tree × IsProper made.tree
 
+-- what became of the files that a manifest copies
+abbrev pub IsCopiedAs : KeeperState → KeeperState → List ℕ → Copied → Type 0
+IsCopiedAs old new text (copied.Unread line) = IsUnfilled old new text line.items
+IsCopiedAs old new text (copied.Made made) = IsFilledManifest old text made.volume made.tree × IsProper made.tree
+
 -- what became of a manifest whose files were read
 abbrev pub IsMkfsMade : KeeperState → List ℕ → Performed → Type 0
 IsMkfsMade files text (performed.BadGeometry line) = HasNoImage files text line.items
@@ -113,6 +120,7 @@ pub record IsMkfsFinished (old new : KeeperState) (manifest image : List ℕ) (t
   pub read : Told old manifest text
   pub made : IsMadeOf old text told bytes
   pub written : IsTrue old.tells → SetsFile old image bytes new
+  pub telling : new.tells ≡ old.tells
 
 -- nothing was done, because of what was read; the files are as they were
 pub record IsMkfsTurnedDown (old new : KeeperState) (manifest : List ℕ) (Why : List ℕ → Type 0) : Type 0 where

@@ -1,23 +1,37 @@
--- What became of the two files of a run.
+-- What became of the files of a run.
 use Rattle.std.specs.Prelude.{ℕ, List}
 use Rattle.ubifs_base.specs.declared.raw_geometry.RawGeometry.{RawGeometry}
-use Rattle.fs_model.specs.declared.space.Class.{Class}
+use Rattle.ubifs_base.specs.NodeLaws.{IsBytes}
+use Rattle.fs_model.specs.declared.space.Space.{Space}
 use Rattle.fs_model.specs.Files.{Tree}
+use Rattle.image_report.specs.Told.{HoldsVolume, IsUnsound}
+use Rattle.io_edges.specs.Keeper.{KeeperState}
 use Rattle.script_text.specs.declared.part.Part.{Part}
-use Rattle.ubifs_tools.specs.RunCommand.{CannotBegin, IsBadGeometry, IsBadText, IsBadVolume, IsDone, IsRunOf}
+use Rattle.ubifs_tools.specs.RunCommand.{IsBadGeometry, IsBadText, IsBadVolume, IsCopyUnread, IsDone, IsRunOf}
+use Rattle.ubifs_tools.specs.declared.beginning.RunOn.{RunOn}
+use Rattle.ubifs_tools.specs.declared.beginning.RunOn.TheVariants as on
 use Rattle.ubifs_tools.specs.declared.perform.Ran.{Ran}
-use Rattle.ubifs_tools.specs.declared.perform.Ran.TheVariants.{BadText, BadImage, BadGeometry, Done}
+use Rattle.ubifs_tools.specs.declared.perform.Ran.TheVariants.{Unread, BadText, BadImage, BadGeometry, Done}
 
--- no run begins on this tree, or it was run to its end
-abbrev pub IsRunFrom : RawGeometry → Tree → Class → List Part → Ran → Type 0
-IsRunFrom geo tree class parts (BadText line) = ⊥
-IsRunFrom geo tree class parts (BadImage line) = ⊥
-IsRunFrom geo tree class parts (BadGeometry line) = CannotBegin geo tree class line.items
-IsRunFrom geo tree class parts (Done text image) = IsRunOf geo tree parts text.items image.items
+-- The script was run on the volume that this image holds, and this is what it printed and left.
+pub record IsRunFrom (start : List ℕ) (parts : List Part) (text image : List ℕ) : Type 0 where
+  pub geo : RawGeometry
+  pub tree : Tree
+  pub space : Space
+  pub left : Tree
+  pub bytes : IsBytes start
+  pub volume : HoldsVolume start geo tree space
+  pub run : IsRunOf geo start tree space parts text image left
+
+-- what became of an image on which a run was to begin
+abbrev pub IsRunOn : List ℕ → List Part → RunOn → Type 0
+IsRunOn start parts (on.Unsound line) = IsUnsound start line.items
+IsRunOn start parts (on.Ended ending) = IsRunFrom start parts ending.text.items ending.image.items
 
 -- what became of a volume and a script
-abbrev pub IsRan : List ℕ × List ℕ → Ran → Type 0
-IsRan texts (BadText line) = IsBadText texts line.items
-IsRan texts (BadImage line) = IsBadVolume texts line.items
-IsRan texts (BadGeometry line) = IsBadGeometry texts line.items
-IsRan texts (Done text image) = IsDone texts text.items image.items
+abbrev pub IsRan : KeeperState → KeeperState → List ℕ × List ℕ → Ran → Type 0
+IsRan old new texts (Unread line) = IsCopyUnread old new texts line.items
+IsRan old new texts (BadText line) = IsBadText texts line.items
+IsRan old new texts (BadImage line) = IsBadVolume texts line.items
+IsRan old new texts (BadGeometry line) = IsBadGeometry old texts line.items
+IsRan old new texts (Done text image) = IsDone old texts text.items image.items

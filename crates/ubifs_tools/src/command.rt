@@ -2,7 +2,7 @@
 
 ghost use Rattle.std.specs.Prelude.{IfOk, OnErr};
 ghost use Rattle.io_edges.specs.Keeper.{SameFiles};
-ghost use Rattle.ubifs_tools.specs.Ended.{IsEnded, NamesFile, NamesRunFile};
+ghost use Rattle.ubifs_tools.specs.Ended.{IsEnded, IsWrittenOut, NamesFile, NamesRunFile};
 
 use crate::perform::{Ran, perform};
 use io_edges::{KeepFault, Keeper};
@@ -30,7 +30,7 @@ pub(crate) enum RunEnded {
     Done { text: Vec<u8> },
 }
 
-/// Reads the manifest or the image, and the script, does the work, and writes the image.
+/// Reads the manifest or the image, the script, and the files that the manifest copies, does the work, and writes the image.
 pub(crate) fn run<R: Threads + Sync, K: Keeper>(
     rt: &R,
     alloc: Global,
@@ -52,15 +52,30 @@ pub(crate) fn run<R: Threads + Sync, K: Keeper>(
         Err(KeepFault::Memory) => return Err(Memory),
         Err(_) => return run_unread(alloc, script),
     };
-    match perform(rt, alloc, &volume, &script_text)? {
+    match perform(rt, alloc, volume, &script_text, keeper)? {
+        Ran::Unread { line } => Ok(RunEnded::Unread { line }),
         Ran::BadText { line } => Ok(RunEnded::BadText { line }),
         Ran::BadImage { line } => Ok(RunEnded::BadImage { line }),
         Ran::BadGeometry { line } => Ok(RunEnded::BadGeometry { line }),
-        Ran::Done { text, image: bytes } => match keeper.write(image, &bytes) {
-            Ok(()) => Ok(RunEnded::Done { text }),
-            Err(KeepFault::Memory) => Err(Memory),
-            Err(_) => run_unread(alloc, image),
-        },
+        Ran::Done { text, image: bytes } => write_image(alloc, image, &bytes, text, keeper),
+    }
+}
+
+// Writes the image of a run, which printed this.
+fn write_image<K: Keeper>(
+    alloc: Global,
+    image: &str,
+    bytes: &[u8],
+    text: Vec<u8>,
+    keeper: &mut K,
+) -> Result<RunEnded, Memory>
+    ensures written { IfOk result (IsWrittenOut (K.state keeper.old) (K.state keeper.new) image.now bytes.now text.items) }
+    ensures err { OnErr result (SameFiles (K.state keeper.old) (K.state keeper.new)) }
+{
+    match keeper.write(image, bytes) {
+        Ok(()) => Ok(RunEnded::Done { text }),
+        Err(KeepFault::Memory) => Err(Memory),
+        Err(_) => run_unread(alloc, image),
     }
 }
 

@@ -1,8 +1,7 @@
 // The image of a run.
 
-ghost use Rattle.std.specs.Prelude.{◌≡◌, ◌≤◌, ℕ, List, false, IfOk};
+ghost use Rattle.std.specs.Prelude.{◌≡◌, ℕ, List, false, IfOk};
 ghost use Rattle.ubifs_base.specs.RawOf.{raw_of};
-ghost use Rattle.ubifs_base.specs.Areas.{main_lebs};
 ghost use Rattle.ubi_volume.specs.MemVolume.{IsBlank, state_of};
 ghost use Rattle.ubi_volume.specs.Volume.{image_of};
 ghost use Rattle.fs_model.specs.Proper.{IsProper};
@@ -25,7 +24,6 @@ pub(crate) fn image_bytes(
     tree: &Tree,
 ) -> Result<Vec<u8>, Memory>
     requires proper { IsProper tree.now }
-    requires main { 24 ≤ main_lebs (raw_of geometry.now) }
     requires small { geometry.now.big ≡ false }
     requires covered { IsCoveredTree (raw_of geometry.now) tree.now }
     ensures { IfOk result (λ image. (holds : ℕ → List ℕ) × IsLeftImage (raw_of geometry.now) tree.now holds

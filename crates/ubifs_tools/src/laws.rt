@@ -6,25 +6,24 @@ ghost use Rattle.fs_model.specs.Files.{Handles, Tree};
 ghost use Rattle.fs_model.specs.Same.{IsSame};
 ghost use Rattle.io_edges.specs.Keeper.{KeeperState};
 ghost use Rattle.script_run.specs.declared.whole.Run.{Run};
-ghost use Rattle.script_text.specs.declared.part.Part.{Part};
 ghost use Rattle.tree_nodes.specs.Stored.{is_owned, stored_tree};
 ghost use Rattle.ubifs_tools.specs.Ended.{IsFinished};
 ghost use Rattle.ubifs_tools.specs.Making.{IsMadeOf, made_geometry};
-ghost use Rattle.ubifs_tools.specs.RunCommand.{IsRunOf, IsVolumeOf, files_left};
+ghost use Rattle.ubifs_tools.specs.RunCommand.{IsDone, IsVolumeOf, files_left};
 
 use image_report::{bytes_hold_one_tree, the_bytes_of_a_volume_hold_what_it_holds};
 use tree_nodes::a_stored_tree_is_the_same;
 
 /// A run begins where another ended. The image of a run is a volume of its geometry with the files that the run left, and with no others.
-/// So a run on the file to which it was written begins with these. To every caller they are the tree that was left, but for blocks of no inode.
+/// So a run on the file to which it was written begins with these. Of a volume that may be written they are, to every caller, the tree that was left, but for blocks of no inode.
 pub fn a_run_begins_where_another_ended()
-    ensures volume { (geo : RawGeometry) (tree : Tree) (parts : List Part) (text image : List ℕ) (ended : IsRunOf geo tree parts text image)
-        → IsVolumeOf image geo (files_left ended.run) }
-    ensures only { (geo other : RawGeometry) (tree files : Tree) (parts : List Part) (text image : List ℕ) (ended : IsRunOf geo tree parts text image)
-        → IsVolumeOf image other files → (other ≡ geo) × (files ≡ files_left ended.run) }
-    ensures next { (old mid new : KeeperState) (manifest script image other_script other_image text more : List ℕ) → IsTrue old.tells → IsTrue mid.tells
+    ensures volume { (files other : KeeperState) (texts : List ℕ × List ℕ) (text image : List ℕ) (done : IsDone files texts text image)
+        → IsVolumeOf other image done.geo done.left }
+    ensures only { (files other : KeeperState) (texts : List ℕ × List ℕ) (geo : RawGeometry) (tree : Tree) (text image : List ℕ) (done : IsDone files texts text image)
+        → IsVolumeOf other image geo tree → (geo ≡ done.geo) × (tree ≡ done.left) }
+    ensures next { (old mid new : KeeperState) (manifest script image other_script other_image text more : List ℕ) → IsTrue old.tells
         → (first : IsFinished old mid manifest script image text) (second : IsFinished mid new image other_script other_image more)
-        → (second.done.geo ≡ first.done.geo) × (second.done.tree ≡ files_left first.done.run.run) }
+        → (second.done.geo ≡ first.done.geo) × (second.done.tree ≡ first.done.left) }
     ensures same { (run : Run) (handles : Handles) → IsSame (record { tree = files_left run; handles = handles })
         (record { tree = record run.tree { blocks = filter (is_owned run.tree) run.tree.blocks }; handles = handles }) }
 {
@@ -36,10 +35,10 @@ pub fn a_run_begins_where_another_ended()
 /// A run begins on what `mkfs` made. The image is a volume of its geometry, packed or not, with the files of the manifest's tree as an image
 /// says them, and with no others.
 pub fn a_run_begins_on_what_mkfs_made()
-    ensures volume { (files : KeeperState) (text told image : List ℕ) (made : IsMadeOf files text told image)
-        → IsVolumeOf image (made_geometry made.volume made.tree) (stored_tree made.tree) }
-    ensures only { (files : KeeperState) (other : RawGeometry) (tree : Tree) (text told image : List ℕ) (made : IsMadeOf files text told image)
-        → IsVolumeOf image other tree → (other ≡ made_geometry made.volume made.tree) × (tree ≡ stored_tree made.tree) }
+    ensures volume { (files other : KeeperState) (text told image : List ℕ) (made : IsMadeOf files text told image)
+        → IsVolumeOf other image (made_geometry made.volume made.tree) (stored_tree made.tree) }
+    ensures only { (files other : KeeperState) (geo : RawGeometry) (tree : Tree) (text told image : List ℕ) (made : IsMadeOf files text told image)
+        → IsVolumeOf other image geo tree → (geo ≡ made_geometry made.volume made.tree) × (tree ≡ stored_tree made.tree) }
 {
     the_bytes_of_a_volume_hold_what_it_holds();
     bytes_hold_one_tree();

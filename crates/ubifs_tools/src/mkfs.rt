@@ -1,16 +1,16 @@
 // The command `mkfs`.
 
-ghost use Rattle.std.specs.Prelude.{◌≡◌, ◌<◌, ◌≤◌, ◌∷◌, ◌↔◌, [], ℕ, List, IsTrue, IfOk, IfSome, IfNone, OnErr, false, map, codes};
+ghost use Rattle.std.specs.Prelude.{◌≡◌, ◌<◌, ◌∷◌, ◌↔◌, [], ℕ, List, IsTrue, IfOk, IfSome, IfNone, OnErr, false, map, codes};
 ghost use Rattle.std.specs.Fmt.{decimal};
 ghost use Rattle.std.specs.String.{string_bytes};
-ghost use Rattle.ubifs_base.specs.Areas.{main_lebs};
 ghost use Rattle.ubifs_base.specs.RawOf.{raw_of};
 ghost use Rattle.text_lines.specs.Lines.{line_of};
 ghost use Rattle.fs_model.specs.Proper.{IsProper};
+ghost use Rattle.manifest_tree.specs.CopiedFiles.{IsNamedManifest};
 ghost use Rattle.io_edges.specs.Keeper.{KeeperState, SameFiles};
 ghost use Rattle.tree_space.specs.Laid.{IsAdmitted};
 ghost use Rattle.ubifs_tools.specs.Copies.{FilesStay, IsFilledManifest};
-ghost use Rattle.ubifs_tools.specs.Making.{IsFilledAs, IsImageMade, IsMkfsMade, IsMkfs, IsMkfsEnded, IsPackedMade};
+ghost use Rattle.ubifs_tools.specs.Making.{IsCopiedAs, IsFilledAs, IsImageMade, IsMkfsMade, IsMkfs, IsMkfsEnded, IsPackedMade};
 
 use crate::command::{Ended, unread};
 use crate::copies::{Copies, read_copies};
@@ -18,7 +18,7 @@ use crate::image::blank_volume;
 use crate::perform::{Performed, bad_geometry_line, bad_text_line, small_line};
 use crate::words::is_file_name;
 use io_edges::{KeepFault, Keeper};
-use manifest_tree::{MadeManifest, fill_copied, read_names};
+use manifest_tree::{MadeManifest, NamedManifest, fill_copied, read_names};
 use plain_backing::Tree;
 use std::alloc::Global;
 use text_lines::{line_of_three, line_of_two};
@@ -32,6 +32,13 @@ use whole_image::{MakeFault, an_admitted_tree_fits, make_image, make_packed, pac
 pub(crate) enum Filled {
     Unread { line: Vec<u8> },
     BadText { line: Vec<u8> },
+    Made { made: MadeManifest },
+}
+
+/// A manifest whose files were read, or a line that says which one wasn't.
+#[derive(Drop)]
+pub(crate) enum Copied {
+    Unread { line: Vec<u8> },
     Made { made: MadeManifest },
 }
 
@@ -103,21 +110,37 @@ fn fill_manifest<K: Keeper>(alloc: Global, text: &[u8], keeper: &mut K) -> Resul
             return Ok(Filled::BadText { line });
         }
     };
+    match fill_named(alloc, named, keeper)? {
+        Copied::Unread { line } => Ok(Filled::Unread { line }),
+        Copied::Made { made } => Ok(Filled::Made { made }),
+    }
+}
+
+/// Reads the files that a manifest copies.
+pub(crate) fn fill_named<K: Keeper>(
+    alloc: Global,
+    named: NamedManifest,
+    keeper: &mut K,
+) -> Result<Copied, Memory>
+    requires { IsProper named.tree }
+    ensures stay { FilesStay (K.state keeper.old) (K.state keeper.new) }
+    ensures copied { (text : List ℕ) → IsNamedManifest text named.volume named.copied.items named.tree → IfOk result (IsCopiedAs (K.state keeper.old) (K.state keeper.new) text) }
+{
     match read_copies(alloc, &named.copied, keeper)? {
-        Copies::Unread { line } => Ok(Filled::Unread { line }),
+        Copies::Unread { line } => Ok(Copied::Unread { line }),
         Copies::Read { files } => {
             let mut tree = named.tree;
             fill_copied(alloc, &mut tree, &named.copied, &files)?;
             let volume = named.volume;
-            Ok(Filled::Made {
+            Ok(Copied::Made {
                 made: MadeManifest { volume, tree },
             })
         }
     }
 }
 
-// Makes the image of a manifest's tree.
-fn make(alloc: Global, made: &MadeManifest) -> Result<Performed, Memory>
+/// Makes the image of a manifest's tree.
+pub(crate) fn make(alloc: Global, made: &MadeManifest) -> Result<Performed, Memory>
     requires proper { IsProper made.now.tree }
     requires range { made.now.volume.main < 2147483648 }
     ensures { (files : KeeperState) → (text : List ℕ) → IsFilledManifest files text made.now.volume made.now.tree → IfOk result (IsMkfsMade files text) }
@@ -144,7 +167,6 @@ fn make(alloc: Global, made: &MadeManifest) -> Result<Performed, Memory>
 // The image of a tree, or the line for one that admission refuses.
 fn admitted_image(alloc: Global, geometry: &Geometry, tree: &Tree) -> Result<Performed, Memory>
     requires proper { IsProper tree.now }
-    requires main { 24 ≤ main_lebs (raw_of geometry.now) }
     requires small { geometry.now.big ≡ false }
     ensures { IfOk result (IsImageMade (raw_of geometry.now) tree.now) }
 {
@@ -159,7 +181,6 @@ fn admitted_image(alloc: Global, geometry: &Geometry, tree: &Tree) -> Result<Per
 // The image of a tree that has room. The identifier is zeros.
 fn image_of_tree(alloc: Global, geometry: &Geometry, tree: &Tree) -> Result<Performed, Memory>
     requires proper { IsProper tree.now }
-    requires main { 24 ≤ main_lebs (raw_of geometry.now) }
     requires small { geometry.now.big ≡ false }
     requires admitted { IsAdmitted (raw_of geometry.now) tree.now }
     ensures { IfOk result (IsImageMade (raw_of geometry.now) tree.now) }

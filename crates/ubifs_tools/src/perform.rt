@@ -1,22 +1,27 @@
 // The work of a run, over its two files.
 
-ghost use Rattle.std.specs.Prelude.{◌≡◌, ◌↔◌, ◌∷◌, [], ℕ, List, IsTrue, IfOk, IsErr, codes};
-ghost use Rattle.script_text.specs.Script.{OnLine};
-ghost use Rattle.text_lines.specs.Lines.{line_of};
+ghost use Rattle.std.specs.Prelude.{◌≡◌, ◌↔◌, ◌<◌, ◌≤◌, ◌∷◌, [], ℕ, Bool, List, IsTrue, IfOk, IsErr, false, codes, length};
 ghost use Rattle.std.specs.Fmt.{decimal};
+ghost use Rattle.std.specs.List.{AllByRecursion};
+ghost use Rattle.text_lines.specs.Lines.{line_of};
+ghost use Rattle.fs_model.specs.Proper.{IsProper};
+ghost use Rattle.io_edges.specs.Keeper.{KeeperState};
+ghost use Rattle.script_text.specs.Script.{IsInRange, IsScript, Leads, OnLine};
 ghost use Rattle.ubifs_tools.specs.Command.{bad_line, field_name};
+ghost use Rattle.ubifs_tools.specs.Copies.{FilesStay, IsFilledManifest};
 ghost use Rattle.ubifs_tools.specs.RunCommand.{BeginsAsManifest};
 ghost use Rattle.ubifs_tools.specs.Performed.{IsRan};
 
-use crate::beginning::run_from;
-use fs_model::Class;
-use image_report::{ImageFiles, image_files};
-use manifest_tree::read_tree;
-use script_text::{TextFault, parts_are_in_range, read_script};
+use crate::beginning::{RunOn, run_on};
+use crate::mkfs::{Copied, fill_named, make};
+use image_report::{one_text_is_told, the_bytes_of_a_volume_hold_what_it_holds};
+use io_edges::Keeper;
+use manifest_tree::{MadeManifest, read_names};
+use script_text::{Part, TextFault, parts_are_in_range, read_script};
 use std::alloc::Global;
 use std::thread::Threads;
 use text_lines::line_of_three;
-use ubifs_base::{GeomFault, GeomField, Geometry, Memory, RawGeometry};
+use ubifs_base::{GeomFault, GeomField, Memory};
 
 /// What became of a manifest's tree: a line that says why there is no image, or the text of what was made, and the image.
 #[derive(Drop)]
@@ -25,10 +30,11 @@ pub(crate) enum Performed {
     Done { text: Vec<u8>, image: Vec<u8> },
 }
 
-/// What became of the files of a run: a line for a bad text, for an image that isn't sound, or for a volume on which no run begins; or the text
-/// of the run and the image.
+/// What became of the files of a run: a line for a file that wasn't read, for a bad text, for an image that isn't sound, or for a manifest of which
+/// no image is made; or the text of the run and the image.
 #[derive(Drop)]
 pub(crate) enum Ran {
+    Unread { line: Vec<u8> },
     BadText { line: Vec<u8> },
     BadImage { line: Vec<u8> },
     BadGeometry { line: Vec<u8> },
@@ -36,16 +42,19 @@ pub(crate) enum Ran {
 }
 
 /// Reads a volume and a script, and runs the script on the volume. The volume's bytes are a manifest, if they begin as one, and else an image.
-pub(crate) fn perform<R: Threads + Sync>(
+/// A run on a manifest is one on the image that `mkfs` makes of it.
+pub(crate) fn perform<R: Threads + Sync, K: Keeper>(
     rt: &R,
     alloc: Global,
-    volume: &[u8],
+    volume: Vec<u8>,
     script: &[u8],
+    keeper: &mut K,
 ) -> Result<Ran, Memory>
-    ensures { IfOk result (IsRan (volume.now, script.now)) }
+    ensures stay { FilesStay (K.state keeper.old) (K.state keeper.new) }
+    ensures ran { IfOk result (IsRan (K.state keeper.old) (K.state keeper.new) (volume.items, script.now)) }
 {
-    if begins_as_manifest(volume) {
-        perform_on_manifest(alloc, volume, script)
+    if begins_as_manifest(&volume) {
+        perform_on_manifest(rt, alloc, &volume, script, keeper)
     } else {
         perform_on_image(rt, alloc, volume, script)
     }
@@ -61,13 +70,20 @@ fn begins_as_manifest(bytes: &[u8]) -> bool
     bytes.split_at(7).0 == b"volume ".as_slice()
 }
 
-// Reads a manifest and a script, and runs the script on a volume with the manifest's tree.
-fn perform_on_manifest(alloc: Global, manifest: &[u8], script: &[u8]) -> Result<Ran, Memory>
+// Reads a manifest, a script, and the files that the manifest copies, and runs the script on the image that is made of them.
+fn perform_on_manifest<R: Threads + Sync, K: Keeper>(
+    rt: &R,
+    alloc: Global,
+    manifest: &[u8],
+    script: &[u8],
+    keeper: &mut K,
+) -> Result<Ran, Memory>
     requires { BeginsAsManifest manifest.now }
-    ensures { IfOk result (IsRan (manifest.now, script.now)) }
+    ensures stay { FilesStay (K.state keeper.old) (K.state keeper.new) }
+    ensures ran { IfOk result (IsRan (K.state keeper.old) (K.state keeper.new) (manifest.now, script.now)) }
 {
-    let made = match read_tree(alloc, manifest) {
-        Ok(made) => made,
+    let named = match read_names(alloc, manifest) {
+        Ok(named) => named,
         Err(fault) => {
             let line = bad_text_line(alloc, b"manifest".as_slice(), fault)?;
             return Ok(Ran::BadText { line });
@@ -80,28 +96,51 @@ fn perform_on_manifest(alloc: Global, manifest: &[u8], script: &[u8]) -> Result<
             return Ok(Ran::BadText { line });
         }
     };
-    let volume = made.volume;
-    let raw = RawGeometry::plain(volume.leb_size, volume.min_io, volume.main, volume.fanout);
-    let geometry = match Geometry::new(&raw) {
-        Ok(geometry) => geometry,
-        Err(fault) => {
-            let line = bad_geometry_line(alloc, fault)?;
-            return Ok(Ran::BadGeometry { line });
-        }
-    };
     parts_are_in_range();
-    run_from(alloc, geometry, made.tree, Class::Ordinary, parts)
+    match fill_named(alloc, named, keeper)? {
+        Copied::Unread { line } => Ok(Ran::Unread { line }),
+        Copied::Made { made } => run_made(rt, alloc, &made, parts),
+    }
 }
 
-// Reads a script and an image, and runs the script on the image's files.
+// Runs a script on the image of a manifest's tree.
+fn run_made<R: Threads + Sync>(
+    rt: &R,
+    alloc: Global,
+    made: &MadeManifest,
+    parts: Vec<Part>,
+) -> Result<Ran, Memory>
+    requires proper { IsProper made.now.tree }
+    requires main { made.now.volume.main < 2147483648 }
+    requires order { (last : Bool) × Leads false parts.items last }
+    requires range { AllByRecursion IsInRange parts.items }
+    requires few { length parts.items ≤ 100000 }
+    ensures { (files new : KeeperState) (text script : List ℕ) → BeginsAsManifest text → IsFilledManifest files text made.now.volume made.now.tree → IsScript script parts.items → IfOk result (IsRan files new (text, script)) }
+{
+    one_text_is_told();
+    the_bytes_of_a_volume_hold_what_it_holds();
+    match make(alloc, made)? {
+        Performed::BadGeometry { line } => Ok(Ran::BadGeometry { line }),
+        Performed::Done { text: _, image } => match run_on(rt, alloc, image, parts)? {
+            // This isn't met: what was made is sound.
+            RunOn::Unsound { line } => Ok(Ran::BadImage { line }),
+            RunOn::Ended { ending } => Ok(Ran::Done {
+                text: ending.text,
+                image: ending.image,
+            }),
+        },
+    }
+}
+
+// Reads a script and an image, and runs the script on the image's volume. No file is read.
 fn perform_on_image<R: Threads + Sync>(
     rt: &R,
     alloc: Global,
-    image: &[u8],
+    image: Vec<u8>,
     script: &[u8],
 ) -> Result<Ran, Memory>
-    requires { BeginsAsManifest image.now → ⊥ }
-    ensures { IfOk result (IsRan (image.now, script.now)) }
+    requires { BeginsAsManifest image.items → ⊥ }
+    ensures { (old new : KeeperState) → IfOk result (IsRan old new (image.items, script.now)) }
 {
     let parts = match read_script(alloc, script) {
         Ok(script) => script.parts,
@@ -111,11 +150,12 @@ fn perform_on_image<R: Threads + Sync>(
         }
     };
     parts_are_in_range();
-    match image_files(rt, alloc, image)? {
-        ImageFiles::Unsound { line } => Ok(Ran::BadImage { line }),
-        ImageFiles::Sound { geometry, tree } => {
-            run_from(alloc, geometry, tree, Class::Removal, parts)
-        }
+    match run_on(rt, alloc, image, parts)? {
+        RunOn::Unsound { line } => Ok(Ran::BadImage { line }),
+        RunOn::Ended { ending } => Ok(Ran::Done {
+            text: ending.text,
+            image: ending.image,
+        }),
     }
 }
 

@@ -5,8 +5,8 @@ ghost use Rattle.std.specs.String.{string_bytes};
 ghost use Rattle.ubifs_base.specs.Faults.{Rose};
 ghost use Rattle.text_lines.specs.Lines.{line_of};
 ghost use Rattle.io_edges.specs.Keeper.{SameFiles};
-ghost use Rattle.ubifs_tools.specs.Command.{IsRun, OnRun, IsPrinted, IsTold, IsUnread};
-ghost use Rattle.ubifs_tools.specs.RunCommand.{IsBadText, IsBadVolume, IsBadGeometry};
+ghost use Rattle.ubifs_tools.specs.Command.{IsRun, OnRun, IsPrinted, IsTold};
+ghost use Rattle.ubifs_tools.specs.RunCommand.{IsBadText, IsBadVolume, IsBadGeometry, IsUnread};
 ghost use Rattle.ubifs_tools.specs.ImageCommand.{IsBadImage, IsNoImage, IsOfImage, IsTextOf, OnImage};
 ghost use Rattle.ubifs_tools.specs.Ended.{IsFinished, IsTurnedDown};
 ghost use Rattle.ubifs_tools.specs.Making.{HasNoImage, IsBadTree, IsMkfs, IsMkfsFinished, IsMkfsTurnedDown, IsMkfsUnread, OnMkfs};
@@ -60,7 +60,7 @@ pub fn ubifs<R: Threads + Sync, K: Keeper, O: Sink>(
         ⊎ OnImage (map string_bytes words.now) (λ command image. (line : List ℕ)
         × IsBadImage (K.state keeper.old) (K.state keeper.new) image line × IsPrinted (O.state out.old) (O.state out.new) line) }
     ensures geometry { result ≡ 7 → OnRun (map string_bytes words.now) (λ manifest script image. (line : List ℕ)
-        × IsTurnedDown (K.state keeper.old) (K.state keeper.new) manifest script (λ texts. IsBadGeometry texts line)
+        × IsTurnedDown (K.state keeper.old) (K.state keeper.new) manifest script (λ texts. IsBadGeometry (K.state keeper.old) texts line)
         × IsPrinted (O.state out.old) (O.state out.new) line)
         ⊎ OnMkfs (map string_bytes words.now) (λ manifest image. (line : List ℕ)
         × IsMkfsTurnedDown (K.state keeper.old) (K.state keeper.new) manifest (λ text. HasNoImage (K.state keeper.old) text line)
@@ -125,7 +125,7 @@ fn run_told<R: Threads + Sync, K: Keeper, O: Sink>(
         × IsTurnedDown (K.state keeper.old) (K.state keeper.new) manifest.now script.now (λ texts. IsBadVolume texts line)
         × IsPrinted (O.state out.old) (O.state out.new) line }
     ensures geometry { result ≡ 7 → (line : List ℕ)
-        × IsTurnedDown (K.state keeper.old) (K.state keeper.new) manifest.now script.now (λ texts. IsBadGeometry texts line)
+        × IsTurnedDown (K.state keeper.old) (K.state keeper.new) manifest.now script.now (λ texts. IsBadGeometry (K.state keeper.old) texts line)
         × IsPrinted (O.state out.old) (O.state out.new) line }
     ensures files { result ≡ 4 → (line : List ℕ)
         × IsUnread (K.state keeper.old) (K.state keeper.new) manifest.now script.now image.now line

@@ -40,7 +40,6 @@ pub fn make_image(
 ) -> Result<(), MakeFault>
     requires volume { IsBlank (shape_of (raw_of geometry.now)) (state_of volume.old) }
     requires small { geometry.now.big ≡ false }
-    requires main { 24 ≤ main_lebs (raw_of geometry.now) }
     requires proper { IsProper tree.now }
     ensures made { OnOk result (IsMadeImage (state_of volume.new).holds (raw_of geometry.now) uuid.now tree.now) }
     ensures laid { OnOk result (CanBeLaid (raw_of geometry.now) tree.now) }

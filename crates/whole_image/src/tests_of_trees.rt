@@ -1,6 +1,6 @@
 // Whether an image of a tree can be made.
 
-ghost use Rattle.std.specs.Prelude.{◌≡◌, ◌≤◌, ◌*◌, ◌-◌, IsTrue, [], OnOk, OnErr, IfErr};
+ghost use Rattle.std.specs.Prelude.{◌≡◌, ◌*◌, ◌-◌, IsTrue, [], OnOk, OnErr, IfErr};
 ghost use Rattle.std.specs.List.{list_all};
 ghost use Rattle.ubifs_base.specs.Areas.{main_lebs};
 ghost use Rattle.ubifs_base.specs.Geometry.{leb_reserve};
@@ -15,7 +15,6 @@ use ubifs_base::Geometry;
 
 // Tests the tree and the room of its leaves.
 pub(crate) fn test_tree(geometry: &Geometry, tree: &Tree) -> Result<(), MakeFault>
-    requires main { 24 ≤ main_lebs (raw_of geometry.now) }
     ensures ok { OnOk result (CanBeLaid (raw_of geometry.now) tree.now) }
     ensures err { IfErr result (IsRefused (raw_of geometry.now) tree.now) }
 {
@@ -62,9 +61,8 @@ fn are_plain(tree: &Tree) -> bool
 
 // The bytes of main LEBs that are for leaves: of all LEBs but six, what is behind a reserve.
 fn most_bytes(geometry: &Geometry) -> u64
-    requires { 24 ≤ main_lebs (raw_of geometry.now) }
     ensures { result ≡ most_leaf_bytes (raw_of geometry.now) }
 {
-    let lebs = geometry.main_lebs() as u64 - 6;
+    let lebs = (geometry.main_lebs() as u64).saturating_sub(6);
     lebs * (geometry.leb_size - geometry.leb_reserve()) as u64
 }

@@ -24,17 +24,20 @@ unreachable-requires g c =
       | inr is ↦ subst P c.in-Err-Volume.field-0-is is.1.1
     ]
 
-pub returns-in-Ok : goal.returns-in-Ok
-returns-in-Ok g c =
+pub returns-in_ok-space-in-Ok : goal.returns-in_ok-space-in-Ok
+returns-in_ok-space-in-Ok g c =
     let files = c.in-Ok.ensures.files in
     let told = held c.contents_say_one_thing.ensures.geometry c.args.bytes.now (raw_of c.args.opened.geometry) c.args.opened.volume files.0 c.requires.volume c.requires.loaded files.1.sound in
     record {
-      image = files.0;
-      holds = told.0;
-      geometry = told.1;
-      files = files.1.tree;
-      proper = let P : Tree → Type 0 = λ tree. IsProper tree in
-          subst P (sym files.1.tree) (proper_in c.the_files_of_an_image_are_proper.ensures.proper c.args.opened.volume files.0 files.1.sound);
+      files = record {
+        image = files.0;
+        holds = told.0;
+        geometry = told.1;
+        files = files.1.tree;
+        proper = let P : Tree → Type 0 = λ tree. IsProper tree in
+            subst P (sym files.1.tree) (proper_in c.the_files_of_an_image_are_proper.ensures.proper c.args.opened.volume files.0 files.1.sound);
+      };
+      space_is = ap (λ s. s.space) (c.in_ok-space-in-Ok.ensures (state_of c.args.opened.volume).holds files.0 files.1.sound files.1.read);
     }
 
 pub returns-in_ok-line-in-Err-Unsound : goal.returns-in_ok-line-in-Err-Unsound

@@ -1,13 +1,12 @@
-use Rattle.std.proofs.Common.{inr}
-use Rattle.ubifs_tools.proofs.Sequel.{told_holds, told_only}
+use Rattle.ubifs_tools.proofs.Sequel.{told_only, told_volume}
 use Rattle.ubifs_tools.specs.Making.{made_geometry}
 use Rattle.ubifs_tools.proofs.laws.a_run_begins_on_what_mkfs_made.Goals as goal
 
 pub returns-clause-volume : goal.returns-clause-volume
-returns-clause-volume c = λ files text told image made.
-    inr (told_holds c.the_bytes_of_a_volume_hold_what_it_holds.ensures.files c.bytes_hold_one_tree.ensures.magic (made_geometry made.volume made.tree) made.tree told image made.made)
+returns-clause-volume c = λ files other text told image made.
+    told_volume c.the_bytes_of_a_volume_hold_what_it_holds.ensures.files c.bytes_hold_one_tree.ensures.magic other (made_geometry made.volume made.tree) made.tree told image made.made
 
 pub returns-clause-only : goal.returns-clause-only
-returns-clause-only c = λ files other tree text told image made volume.
+returns-clause-only c = λ files other geo tree text told image made volume.
     told_only c.the_bytes_of_a_volume_hold_what_it_holds.ensures.files c.the_bytes_of_a_volume_hold_what_it_holds.ensures.bytes c.bytes_hold_one_tree.ensures.magic c.bytes_hold_one_tree.ensures.one
-    (made_geometry made.volume made.tree) other made.tree tree told image made.made volume
+    other (made_geometry made.volume made.tree) geo made.tree tree told image made.made volume

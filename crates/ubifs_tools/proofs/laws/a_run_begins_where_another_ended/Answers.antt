@@ -1,13 +1,11 @@
-use Rattle.std.proofs.Common.{inr}
-use Rattle.ubifs_tools.proofs.Sequel.{left_holds, left_only, left_same, next_begins}
+use Rattle.ubifs_tools.proofs.Sequel.{done_only, done_volume, left_same, next_begins}
 use Rattle.ubifs_tools.proofs.laws.a_run_begins_where_another_ended.Goals as goal
 
 pub returns-clause-volume : goal.returns-clause-volume
-returns-clause-volume c = λ geo tree parts text image ended.
-    inr (left_holds c.the_bytes_of_a_volume_hold_what_it_holds.ensures.files c.bytes_hold_one_tree.ensures.magic geo tree parts text image ended)
+returns-clause-volume c = done_volume c.the_bytes_of_a_volume_hold_what_it_holds.ensures.files c.bytes_hold_one_tree.ensures.magic
 
 pub returns-clause-only : goal.returns-clause-only
-returns-clause-only c = left_only c.the_bytes_of_a_volume_hold_what_it_holds.ensures.files c.the_bytes_of_a_volume_hold_what_it_holds.ensures.bytes c.bytes_hold_one_tree.ensures.magic c.bytes_hold_one_tree.ensures.one
+returns-clause-only c = done_only c.the_bytes_of_a_volume_hold_what_it_holds.ensures.files c.the_bytes_of_a_volume_hold_what_it_holds.ensures.bytes c.bytes_hold_one_tree.ensures.magic c.bytes_hold_one_tree.ensures.one
 
 pub returns-clause-next : goal.returns-clause-next
 returns-clause-next c = next_begins c.the_bytes_of_a_volume_hold_what_it_holds.ensures.files c.the_bytes_of_a_volume_hold_what_it_holds.ensures.bytes c.bytes_hold_one_tree.ensures.magic c.bytes_hold_one_tree.ensures.one

@@ -1,4 +1,4 @@
-use Rattle.std.proofs.Common.{List, ℕ, subst, arith}
+use Rattle.std.proofs.Common.{List, ℕ, ◌∙◌, subst, arith}
 use Rattle.ubifs_tools.specs.Copies.{FilesStay}
 use Rattle.ubifs_tools.specs.Making.{HasNoImage, IsFilledAs, IsMadeOf, IsMkfsMade}
 use Rattle.ubifs_tools.specs.declared.mkfs.Filled.{Filled}
@@ -51,4 +51,5 @@ returns-in-Ok-write-clause-ended g c =
       made = subst R c.deref.ensures.value (made_before old mid c.deref.result.now c.in-Done.text.items c.in-Done.bytes.items stay made);
       written = sets_over old new (g.K.Keeper.state c.write.new.self) c.args.image.now c.in-Done.bytes.items c.deref-in-Done.result.now all.same all.telling c.deref-in-Done.ensures.value
           c.in-Ok-write.ensures.written;
+      telling = c.write.ensures.telling ∙ all.telling;
     }

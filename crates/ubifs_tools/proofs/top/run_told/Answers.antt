@@ -1,4 +1,4 @@
-use Rattle.std.proofs.Common.{List, ℕ, subst}
+use Rattle.std.proofs.Common.{List, ℕ, inr, subst}
 use Rattle.ubifs_tools.specs.Command.{IsPrinted}
 use Rattle.ubifs_tools.specs.Ended.{IsEnded}
 use Rattle.ubifs_tools.specs.declared.command.RunEnded.{RunEnded}
@@ -44,3 +44,8 @@ returns-in-Ok-Done-clause-output g c = λ h.
     let Q : List ℕ → Type 0 = λ t. IsPrinted (g.O.Sink.state c.args.out.now) (g.O.Sink.state c.printed.new.out) t in
     let ended = subst P c.in-Ok-Done.field-0-is c.in-Ok-Done.ensures.ended in
     (c.in-Ok-Done.text.items, ended, subst Q c.deref-in-Ok-Done.ensures.value (c.printed.ensures.output h))
+
+pub returns-in-Ok-Done-clause-kept : goal.returns-in-Ok-Done-clause-kept
+returns-in-Ok-Done-clause-kept g c =
+    let P : RunEnded → Type 0 = λ e. IsEnded (g.K.Keeper.state c.args.keeper.now) (g.K.Keeper.state c.run.new.keeper) c.args.manifest.now c.args.script.now c.args.image.now e in
+    inr (c.in-Ok-Done.text.items, subst P c.in-Ok-Done.field-0-is c.in-Ok-Done.ensures.ended)

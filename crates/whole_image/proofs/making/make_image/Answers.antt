@@ -10,7 +10,7 @@ lay_image-requires-clause-room c =
     let geo = raw_of c.args.geometry.now in
     let ranges = c.args.geometry.now.in_range in
     let fits = c.in_ok-test_tree.ensures.ok.fits in
-    lebs_left geo c.args.tree.now ranges c.requires.main fits (c.leaves_of_a_tree_are_few.ensures.lebs geo c.args.tree.now ranges c.requires.proper (few_bytes geo c.args.tree.now ranges fits))
+    lebs_left geo c.args.tree.now ranges c.requires.proper fits (c.leaves_of_a_tree_are_few.ensures.lebs geo c.args.tree.now ranges c.requires.proper (few_bytes geo c.args.tree.now ranges fits))
 
 pub returns-clause-refused : goal.returns-clause-refused
 returns-clause-refused c = all_out_of_lebs (raw_of c.args.geometry.now) c.args.tree.now c.lay_image.result c.lay_image.ensures.refused

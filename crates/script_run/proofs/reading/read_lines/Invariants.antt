@@ -1,0 +1,16 @@
+use Rattle.std.proofs.Common.{◌≡◌, ◌+◌, ◌≤◌, length}
+use Rattle.std.specs.List.{AllByRecursion}
+use Rattle.script_run.specs.Readers.{IsClosed, reading_of}
+use Rattle.script_run.specs.Reading.{IsReadRun, reading_on}
+use Rattle.script_run.specs.Replies.{IsCalled}
+use Rattle.script_run.proofs.reading.read_lines.Given as goal
+
+abbrev pub invariant-loop-part : goal.invariant-loop-part
+invariant-loop-part l = record {
+  closed : IsClosed l.fn.cause l.reader.fs.backing l.reader.fs.kept;
+  cause : l.reader.cause ≡ l.fn.cause;
+  run : IsReadRun l.fn.cause (reading_on l.fn.tree) l.yielded l.text.items (reading_of l.reader);
+  calls : AllByRecursion IsCalled l.part-iterator.rest.items;
+  few : l.reader.number ≤ length l.yielded;
+  all : length l.yielded + length l.part-iterator.rest.items ≤ 100000;
+}

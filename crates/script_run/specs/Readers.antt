@@ -1,0 +1,25 @@
+-- What a session on a volume that may only be read stands for, and what it keeps.
+use Rattle.std.specs.Prelude.{◌≡◌, ℕ}
+use Rattle.fs_model.specs.declared.backing_answers.Mode.TheVariants.{ReadOnly}
+use Rattle.fs_model.specs.declared.refusal.Cause.{Cause}
+use Rattle.fs_model.specs.Files.{Files}
+use Rattle.cached_files.specs.declared.kept.Kept.{Kept}
+use Rattle.cached_files.specs.Calls.{full_weight}
+use Rattle.cached_files.specs.Present.{present}
+use Rattle.plain_backing.specs.declared.backing.PlainBacking.{PlainBacking}
+use Rattle.plain_backing.specs.PlainBacking.{state_of}
+use Rattle.script_run.specs.Reading.{Reading}
+use Rattle.script_run.specs.declared.reader.Reader.{Reader}
+
+-- the files as callers see them
+abbrev pub seen_over : PlainBacking → Kept → Files
+seen_over backing kept = present (state_of backing).tree kept
+
+-- where the script is
+abbrev pub reading_of : Reader → Reading
+reading_of reader = record { files = seen_over reader.fs.backing reader.fs.kept; mounted = reader.mounted; now = reader.now; number = reader.number }
+
+-- The backing is read-only with this cause, and its index weighs nothing: so no page is dirty.
+pub record IsClosed (cause : Cause) (backing : PlainBacking) (kept : Kept) : Type 0 where
+  pub mode : (state_of backing).mode ≡ ReadOnly cause
+  pub light : full_weight (state_of backing) kept ≡ 0

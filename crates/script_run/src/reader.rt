@@ -1,0 +1,198 @@
+// The session of a run on a volume that may only be read: files over a volume in memory that takes no change, and where the script is.
+
+ghost use Rattle.std.specs.Prelude.{◌≡◌, ℕ, ◌<◌, ◌≤◌, ◌+◌, ◌++◌, ◌^◌, Bool, IfOk, OnOk, false, List};
+ghost use Rattle.fs_model.specs.Proper.{IsProper};
+ghost use Rattle.plain_backing.specs.Spending.{is_spent};
+ghost use Rattle.fs_model.specs.declared.backing_answers.Mode.TheVariants.{ReadOnly};
+ghost use Rattle.script_text.specs.declared.part.Part.TheVariants.{Line, Mount, Unmount};
+ghost use Rattle.script_text.specs.Script.{MayStand};
+ghost use Rattle.script_run.specs.Replies.{IsCalled, is_fault};
+ghost use Rattle.script_run.specs.Reading.{IsReadPart, IsReadReply, reading_on};
+ghost use Rattle.script_run.specs.Readers.{IsClosed, reading_of, seen_over};
+
+use crate::session::{CLEAN, parts_of};
+use cached_files::clean_files_are_those_of_the_backing;
+use fs_model::{Cause, Mode, Op, Refusal, Reply, Space};
+use plain_backing::{PlainBacking, Tree};
+use script_text::{Part, write_mount_for_reading, write_reply};
+use std::alloc::Global;
+use ubifs_base::{Geometry, Memory};
+use vfs_ops::{Event, Fs};
+
+/// Files over such a volume, why it may only be read, whether it is mounted, the time in seconds since 1970, and how many lines of the caller
+/// stand behind the last line of another kind.
+#[derive(Drop)]
+pub(crate) struct Reader {
+    pub(crate) fs: Fs<PlainBacking>,
+    pub(crate) cause: Cause,
+    pub(crate) mounted: bool,
+    pub(crate) now: u64,
+    pub(crate) number: u64,
+}
+
+/// A session on a volume with this tree, which isn't mounted. No number of its space is asked for.
+pub(crate) fn first_reader(
+    alloc: Global,
+    geometry: Geometry,
+    tree: Tree,
+    cause: Cause,
+) -> Result<Reader, Memory>
+    requires proper { IsProper tree }
+    requires unspent { is_spent (ReadOnly cause) ≡ false }
+    ensures closed { IfOk result (λ reader. IsClosed cause reader.fs.backing reader.fs.kept) }
+    ensures cause { IfOk result (λ reader. reader.cause ≡ cause) }
+    ensures opening { IfOk result (λ reader. reading_of reader ≡ reading_on tree) }
+{
+    let space = Space {
+        used: tree.bytes(),
+        held: 0,
+        credits: 0,
+        empty: 0,
+        index: 0,
+        weight: 0,
+        main: geometry.main_lebs(),
+    };
+    let backing = PlainBacking::new(alloc, geometry, tree, space, 0, Mode::ReadOnly { cause })?;
+    match Fs::new(alloc, backing, CLEAN) {
+        Ok(fs) => Ok(Reader {
+            fs,
+            cause,
+            mounted: false,
+            now: 0,
+            number: 0,
+        }),
+        Err((fault, _)) => Err(fault),
+    }
+}
+
+/// Does what a line of a script says, and appends what it prints. The error is want of memory.
+pub(crate) fn read_next(
+    alloc: Global,
+    reader: Reader,
+    part: Part,
+    text: &mut Vec<u8>,
+) -> Result<Reader, Memory>
+    requires closed { IsClosed reader.cause reader.fs.backing reader.fs.kept }
+    requires call { IsCalled part }
+    requires few { reader.number < 2 ^ 32 }
+    ensures closed { IfOk result (λ new. IsClosed reader.cause new.fs.backing new.fs.kept) }
+    ensures cause { IfOk result (λ new. new.cause ≡ reader.cause) }
+    ensures part { IfOk result (λ new. (line : List ℕ) × IsReadPart reader.cause (reading_of reader) part line (reading_of new) × (text.new.items ≡ text.old.items ++ line)) }
+    ensures few { IfOk result (λ new. new.number ≤ reader.number + 1) }
+{
+    match part {
+        Part::Mount => read_mounted(reader, text),
+        Part::Unmount => read_unmounted(alloc, reader, text),
+        Part::Now { now } => Ok(Reader {
+            fs: reader.fs,
+            cause: reader.cause,
+            mounted: reader.mounted,
+            now,
+            number: 0,
+        }),
+        Part::Line { caller, op } => read_served(reader, caller, op, text),
+    }
+}
+
+// Mounts the volume.
+fn read_mounted(reader: Reader, text: &mut Vec<u8>) -> Result<Reader, Memory>
+    requires closed { IsClosed reader.cause reader.fs.backing reader.fs.kept }
+    ensures closed { IfOk result (λ new. IsClosed reader.cause new.fs.backing new.fs.kept) }
+    ensures cause { IfOk result (λ new. new.cause ≡ reader.cause) }
+    ensures part { IfOk result (λ new. (line : List ℕ) × IsReadPart reader.cause (reading_of reader) Mount line (reading_of new) × (text.new.items ≡ text.old.items ++ line)) }
+    ensures few { IfOk result (λ new. new.number ≡ 0) }
+{
+    write_mount_for_reading(reader.cause, text)?;
+    Ok(Reader {
+        fs: reader.fs,
+        cause: reader.cause,
+        mounted: true,
+        now: reader.now,
+        number: 0,
+    })
+}
+
+// Unmounts it: nobody has a file open any more.
+fn read_unmounted(alloc: Global, reader: Reader, text: &mut Vec<u8>) -> Result<Reader, Memory>
+    requires closed { IsClosed reader.cause reader.fs.backing reader.fs.kept }
+    ensures closed { IfOk result (λ new. IsClosed reader.cause new.fs.backing new.fs.kept) }
+    ensures cause { IfOk result (λ new. new.cause ≡ reader.cause) }
+    ensures part { IfOk result (λ new. (line : List ℕ) × IsReadPart reader.cause (reading_of reader) Unmount line (reading_of new) × (text.new.items ≡ text.old.items ++ line)) }
+    ensures few { IfOk result (λ new. new.number ≡ 0) }
+{
+    clean_files_are_those_of_the_backing();
+    text.extend_from_slice(b"unmount unchanged\n".as_slice())?;
+    let backing = reader.fs.into_parts();
+    match Fs::new(alloc, backing, CLEAN) {
+        Ok(fs) => Ok(Reader {
+            fs,
+            cause: reader.cause,
+            mounted: false,
+            now: reader.now,
+            number: 0,
+        }),
+        Err((fault, _)) => Err(fault),
+    }
+}
+
+// Does a caller's operation, and prints the reply.
+fn read_served(reader: Reader, caller: u16, op: Op, text: &mut Vec<u8>) -> Result<Reader, Memory>
+    requires closed { IsClosed reader.cause reader.fs.backing reader.fs.kept }
+    requires call { IsCalled (Line caller op) }
+    requires few { reader.number < 2 ^ 32 }
+    ensures closed { IfOk result (λ new. IsClosed reader.cause new.fs.backing new.fs.kept) }
+    ensures cause { IfOk result (λ new. new.cause ≡ reader.cause) }
+    ensures part { IfOk result (λ new. (line : List ℕ) × IsReadPart reader.cause (reading_of reader) (Line caller op) line (reading_of new) × (text.new.items ≡ text.old.items ++ line)) }
+    ensures few { IfOk result (λ new. new.number ≡ reader.number + 1) }
+{
+    let mut fs = reader.fs;
+    let reply = read_replied(&mut fs, reader.cause, caller, reader.now, op)?;
+    let number = reader.number + 1;
+    write_reply(caller, number, &reply, text)?;
+    Ok(Reader {
+        fs,
+        cause: reader.cause,
+        mounted: reader.mounted,
+        now: reader.now,
+        number,
+    })
+}
+
+// The reply to a caller's operation. Want of memory ends the run. No call of a volume in memory fails; if one did, that would end it too.
+fn read_replied(
+    fs: &mut Fs<PlainBacking>,
+    cause: Cause,
+    caller: u16,
+    now: u64,
+    op: Op,
+) -> Result<Reply, Memory>
+    requires closed { IsClosed cause fs.old.backing fs.old.kept }
+    requires call { IsCalled (Line caller op) }
+    ensures closed { OnOk result (IsClosed cause fs.new.backing fs.new.kept) }
+    ensures replied { IfOk result (λ reply. (mounted : Bool) (number : ℕ) → IsReadReply cause (record { files = seen_over fs.old.backing fs.old.kept; mounted = mounted; now = now; number = number }) caller op reply (seen_over fs.new.backing fs.new.kept)) }
+{
+    let event = Event::Call {
+        caller,
+        now,
+        grant: 0,
+        op,
+    };
+    let outcome = fs.step(&event);
+    let told = parts_of(outcome);
+    if is_fault(&told.0) {
+        return Err(Memory);
+    }
+    Ok(told.0)
+}
+
+// Whether an operation was refused for want of memory, or because the volume failed.
+fn is_fault(reply: &Reply) -> bool
+    ensures { result ≡ is_fault reply.now }
+{
+    match reply {
+        Reply::Refused {
+            refusal: Refusal::Enomem | Refusal::Eio { .. },
+        } => true,
+        _ => false,
+    }
+}

@@ -1,0 +1,65 @@
+// The lines of a script on a volume that may only be read.
+
+ghost use Rattle.std.specs.Prelude.{◌≡◌, ◌≤◌, IfOk, false, length};
+ghost use Rattle.std.specs.List.{AllByRecursion};
+ghost use Rattle.fs_model.specs.Proper.{IsProper};
+ghost use Rattle.fs_model.specs.declared.backing_answers.Mode.TheVariants.{ReadOnly};
+ghost use Rattle.plain_backing.specs.Spending.{is_spent};
+ghost use Rattle.script_run.specs.Played.{IsReadText};
+ghost use Rattle.script_run.specs.Readers.{reading_of};
+ghost use Rattle.script_run.specs.Reading.{IsReadRun, reading_on};
+ghost use Rattle.script_run.specs.Replies.{IsCalled};
+
+use crate::reader::{Reader, first_reader, read_next};
+use fs_model::Cause;
+use plain_backing::Tree;
+use script_text::Part;
+use std::alloc::Global;
+use ubifs_base::{Geometry, Memory};
+
+/// What the lines printed, and the session that they left.
+#[derive(Drop)]
+pub(crate) struct LinesRead {
+    pub(crate) text: Vec<u8>,
+    pub(crate) reader: Reader,
+}
+
+/// What the lines print on a volume with this tree that may only be read, for this cause. Want of memory is the only fault.
+pub(crate) fn read_text(
+    alloc: Global,
+    geometry: Geometry,
+    tree: Tree,
+    cause: Cause,
+    parts: Vec<Part>,
+) -> Result<Vec<u8>, Memory>
+    requires proper { IsProper tree }
+    requires unspent { is_spent (ReadOnly cause) ≡ false }
+    requires calls { AllByRecursion IsCalled parts.items }
+    requires few { length parts.items ≤ 100000 }
+    ensures { IfOk result (λ text. IsReadText cause tree parts.items text.items) }
+{
+    let read = read_lines(alloc, geometry, tree, cause, parts)?;
+    Ok(read.text)
+}
+
+// Does what the lines say.
+fn read_lines(
+    alloc: Global,
+    geometry: Geometry,
+    tree: Tree,
+    cause: Cause,
+    parts: Vec<Part>,
+) -> Result<LinesRead, Memory>
+    requires proper { IsProper tree }
+    requires unspent { is_spent (ReadOnly cause) ≡ false }
+    requires calls { AllByRecursion IsCalled parts.items }
+    requires few { length parts.items ≤ 100000 }
+    ensures { IfOk result (λ read. IsReadRun cause (reading_on tree) parts.items read.text.items (reading_of read.reader)) }
+{
+    let mut reader = first_reader(alloc, geometry, tree, cause)?;
+    let mut text = Vec::new(alloc);
+    for part in parts {
+        reader = read_next(alloc, reader, part, &mut text)?;
+    }
+    Ok(LinesRead { text, reader })
+}
