@@ -1,6 +1,6 @@
 // What the bytes of a leaf node say.
 
-ghost use Rattle.std.specs.Prelude.{◌≡◌, ℕ, IfOk, is_some};
+ghost use Rattle.std.specs.Prelude.{◌≡◌, ℕ, IfOk, false, is_some};
 ghost use Rattle.media_leaf.specs.LeafNode.{LeafNode, IsLeafNode, inode, block, entry, truncation};
 ghost use Rattle.media_leaf.specs.declared.data_node.DataNode.{DataNode};
 ghost use Rattle.media_leaf.specs.declared.dent_node.DentNode.{DentNode};
@@ -8,13 +8,13 @@ ghost use Rattle.media_leaf.specs.declared.ino_node.InoNode.{InoNode};
 ghost use Rattle.media_leaf.specs.declared.trun_node.TrunNode.{TrunNode};
 ghost use Rattle.leb_scan.specs.Text.{leaf_type};
 ghost use Rattle.leaf_map.specs.Kept.{bits_of, kind_of_bits};
-ghost use Rattle.journal_scan.specs.Content.{content_of, inode_content, entry_content};
+ghost use Rattle.journal_scan.specs.Content.{content_of, entry_content};
 
 use crate::node_content::NodeContent;
-use media_leaf::{DentNode, InoNode, TrunNode, one_node};
-use node_fields::u32_at;
+use media_leaf::{DentNode, TrunNode, one_node};
+use node_fields::{u16_at, u32_at, u64_at};
 use std::alloc::Global;
-use ubifs_base::{Key, Memory, NodeType, r5};
+use ubifs_base::{Key, Memory, Name, NodeType, r5};
 
 /// What is told of the leaf node of this type that the bytes are, all of them; if they are none, what is told says nothing. Takes
 /// memory for an entry's name. The error is want of memory.
@@ -22,10 +22,10 @@ pub fn read_content(alloc: Global, kind: NodeType, bytes: &[u8]) -> Result<NodeC
     ensures { IfOk result (λ content. (sqnum group : ℕ) (node : LeafNode) → IsLeafNode bytes.now sqnum group node → kind ≡ leaf_type node → content ≡ content_of node) }
 {
     match kind {
-        NodeType::Inode => read_inode(alloc, bytes),
+        NodeType::Inode => Ok(read_inode(bytes)),
         NodeType::Data => Ok(read_block(bytes)),
         NodeType::Entry => read_entry(alloc, bytes),
-        NodeType::Attribute => read_entry(alloc, bytes),
+        NodeType::Attribute => read_attribute(alloc, bytes),
         NodeType::Truncation => read_truncation(alloc, bytes),
         _ => Ok(NO_NODE),
     }
@@ -42,23 +42,33 @@ const NO_NODE: NodeContent = NodeContent::Unknown {
     linked: true,
 };
 
-// What an inode's node says.
-fn read_inode(alloc: Global, bytes: &[u8]) -> Result<NodeContent, Memory>
-    ensures { IfOk result (λ content. (sqnum group : ℕ) (node : InoNode) → IsLeafNode bytes.now sqnum group (inode node) → content ≡ content_of (inode node)) }
+// Where an inode's numbers stand, and where what follows them begins.
+const LINKS_PLACE: usize = 24 + 68;
+
+const MODE_PLACE: usize = 24 + 80;
+
+const INODE_END: usize = 160;
+
+// What an inode's node says. Its checksum was compared when it was found.
+fn read_inode(bytes: &[u8]) -> NodeContent
+    ensures { (sqnum group : ℕ) (node : InoNode) → IsLeafNode bytes.now sqnum group (inode node) → result ≡ content_of (inode node) }
 {
-    one_node();
-    let Some(node) = InoNode::decode(alloc, bytes)? else {
-        return Ok(NO_NODE);
-    };
-    Ok(content_of_inode(&node))
+    if bytes.len() < INODE_END {
+        return NO_NODE;
+    }
+    content_of_inode(
+        u32_at(bytes, KEY_PLACE),
+        u32_at(bytes, LINKS_PLACE),
+        u32_at(bytes, MODE_PLACE),
+    )
 }
 
-fn content_of_inode(node: &InoNode) -> NodeContent
-    ensures { result ≡ inode_content node.now }
+// What is told of an inode of this number, these links and this mode.
+fn content_of_inode(ino: u32, nlink: u32, mode: u32) -> NodeContent
+    ensures { (node : InoNode) → node.ino ≡ ino → node.nlink ≡ nlink → node.mode ≡ mode → result ≡ content_of (inode node) }
 {
-    let ino = node.ino;
-    let linked = node.nlink != 0;
-    if has_kind(node.mode) {
+    let linked = nlink != 0;
+    if has_kind(mode) {
         NodeContent::Inode { ino, linked }
     } else {
         NodeContent::Unknown {
@@ -103,8 +113,35 @@ fn read_block(bytes: &[u8]) -> NodeContent
     }
 }
 
-// What an entry's node says.
+// Where the inode of an entry, the length of its name and the name stand.
+const INUM_PLACE: usize = 24 + 16;
+
+const SIZE_PLACE: usize = 24 + 26;
+
+const NAME_PLACE: usize = 24 + 32;
+
+// What the node of a directory's entry says. Its checksum was compared when it was found.
 fn read_entry(alloc: Global, bytes: &[u8]) -> Result<NodeContent, Memory>
+    ensures { IfOk result (λ content. (sqnum group : ℕ) (node : DentNode) → node.attribute ≡ false → IsLeafNode bytes.now sqnum group (entry node) → content ≡ content_of (entry node)) }
+{
+    if bytes.len() < NAME_PLACE {
+        return Ok(NO_NODE);
+    }
+    let size = u16_at(bytes, SIZE_PLACE) as usize;
+    let behind = bytes.split_at(NAME_PLACE).1;
+    if size > behind.len() {
+        return Ok(NO_NODE);
+    }
+    let name = Name::from_slice(alloc, behind.split_at(size).0)?;
+    Ok(NodeContent::Entry {
+        dir: u32_at(bytes, KEY_PLACE),
+        name,
+        linked: u64_at(bytes, INUM_PLACE) != 0,
+    })
+}
+
+// What the node of an attribute says.
+fn read_attribute(alloc: Global, bytes: &[u8]) -> Result<NodeContent, Memory>
     ensures { IfOk result (λ content. (sqnum group : ℕ) (node : DentNode) → IsLeafNode bytes.now sqnum group (entry node) → content ≡ content_of (entry node)) }
 {
     one_node();

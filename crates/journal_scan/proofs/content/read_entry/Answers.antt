@@ -1,12 +1,21 @@
-use Rattle.std.proofs.Common.{arith}
-use Rattle.media_leaf.specs.LeafNode.{entry}
-use Rattle.journal_scan.proofs.Contents.{Are, none_is, some_is, told_one}
+use Rattle.std.proofs.Common.{◌==◌, ℕ, ap, arith, length, not, take, ◌∙◌}
+use Rattle.journal_scan.proofs.Contents.{entry_long, entry_told, name_fits}
 use Rattle.journal_scan.proofs.content.read_entry.Goals as goal
 
-pub returns-in_default : goal.returns-in_default
-returns-in_default c = λ sqnum group node h. absurd (none_is c.in_ok-node.field-0 _ c.in_default.is c.in_ok-node.ensures.none sqnum group node h)
+pub returns-then-bytes-lt-NAME_PLACE : goal.returns-then-bytes-lt-NAME_PLACE
+returns-then-bytes-lt-NAME_PLACE c = λ sqnum group node plain h.
+    let long = entry_long c.args.bytes.now (λ i. omega (arith, c.type_inv.bytes i)) sqnum group node plain h in
+    let short = c.if-bytes-lt-NAME_PLACE.true in
+    absurd (omega (arith, long, short))
+
+pub returns-then-size-behind : goal.returns-then-size-behind
+returns-then-size-behind c = λ sqnum group node plain h.
+    let more = c.if-size-behind.true in
+    let long = ap length c.split_at.ensures.back in
+    absurd (name_fits c.args.bytes.now (λ i. omega (arith, c.type_inv.bytes i)) sqnum group node plain h c.u16_at-size.result c.u16_at-size.ensures (omega (arith, more, long)))
 
 pub returns : goal.returns
-returns c =
-    let is = some_is c.in_ok-node.field-0 c.in-Some.node (λ node. Are c.args.bytes.now (entry node)) c.in-Some.is c.in_ok-node.ensures.found in
-    λ sqnum group node h. told_one c.one_node.ensures c.args.bytes.now c.content_of_entry.result (entry c.in-Some.node) (λ i. omega (arith, c.type_inv.bytes i)) is c.content_of_entry.ensures sqnum group (entry node) h
+returns c = λ sqnum group node plain h.
+    entry_told c.args.bytes.now (λ i. omega (arith, c.type_inv.bytes i)) sqnum group node plain h c.u32_at.result c.u16_at-size.result c.in_ok-name.name (not (c.u64_at.result == 0)) c.u32_at.ensures c.u16_at-size.ensures
+    (c.in_ok-name.ensures ∙ c.split_at-2.ensures.front ∙ ap (take c.u16_at-size.result) c.split_at.ensures.back)
+    (ap (λ (z : ℕ). not (z == 0)) c.u64_at.ensures)

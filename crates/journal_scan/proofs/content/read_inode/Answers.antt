@@ -1,12 +1,16 @@
-use Rattle.std.proofs.Common.{arith}
-use Rattle.media_leaf.specs.LeafNode.{inode}
-use Rattle.journal_scan.proofs.Contents.{Are, none_is, some_is, told_one}
+use Rattle.std.proofs.Common.{arith, sym, ◌∙◌}
+use Rattle.journal_scan.proofs.Contents.{ino_at, inode_long, links_at, mode_at}
 use Rattle.journal_scan.proofs.content.read_inode.Goals as goal
 
-pub returns-in_default : goal.returns-in_default
-returns-in_default c = λ sqnum group node h. absurd (none_is c.in_ok-node.field-0 _ c.in_default.is c.in_ok-node.ensures.none sqnum group node h)
+pub returns-then-bytes-lt-INODE_END : goal.returns-then-bytes-lt-INODE_END
+returns-then-bytes-lt-INODE_END c = λ sqnum group node h.
+    let long = inode_long c.args.bytes.now (λ i. omega (arith, c.type_inv.bytes i)) sqnum group node h in
+    let short = c.if-bytes-lt-INODE_END.true in
+    absurd (omega (arith, long, short))
 
 pub returns : goal.returns
-returns c =
-    let is = some_is c.in_ok-node.field-0 c.in-Some.node (λ node. Are c.args.bytes.now (inode node)) c.in-Some.is c.in_ok-node.ensures.found in
-    λ sqnum group node h. told_one c.one_node.ensures c.args.bytes.now c.content_of_inode.result (inode c.in-Some.node) (λ i. omega (arith, c.type_inv.bytes i)) is c.content_of_inode.ensures sqnum group (inode node) h
+returns c = λ sqnum group node h.
+    c.content_of_inode.ensures node
+    (ino_at c.args.bytes.now (λ i. omega (arith, c.type_inv.bytes i)) sqnum group node h ∙ sym c.u32_at.ensures)
+    (links_at c.args.bytes.now (λ i. omega (arith, c.type_inv.bytes i)) sqnum group node h ∙ sym c.u32_at-2.ensures)
+    (mode_at c.args.bytes.now (λ i. omega (arith, c.type_inv.bytes i)) sqnum group node h ∙ sym c.u32_at-3.ensures)
