@@ -19,7 +19,9 @@ use Rattle.index_tree.specs.Distinct.{AreDistinct}
 use Rattle.index_tree.specs.Shape.{contents}
 use Rattle.media_sys.specs.Index.{Index}
 use Rattle.media_sys.specs.declared.branch.Branch.{Branch}
+use Rattle.node_cache.specs.Kept.{AreKept}
 use Rattle.node_cache.specs.Loaded.{IsIndexOn}
+use Rattle.node_cache.specs.declared.cache.NodeCache.{NodeCache}
 use Rattle.node_table.specs.Clean.{is_clean_row, placed_of}
 use Rattle.node_table.specs.Dirty.{dirty_below}
 use Rattle.node_table.specs.NodeView.{tree_at}
@@ -32,7 +34,7 @@ use Rattle.ubi_volume.specs.FrameLaws.{IsSameLeb-none, Works-none}
 use Rattle.ubi_volume.specs.Volume.{VolumeState, Keeps, Leaves, Only, SameShape}
 use Rattle.ubi_volume.specs.VolumeLaws.{Leaves-none}
 use Rattle.index_cache.specs.Commit.{said_of}
-use Rattle.index_cache.specs.Paged.{dirty_of, frozen_of, tree_of, KeepsRoots}
+use Rattle.index_cache.specs.Paged.{dirty_of, fanout_of, frozen_of, tree_of, KeepsRoots}
 use Rattle.index_cache.specs.declared.paged.PagedIndex.{PagedIndex}
 use Rattle.index_commit.specs.Answers.{IsFullOf, IsIndexNotFailed, OnMemory}
 use Rattle.index_commit.specs.LebTexts.{AreLebsLeft, AreLebsOf, IsLebOf, firsts, nodes_written}
@@ -46,12 +48,12 @@ use Rattle.index_commit.specs.declared.index_at.IndexHead.{IndexHead}
 use Rattle.index_commit.specs.declared.index_fault.IndexFault.{IndexFault}
 use Rattle.index_commit.specs.declared.index_fault.IndexFault.TheVariants.{Memory, Full, EqualKeys, Volume}
 use Rattle.commit_steps.specs.UnderWayLaws.{clean_lebs, given_behind, given_front, given_of, outside_of, within_of}
-use Rattle.mounted_index.specs.Committed.{AreNodesOf, AreNodesWritten, IsBeside, IsCommit, IsRootOn, IsShortOf, IsWrittenAt, OnWant, nodes_to_write}
-use Rattle.mounted_index.specs.Shown.{IsRowOfNodes, Shows, StandsIn, are_on_medium}
+use Rattle.mounted_index.specs.Committed.{HasNodesFrom, AreNodesWritten, IsBeside, IsCommit, IsRootOn, IsShortOf, IsWrittenAt, OnWant, nodes_to_write}
+use Rattle.mounted_index.specs.Shown.{IsRowOfNodes, KeepsShown, Shows, StandsIn, are_on_medium}
 use Rattle.mounted_index.specs.declared.mounted.IndexNodes.{IndexNodes}
 use Rattle.mounted_index.specs.declared.mounted.IndexNodes.TheVariants.{OnMedium, InMemory}
 use Rattle.mounted_index.specs.declared.mounted.MountedIndex.{MountedIndex}
-use Rattle.mounted_index.proofs.Shown.{nodes_as}
+use Rattle.mounted_index.proofs.Shown.{nodes_as, staged_as}
 use Rattle.mounted_index.specs.ShownLaws.{all_is_clean, placed_again}
 
 givable_there : (n : ℕ) (lebs : List ℕ) → AreGivable n lebs → (k : ℕ) → IsGiven lebs k → k < n
@@ -293,6 +295,7 @@ commit_clean none a lebs kept i self after row root is givable h shown =
       full = none_needed (index_nodes_per_leb geo) (length lebs) self.nodes root is;
       stands = λ fine. stands_more a kept lebs row givable h.stands;
       order = λ order. tt;
+      same = tt;
     }
 
 -- ---- an index in memory
@@ -306,8 +309,9 @@ pub record IsSeenWritten (a b : VolumeState) (geo : RawGeometry) (lebs kept : Li
   pub order : AreKeysInOrder old → IsNotEqualKeys result
 
 pub commit_seen : (a b : VolumeState) (lebs kept : List ℕ) (i j : ℕ) (self after : MountedIndex) (row : KeyedRow) (index final : PagedIndex) (result : Result IndexAt IndexFault) → self.nodes ≡ InMemory index → IsBeside a lebs kept self row
-    → IsSeenWritten a b (raw_of self.geometry) lebs kept i j (length (dirty_below index.table.nodes.items index.root)) (tree_of index) (tree_of final) result → Shows b after (tree_of final) → IsCommit a b lebs kept i j self after row result
-commit_seen a b lebs kept i j self after row index final result is h seen shown =
+    → IsSeenWritten a b (raw_of self.geometry) lebs kept i j (length (dirty_below index.table.nodes.items index.root)) (tree_of index) (tree_of final) result → Shows b after (tree_of final) → OnWant (KeepsShown a b self after) result
+    → IsCommit a b lebs kept i j self after row result
+commit_seen a b lebs kept i j self after row index final result is h seen shown same =
     let own = nodes_as a self.geometry.fanout row self.nodes (InMemory index) is h.shown.nodes in
     let S : KeyedRow → Type 0 = λ r. StandsIn a kept r in
     let here = subst S own.0 h.stands in
@@ -319,17 +323,44 @@ commit_seen a b lebs kept i j self after row index final result is h seen shown 
       places = seen.places;
       at = seen.at;
       untouched = seen.untouched;
+      same = same;
       full = subst F (sym (ap nodes_to_write is)) seen.full;
       stands = seen.stands here h.apart;
       order = seen.order;
     })
 
+-- what holds where a commit wants memory, or LEBs
+pub want_more : {T : Type 0} (P Q : Type 0) (r : Result T IndexFault) → OnWant P r → (P → Q) → OnWant Q r
+want_more P Q (Ok x) h f = tt
+want_more P Q (Err Memory) h f = f h
+want_more P Q (Err (Full n k)) h f = f h
+want_more P Q (Err EqualKeys) h f = tt
+want_more P Q (Err (Volume count)) h f = tt
+
+-- an index in memory of which neither a node nor the root changed shows what it showed, once changes are adopted too
+pub kept_shown : (a b : VolumeState) (self : MountedIndex) (cache : NodeCache) (index final : PagedIndex) → self.nodes ≡ InMemory index → AreKept b.holds cache
+    → (final.table.nodes.items ≡ index.table.nodes.items) × (final.root ≡ index.root) → fanout_of final ≡ fanout_of index
+    → KeepsShown a b self (record { geometry = self.geometry; nodes = InMemory final; cache = cache })
+kept_shown a b self cache index final is kept same fanout =
+    let f = self.geometry.fanout in
+    let items = index.table.nodes.items in
+    let tree : tree_of final ≡ tree_of index = ap (λ (xs : List TableNode). tree_at xs final.root) same.0 ∙ ap (tree_at items) same.1 in
+    record {
+      shown = λ row s. let own = nodes_as a f row self.nodes (InMemory index) is s.nodes in record { nodes = (own.0 ∙ sym tree, fanout ∙ own.1); kept = kept };
+      staged = λ staged row s.
+          let own = staged_as f row staged self.nodes (InMemory index) is s.nodes in
+          let S : List TableNode → Type 0 = λ xs. IsSoundRoot xs staged.root in
+          record { nodes = (own.0 ∙ sym (ap (λ (xs : List TableNode). tree_at xs staged.root) same.0), fanout ∙ own.1, subst S (sym same.0) own.2); kept = kept };
+      alone = sym (ap are_on_medium is);
+      geometry = refl;
+    }
+
 -- the nodes are on the volume from the root on that was written; an empty index has none
-pub nodes_let_go : (b : VolumeState) (f : ℕ) (row : KeyedRow) (root : Option Branch) (nodes : IndexNodes) → IsRootOn b f row root → AreNodesOf f root nodes → IsRowOfNodes b f row nodes
+pub nodes_let_go : (b : VolumeState) (f : ℕ) (row : KeyedRow) (root : Option Branch) (nodes : IndexNodes) → IsRootOn b f row root → HasNodesFrom f root nodes → IsRowOfNodes b f row nodes
 nodes_let_go b f row None nodes on h = let P : IndexNodes → Type 0 = λ n. IsRowOfNodes b f row n in subst P (sym h.1) (on ∙ sym h.2, h.3)
 nodes_let_go b f row (Some root) nodes on h = let P : IndexNodes → Type 0 = λ n. IsRowOfNodes b f row n in subst P (sym h) on
 
-pub alone_from : (f : ℕ) (root : Option Branch) (nodes : IndexNodes) → AreNodesOf f root nodes → are_on_medium nodes ≡ is_some root
+pub alone_from : (f : ℕ) (root : Option Branch) (nodes : IndexNodes) → HasNodesFrom f root nodes → are_on_medium nodes ≡ is_some root
 alone_from f None nodes h = ap are_on_medium h.1
 alone_from f (Some root) nodes h = ap are_on_medium h
 

@@ -26,7 +26,7 @@ use Rattle.node_table.specs.Clean.{placed_of}
 use Rattle.node_table.specs.Dirty.{dirty_below}
 use Rattle.node_table.specs.Placing.{KeepsPlaces}
 use Rattle.ubi_volume.specs.Volume.{VolumeState, Keeps, Leaves}
-use Rattle.mounted_index.specs.Shown.{Shows, StandsIn}
+use Rattle.mounted_index.specs.Shown.{KeepsShown, Shows, StandsIn}
 use Rattle.mounted_index.specs.declared.mounted.IndexNodes.{IndexNodes}
 use Rattle.mounted_index.specs.declared.mounted.IndexNodes.TheVariants.{OnMedium, InMemory}
 use Rattle.mounted_index.specs.declared.mounted.MountedIndex.{MountedIndex}
@@ -55,9 +55,9 @@ pub record AreNodesWritten {T : Type 0} (geo : RawGeometry) (old new : VolumeSta
   pub texts : IsIndexNotFailed result → AreLebsOf geo lebs old new first nodes
 
 -- an index has these nodes once it is written: it is on the volume alone, from the root on, or empty
-abbrev pub AreNodesOf : ℕ → Option Branch → IndexNodes → Type 0
-AreNodesOf fanout None nodes = (index : PagedIndex) × (nodes ≡ InMemory index) × (tree_of index ≡ no_more) × (fanout_of index ≡ fanout)
-AreNodesOf fanout (Some root) nodes = nodes ≡ OnMedium root
+abbrev pub HasNodesFrom : ℕ → Option Branch → IndexNodes → Type 0
+HasNodesFrom fanout None nodes = (index : PagedIndex) × (nodes ≡ InMemory index) × (tree_of index ≡ no_more) × (fanout_of index ≡ fanout)
+HasNodesFrom fanout (Some root) nodes = nodes ≡ OnMedium root
 
 -- how many nodes a commit has to write: the dirty ones below the root, each as often as links lead to it
 abbrev pub nodes_to_write : IndexNodes → ℕ
@@ -72,7 +72,7 @@ OnWant P (Err (Full need given)) = P
 OnWant P (Err EqualKeys) = ⊤
 OnWant P (Err (Volume count)) = ⊤
 
--- a commit that needs so many LEBs says that they are wanting exactly if so few are given, unless it wants memory before it knows
+-- a commit that needs so many LEBs says that they are wanting exactly if so few are given, unless memory is wanting first
 abbrev pub IsShortOf : {T : Type 0} → ℕ → ℕ → Result T IndexFault → Type 0
 IsShortOf need given (Ok x) = need ≤ given
 IsShortOf need given (Err Memory) = ⊤
@@ -86,15 +86,17 @@ pub record IsBeside (state : VolumeState) (lebs kept : List ℕ) (index : Mounte
   pub stands : StandsIn state kept row
   pub apart : AreApart kept lebs
 
--- A commit of an index that showed this row. It shows the same shape and leaves, with places for nodes that were dirty. Where memory or
--- LEBs are wanting, all is as before. LEBs are wanting exactly if they don't take the dirty nodes. Unless the volume failed, clean nodes
--- stand in the given LEBs and in those of before. Keys in order are never refused
+-- A commit of an index that showed this row. It shows the same shape and leaves, with places for nodes that were dirty. If memory or LEBs
+-- are wanting, the volume, the number, and what is shown or staged are as before. LEBs are wanting exactly if they don't take the dirty
+-- nodes, unless memory is wanting first. Unless the volume failed, clean nodes stand in the given LEBs and in those of before. Keys in
+-- order are never refused
 pub record IsCommit (old new : VolumeState) (lebs kept : List ℕ) (first last : ℕ) (before after : MountedIndex) (row : KeyedRow) (result : Result IndexAt IndexFault) : Type 0 where
   pub now : KeyedRow
   pub shown : Shows new after now
   pub places : KeepsPlaces row now
   pub at : IfOk result (IsWrittenAt new (raw_of before.geometry) lebs (last - first) row now)
   pub untouched : OnWant (Keeps old new × (now ≡ row) × (last ≡ first)) result
+  pub same : OnWant (KeepsShown old new before after) result
   pub full : IsShortOf (div_ceil (nodes_to_write before.nodes) (index_nodes_per_leb (raw_of before.geometry))) (length lebs) result
   pub stands : IsIndexNotFailed result → StandsIn new (lebs ++ kept) now
   pub order : AreKeysInOrder row → IsNotEqualKeys result

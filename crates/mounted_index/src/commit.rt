@@ -14,7 +14,7 @@ ghost use Rattle.index_commit.specs.Answers.{IsIndexAnswered, IsIndexNotFailed};
 ghost use Rattle.index_commit.specs.Lebs.{AreApart, AreGivable};
 ghost use Rattle.index_commit.specs.Ordered.{AreKeysInOrder, IsNotEqualKeys};
 ghost use Rattle.index_commit.specs.Written.{KeepsOtherIndexes, WorksInLebs};
-ghost use Rattle.mounted_index.specs.Committed.{AreNodesOf, AreNodesWritten, IsBeside, IsCommit, IsShortOf, IsWrittenAt, OnWant};
+ghost use Rattle.mounted_index.specs.Committed.{AreNodesWritten, HasNodesFrom, IsBeside, IsCommit, IsShortOf, IsWrittenAt, OnWant, nodes_to_write};
 ghost use Rattle.mounted_index.specs.Shown.{StandsIn, on_volume_alone};
 
 use crate::mounted::{IndexNodes, MountedIndex};
@@ -31,13 +31,14 @@ use ubifs_base::Geometry;
 const MOST_NODES: u64 = 1 << 62;
 
 impl MountedIndex {
-    /// Writes the dirty nodes of the index to these LEBs, children before their parent, and lets all nodes go: the index is on the volume
-    /// alone then, from the root that is answered on (`root_lnum`, `root_offs` and `root_len` of `struct ubifs_mst_node`). An empty index
-    /// is written nowhere, and has no root. Each node has as much room as a full one takes. Each LEB is replaced by one change, whatever it
-    /// held, and clean nodes stay where they are: no clean node may stand in these LEBs.
+    /// Writes the dirty nodes of the index to these LEBs, children before their parent, and lets all nodes go. Unless it is empty, the index
+    /// is on the volume alone then, from the answered root on (`root_lnum`, `root_offs` and `root_len` of `struct ubifs_mst_node`). An
+    /// empty index is written nowhere, and has no root. Each node has as much room as a full one takes. Each LEB is replaced by one change,
+    /// whatever it held, and clean nodes stay where they are: no clean node may stand in these LEBs.
     ///
-    /// `Memory` and `Full` come before anything is written, and leave all as it was. After `Volume` the index is shown as before, but
-    /// nodes of it may have places where nothing stands. `EqualKeys` comes only where the keys of a node's branches aren't in order.
+    /// `Memory` and `Full` come before anything is written. They leave the volume and the number as they were, and what is shown or staged.
+    /// After `Volume` the index is shown as before, but nodes of it may have places where nothing stands. `EqualKeys` comes only if the
+    /// keys of some node's branches aren't in order. No more sequence numbers are taken than there are dirty nodes.
     pub fn commit<V: Volume>(
         &mut self,
         alloc: Global,
@@ -55,7 +56,8 @@ impl MountedIndex {
             × AreNodesWritten (raw_of self.old.geometry) (V.state volume.old) (V.state volume.new) lebs.now sqnum.old sqnum.new result }
         ensures old_stays { KeepsOtherIndexes (V.state volume.old) (V.state volume.new) lebs.now }
         ensures answer { IsIndexAnswered (V.state volume.old) (V.state volume.new) result }
-        ensures number { (sqnum.old ≤ sqnum.new) × (sqnum.new ≤ sqnum.old + index_nodes_per_leb (raw_of self.old.geometry) * length lebs.now) }
+        ensures number { (sqnum.old ≤ sqnum.new) × (sqnum.new ≤ sqnum.old + index_nodes_per_leb (raw_of self.old.geometry) * length lebs.now)
+            × (sqnum.new ≤ sqnum.old + nodes_to_write self.old.nodes) }
     {
         an_index_depends_on_its_lebs_alone();
         places_are_kept();
@@ -80,7 +82,7 @@ impl MountedIndex {
 fn nodes_of(alloc: Global, fanout: u32, root: Option<Branch>) -> IndexNodes
     requires least { 3 ≤ fanout }
     requires most { fanout ≤ 256 }
-    ensures { AreNodesOf fanout root result }
+    ensures { HasNodesFrom fanout root result }
 {
     match root {
         None => IndexNodes::InMemory(PagedIndex::new(alloc, fanout)),
@@ -105,6 +107,7 @@ fn write_seen<V: Volume>(
     ensures at { IfOk result (IsWrittenAt (V.state volume.new) (raw_of geometry.now) lebs.now (sqnum.new - sqnum.old) (tree_of index.old) (tree_of index.new)) }
     ensures tree { KeepsPlaces (tree_of index.old) (tree_of index.new) }
     ensures want { OnWant (Keeps (V.state volume.old) (V.state volume.new) × (tree_of index.new ≡ tree_of index.old) × (sqnum.new ≡ sqnum.old)) result }
+    ensures same { OnWant ((index.new.table.nodes.items ≡ index.old.table.nodes.items) × (index.new.root ≡ index.old.root)) result }
     ensures stands { (kept : List ℕ) → StandsIn (V.state volume.old) kept (tree_of index.old) → AreApart kept lebs.now → IsIndexNotFailed result → StandsIn (V.state volume.new) (lebs.now ++ kept) (tree_of index.new) }
     ensures full { IsShortOf (div_ceil (length (dirty_below index.old.table.nodes.items index.old.root)) (index_nodes_per_leb (raw_of geometry.now))) (length lebs.now) result }
     ensures order { AreKeysInOrder (tree_of index.old) → IsNotEqualKeys result }
@@ -112,7 +115,8 @@ fn write_seen<V: Volume>(
     ensures nodes { AreNodesWritten (raw_of geometry.now) (V.state volume.old) (V.state volume.new) lebs.now sqnum.old sqnum.new result }
     ensures old_stays { KeepsOtherIndexes (V.state volume.old) (V.state volume.new) lebs.now }
     ensures answer { IsIndexAnswered (V.state volume.old) (V.state volume.new) result }
-    ensures number { (sqnum.old ≤ sqnum.new) × (sqnum.new ≤ sqnum.old + index_nodes_per_leb (raw_of geometry.now) * length lebs.now) }
+    ensures number { (sqnum.old ≤ sqnum.new) × (sqnum.new ≤ sqnum.old + index_nodes_per_leb (raw_of geometry.now) * length lebs.now)
+        × (sqnum.new ≤ sqnum.old + length (dirty_below index.old.table.nodes.items index.old.root)) }
     ensures fanout { fanout_of index.new ≡ fanout_of index.old }
 {
     an_index_depends_on_its_lebs_alone();

@@ -1,10 +1,11 @@
-use Rattle.std.proofs.Common.{◌≡◌, ◌-◌, ◌++◌, ℕ, List, length, true, arith, ap, sym, ◌∙◌, subst}
+use Rattle.std.proofs.Common.{◌≡◌, ◌-◌, ◌+◌, ◌≤◌, ◌++◌, ℕ, List, length, true, arith, ap, sym, ◌∙◌, subst}
 use Rattle.std.specs.Int.{div_ceil}
 use Rattle.ubifs_base.specs.Geometry.{index_nodes_per_leb}
 use Rattle.ubifs_base.specs.RawOf.{raw_of}
 use Rattle.index_tree.specs.Shape.{fits}
 use Rattle.index_media.specs.KeyedRow.{KeyedRow, bare}
 use Rattle.index_cache.specs.Paged.{dirty_of, fanout_of, frozen_of, tree_of}
+use Rattle.index_cache.specs.declared.paged.PagedIndex.{PagedIndex}
 use Rattle.index_commit.specs.Ordered.{AreKeysInOrder}
 use Rattle.index_commit.specs.Rooms.{IsIndexLaidOut}
 use Rattle.index_commit.specs.Standing.{AreOutside}
@@ -64,6 +65,15 @@ returns-clause-want g c =
     (λ full. (full.0, ap tree_of full.1 ∙ c.freeze.ensures.tree, number_same begun final c.args.sqnum.now c.write_index.new.sqnum taken full.1))
     (λ none. (none.volume, ap tree_of none.index ∙ c.freeze.ensures.tree, none.number))
 
+pub returns-clause-same : goal.returns-clause-same
+returns-clause-same g c =
+    let begun = c.freeze.new.self in
+    let answer = c.write_index.ensures.answer in
+    let items = λ (x : PagedIndex). x.table.nodes.items in
+    let seen = λ (x : PagedIndex). x.root in
+    want_of _ _ _ _ _ c.write_index.result answer.1 answer.4 (λ full. (ap items full.1 ∙ c.freeze.ensures.nodes, ap seen full.1 ∙ c.freeze.ensures.seen))
+    (λ none. (ap items none.index ∙ c.freeze.ensures.nodes, ap seen none.index ∙ c.freeze.ensures.seen))
+
 pub returns-clause-stands : goal.returns-clause-stands
 returns-clause-stands g c = λ kept stands two done.
     let a = g.V.Volume.state c.args.volume.now in
@@ -94,9 +104,12 @@ returns-clause-number g c =
     let final = c.write_index.new.index in
     let geo = c.args.geometry.now in
     let taken = c.write_index.ensures.index in
-    let number = taken.number in (
+    let number = taken.number in
+    let most = taken.most in
+    let N : List ℕ → Type 0 = λ l. c.write_index.new.sqnum ≤ c.args.sqnum.now + length l in (
       omega (arith, number),
       number_most _ (index_nodes_per_leb (raw_of geo)) (length c.args.lebs.now) c.args.sqnum.now c.write_index.new.sqnum begun final c.write_index.result (some_nodes geo) taken.most c.write_index.ensures.answer.1,
+      subst N (frozen_dirty c.args.index.now begun c.freeze.ensures.nodes c.freeze.ensures.root) (omega (arith, most)),
     )
 
 pub returns-then-dirty_nodes-gt-MOST_NODES-clause-stands : goal.returns-then-dirty_nodes-gt-MOST_NODES-clause-stands
