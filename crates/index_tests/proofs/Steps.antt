@@ -22,7 +22,7 @@ use Rattle.ubi_volume.specs.Volume.{VolumeState, Keeps, SameShape}
 use Rattle.ubifs_base.specs.RawOf.{raw_of}
 use Rattle.ubifs_base.specs.declared.geometry.Geometry.{Geometry}
 use Rattle.ubifs_base.specs.declared.raw_geometry.RawGeometry.{RawGeometry}
-use Rattle.index_tests.specs.Standing.{IsStanding}
+use Rattle.index_tests.specs.Standing.{StandsInLebsBefore}
 
 pub same_geometry : (geo : RawGeometry) (a b : VolumeState) → SameShape a b → IsGeometryOf geo a → IsGeometryOf geo b
 same_geometry geo a b shape h =
@@ -30,7 +30,7 @@ same_geometry geo a b shape h =
     record { leb_size = h.leb_size ∙ sym shape.leb_size; min_io = h.min_io ∙ sym shape.min_io; leb_cnt = subst P (sym shape.leb_cnt) h.leb_cnt }
 
 -- a look-up
-pub looked_up : (geometry : Geometry) (a b : VolumeState) (index after : MountedIndex) (next : ℕ) → IsStanding geometry a index next → Keeps a b → SameShape a b → KeepsShown a b index after → IsStanding geometry b after next
+pub looked_up : (geometry : Geometry) (a b : VolumeState) (index after : MountedIndex) (next : ℕ) → StandsInLebsBefore geometry a index next → Keeps a b → SameShape a b → KeepsShown a b index after → StandsInLebsBefore geometry b after next
 looked_up geometry a b index after next h keeps shape kept = record {
   row = h.row;
   kept = h.kept;
@@ -42,8 +42,8 @@ looked_up geometry a b index after next h keeps shape kept = record {
 }
 
 -- a change that was made
-pub changed_well : {T : Type 0} {x : T} (geometry : Geometry) (a b : VolumeState) (index after : MountedIndex) (next : ℕ) (made : KeyedRow) → (h : IsStanding geometry a index next) → AreChangesMade a b after h.row made (Ok x)
-    → SameShape a b → after.geometry ≡ index.geometry → IsStanding geometry b after next
+pub changed_well : {T : Type 0} {x : T} (geometry : Geometry) (a b : VolumeState) (index after : MountedIndex) (next : ℕ) (made : KeyedRow) → (h : StandsInLebsBefore geometry a index next) → AreChangesMade a b after h.row made (Ok x)
+    → SameShape a b → after.geometry ≡ index.geometry → StandsInLebsBefore geometry b after next
 changed_well geometry a b index after next made h changed shape same = record {
   row = made;
   kept = h.kept;
@@ -67,7 +67,7 @@ one_more kept next before k (inr own) = let less = before k own in omega (arith,
 
 -- a commit to the next LEB: what its answer shows is shown
 pub committed_well : (geometry : Geometry) (a b : VolumeState) (kept : List ℕ) (row now : KeyedRow) (index after : MountedIndex) (next : ℕ) → SameShape a b → IsGeometryOf (raw_of geometry) a → ((k : ℕ) → IsGiven kept k → k < next)
-    → Shows b after now → StandsIn b (next ∷ kept) now → after.geometry ≡ geometry → IsStanding geometry b after (next + 1)
+    → Shows b after now → StandsIn b (next ∷ kept) now → after.geometry ≡ geometry → StandsInLebsBefore geometry b after (next + 1)
 committed_well geometry a b kept row now index after next shape fits before shown stands same = record {
   row = now;
   kept = next ∷ kept;
@@ -79,8 +79,8 @@ committed_well geometry a b kept row now index after next shape fits before show
 }
 
 -- a commit to no LEB
-pub nothing_given : (geometry : Geometry) (a b : VolumeState) (index after : MountedIndex) (next i j : ℕ) (result : Result IndexAt IndexFault) → (h : IsStanding geometry a index next) → SameShape a b
-    → IsCommit a b [] h.kept i j index after h.row result → IsIndexNotFailed result → after.geometry ≡ index.geometry → IsStanding geometry b after next
+pub nothing_given : (geometry : Geometry) (a b : VolumeState) (index after : MountedIndex) (next i j : ℕ) (result : Result IndexAt IndexFault) → (h : StandsInLebsBefore geometry a index next) → SameShape a b
+    → IsCommit a b [] h.kept i j index after h.row result → IsIndexNotFailed result → after.geometry ≡ index.geometry → StandsInLebsBefore geometry b after next
 nothing_given geometry a b index after next i j result h shape commit fine same = record {
   row = commit.now;
   kept = h.kept;
@@ -94,7 +94,7 @@ nothing_given geometry a b index after next i j result h shape commit fine same 
 -- the index is taken up again from the root that a commit answered
 pub taken_well : (geometry : Geometry) (a b : VolumeState) (kept : List ℕ) (row now : KeyedRow) (index taken : MountedIndex) (next f : ℕ) (at : Option Branch) (root : Branch) → SameShape a b → IsGeometryOf (raw_of geometry) a
     → ((k : ℕ) → IsGiven kept k → k < next) → IsRootOn b f now at → at ≡ Some root → f ≡ geometry.fanout
-    → ((placed : PlacedRow) → IsIndexOn b geometry.fanout root placed → Shows b taken (all_clean placed)) → StandsIn b (next ∷ kept) now → taken.geometry ≡ geometry → IsStanding geometry b taken (next + 1)
+    → ((placed : PlacedRow) → IsIndexOn b geometry.fanout root placed → Shows b taken (all_clean placed)) → StandsIn b (next ∷ kept) now → taken.geometry ≡ geometry → StandsInLebsBefore geometry b taken (next + 1)
 taken_well geometry a b kept row now index taken next f at root shape fits before on is wide shows stands same =
     let R : Option Branch → Type 0 = λ r. IsRootOn b f now r in
     let there = subst R is on in
@@ -107,7 +107,7 @@ geometry_of geometry own a same h = let G : Geometry → Type 0 = λ g. IsGeomet
 
 -- an empty index over a blank volume of this geometry
 pub begun : (geometry : Geometry) (shape : VolShape) (a : VolumeState) (index : MountedIndex) (next : ℕ) → raw_of geometry ≡ plain_geometry 16384 512 64 3 → shape ≡ record { leb_size = 16384; min_io = 512; leb_cnt = 74 } → IsBlank shape a
-    → Shows a index no_more → index.geometry ≡ geometry → IsStanding geometry a index next
+    → Shows a index no_more → index.geometry ≡ geometry → StandsInLebsBefore geometry a index next
 begun geometry shape a index next is small blank shown same =
     let raw = raw_of geometry in
     let count : raw.leb_cnt ≡ 74 = ap (λ (r : RawGeometry). r.leb_cnt) is in

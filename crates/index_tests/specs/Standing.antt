@@ -10,7 +10,7 @@ use Rattle.ubifs_base.specs.RawOf.{raw_of}
 use Rattle.ubifs_base.specs.declared.geometry.Geometry.{Geometry}
 
 -- the index shows a row, whose clean nodes stand in LEBs before the next one
-pub record IsStanding (geometry : Geometry) (state : VolumeState) (index : MountedIndex) (next : ℕ) : Type 0 where
+pub record StandsInLebsBefore (geometry : Geometry) (state : VolumeState) (index : MountedIndex) (next : ℕ) : Type 0 where
   pub row : KeyedRow
   pub kept : List ℕ
   pub shown : Shows state index row

@@ -5,7 +5,7 @@ ghost use Rattle.ubifs_base.specs.Geometry.{plain_geometry};
 ghost use Rattle.ubifs_base.specs.RawOf.{raw_of};
 ghost use Rattle.ubifs_base.specs.declared.key.Key.TheVariants.{Ino};
 ghost use Rattle.node_table.specs.Changing.{IsChange};
-ghost use Rattle.index_tests.specs.Standing.{IsStanding};
+ghost use Rattle.index_tests.specs.Standing.{StandsInLebsBefore};
 
 use index_commit::IndexFault;
 use index_tree::Leaf;
@@ -105,8 +105,8 @@ fn is_made<V: Volume>(
     change: Change,
 ) -> bool
     requires change { IsChange change }
-    requires standing { IsStanding geometry.now (V.state volume.old) index.old next }
-    ensures { IsTrue result → IsStanding geometry.now (V.state volume.new) index.new next }
+    requires standing { StandsInLebsBefore geometry.now (V.state volume.old) index.old next }
+    ensures { IsTrue result → StandsInLebsBefore geometry.now (V.state volume.new) index.new next }
 {
     let changes: &[Change] = &[change];
     match index.change(alloc, volume, changes) {
@@ -124,8 +124,8 @@ fn is_size<V: Volume>(
     next: u32,
     size: IndexSize,
 ) -> bool
-    requires standing { IsStanding geometry.now (V.state volume.old) index.old next }
-    ensures { IsStanding geometry.now (V.state volume.new) index.new next }
+    requires standing { StandsInLebsBefore geometry.now (V.state volume.old) index.old next }
+    ensures { StandsInLebsBefore geometry.now (V.state volume.new) index.new next }
 {
     let found = index.size(alloc, volume);
     found == Ok(size)
@@ -141,8 +141,8 @@ fn is_there<V: Volume>(
     ino: u32,
     there: bool,
 ) -> bool
-    requires standing { IsStanding geometry.now (V.state volume.old) index.old next }
-    ensures { IsStanding geometry.now (V.state volume.new) index.new next }
+    requires standing { StandsInLebsBefore geometry.now (V.state volume.old) index.old next }
+    ensures { StandsInLebsBefore geometry.now (V.state volume.new) index.new next }
 {
     let found = index.find(alloc, volume, &Key::Ino { ino }, 0);
     is_found(found, there)
@@ -165,8 +165,8 @@ fn is_next<V: Volume>(
     ino: u32,
     after: Option<u32>,
 ) -> bool
-    requires standing { IsStanding geometry.now (V.state volume.old) index.old next }
-    ensures { IsStanding geometry.now (V.state volume.new) index.new next }
+    requires standing { StandsInLebsBefore geometry.now (V.state volume.old) index.old next }
+    ensures { StandsInLebsBefore geometry.now (V.state volume.new) index.new next }
 {
     let found = index.after(alloc, volume, &Key::Ino { ino });
     is_of(found, after)
@@ -189,8 +189,8 @@ fn are_all<V: Volume>(
     next: u32,
     inos: &[u32],
 ) -> bool
-    requires standing { IsStanding geometry.now (V.state volume.old) index.old next }
-    ensures { IsStanding geometry.now (V.state volume.new) index.new next }
+    requires standing { StandsInLebsBefore geometry.now (V.state volume.old) index.old next }
+    ensures { StandsInLebsBefore geometry.now (V.state volume.new) index.new next }
 {
     let from = Key::Ino { ino: 0 };
     let to = Key::Ino { ino: u32::MAX };
@@ -214,8 +214,8 @@ fn is_answered<V: Volume>(
     next: u32,
     step: Step,
 ) -> bool
-    requires standing { IsStanding geometry.now (V.state volume.old) index.old next }
-    ensures { IsStanding geometry.now (V.state volume.new) index.new next }
+    requires standing { StandsInLebsBefore geometry.now (V.state volume.old) index.old next }
+    ensures { StandsInLebsBefore geometry.now (V.state volume.new) index.new next }
 {
     match step {
         Step::Size(nodes, weight) => {
@@ -249,8 +249,8 @@ fn committed<V: Volume>(
     next: &mut u32,
     sqnum: &mut u64,
 ) -> Option<Option<Branch>>
-    requires standing { IsStanding geometry.now (V.state volume.old) index.old next.old }
-    ensures { IfSome result (λ _. IsStanding geometry.now (V.state volume.new) index.new next.new) }
+    requires standing { StandsInLebsBefore geometry.now (V.state volume.old) index.old next.old }
+    ensures { IfSome result (λ _. StandsInLebsBefore geometry.now (V.state volume.new) index.new next.new) }
 {
     let lnum = *next;
     if lnum >= volume.leb_cnt() || *sqnum >= MOST {
@@ -281,8 +281,8 @@ fn refused<V: Volume>(
     next: u32,
     sqnum: &mut u64,
 ) -> Option<u64>
-    requires standing { IsStanding geometry.now (V.state volume.old) index.old next }
-    ensures { IfSome result (λ _. IsStanding geometry.now (V.state volume.new) index.new next) }
+    requires standing { StandsInLebsBefore geometry.now (V.state volume.old) index.old next }
+    ensures { IfSome result (λ _. StandsInLebsBefore geometry.now (V.state volume.new) index.new next) }
 {
     if *sqnum >= MOST {
         return None;
@@ -305,8 +305,8 @@ fn is_right<V: Volume>(
     sqnum: &mut u64,
     step: Step,
 ) -> bool
-    requires standing { IsStanding geometry.now (V.state volume.old) index.old next.old }
-    ensures { IsTrue result → IsStanding geometry.now (V.state volume.new) index.new next.new }
+    requires standing { StandsInLebsBefore geometry.now (V.state volume.old) index.old next.old }
+    ensures { IsTrue result → StandsInLebsBefore geometry.now (V.state volume.new) index.new next.new }
 {
     if let Some(change) = change_of(step) {
         return is_made(alloc, volume, geometry, index, *next, change);
@@ -340,7 +340,7 @@ fn right_steps<V: Volume>(
     sqnum: &mut u64,
     steps: &[Step],
 ) -> usize
-    requires { IsStanding geometry.now (V.state volume.old) index.old next.old }
+    requires { StandsInLebsBefore geometry.now (V.state volume.old) index.old next.old }
 {
     match steps.split_first() {
         None => 0,
