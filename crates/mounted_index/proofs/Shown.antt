@@ -22,6 +22,9 @@ use Rattle.mounted_index.specs.declared.mounted.IndexNodes.TheVariants.{OnMedium
 pub nodes_as : (a : VolumeState) (fanout : ℕ) (row : KeyedRow) (nodes same : IndexNodes) → nodes ≡ same → IsRowOfNodes a fanout row nodes → IsRowOfNodes a fanout row same
 nodes_as a fanout row nodes same is h = let P : IndexNodes → Type 0 = λ n. IsRowOfNodes a fanout row n in subst P is h
 
+pub staged_as : (fanout : ℕ) (row : KeyedRow) (staged : Staged) (nodes same : IndexNodes) → nodes ≡ same → IsStagedRow fanout row staged nodes → IsStagedRow fanout row staged same
+staged_as fanout row staged nodes same is h = let P : IndexNodes → Type 0 = λ n. IsStagedRow fanout row staged n in subst P is h
+
 -- a call that only reads leaves them
 pub nodes_moved : (a b : VolumeState) (fanout : ℕ) (row : KeyedRow) (nodes : IndexNodes) → Keeps a b → SameShape a b → IsRowOfNodes a fanout row nodes → IsRowOfNodes b fanout row nodes
 nodes_moved a b fanout row (OnMedium root) keeps shape h = (h.0, h.1, index_moved a b fanout root h.0 keeps shape h.2)

@@ -1,5 +1,5 @@
 -- After a list of changes clean nodes stand where they stood.
-use Rattle.std.proofs.Common.{◌≡◌, ℕ, ◌+◌, ◌<◌, ◌≤◌, true, List, [], ◌∷◌, length, take, drop, refl, sym, subst, arith, inl, inr}
+use Rattle.std.proofs.Common.{◌≡◌, ℕ, ◌+◌, ◌≤◌, true, List, [], ◌∷◌, refl, arith, inl, inr}
 use Rattle.std.specs.Prelude.{IsTrue, Option, None, Some, slice_get}
 use Rattle.std.proofs.lemmas.Bool.{cases_Bool}
 use Rattle.std.proofs.lemmas.Bool.Decides.{nat_tests}
@@ -13,23 +13,18 @@ use Rattle.index_media.specs.InsertionSound.{fit_node, fits_node, inserted_grown
 use Rattle.index_media.specs.KeyedRange.{pruned_by_keys, without_range_by_keys}
 use Rattle.index_media.specs.KeyedRemoval.{keyed_collapsed, removed_by_keys, replaced_by_keys, without_leaf_by_keys}
 use Rattle.index_media.specs.KeyedRow.{KeyedRow, no_more, leaf_in, node_in, bare}
-use Rattle.index_media.specs.PlacedRow.{Stretch, branches_of}
-use Rattle.media_sys.specs.Index.{Index}
-use Rattle.media_sys.specs.SystemNode.{IsSystemNode, index as index_node}
 use Rattle.node_table.specs.Changing.{changed, changed_by}
-use Rattle.node_table.specs.Clean.{node_branch, placed_of}
 use Rattle.node_table.specs.NodeView.{NodeView, node_before, tree_at, views}
 use Rattle.node_table.specs.declared.change.Change.{Change}
 use Rattle.node_table.specs.declared.change.Change.TheVariants.{Insert, Remove, RemoveRange, Replace}
 use Rattle.node_table.specs.declared.node.Root.{Root}
 use Rattle.node_table.specs.declared.node.TableNode.{TableNode}
-use Rattle.commit_steps.specs.UnderWay.{AreWithinLebs, IsWithinLebs}
 use Rattle.commit_steps.specs.UnderWayLaws.{outside_of, within_of}
-use Rattle.index_commit.specs.Lebs.{IsGiven}
-use Rattle.index_commit.specs.Standing.{AreOutside, OfClean, StandsAs}
+use Rattle.index_commit.specs.Standing.{AreOutside}
 use Rattle.ubi_volume.specs.Volume.{VolumeState, Keeps, SameShape}
 use Rattle.mounted_index.specs.Changed.{ChangedNodesStand}
 use Rattle.mounted_index.specs.Shown.{StandsIn}
+use Rattle.mounted_index.specs.ShownLaws.{StandsIn-beside}
 
 -- a row of one sibling at most, whose nodes have 1 to fanout children
 pub record IsFitRow (f : ℕ) (row : KeyedRow) : Type 0 where
@@ -110,31 +105,8 @@ all_stand stand laws a lebs f changes row three fit h = record {
 }
 
 -- ---- while a volume is only read
-stands_moved : (old new : ℕ → List ℕ) (lebs : List ℕ) (key : Key) (place : Stretch) (children : KeyedRow) → ((k : ℕ) → new k ≡ old k) → StandsAs old (IsWithinLebs lebs) key place children
-    → StandsAs new (IsWithinLebs lebs) key place children
-stands_moved old new lebs key place children same h =
-    let said : Index = record { level = h.level; branches = branches_of (placed_of children) } in
-    let branch = node_branch key (Some place) in
-    let P : List ℕ → Type 0 = λ leb. branch.offs + branch.len ≤ length leb in
-    let Q : List ℕ → Type 0 = λ leb. IsSystemNode (take branch.len (drop branch.offs leb)) h.node.sqnum h.node.group (index_node said) in
-    let there = sym (same branch.lnum) in
-    record { clean = h.clean; level = h.level; levels = h.levels; node = record { sqnum = h.node.sqnum; group = h.node.group; room = subst P there h.node.room; is = subst Q there h.node.is }; holds = h.holds }
-
-own_moved : (old new : ℕ → List ℕ) (lebs : List ℕ) (key : Key) (place : Option Stretch) (children : KeyedRow) → ((k : ℕ) → new k ≡ old k) → OfClean (StandsAs old (IsWithinLebs lebs)) key place children
-    → OfClean (StandsAs new (IsWithinLebs lebs)) key place children
-own_moved old new lebs key None children same h = tt
-own_moved old new lebs key (Some s) children same h = stands_moved old new lebs key s children same h
-
-within_moved : (old new : ℕ → List ℕ) (lebs : List ℕ) (row : KeyedRow) → ((k : ℕ) → new k ≡ old k) → AreWithinLebs old lebs row → AreWithinLebs new lebs row
-within_moved old new lebs no_more same h = tt
-within_moved old new lebs (leaf_in x rest) same h = within_moved old new lebs rest same h
-within_moved old new lebs (node_in key place children rest) same h =
-    (own_moved old new lebs key place children same h.0, within_moved old new lebs children same h.1, within_moved old new lebs rest same h.2)
-
 pub stands_kept : (a b : VolumeState) (lebs : List ℕ) (row : KeyedRow) → Keeps a b → SameShape a b → StandsIn a lebs row → StandsIn b lebs row
-stands_kept a b lebs row keeps shape h =
-    let P : ℕ → Type 0 = λ n. (k : ℕ) → IsGiven lebs k → k < n in
-    record { there = subst P (sym shape.leb_cnt) h.there; within = within_moved a.holds b.holds lebs row keeps.holds h.within }
+stands_kept a b lebs row keeps shape h = StandsIn-beside a b lebs row shape (λ k given. keeps.holds k) h
 
 one_before : (key : Key) (seen : Option NodeView) → count (bare (node_before key seen no_more)) ≤ 1
 one_before key None = omega arith

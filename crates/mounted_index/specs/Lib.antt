@@ -1,3 +1,4 @@
 pub mod Shown
 pub mod Changed
 pub mod ShownLaws
+pub mod Committed

@@ -1,7 +1,7 @@
 // The index, on the volume alone or in memory.
 
 ghost use Rattle.std.specs.Prelude.{◌≡◌, ◌≤◌, true, IfOk};
-ghost use Rattle.index_media.specs.KeyedRow.{KeyedRow, all_clean};
+ghost use Rattle.index_media.specs.KeyedRow.{KeyedRow, all_clean, no_more};
 ghost use Rattle.index_media.specs.PlacedRow.{PlacedRow};
 ghost use Rattle.node_cache.specs.Loaded.{IsIndexOn};
 ghost use Rattle.index_cache.specs.declared.calls.Staged.{Staged as AStaged};
@@ -33,6 +33,24 @@ pub struct MountedIndex {
 }
 
 impl MountedIndex {
+    /// The empty index of a volume. No node of it stands there.
+    pub fn new<V: Volume>(
+        alloc: Global,
+        volume: &V,
+        geometry: &Geometry,
+    ) -> Result<MountedIndex, Memory>
+        ensures shown { IfOk result (λ made. Shows (V.state volume.now) made no_more) }
+        ensures geometry { IfOk result (λ made. made.geometry ≡ geometry.now) }
+    {
+        let _ = volume;
+        let cache = NodeCache::new(alloc)?;
+        Ok(MountedIndex {
+            geometry: *geometry,
+            nodes: IndexNodes::InMemory(PagedIndex::new(alloc, geometry.fanout)),
+            cache,
+        })
+    }
+
     /// Takes up the index that stands on a volume from the branch of its root on. It reads nothing.
     pub fn at_root<V: Volume>(
         alloc: Global,
