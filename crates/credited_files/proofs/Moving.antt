@@ -84,6 +84,11 @@ at_once old mid new n wanted first second le (inl all) less h = absurd (omega (a
 at_once old mid new n wanted first second le (inr none) less (inl all) = (none.0, inl (omega (arith, all)))
 at_once old mid new n wanted first second le (inr none) less (inr full) = (none.0, inr (full.0, subst (λ (x : FilesState). IsFullFor x.backing wanted) none.2 full.1))
 
+-- what is covered is no more than what was asked for
+pub no_more : (old new : FilesState) (n most all : ℕ) → (all ≡ n) ⊎ ((all ≡ 0) × IsFullFor old.backing n × (new ≡ old)) → n ≤ most → all ≤ most
+no_more old new n most all (inl is) le = omega (arith, is, le)
+no_more old new n most all (inr none) le = let zero = none.0 in omega (arith, zero)
+
 -- no page becomes dirty or clean
 pub dirty_same : (old new : FilesState) → HasOtherCredits old new → length new.kept.pages.dirty ≡ length old.kept.pages.dirty
 dirty_same old new only = ap (λ (x : FilesState). length x.kept.pages.dirty) only

@@ -1,10 +1,12 @@
 -- Who is out, and how many pages some bytes touch.
-use Rattle.std.proofs.Common.{◌≡◌, ℕ, zero, suc, ◌+◌, ◌*◌, ◌<◌, ◌≤◌, ◌==◌, Bool, true, false, cond, not, List, [], ◌∷◌, ◌++◌, length, Ok, Err, Contains, refl, ap, subst, ◌∙◌, arith}
-use Rattle.std.specs.Prelude.{◌-◌, ◌/◌, ◌%◌, Result, OnErr, OnOk, filter}
+use Rattle.std.proofs.Common.{◌≡◌, ℕ, zero, suc, ◌+◌, ◌<◌, ◌≤◌, ◌==◌, Bool, true, false, cond, not, List, [], ◌∷◌, ◌++◌, length, Ok, Err, Contains, refl, ap, subst, sym, ◌∙◌, arith}
+use Rattle.std.specs.Prelude.{◌-◌, ◌/◌, ◌%◌, Result, OnErr, OnOk, filter, is_ok}
 use Rattle.std.specs.List.{range_with_len}
-use Rattle.std.proofs.lemmas.Bool.{eqb-true}
+use Rattle.std.proofs.lemmas.Bool.{eqb-true, false≢true}
 use Rattle.std.proofs.lemmas.List.FromFn.{length-range_with_len}
-use Rattle.std.proofs.lemmas.List.{length-append}
+use Rattle.std.proofs.lemmas.List.{append-nil, length-append}
+use Rattle.std.proofs.lemmas.List.Elements.{filter-append}
+use Rattle.std.proofs.lemmas.Bool.Decides.{nat_tests}
 use Rattle.atomic_table.specs.Seated.{TableId}
 use Rattle.credit_pool.specs.States.{MasterState, without}
 use Rattle.credit_pool.proofs.Counting.{is_gone}
@@ -58,3 +60,23 @@ split_leaves (Ok x) pool caller callers old new of few ok err =
 split_leaves (Err e) pool caller callers old new of few ok err =
     let long = ap (λ (m : MasterState). length m.out) err in
     (ap (λ (m : MasterState). m.pool) err ∙ of, ap (λ (m : MasterState). m.held) err, ap (λ (m : MasterState). m.issued) err, omega (arith, long, few))
+
+-- the others are those that they were before the caller went out
+pub others_again : (caller : ℕ) (out : List ℕ) → ¬ Contains out caller → without caller (out ++ caller ∷ []) ≡ out
+others_again caller out away = filter-append (λ c. not (c == caller)) out (caller ∷ []) ∙ ap (λ (l : List ℕ). l ++ without caller (caller ∷ [])) (all_others caller out away) ∙ by (caller == caller) refl
+  where
+    by : (b : Bool) → (caller == caller) ≡ b → out ++ cond (not b) (caller ∷ []) [] ≡ out
+    by true is = append-nil out
+    by false is = absurd (grind (arith, nat_tests, is))
+
+-- after a split fewer others are out than there are callers, and without a seat the caller isn't
+pub may_come_again : {T E : Type 0} (r : Result T E) (pool : TableId) (caller callers : ℕ) (old new : MasterState) → ¬ Contains old.out caller → length old.out < callers
+    → OnOk r (new ≡ record { pool = pool; issued = old.issued; held = old.held; out = old.out ++ caller ∷ [] }) → OnErr r (new ≡ old) → (length (without caller new.out) < callers) × (is_ok r ≡ false → ¬ Contains new.out caller)
+may_come_again (Ok x) pool caller callers old new away few ok err = (
+  subst (λ (l : List ℕ). length l < callers) (sym (ap (λ (m : MasterState). without caller m.out) ok ∙ others_again caller old.out away)) few,
+  λ no. absurd (false≢true (sym no)),
+)
+may_come_again (Err e) pool caller callers old new away few ok err = (
+  subst (λ (l : List ℕ). length l < callers) (sym (ap (λ (m : MasterState). without caller m.out) err ∙ all_others caller old.out away)) few,
+  λ no. subst (λ (m : MasterState). ¬ Contains m.out caller) (sym err) away,
+)

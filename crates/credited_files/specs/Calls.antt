@@ -44,7 +44,10 @@ pub record WasServed (callers held : ℕ) (old new : FilesState) (caller now : �
   pub most : grant ≤ pages_in op
   pub whole : pages_in op ≤ 17 → (grant ≡ pages_in op) ⊎ IsFullFor old.backing (pages_in op - grant)
   pub covered : length between.kept.pages.dirty + grant ≤ between.backing.space.credits
-  -- Where room may be asked for, the pool is empty: only credits of dirty pages, of the grant and in the stocks of others are covered.
+  -- Where no room is asked for, what was issued stays so. Seventeen credits more are covered at most.
+  pub kept : needs_room grant op ≡ false → old.backing.space.credits + grant ≤ between.backing.space.credits + held
+  pub few : between.backing.space.credits ≤ old.backing.space.credits + 17
+  -- Where room may be asked for, the pool is drained: beside credits of dirty pages and of the grant, 17 for each other caller are covered at most.
   pub drained : needs_room grant op ≡ true → between.backing.space.credits ≤ length between.kept.pages.dirty + grant + 17 * (callers - 1)
   pub left : ℕ
   pub step : IsCallStep between new (Call caller now grant op) (Replied answer left)

@@ -1,6 +1,6 @@
 // What callers and the background do to files whose credits are counted.
 
-ghost use Rattle.std.specs.Prelude.{◌≡◌, ℕ, ◌+◌, ◌*◌, ◌<◌, ◌^◌, ◌≤◌, Bool, true, false, None, [], Contains, length};
+ghost use Rattle.std.specs.Prelude.{◌≡◌, ℕ, ◌+◌, ◌*◌, ◌<◌, ◌^◌, ◌≤◌, Bool, true, false, None, [], Contains, is_some, length};
 ghost use Rattle.cached_files.specs.Calls.{SureGoes};
 ghost use Rattle.credit_pool.specs.States.{without};
 ghost use Rattle.credited_files.specs.Calls.{MayBeServed, WasServed, is_work_between};
@@ -38,7 +38,8 @@ impl<B: Backing> CreditedFs<B> {
     /// Whether a caller's call may be made: fewer others have a seat than there are callers, and without its seat the caller has none
     /// elsewhere.
     pub fn may_serve(&self, stock: &Stock) -> bool
-        ensures { result ≡ true → MayBeServed self.now.master.out self.now.callers stock.now }
+        ensures yes { result ≡ true → MayBeServed self.now.master.out self.now.callers stock.now }
+        ensures no { result ≡ false → ¬ MayBeServed self.now.master.out self.now.callers stock.now }
     {
         is_served(
             &self.master.out,
@@ -48,14 +49,16 @@ impl<B: Backing> CreditedFs<B> {
         )
     }
 
-    /// Makes a call with the credits that its caller drew, and hands back the operation, the reply, and the stock, which holds none. What
-    /// a write lacks is covered before, if there is room. Before a call that may ask for room the pool is emptied.
+    /// Makes a call with the credits that its caller drew, and hands back the operation, the reply, and the stock, which holds none and
+    /// may be served again. What a write lacks is covered before, if there is room. Before a call that may ask for room the pool is
+    /// drained: at most 17 credits for each other caller stay issued.
     pub fn call(&mut self, pool: &Pool, stock: Stock, now: u64, op: Op) -> (Op, Reply, Stock)
         requires pool { (self.old.master.pool ≡ pool.now) × (stock.pool ≡ pool.now) }
         requires stock { (stock.held ≤ pages_in op) × MayBeServed self.old.master.out self.old.callers stock }
         requires call { IsCall op }
         ensures step { (result.0 ≡ op) × WasServed self.old.callers stock.held (files_state self.old.fs) (files_state self.new.fs) stock.caller now op result.1 }
         ensures stock { (result.2.pool ≡ pool.now) × (result.2.caller ≡ stock.caller) × (result.2.held ≡ 0) }
+        ensures again { MayBeServed self.new.master.out self.old.callers result.2 }
         ensures same { (self.new.master.pool ≡ pool.now) × (self.new.callers ≡ self.old.callers) }
         ensures sure { SureGoes (B.outlook self.old.fs.backing) (B.outlook self.new.fs.backing) (B.state self.old.fs.backing) (B.state self.new.fs.backing) }
     {
@@ -114,7 +117,7 @@ impl<B: Backing> CreditedFs<B> {
         done
     }
 
-    /// Gives all credits in the pool back to the backing. At most 17 for each caller stay covered, beside those of dirty pages.
+    /// Gives the credits in the pool back to the backing. At most 17 for each caller stay covered, beside those of dirty pages.
     pub fn drain(&mut self, pool: &Pool) -> Done<B>
         requires { self.old.master.pool ≡ pool.now }
         ensures event { (n : ℕ) × (result.event ≡ Drain n) }
@@ -145,7 +148,8 @@ impl<B: Backing> CreditedFs<B> {
 
 // Whether fewer others are out than there are callers, and the caller isn't, if it has no seat.
 fn is_served(out: &Vec<u16>, caller: u16, callers: u16, seated: bool) -> bool
-    ensures { result ≡ true → (length (without caller out.now.items) < callers) × (seated ≡ false → ¬ Contains out.now.items caller) }
+    ensures yes { result ≡ true → (length (without caller out.now.items) < callers) × (seated ≡ false → ¬ Contains out.now.items caller) }
+    ensures no { result ≡ false → ¬ ((length (without caller out.now.items) < callers) × (seated ≡ false → ¬ Contains out.now.items caller)) }
 {
     let others = others_out(out, caller);
     if others >= usize::from(callers) {
@@ -185,6 +189,7 @@ fn served<B: Backing>(
     ensures op { result.0 ≡ op }
     ensures step { WasServed callers held (files_state fs.old) (files_state fs.new) caller now op result.1 }
     ensures seat { SeatFits pool.now caller 0 result.2 }
+    ensures again { (length (without caller master.new.out) < callers) × (is_some result.2 ≡ false → ¬ Contains master.new.out caller) }
     ensures master { (master.new.pool ≡ pool.now) × (master.new.held ≡ 0) × (master.new.issued ≡ issued.new) × (length master.new.out ≤ callers) }
     ensures credits { (files_state fs.new).backing.space.credits ≡ length (files_state fs.new).kept.pages.dirty + issued.new }
     ensures sure { SureGoes (B.outlook fs.old.backing) (B.outlook fs.new.backing) (B.state fs.old.backing) (B.state fs.new.backing) }

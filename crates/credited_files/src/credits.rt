@@ -1,6 +1,6 @@
 // Credits that come into the pool, go to a call, and go back to the backing.
 
-ghost use Rattle.std.specs.Prelude.{◌≡◌, ◌⊎◌, ℕ, ◌+◌, ◌-◌, ◌*◌, ◌<◌, ◌^◌, ◌≤◌, true, None, Contains, length};
+ghost use Rattle.std.specs.Prelude.{◌≡◌, ◌⊎◌, ℕ, ◌+◌, ◌-◌, ◌*◌, ◌<◌, ◌^◌, ◌≤◌, true, false, None, Contains, length};
 ghost use Rattle.cached_files.specs.Calls.{SureGoes};
 ghost use Rattle.credit_pool.specs.States.{without};
 ghost use Rattle.credited_files.specs.Calls.{IsFullFor, needs_room};
@@ -62,6 +62,7 @@ fn covered_at_once<B: Backing>(fs: &mut Fs<B>, wanted: u64) -> u64
     requires some { (0 < wanted) × (wanted ≤ 17) }
     requires paid { length (files_state fs.old).kept.pages.dirty ≤ (files_state fs.old).backing.space.credits }
     ensures all { (wanted ≤ result) ⊎ ((result ≡ 0) × IsFullFor (files_state fs.old).backing wanted) }
+    ensures few { result ≤ 17 }
     ensures only { HasOtherCredits (files_state fs.old) (files_state fs.new) }
     ensures credits { (files_state fs.new).backing.space.credits ≡ (files_state fs.old).backing.space.credits + result }
     ensures sure { SureGoes (B.outlook fs.old.backing) (B.outlook fs.new.backing) (B.state fs.old.backing) (B.state fs.new.backing) }
@@ -92,6 +93,7 @@ pub(crate) fn completed<B: Backing>(
     ensures only { HasOtherCredits (files_state fs.old) (files_state fs.new) }
     ensures credits { (files_state fs.new).backing.space.credits + held ≡ length (files_state fs.new).kept.pages.dirty + issued.new + result }
     ensures issued { issued.old ≤ issued.new }
+    ensures few { issued.new + result ≤ issued.old + held + 17 }
     ensures master { master.new ≡ record { pool = pool.now; issued = issued.new; held = master.old.held; out = master.old.out } }
     ensures sure { SureGoes (B.outlook fs.old.backing) (B.outlook fs.new.backing) (B.state fs.old.backing) (B.state fs.new.backing) }
 {
@@ -147,6 +149,8 @@ pub(crate) fn cleared<B: Backing>(
     requires held { master.old.held ≤ issued.old }
     requires paid { length (files_state fs.old).kept.pages.dirty + issued.old ≤ (files_state fs.old).backing.space.credits }
     ensures empty { needs_room grant op.now ≡ true → issued.new ≤ master.old.held + 17 * length master.old.out }
+    ensures kept { needs_room grant op.now ≡ false → issued.new ≡ issued.old }
+    ensures less { issued.new ≤ issued.old }
     ensures only { HasOtherCredits (files_state fs.old) (files_state fs.new) }
     ensures credits { (files_state fs.new).backing.space.credits + issued.old ≡ (files_state fs.old).backing.space.credits + issued.new }
     ensures held { master.old.held ≤ issued.new }

@@ -1,6 +1,6 @@
 // A caller's stock of credits.
 
-ghost use Rattle.std.specs.Prelude.{◌≡◌, ◌⊎◌, ◌+◌, ◌≤◌, false, length};
+ghost use Rattle.std.specs.Prelude.{◌≡◌, ◌⊎◌, ◌+◌, ◌≤◌, false, is_some, length};
 ghost use Rattle.fs_model.specs.Files.{pages_of};
 ghost use Rattle.fs_model.specs.Legal.{pages_in};
 ghost use Rattle.credited_files.specs.States.{StockState};
@@ -52,7 +52,7 @@ impl Stock {
     /// The stock, in place of which one is left with no credit and no seat.
     pub fn take(&mut self) -> Stock
         ensures taken { result ≡ self.old }
-        ensures left { (self.new.pool ≡ self.old.pool) × (self.new.caller ≡ self.old.caller) × (self.new.held ≡ 0) }
+        ensures left { (self.new.pool ≡ self.old.pool) × (self.new.caller ≡ self.old.caller) × (self.new.held ≡ 0) × (self.new.seated ≡ false) }
     {
         let seat = self.seat.take();
         let held = self.held;
@@ -66,11 +66,11 @@ impl Stock {
     }
 
     /// Draws a credit for each page that the operation's words touch, if the pool has so many. It needs no lock, and doesn't try
-    /// again.
+    /// again. The seat stays.
     pub fn draw(self, pool: &Pool, op: &Op) -> Stock
         requires { (self.pool ≡ pool.now) × (self.held ≡ 0) }
         ensures held { (result.held ≡ 0) ⊎ (result.held ≡ pages_in op.now) }
-        ensures same { (result.pool ≡ self.pool) × (result.caller ≡ self.caller) }
+        ensures same { (result.pool ≡ self.pool) × (result.caller ≡ self.caller) × (result.seated ≡ self.seated) }
     {
         let Stock {
             pool: of,
@@ -90,7 +90,7 @@ impl Stock {
     /// Gives all that was drawn back to the pool.
     pub fn give_back(self, pool: &Pool) -> Stock
         requires { self.pool ≡ pool.now }
-        ensures { (result.pool ≡ self.pool) × (result.caller ≡ self.caller) × (result.held ≡ 0) }
+        ensures { (result.pool ≡ self.pool) × (result.caller ≡ self.caller) × (result.held ≡ 0) × (result.seated ≡ self.seated) }
     {
         let Stock {
             pool: of,
@@ -113,6 +113,7 @@ fn drawn(pool: &Pool, caller: u16, seat: Option<Seat>, n: u64) -> (Option<Seat>,
     requires { SeatFits pool.now caller 0 seat }
     ensures fits { SeatFits pool.now caller result.1 result.0 }
     ensures all { (result.1 ≡ 0) ⊎ (result.1 ≡ n) }
+    ensures seated { is_some result.0 ≡ is_some seat }
 {
     match seat {
         Some(mut seat) => {
@@ -128,7 +129,8 @@ fn drawn(pool: &Pool, caller: u16, seat: Option<Seat>, n: u64) -> (Option<Seat>,
 // A seat that has given all back.
 fn given_back(pool: &Pool, caller: u16, seat: Option<Seat>, held: u64) -> Option<Seat>
     requires { SeatFits pool.now caller held seat }
-    ensures { SeatFits pool.now caller 0 result }
+    ensures fits { SeatFits pool.now caller 0 result }
+    ensures seated { is_some result ≡ is_some seat }
 {
     match seat {
         Some(mut seat) => {

@@ -1,29 +1,33 @@
 // Files behind their lock.
 
-ghost use Rattle.std.specs.Prelude.{◌≡◌, ◌⊎◌, true, [], All, IfSome, length};
+ghost use Rattle.std.specs.Prelude.{◌≡◌, ◌⊎◌, ℕ, ◌<◌, ◌^◌, true, All, IfSome, length};
 ghost use Rattle.fs_laws.specs.Sound.{IsCall};
-ghost use Rattle.live_fs.specs.Steps.{WasAnswered};
+ghost use Rattle.live_fs.specs.Steps.{WasAnswered, WasDrained};
 ghost use Rattle.traced_files.specs.Calls.{AreLegal, IsEntered, IsUndone, StandsIn};
+ghost use Rattle.traced_files.specs.Start.{IsNewLedger};
 ghost use Rattle.traced_files.specs.States.{PassState};
-ghost use Rattle.vfs_ops.specs.declared.event.Event.TheVariants.{Pick, Put};
+ghost use Rattle.vfs_ops.specs.declared.event.Event.TheVariants.{Drain, Pick, Put, Refill};
 ghost use Rattle.vfs_ops.specs.Background.{is_work};
 ghost use Rattle.vfs_ops.specs.Fs.{files_state};
 
 use crate::keys::{LeftKeys, StopKind};
+use credit_pool::Pool;
 use fs_model::{Backing, Op, Reply, TraceLine};
 use std::alloc::Global;
 use std::sync::{Mutex, Wait};
-use trace_word::{Recorder, TraceWord};
-use traced_files::{Finished, Pass, Site, TracedFs, meet_all};
+use trace_word::TraceWord;
+use traced_files::{Finished, Ledger, Pass, Site, TracedFs, meet_all};
 use vfs_ops::{Done, Encoded, Event, Fs};
 
 /// Files over a backing that callers share, and workers, who stop with a key. A `Live` makes no key.
 #[derive(Drop)]
 pub struct Live<B: Backing, K: StopKind, J: Site> {
     word: TraceWord,
+    pool: Pool,
     traced: Mutex<TracedFs<B, J>>,
     keys: Mutex<LeftKeys<K>>,
     ghost of_word: { word ≡ J.word },
+    ghost of_pool: { pool ≡ J.pool },
 }
 
 /// What is left of it: the files over their backing, and the lines of all calls.
@@ -34,29 +38,41 @@ pub struct Closed<B: Backing> {
 }
 
 impl<B: Backing, K: StopKind, J: Site> Live<B, K, J> {
-    /// Files behind a lock, with no line yet. The recorder has made the passes of all callers.
-    pub fn new(alloc: Global, fs: Fs<B>, word: TraceWord, recorder: Recorder) -> Live<B, K, J>
-        requires word { word ≡ J.word }
-        requires recorder { (recorder.word ≡ J.word) × (recorder.known.seen ≡ []) × (recorder.passes ≡ J.start.callers) }
+    /// Files behind a lock, with no line yet, whose pool is empty.
+    pub fn new(
+        alloc: Global,
+        fs: Fs<B>,
+        word: TraceWord,
+        pool: Pool,
+        ledger: Ledger,
+    ) -> Live<B, K, J>
+        requires word { (word ≡ J.word) × (pool ≡ J.pool) }
+        requires ledger { IsNewLedger J.word J.pool J.start.callers ledger }
         requires start { files_state fs ≡ J.start.files }
         requires sure { J.start.outlook.sure → (B.outlook fs.backing).sure }
         requires credits { (files_state fs).backing.space.credits ≡ length (files_state fs).kept.pages.dirty }
     {
         Live {
             word,
-            traced: Mutex::new(TracedFs::new(alloc, fs, recorder)),
+            pool,
+            traced: Mutex::new(TracedFs::new(alloc, fs, ledger)),
             keys: Mutex::new(LeftKeys::new(alloc)),
         }
     }
 
-    /// Makes a call. Its line stands at place `last` of the trace, which begins with all that the pass had seen before. Where no
-    /// memory is found for that line before anything is done, the reply is want of memory, and there is no line.
+    /// Makes a call. What it wants is drawn from the pool before the lock is taken. Its line stands at place `last` of the trace, which
+    /// begins with all that the pass had seen before. If no memory is found for that line, the reply is want of memory, and there is no
+    /// line. So it is of a trace of 2^62 lines, and if the caller has no seat at the pool and as many others as there are callers have.
     pub fn call<R: Wait>(&self, rt: &R, pass: Pass, now: u64, op: Op) -> (Pass, Reply)
-        requires pass { pass.word ≡ J.word }
+        requires pass { (pass.word ≡ J.word) × (pass.pool ≡ J.pool) }
         requires call { IsCall op }
         ensures { IsUndone pass result.0 result.1 ⊎ IsEntered J.start pass now op result.0 result.1 }
     {
-        self.traced.lock(rt).call(&self.word, pass, now, op)
+        let mut pass = pass;
+        let stock = pass.take_stock().draw(&self.pool, &op);
+        self.traced
+            .lock(rt)
+            .call(&self.word, &self.pool, pass, stock, now, op)
     }
 
     /// The page that became dirty first, as it is now.
@@ -82,6 +98,24 @@ impl<B: Backing, K: StopKind, J: Site> Live<B, K, J> {
         ensures step { WasAnswered event result.outcome }
     {
         self.traced.lock(rt).chore(event)
+    }
+
+    /// Covers `n` credits more, which go into the pool, if there is room for them.
+    pub fn refill<R: Wait>(&self, rt: &R, n: u64) -> Done<B>
+        requires { n < 2 ^ 32 }
+        ensures event { result.event ≡ Refill n }
+        ensures step { WasAnswered (Refill n) result.outcome }
+    {
+        self.traced.lock(rt).refill(&self.pool, n)
+    }
+
+    /// Gives the credits in the pool back to the backing: at most 17 for each caller stay covered, beside those of dirty pages. The
+    /// event tells how many went back.
+    pub fn drain<R: Wait>(&self, rt: &R) -> Done<B>
+        ensures event { (n : ℕ) × (result.event ≡ Drain n) }
+        ensures step { WasDrained J.start.callers result.event result.outcome }
+    {
+        self.traced.lock(rt).drain(&self.pool)
     }
 
     /// Leaves these keys for workers, and hands back those that were left before.
@@ -110,6 +144,7 @@ impl<B: Backing, K: StopKind, J: Site> Live<B, K, J> {
     {
         let Live {
             word,
+            pool: _,
             traced,
             keys: _,
         } = self;

@@ -18,13 +18,14 @@ get_last (y ∷ ys) x zero is = absurd (omega arith)
 get_last (y ∷ ys) x (suc k) is = get_last ys x k (omega arith)
 
 -- what a call leaves, where the trace got its line
-pub entered : (start : Start) (state : FilesState) (old new : PassState) (now : ℕ) (op : Op) (reply : Reply) (trace : List TraceLine) → new.word ≡ old.word → new.caller ≡ old.caller → new.made ≡ old.made + 1
+pub entered : (start : Start) (state : FilesState) (old new : PassState) (now : ℕ) (op : Op) (reply : Reply) (trace : List TraceLine) → new.word ≡ old.word → new.pool ≡ old.pool → new.caller ≡ old.caller → new.made ≡ old.made + 1
     → new.last ≡ length trace → new.seen ≡ trace ++ (record { caller = old.caller; number = new.made; now = now; op = op; reply = reply }) ∷ [] → IsPrefix old.seen trace → lines_of new.caller new.seen ≡ new.made
     → IsHistoryFrom start new.seen state → IsEntered start old now op new reply
-entered start state old new now op reply trace word caller made last seen begins lines legal =
+entered start state old new now op reply trace word pool caller made last seen begins lines legal =
     let line : TraceLine = record { caller = old.caller; number = new.made; now = now; op = op; reply = reply } in
     record {
       word = word;
+      pool = pool;
       caller = caller;
       made = made;
       line = ap (λ (t : List TraceLine). slice_get t new.last) seen ∙ get_last trace line new.last last;

@@ -1,46 +1,53 @@
 -- A history goes on: by a caller's call, with a line more, and by work between them, without one.
-use Rattle.std.proofs.Common.{◌≡◌, ◌⊎◌, inl, inr, ℕ, ◌+◌, ◌*◌, ◌≤◌, true, false, List, [], ◌∷◌, ◌++◌, length, Ok, Err, Some, None, refl, sym, ap, subst, ◌∙◌, arith}
-use Rattle.std.specs.Prelude.{◌-◌, Option, nat_lt, filter, ◌==◌}
+use Rattle.std.proofs.Common.{◌≡◌, ◌⊎◌, inl, inr, ℕ, ◌+◌, ◌*◌, ◌≤◌, Bool, true, false, cond, ◌||◌, List, [], ◌∷◌, ◌++◌, length, Ok, Err, Some, None, refl, sym, ap, subst, ◌∙◌, arith}
+use Rattle.std.specs.Prelude.{◌-◌, Option, if◌then◌else◌, nat_lt, filter, ◌==◌}
 use Rattle.std.specs.BTreeMap.{is_at}
 use Rattle.std.specs.Map.{keys_of, lookup}
 use Rattle.std.specs.Ordering.{nat_cmp}
-use Rattle.std.proofs.lemmas.List.{append-nil}
+use Rattle.std.proofs.lemmas.Bool.Decides.{nat_tests}
+use Rattle.std.proofs.lemmas.List.{append-nil, length-append}
 use Rattle.ubifs_base.specs.Faults.{Rose}
 use Rattle.fs_model.specs.declared.backing_answers.Mode.{Mode}
 use Rattle.fs_model.specs.declared.backing_answers.Mode.TheVariants.{ReadWrite}
 use Rattle.fs_model.specs.declared.change.Change.{Change}
 use Rattle.fs_model.specs.declared.op.Op.{Op}
-use Rattle.fs_model.specs.declared.op.Op.TheVariants.{Truncate, Write}
+use Rattle.fs_model.specs.declared.op.Op.TheVariants.{OpenFile, Close, Read, Truncate, Write, Fsync, Flush, List as ListDir, Stat, Readlink}
 use Rattle.fs_model.specs.declared.refusal.Cause.{Cause}
+use Rattle.fs_model.specs.declared.refusal.Cause.TheVariants.{Faulted, Tight}
+use Rattle.fs_model.specs.declared.refusal.Scarce.TheVariants.{Space}
 use Rattle.fs_model.specs.declared.refusal.NoSpace.{NoSpace}
 use Rattle.fs_model.specs.declared.refusal.Refusal.{Refusal}
-use Rattle.fs_model.specs.declared.refusal.Refusal.TheVariants.{Enospc, Erofs, Eio, Enomem, Enfile}
+use Rattle.fs_model.specs.declared.refusal.Refusal.TheVariants.{Einval, Efbig, Enospc, Erofs, Eio, Enomem, Enfile}
 use Rattle.fs_model.specs.declared.refusal.Table.TheVariants.{Orphans}
 use Rattle.fs_model.specs.declared.reply.Reply.{Reply}
-use Rattle.fs_model.specs.declared.reply.Reply.TheVariants.{Refused}
+use Rattle.fs_model.specs.declared.reply.Reply.TheVariants.{Count, Refused}
 use Rattle.fs_model.specs.declared.space.Need.{Need}
 use Rattle.fs_model.specs.declared.trace.TraceLine.{TraceLine}
 use Rattle.fs_model.specs.Backing.{orphan_room}
 use Rattle.fs_model.specs.Cover.{tree_bytes}
-use Rattle.fs_model.specs.Files.{Files, Tree, Inodes, inode_at}
+use Rattle.fs_model.specs.Files.{Files, Tree, Inodes, handle_at, inode_at, pages_of}
+use Rattle.fs_model.specs.Handles.{is_bad_slot, size_limit, tree_written}
 use Rattle.fs_model.specs.Legal.{IsRefusal as IsLegalRefusal, Opening, Place, count_in, next_number, pages_in, plain, read_only_cause, sides_in, whole_bytes}
 use Rattle.fs_model.specs.Need.{need_of, truncation_need}
 use Rattle.fs_model.specs.Operation.{files_in, group_of, outcome_of, reply_in}
 use Rattle.fs_model.specs.Orphan.{leaves_orphan, nameless}
-use Rattle.fs_model.specs.Outcome.{Outcome}
+use Rattle.fs_model.specs.Outcome.{Outcome, refuse, with_inode, with_open}
 use Rattle.fs_model.specs.Same.{trimmed_blocks}
 use Rattle.fs_laws.specs.Sound.{IsCall, IsMoment, IsSound}
 use Rattle.cached_files.specs.Alike.{IsAlike}
+use Rattle.cached_files.specs.Present.{newly_dirty}
+use Rattle.credited_files.specs.Calls.{needs_room}
 use Rattle.vfs_ops.specs.declared.event.Event.TheVariants.{Call}
 use Rattle.vfs_ops.specs.declared.event.Outcome.TheVariants.{Replied}
 use Rattle.vfs_ops.specs.FilesState.{FilesState, present_in}
 use Rattle.vfs_ops.specs.Kinds.{is_late}
 use Rattle.vfs_ops.specs.Passing.{IsCallStep}
 use Rattle.vfs_ops.specs.Replies.{holds_bytes, is_refusal}
+use Rattle.vfs_ops.specs.Writing.{BuffersReply}
 use Rattle.vfs_ops.specs.Steps.{IsAnswered, IsDone, IsLast, IsReady, IsRefusal, IsRefusedFor, IsTurnedDown, allowed_on, asked, no_space_in}
 use Rattle.traced_files.specs.Laws.{AreLaws}
 use Rattle.traced_files.specs.History.{IsWithinWeight}
-use Rattle.traced_files.proofs.Answering.{IsCounted, IsDoneAlike, IsDowned, IsOverfull, alike_done, alike_refused, allowed_done, allowed_refused, counts_none, counts_one, downed, open_of, sides_told, tells_count}
+use Rattle.traced_files.proofs.Answering.{IsChanging, IsCounted, IsDoneAlike, IsDowned, IsOverfull, alike_done, alike_refused, allowed_done, allowed_refused, counts_none, counts_one, downed, open_of, sides_told, tells_count}
 use Rattle.traced_files.proofs.Lines.{IsLine}
 use Rattle.traced_files.proofs.Sides.{IsFull, are_sides, whole_most}
 
@@ -73,7 +80,7 @@ pub record IsMadeCall (opening : Opening) (s : Stepped) : Type 0 where
   pub used : s.new.backing.space.used ≡ tree_bytes s.new.backing.tree
   pub main : s.new.backing.space.main ≡ s.old.backing.space.main
   pub paid : s.grant ≤ pages_in s.line.op
-  pub few : s.old.backing.space.credits ≤ length s.old.kept.pages.dirty + s.grant + 17 * (opening.callers - 1)
+  pub few : needs_room s.grant s.line.op ≡ true → s.old.backing.space.credits ≤ length s.old.kept.pages.dirty + s.grant + 17 * (opening.callers - 1)
 
 -- What a call makes of a place: a line in the mode before or after it, and files that callers can't tell from the present ones.
 pub record WasEntered (opening : Opening) (place : Place) (s : Stepped) : Type 0 where
@@ -192,11 +199,64 @@ asked_is files caller now grant (Write slot offs len byte) = (refl, refl, refl, 
 asked_is files caller now grant (Truncate slot size) = let none = cut_credits (group_of files caller now (Truncate slot size)) in (refl, refl, refl, λ le. omega (arith, le, none))
 asked_is files caller now grant op = (refl, refl, refl, λ le. omega (arith, le))
 
+fewer : {A : Type 0} (p : A → Bool) (xs : List A) → length (filter p xs) ≤ length xs
+fewer p [] = omega arith
+fewer p (x ∷ xs) = by (p x) (fewer p xs)
+  where
+    by : (b : Bool) → length (filter p xs) ≤ length xs → length (cond b (x ∷ filter p xs) (filter p xs)) ≤ length (x ∷ xs)
+    by true le = omega (arith, le)
+    by false le = omega (arith, le)
+
+-- a write that is done is one to a file that is open
+open_for : (files : Files) (caller now slot offs len byte : ℕ) (done : Reply × Files) → outcome_of files caller now (Write slot offs len byte) ≡ Ok done → (ino : ℕ) × (handle_at files caller slot ≡ Some ino)
+open_for files caller now slot offs len byte done is = by (is_bad_slot slot || nat_lt 65536 len) (handle_at files caller slot) refl is
+  where
+    by : (bad : Bool) (found : Option ℕ) → handle_at files caller slot ≡ found → refuse bad Einval (with_open found (λ ino.
+        with_inode files ino (λ inode.
+        refuse (nat_lt size_limit (offs + len)) Efbig
+        (Ok (Count len, if len == 0 then files else record files { tree = tree_written files.tree ino inode now offs len byte }))))) ≡ Ok done → (ino : ℕ) × (handle_at files caller slot ≡ Some ino)
+    by true found at e = absurd cc
+    by false None at e = absurd cc
+    by false (Some ino) at e = (ino, at)
+
+-- What is refused for want of room may ask for room: a write whose grant pays all pages isn't.
+asks_room : {opening : Opening} (s : Stepped) → IsMadeCall opening s → IsChanging s.line.op → (sides : NoSpace) → s.line.reply ≡ Refused (Enospc sides) → s.new.refused ≡ s.old.refused ++ no_space_in s.line.reply
+    → (done : Reply × Files) × (allowed_on s.old.backing (present_in s.old) s.line.caller s.line.now s.line.op ≡ Ok done) → needs_room s.grant s.line.op ≡ true
+asks_room s h changing sides told noted done =
+    by s.line.op changing h.step.buffered (allowed_done (orphan_room s.old.backing) s.old.backing.orphan_limit (present_in s.old) s.line.caller s.line.now s.line.op done.0 done.1)
+  where
+    one_more : (xs : List NoSpace) (x : NoSpace) → xs ++ x ∷ [] ≡ xs → ⊥
+    one_more xs x e = let same = ap length e in let long = length-append xs (x ∷ []) in absurd (omega (arith, same, long))
+
+    noted_one : s.new.refused ≡ s.old.refused ++ sides ∷ []
+    noted_one = noted ∙ ap (λ (r : Reply). s.old.refused ++ no_space_in r) told
+
+    short : (slot offs len byte : ℕ) (b : Bool) → nat_lt s.grant (length (pages_of offs len)) ≡ b → BuffersReply s.old.backing s.new.backing s.old.kept s.new.kept s.old.refused s.new.refused s.line.caller s.grant (Write slot offs len byte) s.line.reply
+        → outcome_of (present_in s.old) s.line.caller s.line.now (Write slot offs len byte) ≡ Ok done.0 → b ≡ true
+    short slot offs len byte true is buffers there = refl
+    short slot offs len byte false is buffers there =
+        let held = open_for (present_in s.old) s.line.caller s.line.now slot offs len byte done.0 there in
+        let few : newly_dirty s.old.kept.pages.dirty held.0 offs len ≤ length (pages_of offs len) = fewer _ (pages_of offs len) in
+        let paid : newly_dirty s.old.kept.pages.dirty held.0 offs len ≤ s.grant = grind (arith, nat_tests, is, few) in
+        absurd (one_more s.old.refused sides (sym noted_one ∙ (buffers held.0 held.1 (inl paid)).room))
+
+    by : (op : Op) → IsChanging op → BuffersReply s.old.backing s.new.backing s.old.kept s.new.kept s.old.refused s.new.refused s.line.caller s.grant op s.line.reply → outcome_of (present_in s.old) s.line.caller s.line.now op ≡ Ok done.0 → needs_room s.grant op ≡ true
+    by (OpenFile path slot) changing buffers there = let f = changing (Faulted 0) in absurd cc
+    by (Close slot) changing buffers there = let f = changing (Faulted 0) in absurd cc
+    by (Read slot offs len) changing buffers there = let f = changing (Faulted 0) in absurd cc
+    by (ListDir path) changing buffers there = let f = changing (Faulted 0) in absurd cc
+    by (Stat path) changing buffers there = let f = changing (Faulted 0) in absurd cc
+    by (Readlink path) changing buffers there = let f = changing (Faulted 0) in absurd cc
+    by (Fsync slot) changing buffers there = let f = changing (Tight Space 0 0) in absurd cc
+    by Flush changing buffers there = let f = changing (Tight Space 0 0) in absurd cc
+    by (Write slot offs len byte) changing buffers there = short slot offs len byte (nat_lt s.grant (length (pages_of offs len))) refl buffers there
+    by op changing buffers there = refl
+
 -- refused for want of room
 told_full : (opening : Opening) (place : Place) (s : Stepped) (sides : NoSpace) → AreLaws → IsMadeCall opening s → IsReached opening place s → read_only_cause s.old.backing.mode s.line.op ≡ None → s.line.reply ≡ Refused (Enospc sides)
-    → IsAlike (present_in s.old) (present_in s.new) → (done : Reply × Files) × (allowed_on s.old.backing (present_in s.old) s.line.caller s.line.now s.line.op ≡ Ok done)
+    → s.new.refused ≡ s.old.refused ++ no_space_in s.line.reply → IsAlike (present_in s.old) (present_in s.new) → (done : Reply × Files) × (allowed_on s.old.backing (present_in s.old) s.line.caller s.line.now s.line.op ≡ Ok done)
     → IsDowned s.old.backing s.new.backing s.new.kept (asked (present_in s.old) s.line.caller s.line.now s.grant s.line.op) s.line.op (Enospc sides) → IsTold opening place s
-told_full opening place s sides laws h r closed told same done why =
+told_full opening place s sides laws h r closed told noted same done why =
     let f : Files = place.files in
     let c : ℕ = s.line.caller in
     let n : ℕ = s.line.now in
@@ -217,7 +277,7 @@ told_full opening place s sides laws h r closed told same done why =
     let used = h.used in
     let issued = h.step.issued in
     let left = h.step.answered.1 in
-    let few = h.few in
+    let few = h.few (asks_room s h why.0 sides told noted done) in
     let own = asks.3 h.paid in
     let weight = within.weight in
     let full : IsFull opening place s.line sides s.new.backing need = record {
@@ -242,22 +302,22 @@ told_full opening place s sides laws h r closed told same done why =
 
 -- turned down by the store
 told_down : (opening : Opening) (place : Place) (s : Stepped) (refusal : Refusal) → AreLaws → IsMadeCall opening s → IsReached opening place s → read_only_cause s.old.backing.mode s.line.op ≡ None → s.line.reply ≡ Refused refusal
-    → IsAlike (present_in s.old) (present_in s.new) → IsLast (allowed_on s.old.backing (present_in s.old) s.line.caller s.line.now s.line.op) refusal
+    → s.new.refused ≡ s.old.refused ++ no_space_in s.line.reply → IsAlike (present_in s.old) (present_in s.new) → IsLast (allowed_on s.old.backing (present_in s.old) s.line.caller s.line.now s.line.op) refusal
     → IsDowned s.old.backing s.new.backing s.new.kept (asked (present_in s.old) s.line.caller s.line.now s.grant s.line.op) s.line.op refusal → IsTold opening place s
-told_down opening place s (Enospc sides) laws h r closed told same last why = told_full opening place s sides laws h r closed told same last why
-told_down opening place s (Erofs cause) laws h r closed told same last why = record {
+told_down opening place s (Enospc sides) laws h r closed told noted same last why = told_full opening place s sides laws h r closed told noted same last why
+told_down opening place s (Erofs cause) laws h r closed told noted same last why = record {
   one = inr (told_as opening place s s.new.backing.mode (Erofs cause) r.number told (ap (λ (m : Mode). read_only_cause m s.line.op) why.0 ∙ why.1));
   counts = inl (counts_none s.line (ap tells_count told));
 }
-told_down opening place s (Eio count) laws h r closed told same last why = record {
+told_down opening place s (Eio count) laws h r closed told noted same last why = record {
   one = inr (told_as opening place s s.new.backing.mode (Eio count) r.number told why.2);
   counts = inr (count, counts_one s.line count told, subst (λ (x : ℕ). Rose s.old.backing.faults x) (sym why.1) why.0, omega (arith, why.1));
 }
-told_down opening place s Enomem laws h r closed told same last why = record {
+told_down opening place s Enomem laws h r closed told noted same last why = record {
   one = inl (told_as opening place s s.old.backing.mode Enomem r.number told tt);
   counts = inl (counts_none s.line (ap tells_count told));
 }
-told_down opening place s refusal laws h r closed told same last why = absurd why
+told_down opening place s refusal laws h r closed told noted same last why = absurd why
 
 entered_refused : (opening : Opening) (place : Place) (s : Stepped) → AreLaws → IsMadeCall opening s → IsReached opening place s
     → IsRefusal s.old.backing s.new.backing s.new.kept (present_in s.old) s.line.caller s.line.now s.grant s.line.op s.line.reply → s.new.refused ≡ s.old.refused ++ no_space_in s.line.reply → WasEntered opening place s
@@ -275,7 +335,7 @@ entered_refused opening place s laws h r refused noted =
     open_told : read_only_cause s.old.backing.mode s.line.op ≡ None → (allowed_on s.old.backing (present_in s.old) s.line.caller s.line.now s.line.op ≡ Err refused.refusal)
         ⊎ (IsTurnedDown s.old.backing s.new.backing s.new.kept (asked (present_in s.old) s.line.caller s.line.now s.grant s.line.op) s.line.op refused.refusal × IsLast (allowed_on s.old.backing (present_in s.old) s.line.caller s.line.now s.line.op) refused.refusal)
         → IsTold opening place s
-    open_told closed (inr why) = told_down opening place s refused.refusal laws h r closed refused.told refused.same why.1 (downed s.old.backing s.new.backing s.new.kept (asked (present_in s.old) s.line.caller s.line.now s.grant s.line.op) s.line.op refused.refusal h.step.goes.mode why.0)
+    open_told closed (inr why) = told_down opening place s refused.refusal laws h r closed refused.told noted refused.same why.1 (downed s.old.backing s.new.backing s.new.kept (asked (present_in s.old) s.line.caller s.line.now s.grant s.line.op) s.line.op refused.refusal h.step.goes.mode why.0)
     open_told closed (inl plain) = plain_told (allowed_refused (orphan_room s.old.backing) s.old.backing.orphan_limit (present_in s.old) s.line.caller s.line.now s.line.op refused.refusal plain)
       where
         plain_told : (outcome_of (present_in s.old) s.line.caller s.line.now s.line.op ≡ Err refused.refusal) ⊎ IsOverfull (orphan_room s.old.backing) s.old.backing.orphan_limit (present_in s.old) (outcome_of (present_in s.old) s.line.caller s.line.now s.line.op) refused.refusal → IsTold opening place s

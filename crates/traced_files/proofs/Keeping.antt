@@ -1,27 +1,30 @@
 -- What holds of files whose lines are kept: it holds after a call, and after work between lines.
-use Rattle.std.proofs.Common.{◌≡◌, ◌⊎◌, inl, inr, ℕ, ◌+◌, true, List, [], ◌∷◌, ◌++◌, length, refl, sym, ap, subst, ◌∙◌, arith}
+use Rattle.std.proofs.Common.{◌≡◌, ◌⊎◌, inl, inr, ℕ, ◌+◌, ◌≤◌, true, List, [], ◌∷◌, ◌++◌, length, sym, ap, subst, ◌∙◌, arith}
 use Rattle.std.proofs.lemmas.Bool.{false≢true}
 use Rattle.atomic_table.specs.Seated.{TableId}
 use Rattle.ubifs_base.specs.declared.raw_geometry.RawGeometry.{RawGeometry}
 use Rattle.ubifs_base.specs.Areas.{main_lebs}
 use Rattle.fs_model.specs.declared.reply.Reply.{Reply}
+use Rattle.fs_model.specs.declared.refusal.NoSpace.{NoSpace}
 use Rattle.fs_model.specs.declared.trace.TraceLine.{TraceLine}
+use Rattle.fs_model.specs.Legal.{Opening}
 use Rattle.fs_model.specs.Backing.{BackingState, Outlook}
 use Rattle.fs_laws.specs.Sound.{IsCall, IsMoment, IsSound}
 use Rattle.cached_files.specs.Calls.{SureGoes}
+use Rattle.cached_files.specs.Present.{IsKept}
+use Rattle.credited_files.specs.Calls.{WasServed, is_work_between}
+use Rattle.credited_files.specs.States.{HasOtherCredits}
 use Rattle.fs_model.specs.Cover.{tree_bytes}
 use Rattle.trace_word.specs.Knowledge.{lines_of}
 use Rattle.trace_word.specs.States.{RecorderState}
 use Rattle.vfs_ops.specs.declared.event.Event.{Event}
-use Rattle.vfs_ops.specs.declared.event.Event.TheVariants.{Call, Pick, Put, Refill, Drain}
+use Rattle.vfs_ops.specs.declared.event.Event.TheVariants.{Call}
 use Rattle.vfs_ops.specs.declared.event.Outcome.{Outcome}
-use Rattle.vfs_ops.specs.declared.event.Outcome.TheVariants.{Replied, Granted, Drained}
-use Rattle.vfs_ops.specs.Background.{IsBackgroundStep, drained_in, granted_in}
+use Rattle.vfs_ops.specs.Background.{IsBackgroundStep}
 use Rattle.vfs_ops.specs.FilesState.{FilesState, present_in}
-use Rattle.vfs_ops.specs.Passing.{IsCallStep, IsStep}
+use Rattle.vfs_ops.specs.Passing.{IsStep}
 use Rattle.vfs_ops.specs.Steps.{IsReady}
-use Rattle.traced_files.specs.Calls.{is_work_between}
-use Rattle.traced_files.specs.History.{IsSureSince}
+use Rattle.traced_files.specs.History.{IsHistory, IsSureSince}
 use Rattle.traced_files.specs.Laws.{AreLaws}
 use Rattle.traced_files.specs.Replies.{IsToldAs}
 use Rattle.traced_files.specs.Start.{IsHistoryFrom, Start, opened_at}
@@ -41,7 +44,7 @@ pub record AreStates (old new : FilesState) : Type 0 where
 main_same : (old new : FilesState) → AreStates old new → new.backing.geometry ≡ old.backing.geometry → new.backing.space.main ≡ old.backing.space.main
 main_same old new states same = states.main ∙ ap (λ (geo : RawGeometry). main_lebs geo) same ∙ sym states.first
 
-sure_on : (start : Start) (old new : BackingState) (before after : Outlook) → IsSureSince (opened_at start) old.faults before → SureGoes before after old new → IsSureSince (opened_at start) new.faults after
+pub sure_on : (start : Start) (old new : BackingState) (before after : Outlook) → IsSureSince (opened_at start) old.faults before → SureGoes before after old new → IsSureSince (opened_at start) new.faults after
 sure_on start old new before after since goes sure = by (since sure)
   where
     same : after.spent ⊎ (after.sure × (new.faults ≡ old.faults)) → old.faults ≡ (opened_at start).faults → after.spent ⊎ (after.sure × (new.faults ≡ (opened_at start).faults))
@@ -52,59 +55,80 @@ sure_on start old new before after since goes sure = by (since sure)
     by (inl spent) = inl (goes.spent spent)
     by (inr still) = same (goes.sure still.0) still.1
 
--- A call was made that brought no credit, its line was told, and the recorder knows it.
-pub record WasMade (word : TableId) (trace : List TraceLine) (s : Stepped) (told : Reply) (recorder : RecorderState) : Type 0 where
-  pub step : IsCallStep s.old s.new (Call s.line.caller s.line.now 0 s.line.op) (Replied s.line.reply s.left)
-  pub moment : IsMoment s.line.now
-  pub call : IsCall s.line.op
-  pub states : AreStates s.old s.new
-  pub free : s.grant ≡ 0
-  pub number : s.line.number ≡ lines_of s.line.caller trace + 1
-  pub says : IsToldAs s.line.reply told
-  pub of_word : recorder.word ≡ word
-  pub seen : recorder.known.seen ≡ trace ++ (record s.line { reply = told }) ∷ []
+-- where only other credits are covered, the files may be asked for an event
+ready_credits : (old new : FilesState) → IsReady old.backing old.kept → HasOtherCredits old new → length new.kept.pages.dirty ≤ new.backing.space.credits → IsReady new.backing new.kept
+ready_credits old new ready only paid = record {
+  kept_fits = subst (λ (x : FilesState). IsKept x.backing.tree x.kept) (sym only) ready.kept_fits;
+  paid = paid;
+  sound = subst (λ (x : FilesState). IsSound (present_in x)) (sym only) ready.sound;
+}
 
-pub traced_on : (word : TableId) (start : Start) (s : Stepped) (told : Reply) (before after : Outlook) (recorder new : RecorderState) (trace : List TraceLine) → AreLaws → IsTraced word start s.old before recorder trace → WasMade word trace s told new → SureGoes before after s.old.backing s.new.backing
-    → new.passes ≡ recorder.passes → IsTraced word start s.new after new (trace ++ (record s.line { reply = told }) ∷ [])
-traced_on word start s told before after recorder new trace laws h made sure passes =
-    let credits = h.credits in
-    let issued = made.step.issued in
-    let left = made.step.answered.1 in
-    let free = made.free in
-    let step : IsCallStep s.old s.new (Call s.line.caller s.line.now s.grant s.line.op) (Replied s.line.reply s.left) =
-    subst (λ (n : ℕ). IsCallStep s.old s.new (Call s.line.caller s.line.now n s.line.op) (Replied s.line.reply s.left)) (sym free) made.step in
+-- a history doesn't tell how many credits are covered
+pub history_credits : (opening : Opening) (noted : List NoSpace) (lines : List TraceLine) (old new : FilesState) → HasOtherCredits old new → IsHistory opening noted lines old → IsHistory opening noted lines new
+history_credits opening noted lines old new only h = subst (λ (x : FilesState). IsHistory opening noted lines x) (sym only) (record {
+  last = h.last;
+  leads = h.leads;
+  same = h.same;
+  sound = h.sound;
+  mode = h.mode;
+  refused = h.refused;
+  counts = h.counts;
+  faults = h.faults;
+  geometry = h.geometry;
+  main = h.main;
+  limit = h.limit;
+  orphans = h.orphans;
+  weight = λ writes. let w = h.weight writes in record { weight = w.weight; index = w.index };
+})
+
+-- A call was served, its line was told, and the recorder knows it.
+pub record WasMade (word : TableId) (callers held : ℕ) (trace : List TraceLine) (first new : FilesState) (line : TraceLine) (told : Reply) (recorder : RecorderState) : Type 0 where
+  pub served : WasServed callers held first new line.caller line.now line.op line.reply
+  pub moment : IsMoment line.now
+  pub call : IsCall line.op
+  pub states : AreStates first new
+  pub number : line.number ≡ lines_of line.caller trace + 1
+  pub says : IsToldAs line.reply told
+  pub of_word : recorder.word ≡ word
+  pub seen : recorder.known.seen ≡ trace ++ (record line { reply = told }) ∷ []
+
+pub traced_on : (word : TableId) (start : Start) (held : ℕ) (first last : FilesState) (line : TraceLine) (told : Reply) (before after : Outlook) (recorder new : RecorderState) (trace : List TraceLine) → AreLaws → IsTraced word start first before recorder trace
+    → WasMade word start.callers held trace first last line told new → SureGoes before after first.backing last.backing → new.passes ≡ recorder.passes → IsTraced word start last after new (trace ++ (record line { reply = told }) ∷ [])
+traced_on word start held first last line told before after recorder new trace laws h made sure passes =
+    let w = made.served in
+    let s : Stepped = record { old = w.between; new = last; line = line; grant = w.grant; left = w.left } in
+    let paid = w.covered in
+    let main : w.between.backing.space.main ≡ first.backing.space.main = ap (λ (x : FilesState). x.backing.space.main) w.only in
+    let geo : w.between.backing.geometry ≡ first.backing.geometry = ap (λ (x : FilesState). x.backing.geometry) w.only in
     let call : IsMadeCall (opened_at start) s = record {
-      step = step;
+      step = w.step;
       moment = made.moment;
       call = made.call;
-      ready = made.states.ready;
+      ready = ready_credits first w.between made.states.ready w.only (omega (arith, paid));
       after = made.states.after;
       used = made.states.used;
-      main = main_same s.old s.new made.states made.step.goes.geometry;
-      paid = omega (arith, free);
-      few = omega (arith, credits);
+      main = main_same first last made.states (w.step.goes.geometry ∙ geo) ∙ sym main;
+      paid = w.most;
+      few = w.drained;
     } in
     record {
       of_word = made.of_word;
       passes = passes ∙ h.passes;
       seen = made.seen;
-      history = call_goes_on (opened_at start) start.files.refused trace s told laws call h.history made.number made.says;
-      sure = sure_on start s.old.backing s.new.backing before after h.sure sure;
-      credits = omega (arith, credits, issued, left);
+      history = call_goes_on (opened_at start) start.files.refused trace s told laws call (history_credits (opened_at start) start.files.refused trace first w.between w.only h.history) made.number made.says;
+      sure = sure_on start first.backing last.backing before after h.sure sure;
     }
 
--- work between lines neither grants credits nor gives any back
-no_credits : (old new : FilesState) (event : Event) (outcome : Outcome) → is_work_between event ≡ true → IsBackgroundStep old new event outcome → (granted_in outcome ≡ 0) × (drained_in outcome ≡ 0)
-no_credits old new (Refill n) outcome kind h = absurd (false≢true kind)
-no_credits old new (Drain n) outcome kind h = absurd (false≢true kind)
-no_credits old new (Call caller now grant op) outcome kind h = absurd (false≢true kind)
-no_credits old new Pick (Granted n) kind h = absurd h.made.0
-no_credits old new Pick (Drained n) kind h = absurd h.made.0
-no_credits old new (Put shown) (Granted n) kind h = absurd h.made
-no_credits old new (Put shown) (Drained n) kind h = absurd h.made
-no_credits old new event (Granted n) kind h = absurd h.made.0
-no_credits old new event (Drained n) kind h = absurd h.made.0
-no_credits old new event outcome kind h = (refl, refl)
+-- an event of the background goes on with the lines
+pub traced_beside : (word : TableId) (start : Start) (old new : FilesState) (event : Event) (outcome : Outcome) (before after : Outlook) (recorder : RecorderState) (trace : List TraceLine) → IsTraced word start old before recorder trace → IsBackgroundStep old new event outcome
+    → SureGoes before after old.backing new.backing → AreStates old new → IsTraced word start new after recorder trace
+traced_beside word start old new event outcome before after recorder trace h step sure states = record {
+  of_word = h.of_word;
+  passes = h.passes;
+  seen = h.seen;
+  history = background_goes_on (opened_at start) start.files.refused trace old new event outcome step (main_same old new states step.goes.geometry) h.history;
+  sure = sure_on start old.backing new.backing before after h.sure sure;
+}
 
 between : (old new : FilesState) (event : Event) (outcome : Outcome) → is_work_between event ≡ true → IsStep old new event outcome → IsBackgroundStep old new event outcome
 between old new (Call caller now grant op) outcome kind h = absurd (false≢true kind)
@@ -113,27 +137,15 @@ between old new event outcome kind h = h
 pub traced_between : (word : TableId) (start : Start) (old new : FilesState) (event : Event) (outcome : Outcome) (before after : Outlook) (recorder : RecorderState) (trace : List TraceLine) → IsTraced word start old before recorder trace → is_work_between event ≡ true
     → IsStep old new event outcome → SureGoes before after old.backing new.backing → AreStates old new → IsTraced word start new after recorder trace
 traced_between word start old new event outcome before after recorder trace h kind stepped sure states =
-    let step = between old new event outcome kind stepped in
-    let none = no_credits old new event outcome kind step in
-    let credits = h.credits in
-    let issued = step.issued in
-    record {
-      of_word = h.of_word;
-      passes = h.passes;
-      seen = h.seen;
-      history = background_goes_on (opened_at start) start.files.refused trace old new event outcome step (main_same old new states step.goes.geometry) h.history;
-      sure = sure_on start old.backing new.backing before after h.sure sure;
-      credits = omega (arith, credits, issued, none.0, none.1);
-    }
+    traced_beside word start old new event outcome before after recorder trace h (between old new event outcome kind stepped) sure states
 
 -- files with no line yet
-pub traced_first : (word : TableId) (start : Start) (now : FilesState) (outlook : Outlook) (recorder : RecorderState) → now ≡ start.files → IsSound (present_in now) → (start.outlook.sure → outlook.sure) → now.backing.space.credits ≡ length now.kept.pages.dirty
+pub traced_first : (word : TableId) (start : Start) (now : FilesState) (outlook : Outlook) (recorder : RecorderState) → now ≡ start.files → IsSound (present_in now) → (start.outlook.sure → outlook.sure)
     → (recorder.word ≡ word) × (recorder.known.seen ≡ []) × (recorder.passes ≡ start.callers) → IsTraced word start now outlook recorder []
-traced_first word start now outlook recorder is sound sure credits made = record {
+traced_first word start now outlook recorder is sound sure made = record {
   of_word = made.0;
   passes = made.2;
   seen = made.1;
   history = subst (λ (x : FilesState). IsHistoryFrom start [] x) (sym is) (history_opens start.files start.outlook start.callers (subst (λ (x : FilesState). IsSound (present_in x)) is sound));
   sure = λ first. inr (sure first, ap (λ (x : FilesState). x.backing.faults) is);
-  credits = credits;
 }

@@ -5,9 +5,9 @@ use Rattle.std.proofs.lemmas.List.Elements.{All-head, All-tail}
 use Rattle.atomic_table.specs.Seated.{TableId}
 use Rattle.traced_files.specs.States.{fresh_pass, fresh_passes}
 
-pub length-fresh_passes : (word : TableId) (n : ℕ) → length (fresh_passes word n) ≡ n
-length-fresh_passes word zero = omega arith
-length-fresh_passes word (suc n) = omega (arith, length-append (fresh_passes word n) (fresh_pass word (suc n) ∷ []), length-fresh_passes word n)
+pub length-fresh_passes : (word pool : TableId) (n : ℕ) → length (fresh_passes word pool n) ≡ n
+length-fresh_passes word pool zero = omega arith
+length-fresh_passes word pool (suc n) = omega (arith, length-append (fresh_passes word pool n) (fresh_pass word pool (suc n) ∷ []), length-fresh_passes word pool n)
 
 -- where nothing is left, all that came is the whole
 pub all_came : {A : Type 0} (came left whole : List A) → came ++ left ≡ whole → length left ≡ 0 → came ≡ whole

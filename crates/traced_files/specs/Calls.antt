@@ -1,5 +1,5 @@
 -- What a call answers and leaves.
-use Rattle.std.specs.Prelude.{◌≡◌, ℕ, ◌+◌, ◌<◌, ◌≤◌, Bool, true, false, List, length, slice_get, Some}
+use Rattle.std.specs.Prelude.{◌≡◌, ℕ, ◌+◌, ◌<◌, ◌≤◌, List, length, slice_get, Some}
 use mathlib.Core.List.{IsPrefix}
 use Rattle.fs_model.specs.declared.op.Op.{Op}
 use Rattle.fs_model.specs.declared.refusal.Refusal.TheVariants.{Enomem}
@@ -10,29 +10,20 @@ use Rattle.fs_model.specs.Backing.{Outlook}
 use Rattle.fs_model.specs.Legal.{IsLegal}
 use Rattle.trace_word.specs.Knowledge.{lines_of}
 use Rattle.vfs_ops.specs.FilesState.{FilesState}
-use Rattle.vfs_ops.specs.declared.event.Event.{Event}
-use Rattle.vfs_ops.specs.declared.event.Event.TheVariants.{Call, Pick, Put}
-use Rattle.vfs_ops.specs.declared.event.Outcome.TheVariants.{Replied}
-use Rattle.vfs_ops.specs.Background.{is_work}
-use Rattle.vfs_ops.specs.Passing.{IsCallStep}
+use Rattle.credited_files.specs.Calls.{WasServed}
 use Rattle.traced_files.specs.History.{present_of}
 use Rattle.traced_files.specs.Replies.{IsToldAs}
 use Rattle.traced_files.specs.Start.{IsHistoryFrom, Start, opened_at}
 use Rattle.traced_files.specs.States.{PassState}
 
--- an event between lines that neither grants credits nor gives any back
-abbrev pub is_work_between : Event → Bool
-is_work_between Pick = true
-is_work_between (Put shown) = true
-is_work_between event = is_work event
-
--- there was no memory for a line, and the pass is as before
+-- the reply is want of memory, no line was written, and the pass is as before
 abbrev pub IsUndone : PassState → PassState → Reply → Type 0
 IsUndone old new reply = (reply ≡ Refused Enomem) × (new ≡ old)
 
 -- A call was made: its line stands at the place told, behind all that was seen before. The trace so far is a history, and has just the calls of the caller that it made.
 pub record IsEntered (start : Start) (old : PassState) (now : ℕ) (op : Op) (new : PassState) (reply : Reply) : Type 0 where
   pub word : new.word ≡ old.word
+  pub pool : new.pool ≡ old.pool
   pub caller : new.caller ≡ old.caller
   pub made : new.made ≡ old.made + 1
   pub line : slice_get new.seen new.last ≡ Some (record { caller = old.caller; number = new.made; now = now; op = op; reply = reply })
@@ -41,11 +32,10 @@ pub record IsEntered (start : Start) (old : PassState) (now : ℕ) (op : Op) (ne
   pub lines : lines_of new.caller new.seen ≡ new.made
   pub legal : (state : FilesState) × IsHistoryFrom start new.seen state
 
--- One step of the files was made, that of the call, which brings no credit. The reply is its answer, but for bytes of which no memory could hold a copy.
-pub record WasStepped (old new : FilesState) (caller now : ℕ) (op : Op) (told : Reply) : Type 0 where
+-- A call was served with the credits that its caller brought. The reply is its answer, but for bytes of which no memory could hold a copy.
+pub record WasStepped (callers held : ℕ) (old new : FilesState) (caller now : ℕ) (op : Op) (told : Reply) : Type 0 where
   pub answer : Reply
-  pub left : ℕ
-  pub step : IsCallStep old new (Call caller now 0 op) (Replied answer left)
+  pub served : WasServed callers held old new caller now op answer
   pub told_as : IsToldAs answer told
 
 -- a trace begins with what a pass has seen, and has just the calls of its caller that it made

@@ -5,10 +5,11 @@ use Rattle.traced_files.specs.declared.pass.Pass.TheInside.{Inside}
 use Rattle.traced_files.specs.States.{PassState}
 
 abbrev pub pass_state : Inside → PassState
-pass_state p = record { word = p.ticket.word; caller = p.caller; made = p.made; last = p.last; seen = p.ticket.known.seen }
+pass_state p = record { word = p.ticket.word; pool = p.stock.pool; caller = p.caller; made = p.made; last = p.last; seen = p.ticket.known.seen }
 
--- The ticket is the caller's, and has claimed the calls that were made. These are the caller's lines in what was seen.
+-- The ticket is the caller's, and has claimed the calls that were made. These are the caller's lines in what was seen. The stock is the caller's, and holds nothing.
 pub record IsPass (p : Inside) : Type 0 where
   pub caller : p.ticket.caller ≡ p.caller
   pub claimed : p.ticket.claim ≡ p.made
   pub lines : lines_of p.caller p.ticket.known.seen ≡ p.made
+  pub stock : (p.stock.caller ≡ p.caller) × (p.stock.held ≡ 0)

@@ -1,5 +1,6 @@
 -- How the files were when their lines began.
-use Rattle.std.specs.Prelude.{ℕ, false, None, []}
+use Rattle.std.specs.Prelude.{◌≡◌, ℕ, false, None, []}
+use Rattle.atomic_table.specs.Seated.{TableId}
 use Rattle.fs_model.specs.declared.backing_answers.Mode.TheVariants.{ReadWrite}
 use Rattle.fs_model.specs.declared.trace.TraceLine.{TraceLine}
 use Rattle.fs_model.specs.Backing.{BackingState, Outlook}
@@ -7,6 +8,7 @@ use Rattle.fs_model.specs.Legal.{Opening}
 use Rattle.fs_model.specs.Worked.{fresh}
 use Rattle.fs_model.specs.WorkedTrace.{small_geometry}
 use Rattle.vfs_ops.specs.FilesState.{FilesState}
+use Rattle.traced_files.specs.declared.passes.Ledger.{Ledger}
 use Rattle.std.specs.Prelude.{List}
 use Rattle.traced_files.specs.History.{IsHistory, opening_of}
 
@@ -47,3 +49,9 @@ no_start = record {
   outlook = record { sure = ⊥; spent = ⊥; strike = None };
   callers = 0;
 }
+
+-- What stays with the files knows an empty trace and an empty pool, and has made the passes of so many callers.
+abbrev pub IsNewLedger : TableId → TableId → ℕ → Ledger → Type 0
+IsNewLedger word pool callers k =
+    (k.recorder.word ≡ word) × (k.recorder.known.seen ≡ []) × (k.recorder.passes ≡ callers)
+    × (k.master ≡ record { pool = pool; issued = 0; held = 0; out = [] }) × (k.callers ≡ callers)

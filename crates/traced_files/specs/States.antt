@@ -4,22 +4,23 @@ use Rattle.atomic_table.specs.Seated.{TableId}
 use Rattle.fs_model.specs.declared.trace.TraceLine.{TraceLine}
 use Rattle.vfs_ops.specs.FilesState.{FilesState}
 
--- a pass: its trace's word, whose it is, how many calls it has made, the place of the last, and the trace as it was seen then
+-- a pass: its trace's word, its pool, whose it is, how many calls it has made, the place of the last, and the trace as it was seen then
 pub record PassState : Type 0 where
   pub word : TableId
+  pub pool : TableId
   pub caller : ℕ
   pub made : ℕ
   pub last : ℕ
   pub seen : List TraceLine
 
 -- the pass of a caller who has made no call
-abbrev pub fresh_pass : TableId → ℕ → PassState
-fresh_pass word caller = record { word = word; caller = caller; made = 0; last = 0; seen = [] }
+abbrev pub fresh_pass : TableId → TableId → ℕ → PassState
+fresh_pass word pool caller = record { word = word; pool = pool; caller = caller; made = 0; last = 0; seen = [] }
 
 -- those of the callers from 1 on, in order
-abbrev pub fresh_passes : TableId → ℕ → List PassState
-fresh_passes word zero = []
-fresh_passes word (suc n) = fresh_passes word n ++ fresh_pass word (suc n) ∷ []
+abbrev pub fresh_passes : TableId → TableId → ℕ → List PassState
+fresh_passes word pool zero = []
+fresh_passes word pool (suc n) = fresh_passes word pool n ++ fresh_pass word pool (suc n) ∷ []
 
 -- files whose lines are kept: the files over their backing, and the lines
 pub record TracedState : Type 0 where

@@ -1,5 +1,5 @@
 -- What holds of files whose lines are kept.
-use Rattle.std.specs.Prelude.{◌≡◌, List, length}
+use Rattle.std.specs.Prelude.{◌≡◌, List}
 use Rattle.atomic_table.specs.Seated.{TableId}
 use Rattle.fs_model.specs.declared.trace.TraceLine.{TraceLine}
 use Rattle.fs_model.specs.Backing.{Outlook}
@@ -8,11 +8,10 @@ use Rattle.vfs_ops.specs.FilesState.{FilesState}
 use Rattle.traced_files.specs.History.{IsSureSince}
 use Rattle.traced_files.specs.Start.{IsHistoryFrom, Start, opened_at}
 
--- The recorder is of this word, has made a pass for each caller, and knows the lines. They lead from the start to the present files. Each covered credit is that of a dirty page.
+-- The recorder is of this word, has made a pass for each caller, and knows the lines. They lead from the start to the present files.
 pub record IsTraced (word : TableId) (start : Start) (now : FilesState) (outlook : Outlook) (recorder : RecorderState) (trace : List TraceLine) : Type 0 where
   pub of_word : recorder.word ≡ word
   pub passes : recorder.passes ≡ start.callers
   pub seen : recorder.known.seen ≡ trace
   pub history : IsHistoryFrom start trace now
   pub sure : IsSureSince (opened_at start) now.backing.faults outlook
-  pub credits : now.backing.space.credits ≡ length now.kept.pages.dirty

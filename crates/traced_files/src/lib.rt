@@ -10,10 +10,9 @@ mod pass;
 mod passes;
 mod replies;
 mod site;
-mod step;
 mod traced;
 
 pub use crate::pass::Pass;
-pub use crate::passes::{meet_all, open};
+pub use crate::passes::{Ledger, NewTrace, meet_all, open};
 pub use crate::site::Site;
 pub use crate::traced::{Finished, TracedFs};

@@ -3,13 +3,15 @@
 ghost use Rattle.std.specs.Prelude.{◌≡◌};
 ghost use Rattle.trace_word.specs.Knowledge.{lines_of};
 
+use credited_files::Stock;
 use std::marker::Model;
 
-/// A caller's right to make calls. Contracts see it as a `PassState`: its trace's word, whose it is, how many calls it has made,
-/// the place of the last, and the trace as it was seen then.
+/// A caller's right to make calls, with its stock of credits, which holds none between calls. Contracts see it as a `PassState`: its
+/// trace's word and its pool, whose it is, how many calls it has made, the place of the last, and the trace as it was seen then.
 #[derive(Drop)]
 pub struct Pass {
     pub(crate) ticket: trace_word::Pass,
+    pub(crate) stock: Stock,
     pub caller: u16,
     pub made: u64,
     pub last: u64,
@@ -33,5 +35,13 @@ impl Pass {
         ensures { lines_of self.now.caller self.now.seen ≡ self.now.made }
     {
         let _ = &self.ticket;
+    }
+
+    /// The caller's stock, in which it draws credits for its next call.
+    pub fn take_stock(&mut self) -> Stock
+        ensures stock { (result.pool ≡ self.old.pool) × (result.caller ≡ self.old.caller) × (result.held ≡ 0) }
+        ensures same { self.new ≡ self.old }
+    {
+        self.stock.take()
     }
 }

@@ -2,35 +2,66 @@
 
 ghost use Rattle.std.specs.Prelude.{◌≡◌, ◌≤◌, ◌+◌, [], All, IfOk, vec_capacity};
 ghost use Rattle.traced_files.specs.Calls.{StandsIn};
+ghost use Rattle.traced_files.specs.Start.{IsNewLedger};
 ghost use Rattle.traced_files.specs.States.{fresh_pass, fresh_passes};
 
 use crate::pass::Pass;
+use credit_pool::{Master, Pool};
+use credited_files::Stock;
 use std::alloc::Global;
 use trace_word::{Recorder, TraceWord};
 use ubifs_base::Memory;
 
-/// The word of an empty trace, its recorder, and the passes of the callers 1 to `callers`, in order.
-pub fn open(alloc: Global, callers: u16) -> Result<(TraceWord, Recorder, Vec<Pass>), Memory>
-    ensures recorder { IfOk result (λ made. (made.1.word ≡ made.0) × (made.1.known.seen ≡ []) × (made.1.passes ≡ callers)) }
-    ensures passes { IfOk result (λ made. made.2.items ≡ fresh_passes made.0 callers) }
+/// What stays with the files: the recorder of a trace, the master of a pool, and how many callers there are.
+#[derive(Drop)]
+pub struct Ledger {
+    pub recorder: Recorder,
+    pub master: Master,
+    pub callers: u16,
+}
+
+/// The word of an empty trace, an empty pool, their ledger, and the passes of all callers.
+#[derive(Drop)]
+pub struct NewTrace {
+    pub word: TraceWord,
+    pub pool: Pool,
+    pub ledger: Ledger,
+    pub passes: Vec<Pass>,
+}
+
+/// An empty trace and an empty pool, with the passes of the callers 1 to `callers`, in order.
+pub fn open(alloc: Global, callers: u16) -> Result<NewTrace, Memory>
+    ensures ledger { IfOk result (λ made. IsNewLedger made.word made.pool callers made.ledger) }
+    ensures passes { IfOk result (λ made. made.passes.items ≡ fresh_passes made.word made.pool callers) }
 {
     let Ok(mut passes) = Vec::with_capacity(alloc, callers as usize) else {
         return Err(Memory);
     };
     let (word, mut recorder) = TraceWord::new(alloc)?;
-    make_passes(&word, &mut recorder, &mut passes, callers);
-    Ok((word, recorder, passes))
+    let (pool, master) = Pool::new(alloc)?;
+    make_passes(&word, &pool, &mut recorder, &mut passes, callers);
+    Ok(NewTrace {
+        word,
+        pool,
+        ledger: Ledger {
+            recorder,
+            master,
+            callers,
+        },
+        passes,
+    })
 }
 
 // The pass of the next caller.
-fn next_pass(word: &TraceWord, recorder: &mut Recorder, caller: u16) -> Pass
+fn next_pass(word: &TraceWord, pool: &Pool, recorder: &mut Recorder, caller: u16) -> Pass
     requires word { recorder.old.word ≡ word.now }
     requires caller { caller ≡ recorder.old.passes + 1 }
     ensures recorder { (recorder.new.word ≡ word.now) × (recorder.new.known.seen ≡ recorder.old.known.seen) × (recorder.new.passes ≡ caller) }
-    ensures pass { result ≡ fresh_pass word.now caller }
+    ensures pass { result ≡ fresh_pass word.now pool.now caller }
 {
     Pass {
         ticket: word.new_pass(recorder),
+        stock: Stock::new(pool, caller),
         caller,
         made: 0,
         last: 0,
@@ -38,15 +69,21 @@ fn next_pass(word: &TraceWord, recorder: &mut Recorder, caller: u16) -> Pass
 }
 
 // The passes of all callers.
-fn make_passes(word: &TraceWord, recorder: &mut Recorder, passes: &mut Vec<Pass>, callers: u16)
+fn make_passes(
+    word: &TraceWord,
+    pool: &Pool,
+    recorder: &mut Recorder,
+    passes: &mut Vec<Pass>,
+    callers: u16,
+)
     requires word { recorder.old.word ≡ word.now }
     requires none { (recorder.old.passes ≡ 0) × (passes.old.items ≡ []) }
     requires room { callers ≤ vec_capacity passes.old }
     ensures recorder { (recorder.new.word ≡ word.now) × (recorder.new.known.seen ≡ recorder.old.known.seen) × (recorder.new.passes ≡ callers) }
-    ensures passes { passes.new.items ≡ fresh_passes word.now callers }
+    ensures passes { passes.new.items ≡ fresh_passes word.now pool.now callers }
 {
     for caller in 0..callers {
-        passes.push_reserved(next_pass(word, recorder, caller + 1));
+        passes.push_reserved(next_pass(word, pool, recorder, caller + 1));
     }
 }
 

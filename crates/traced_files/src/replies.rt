@@ -24,7 +24,7 @@ pub(crate) fn twice(alloc: Global, reply: Reply) -> (Reply, Reply)
     }
 }
 
-fn out_of_memory() -> Reply
+pub(crate) fn out_of_memory() -> Reply
     ensures { result ≡ Refused Enomem }
 {
     Reply::Refused {

@@ -38,9 +38,9 @@ all_closed trace (j ∷ js) passes run stand =
     All-cons (λ (j : Job). HasLines trace j) j js (one_closed trace j run.0 run.3 (All-head (λ (p : PassState). StandsIn trace p) run.0 run.1 all)) (all_closed trace js run.1 run.4 (All-tail (λ (p : PassState). StandsIn trace p) run.0 run.1 all))
 
 -- the passes are of the word that the jobs' were of
-pub all_of_word : (word : TableId) (jobs : List Job) (passes : List PassState) → All (λ j. MayRun word j) jobs → HaveRun jobs passes → All (λ p. p.word ≡ word) passes
-all_of_word word [] passes may none = subst (All (λ (p : PassState). p.word ≡ word)) (sym none) (All-nil (λ (p : PassState). p.word ≡ word))
-all_of_word word (j ∷ js) passes may run =
-    let first = (All-head (λ (j : Job). MayRun word j) j js may).0 in
-    let rest = all_of_word word js run.1 (All-tail (λ (j : Job). MayRun word j) j js may) run.4 in
+pub all_of_word : (word pool : TableId) (jobs : List Job) (passes : List PassState) → All (λ j. MayRun word pool j) jobs → HaveRun jobs passes → All (λ p. p.word ≡ word) passes
+all_of_word word pool [] passes may none = subst (All (λ (p : PassState). p.word ≡ word)) (sym none) (All-nil (λ (p : PassState). p.word ≡ word))
+all_of_word word pool (j ∷ js) passes may run =
+    let first = (All-head (λ (j : Job). MayRun word pool j) j js may).0 in
+    let rest = all_of_word word pool js run.1 (All-tail (λ (j : Job). MayRun word pool j) j js may) run.4 in
     subst (All (λ (p : PassState). p.word ≡ word)) (sym run.2) (All-cons (λ (p : PassState). p.word ≡ word) run.0 run.1 (run.3.word ∙ first) rest)

@@ -1,4 +1,5 @@
 pub mod JobLines
 pub mod Lists
 pub mod Running
+pub mod Sent
 pub mod Tasking

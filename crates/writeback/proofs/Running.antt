@@ -113,6 +113,7 @@ calls_pass caller now made (x ∷ xs) lines op (inr h) = inr (h.0, h.1, h.2, cal
 pub run_none : (old : PassState) (now : ℕ) → lines_of old.caller old.seen ≡ old.made → HasRun old now [] old
 run_none old now counted = record {
   word = refl;
+  pool = refl;
   caller = refl;
   begins = ([], append-nil old.seen);
   calls = [];
@@ -125,6 +126,7 @@ run_none old now counted = record {
 run_pass : (old : PassState) (now : ℕ) (ops : List Op) (new : PassState) (op : Op) → HasRun old now ops new → HasRun old now (ops ++ op ∷ []) new
 run_pass old now ops new op h = record {
   word = h.word;
+  pool = h.pool;
   caller = h.caller;
   begins = h.begins;
   calls = h.calls;
@@ -141,6 +143,7 @@ run_enter start old mid new now ops op reply h e =
     subst (λ (x : ℕ × ℕ). lines_by x.0 new.seen ≡ lines_by x.0 mid.seen ++ line x.0 x.1 ∷ []) (λ k. (h.caller k, h.made k)) (entered_lines start mid new now op reply h.counted e) in
     record {
       word = e.word ∙ h.word;
+      pool = e.pool ∙ h.pool;
       caller = e.caller ∙ h.caller;
       begins = (h.begins.0 ++ e.begins.0, sym (append_assoc old.seen h.begins.0 e.begins.0) ∙ (ap (λ (t : List TraceLine). t ++ e.begins.0) h.begins.1 ∙ e.begins.1));
       calls = h.calls ++ line old.caller (old.made + length h.calls) ∷ [];

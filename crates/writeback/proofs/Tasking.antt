@@ -28,12 +28,12 @@ none_has zero = All-nil (λ (t : Task). HasNoJob t)
 none_has (suc n) = All-append (λ (t : Task). HasNoJob t) (workers_to n) (work_of (suc n) ∷ []) (none_has n) (All-cons (λ (t : Task). HasNoJob t) (work_of (suc n)) [] (refl, refl) (All-nil (λ (t : Task). HasNoJob t)))
 
 -- each task is ready where each job's pass is of the word
-pub all_ready : (word : TableId) (jobs : List Job) (n : ℕ) → All (MayRun word) jobs → All (λ t. IsTaskReady word t) (tasks_for jobs n)
-all_ready word jobs n all = All-append (λ (t : Task). IsTaskReady word t) (map task_of jobs) (workers_to n) (All-map (λ (t : Task). IsTaskReady word t) task_of jobs all) (idlers n)
+pub all_ready : (word pool : TableId) (jobs : List Job) (n : ℕ) → All (MayRun word pool) jobs → All (λ t. IsTaskReady word pool t) (tasks_for jobs n)
+all_ready word pool jobs n all = All-append (λ (t : Task). IsTaskReady word pool t) (map task_of jobs) (workers_to n) (All-map (λ (t : Task). IsTaskReady word pool t) task_of jobs all) (idlers n)
   where
-    idlers : (k : ℕ) → All (λ t. IsTaskReady word t) (workers_to k)
-    idlers zero = All-nil (λ (t : Task). IsTaskReady word t)
-    idlers (suc k) = All-append (λ (t : Task). IsTaskReady word t) (workers_to k) (work_of (suc k) ∷ []) (idlers k) (All-cons (λ (t : Task). IsTaskReady word t) (work_of (suc k)) [] tt (All-nil (λ (t : Task). IsTaskReady word t)))
+    idlers : (k : ℕ) → All (λ t. IsTaskReady word pool t) (workers_to k)
+    idlers zero = All-nil (λ (t : Task). IsTaskReady word pool t)
+    idlers (suc k) = All-append (λ (t : Task). IsTaskReady word pool t) (workers_to k) (work_of (suc k) ∷ []) (idlers k) (All-cons (λ (t : Task). IsTaskReady word pool t) (work_of (suc k)) [] tt (All-nil (λ (t : Task). IsTaskReady word pool t)))
 
 done_behind : (o n : Task) (os ns : List Task) → AreTasksDone (o ∷ os) (n ∷ ns) → AreTasksDone os ns
 done_behind o n os ns done = λ k d lt. done (suc k) d (omega arith)

@@ -26,6 +26,7 @@ AreCalls caller now made (op ∷ ops) lines =
 -- A caller has made these operations with a pass. It has seen a trace that begins with what it had seen. Its own lines there are those that it had, and then those of the operations.
 pub record HasRun (old : PassState) (now : ℕ) (ops : List Op) (new : PassState) : Type 0 where
   pub word : new.word ≡ old.word
+  pub pool : new.pool ≡ old.pool
   pub caller : new.caller ≡ old.caller
   pub begins : IsPrefix old.seen new.seen
   pub calls : List TraceLine
@@ -34,9 +35,9 @@ pub record HasRun (old : PassState) (now : ℕ) (ops : List Op) (new : PassState
   pub made : new.made ≡ old.made + length calls
   pub counted : lines_of new.caller new.seen ≡ new.made
 
--- the pass is of this word, and each operation gives bytes
-abbrev pub MayRun : TableId → Job → Type 0
-MayRun word job = (job.pass.word ≡ word) × All IsCall job.ops.items
+-- the pass is of this word and this pool, and each operation gives bytes
+abbrev pub MayRun : TableId → TableId → Job → Type 0
+MayRun word pool job = (job.pass.word ≡ word) × (job.pass.pool ≡ pool) × All IsCall job.ops.items
 
 -- the jobs have run, each with its pass, in order
 abbrev pub HaveRun : List Job → List PassState → Type 0

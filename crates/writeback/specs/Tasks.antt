@@ -22,12 +22,12 @@ abbrev pub tasks_for : List Job → ℕ → List Task
 tasks_for jobs workers = map task_of jobs ++ workers_to workers
 
 -- its job, if it has one, may run
-abbrev MayBegin : TableId → Option Job → Type 0
-MayBegin word None = Unit {0}
-MayBegin word (Some j) = MayRun word j
+abbrev MayBegin : TableId → TableId → Option Job → Type 0
+MayBegin word pool None = Unit {0}
+MayBegin word pool (Some j) = MayRun word pool j
 
-abbrev pub IsTaskReady : TableId → Task → Type 0
-IsTaskReady word t = MayBegin word t.job
+abbrev pub IsTaskReady : TableId → TableId → Task → Type 0
+IsTaskReady word pool t = MayBegin word pool t.job
 
 -- its job, if it had one, has run
 abbrev pub IsOver : Option Job → Option PassState → Option PassState → Type 0

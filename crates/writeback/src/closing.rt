@@ -26,8 +26,8 @@ pub struct NotBegun<B: Backing, J: Site> {
 /// Runs all jobs at once, beside so many workers, and closes the files.
 ///
 /// The lines are legal from the start to the files that are handed back. Of each job's caller they have those of its
-/// operations behind those that its pass had seen, in order, and no others. If there is no memory for the threads' tasks,
-/// nothing has begun.
+/// operations behind those that its pass had seen, in order, and no others. No credit is covered beside those of dirty
+/// pages. If there is no memory for the threads' tasks, nothing has begun.
 pub fn close_after_phase<
     B: Backing + Send,
     J: Site + Send + Sync,
@@ -42,9 +42,10 @@ pub fn close_after_phase<
     gate: &G,
 ) -> Result<Closed<B>, (Memory, NotBegun<B, J>)>
     requires some { 0 < length jobs.items }
-    requires jobs { All (λ j. MayRun J.word j) jobs.items }
+    requires jobs { All (λ j. MayRun J.word J.pool j) jobs.items }
     ensures legal { IfOk result (λ closed. AreLegal J.start closed.trace.items (files_state closed.fs) (B.outlook closed.fs.backing)) }
     ensures lines { IfOk result (λ closed. All (λ j. HasLines closed.trace.items j) jobs.items) }
+    ensures credits { IfOk result (λ closed. (files_state closed.fs).backing.space.credits ≡ length (files_state closed.fs).kept.pages.dirty) }
     ensures back { IfErr result (λ fault. fault.1.jobs.items ≡ jobs.items) }
 {
     match phase(rt, alloc, &live, jobs, workers, gate) {

@@ -21,7 +21,7 @@ pub fn run<B: Backing, K: StopKind, J: Site, R: Wait>(
     live: &Live<B, K, J>,
     job: Job,
 ) -> Pass
-    requires { MayRun J.word job }
+    requires { MayRun J.word J.pool job }
     ensures { HasRun job.pass job.now job.ops.items result }
 {
     let Job { mut pass, now, ops } = job;

@@ -48,7 +48,7 @@ pub fn phase<B: Backing + Send, J: Site + Send + Sync, G: Gate + Sync, R: Thread
     gate: &G,
 ) -> Result<Vec<Pass>, (Memory, Vec<Job>)>
     requires some { 0 < length jobs.items }
-    requires jobs { All (λ j. MayRun J.word j) jobs.items }
+    requires jobs { All (λ j. MayRun J.word J.pool j) jobs.items }
     ensures ran { IfOk result (λ passes. HaveRun jobs.items passes.items) }
     ensures back { IfErr result (λ fault. fault.1.items ≡ jobs.items) }
 {
@@ -116,7 +116,7 @@ fn work<B: Backing, J: Site, G: Gate, R: Wait>(
     keys: &Mutex<Vec<StopKey>>,
     task: &mut Task,
 )
-    requires { IsTaskReady J.word task.old }
+    requires { IsTaskReady J.word J.pool task.old }
     ensures { IsTaskDone task.old task.new }
 {
     match task.job.take() {
@@ -145,7 +145,7 @@ fn run_tasks<B: Backing + Send, J: Site + Send + Sync, G: Gate + Sync, R: Thread
     threads: usize,
 )
     requires threads { 0 < threads }
-    requires ready { All (λ t. IsTaskReady J.word t) tasks.old.items }
+    requires ready { All (λ t. IsTaskReady J.word J.pool t) tasks.old.items }
     ensures length { length tasks.new.items ≡ length tasks.old.items }
     ensures done { AreTasksDone tasks.old.items tasks.new.items }
 {

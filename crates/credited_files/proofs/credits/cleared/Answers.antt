@@ -1,11 +1,9 @@
-use Rattle.std.proofs.Common.{◌≡◌, ◌+◌, ◌≤◌, subst, sym, ◌∙◌, arith}
+use Rattle.std.proofs.Common.{subst, sym, ◌∙◌, arith}
 use Rattle.std.proofs.lemmas.Bool.{false≢true}
 use Rattle.vfs_ops.specs.declared.event.Event.{Event}
-use Rattle.vfs_ops.specs.declared.event.Event.TheVariants.{Drain}
 use Rattle.vfs_ops.specs.Fs.{files_state}
 use Rattle.vfs_ops.specs.Passing.{IsStep}
 use Rattle.credited_files.proofs.Moving.{AreGivenBack, of_drain, sure_still}
-use Rattle.credited_files.proofs.credits.cleared.Given.{Over}
 use Rattle.credited_files.proofs.credits.cleared.Goals as goal
 
 pub returns-then-needs_room : goal.returns-then-needs_room
@@ -21,6 +19,8 @@ returns-then-needs_room g c =
     let paid = c.requires.paid in
     record {
       empty = λ yes. d.left.1;
+      kept = λ no. absurd (false≢true (sym no ∙ (sym c.needs_room.ensures ∙ c.if-needs_room.true)));
+      less = omega (arith, less);
       only = back.only;
       credits = omega (arith, credits, less, paid);
       held = d.left.0;

@@ -1,7 +1,6 @@
-use Rattle.std.proofs.Common.{◌≡◌, ◌⊎◌, inl, inr, ℕ, ◌+◌, ◌-◌, ◌≤◌, ◌<◌, refl, subst, sym, ◌∙◌, arith}
+use Rattle.std.proofs.Common.{inl, inr, ◌+◌, ◌-◌, ◌≤◌, refl, ◌∙◌, arith}
 use Rattle.std.proofs.lemmas.Bool.Decides.{nat_tests}
 use Rattle.vfs_ops.specs.Fs.{files_state}
-use Rattle.credited_files.specs.Calls.{IsFullFor}
 use Rattle.credited_files.proofs.Moving.{dirty_same, none_covered, sure_still}
 use Rattle.credited_files.proofs.credits.completed.Goals as goal
 
@@ -37,6 +36,13 @@ returns-then-all-wanted-clause-credits g c =
 
 pub returns-then-all-wanted-clause-master : goal.returns-then-all-wanted-clause-master
 returns-then-all-wanted-clause-master g c = λ k. record { pool = c.requires.pool k; issued = c.requires.counted k; held = c.args.master.now.held; out = c.args.master.now.out }
+
+pub returns-clause-few : goal.returns-clause-few
+returns-clause-few g c =
+    let enough : c.args.pages - c.args.held ≤ c.covered_at_once-all.result = grind (arith, nat_tests, c.if-all-wanted.false) in
+    let few = c.covered_at_once-all.ensures.few in
+    let held = c.requires.held in
+    omega (arith, enough, few, held)
 
 pub returns-clause-whole : goal.returns-clause-whole
 returns-clause-whole g c = λ few. inl refl

@@ -1,4 +1,4 @@
-use Rattle.std.proofs.Common.{◌≡◌, ◌+◌, ◌≤◌, subst, sym, arith}
+use Rattle.std.proofs.Common.{subst, sym}
 use Rattle.vfs_ops.specs.declared.event.Event.{Event}
 use Rattle.vfs_ops.specs.Fs.{files_state}
 use Rattle.vfs_ops.specs.Passing.{IsStep}

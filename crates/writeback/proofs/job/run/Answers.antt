@@ -11,7 +11,7 @@ loop-op-init g c = (search rules, refl, run_none c.args.job.pass c.args.job.now 
 pub call-next-requires-clause-call : goal.call-next-requires-clause-call
 call-next-requires-clause-call g c κs h =
     let i = c.loop-op.invariant in
-    holds_next IsCall c.loop-op.yielded c.loop-op.op-iterator.rest.items c.next.new.self.rest.items c.args.job.ops.items c.in-Some.op i.0 c.in-Some.ensures.steps.0 c.requires.1
+    holds_next IsCall c.loop-op.yielded c.loop-op.op-iterator.rest.items c.next.new.self.rest.items c.args.job.ops.items c.in-Some.op i.0 c.in-Some.ensures.steps.0 c.requires.2
 
 pub loop-op-preserved : goal.loop-op-preserved
 loop-op-preserved g c =

@@ -9,7 +9,7 @@ pub lay_out-requires-clause-room : goal.lay_out-requires-clause-room
 lay_out-requires-clause-room g c = omega (arith, length-tasks_for c.args.jobs.items c.args.workers, c.in-Ok-with_capacity-2.ensures.capacity)
 
 pub run_tasks-requires-clause-ready : goal.run_tasks-requires-clause-ready
-run_tasks-requires-clause-ready g c κs h = subst (All (λ (t : Task). IsTaskReady g.J.Site.word t)) (sym c.lay_out.ensures) (all_ready g.J.Site.word c.args.jobs.items c.args.workers c.requires.jobs)
+run_tasks-requires-clause-ready g c κs h = subst (All (λ (t : Task). IsTaskReady g.J.Site.word g.J.Site.pool t)) (sym c.lay_out.ensures) (all_ready g.J.Site.word g.J.Site.pool c.args.jobs.items c.args.workers c.requires.jobs)
 
 pub gather-requires-clause-room : goal.gather-requires-clause-room
 gather-requires-clause-room g c =

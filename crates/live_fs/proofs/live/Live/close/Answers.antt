@@ -1,7 +1,7 @@
-use Rattle.std.proofs.Common.{◌≡◌, List, All, length, subst, sym, ◌∙◌}
+use Rattle.std.proofs.Common.{◌≡◌, List, All, subst, sym, ◌∙◌}
 use Rattle.atomic_table.specs.Seated.{TableId}
+use Rattle.vfs_ops.specs.Fs.{files_state}
 use Rattle.fs_model.specs.declared.trace.TraceLine.{TraceLine}
-use Rattle.vfs_ops.specs.FilesState.{FilesState}
 use Rattle.traced_files.specs.Calls.{AreLegal, StandsIn}
 use Rattle.traced_files.specs.States.{PassState}
 use Rattle.live_fs.proofs.live.Live.close.Goals as goal
@@ -11,12 +11,8 @@ meet_all-requires-clause-passes g c = subst (λ (w : TableId). All (λ (p : Pass
 
 pub returns-clause-legal : goal.returns-clause-legal
 returns-clause-legal g c =
-    subst (λ (x : List TraceLine × FilesState). AreLegal g.J.Site.start x.0 x.1 (g.B.Backing.outlook c.finish-fs.result.fs.backing)) (λ k. (sym c.finish-fs.ensures.trace k, sym c.finish-fs.ensures.files k)) c.finish-fs.ensures.legal
+    subst (λ (x : List TraceLine). AreLegal g.J.Site.start x (files_state c.finish-fs.result.fs) (g.B.Backing.outlook c.finish-fs.result.fs.backing)) (sym c.finish-fs.ensures.trace) c.finish-fs.ensures.legal
 
 pub returns-clause-passes : goal.returns-clause-passes
 returns-clause-passes g c =
     subst (λ (t : List TraceLine). All (λ (p : PassState). StandsIn t p) c.args.passes.items) (c.finish-fs.ensures.recorder.1 ∙ sym c.finish-fs.ensures.trace) c.meet_all.ensures.passes
-
-pub returns-clause-credits : goal.returns-clause-credits
-returns-clause-credits g c =
-    subst (λ (f : FilesState). f.backing.space.credits ≡ length f.kept.pages.dirty) (sym c.finish-fs.ensures.files) c.finish-fs.ensures.credits
