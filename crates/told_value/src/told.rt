@@ -15,6 +15,9 @@ impl<S> Model for Told<S> {
     ghost also_owns = { λ _. ftrue };
 }
 
+// It owns nothing, so it may go to another thread.
+unsafe impl<S> Send for Told<S> {}
+
 impl<S> Drop for Told<S> {
     fn drop(self) {
         let Self { marker: _ } = self;
