@@ -16,7 +16,9 @@ use Rattle.image_dump.specs.Opening.{HasGeometry, HasVolume, IsFaulty, contents_
 use Rattle.image_dump.specs.declared.fault.ImageFault.{ImageFault}
 use Rattle.image_dump.specs.declared.fault.ImageFault.TheVariants as fault
 use Rattle.image_report.specs.Lines.{sound_line}
-use Rattle.image_report.specs.Told.{HoldsSoundImage, IsUnsound, TellsSound}
+use Rattle.fs_model.specs.declared.space.Space.{Space}
+use Rattle.fs_model.specs.Files.{Tree}
+use Rattle.image_report.specs.Told.{HoldsSoundImage, HoldsVolume, IsUnsound, TellsSound}
 
 -- what the crates below say: no image is that of a volume and faulty, and it has one geometry; sound contents have no first breach, and say one image
 abbrev pub NeverFaulty : Type 0
@@ -82,3 +84,18 @@ one_line shape one bytes a b fits first second =
     let same = shape bytes second.0.geo first.0.geo fits second.1.volume.geometry first.1.volume.geometry in
     let image = one (contents_of first.0.geo bytes) first.0 second.0 (contents_bytes first.0.geo bytes fits) first.1.sound (subst P same second.1.sound) in
     first.2 ∙ same_line first.0 second.0 image.0 image.1 ∙ sym second.2
+
+-- and has one space
+same_space : (a b : Image) → a.latest.master ≡ b.latest.master → record b { latest = a.latest } ≡ a → space_of_image a ≡ space_of_image b
+same_space a b master rest =
+    let by_master : Master → Space = λ m. space_found (main_area_of b) (record (parts_of b) { highest = m.highest_inum }) in
+    sym (ap space_of_image rest) ∙ ap by_master master
+
+pub one_space : OneShape → OneImage → (bytes : List ℕ) (a b : RawGeometry) (s t : Tree) (x y : Space) → IsBytes bytes → HoldsVolume bytes a s x → HoldsVolume bytes b t y → x ≡ y
+one_space shape one bytes a b s t x y fits first second =
+    let here = first.files in
+    let there = second.files in
+    let P : RawGeometry → Type 0 = λ g. SoundImage (contents_of g bytes) there.image in
+    let same = shape bytes there.image.geo here.image.geo fits there.holds.volume.geometry here.holds.volume.geometry in
+    let image = one (contents_of here.image.geo bytes) here.image there.image (contents_bytes here.image.geo bytes fits) here.holds.sound (subst P same there.holds.sound) in
+    first.space_is ∙ same_space here.image there.image image.0 image.1 ∙ sym second.space_is

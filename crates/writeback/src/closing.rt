@@ -2,6 +2,7 @@
 
 ghost use Rattle.std.specs.Prelude.{◌≡◌, ◌<◌, All, IfOk, IfErr, length};
 ghost use Rattle.traced_files.specs.Calls.{AreLegal};
+ghost use Rattle.traced_files.specs.Start.{IsHistoryFrom};
 ghost use Rattle.vfs_ops.specs.Fs.{files_state};
 ghost use Rattle.writeback.specs.Runs.{HasLines, MayRun};
 
@@ -25,7 +26,7 @@ pub struct NotBegun<B: Backing, J: Site> {
 
 /// Runs all jobs at once, beside so many workers, and closes the files.
 ///
-/// The lines are legal from the start to the files that are handed back. Of each job's caller they have those of its
+/// The lines lead from the start to the files that are handed back, and are legal. Of each job's caller they have those of its
 /// operations behind those that its pass had seen, in order, and no others. No credit is covered beside those of dirty
 /// pages. If there is no memory for the threads' tasks, nothing has begun.
 pub fn close_after_phase<
@@ -43,6 +44,7 @@ pub fn close_after_phase<
 ) -> Result<Closed<B>, (Memory, NotBegun<B, J>)>
     requires some { 0 < length jobs.items }
     requires jobs { All (λ j. MayRun J.word J.pool j) jobs.items }
+    ensures history { IfOk result (λ closed. IsHistoryFrom J.start closed.trace.items (files_state closed.fs)) }
     ensures legal { IfOk result (λ closed. AreLegal J.start closed.trace.items (files_state closed.fs) (B.outlook closed.fs.backing)) }
     ensures lines { IfOk result (λ closed. All (λ j. HasLines closed.trace.items j) jobs.items) }
     ensures credits { IfOk result (λ closed. (files_state closed.fs).backing.space.credits ≡ length (files_state closed.fs).kept.pages.dirty) }
