@@ -3,8 +3,8 @@
 ghost use Rattle.std.specs.Prelude.{◌≡◌, ◌⊎◌, ℕ, ◌<◌, ◌^◌, true, All, IfSome, length};
 ghost use Rattle.fs_laws.specs.Sound.{IsCall};
 ghost use Rattle.live_fs.specs.Steps.{WasAnswered, WasDrained};
-ghost use Rattle.traced_files.specs.Calls.{AreLegal, IsEntered, IsUndone, StandsIn};
-ghost use Rattle.traced_files.specs.Start.{IsHistoryFrom, IsNewLedger};
+ghost use Rattle.traced_files.specs.Calls.{AreLegal, IsClosedHistory, IsEntered, IsUndone, StandsIn};
+ghost use Rattle.traced_files.specs.Start.{IsNewLedger};
 ghost use Rattle.traced_files.specs.States.{PassState};
 ghost use Rattle.vfs_ops.specs.declared.event.Event.TheVariants.{Drain, Pick, Put, Refill};
 ghost use Rattle.vfs_ops.specs.Background.{is_work};
@@ -138,7 +138,7 @@ impl<B: Backing, K: StopKind, J: Site> Live<B, K, J> {
     /// seen, and have just the calls that were made with it. No credit is covered beside those of dirty pages.
     pub fn close(self, passes: Vec<Pass>) -> Closed<B>
         requires { All (λ p. p.word ≡ J.word) passes.items }
-        ensures history { IsHistoryFrom J.start result.trace.items (files_state result.fs) }
+        ensures history { IsClosedHistory J.start result.trace.items (files_state result.fs) (B.outlook result.fs.backing) }
         ensures legal { AreLegal J.start result.trace.items (files_state result.fs) (B.outlook result.fs.backing) }
         ensures passes { All (λ p. StandsIn result.trace.items p) passes.items }
         ensures credits { (files_state result.fs).backing.space.credits ≡ length (files_state result.fs).kept.pages.dirty }

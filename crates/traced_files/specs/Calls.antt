@@ -11,7 +11,7 @@ use Rattle.fs_model.specs.Legal.{IsLegal}
 use Rattle.trace_word.specs.Knowledge.{lines_of}
 use Rattle.vfs_ops.specs.FilesState.{FilesState}
 use Rattle.credited_files.specs.Calls.{WasServed}
-use Rattle.traced_files.specs.History.{present_of}
+use Rattle.traced_files.specs.History.{IsSureSince, present_of}
 use Rattle.traced_files.specs.Replies.{IsToldAs}
 use Rattle.traced_files.specs.Start.{IsHistoryFrom, Start, opened_at}
 use Rattle.traced_files.specs.States.{PassState}
@@ -45,3 +45,7 @@ StandsIn trace pass = IsPrefix pass.seen trace × (lines_of pass.caller trace �
 -- the lines are legal from the start to these files, unless the count of faults has come to its end, where it no longer rises
 abbrev pub AreLegal : Start → List TraceLine → FilesState → Outlook → Type 0
 AreLegal start lines now outlook = now.backing.faults < 18446744073709551615 → IsLegal (opened_at start) lines (present_of start.files.refused now outlook)
+
+-- the lines lead from the start to these files, and a volume that was sure then met no fault, or takes no more writing
+abbrev pub IsClosedHistory : Start → List TraceLine → FilesState → Outlook → Type 0
+IsClosedHistory start lines now outlook = IsHistoryFrom start lines now × IsSureSince (opened_at start) now.backing.faults outlook

@@ -5,8 +5,8 @@ ghost use Rattle.credited_files.specs.Calls.{is_work_between};
 ghost use Rattle.credited_files.specs.States.{HasOtherCredits};
 ghost use Rattle.fs_laws.specs.Sound.{IsCall};
 ghost use Rattle.fs_model.specs.Legal.{pages_in};
-ghost use Rattle.traced_files.specs.Calls.{AreLegal, IsEntered, IsUndone, WasStepped};
-ghost use Rattle.traced_files.specs.Start.{IsHistoryFrom, IsNewLedger};
+ghost use Rattle.traced_files.specs.Calls.{AreLegal, IsClosedHistory, IsEntered, IsUndone, WasStepped};
+ghost use Rattle.traced_files.specs.Start.{IsNewLedger};
 ghost use Rattle.traced_files.specs.States.{PassState, TracedState};
 ghost use Rattle.vfs_ops.specs.declared.event.Event.TheVariants.{Drain, Pick, Put, Refill};
 ghost use Rattle.vfs_ops.specs.Background.{is_work};
@@ -199,7 +199,7 @@ impl<B: Backing, J: Site> TracedFs<B, J> {
         ensures files { HasOtherCredits self.files (files_state result.fs) }
         ensures trace { result.trace.items ≡ self.trace }
         ensures recorder { (result.recorder.word ≡ J.word) × (result.recorder.known.seen ≡ self.trace) }
-        ensures history { IsHistoryFrom J.start self.trace (files_state result.fs) }
+        ensures history { IsClosedHistory J.start self.trace (files_state result.fs) (B.outlook result.fs.backing) }
         ensures legal { AreLegal J.start self.trace (files_state result.fs) (B.outlook result.fs.backing) }
         ensures credits { (files_state result.fs).backing.space.credits ≡ length (files_state result.fs).kept.pages.dirty }
     {

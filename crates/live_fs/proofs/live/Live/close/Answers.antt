@@ -2,8 +2,7 @@ use Rattle.std.proofs.Common.{◌≡◌, List, All, subst, sym, ◌∙◌}
 use Rattle.atomic_table.specs.Seated.{TableId}
 use Rattle.vfs_ops.specs.Fs.{files_state}
 use Rattle.fs_model.specs.declared.trace.TraceLine.{TraceLine}
-use Rattle.traced_files.specs.Calls.{AreLegal, StandsIn}
-use Rattle.traced_files.specs.Start.{IsHistoryFrom}
+use Rattle.traced_files.specs.Calls.{AreLegal, IsClosedHistory, StandsIn}
 use Rattle.traced_files.specs.States.{PassState}
 use Rattle.live_fs.proofs.live.Live.close.Goals as goal
 
@@ -12,7 +11,7 @@ meet_all-requires-clause-passes g c = subst (λ (w : TableId). All (λ (p : Pass
 
 pub returns-clause-history : goal.returns-clause-history
 returns-clause-history g c =
-    subst (λ (x : List TraceLine). IsHistoryFrom g.J.Site.start x (files_state c.finish-fs.result.fs)) (sym c.finish-fs.ensures.trace) c.finish-fs.ensures.history
+    subst (λ (x : List TraceLine). IsClosedHistory g.J.Site.start x (files_state c.finish-fs.result.fs) (g.B.Backing.outlook c.finish-fs.result.fs.backing)) (sym c.finish-fs.ensures.trace) c.finish-fs.ensures.history
 
 pub returns-clause-legal : goal.returns-clause-legal
 returns-clause-legal g c =
