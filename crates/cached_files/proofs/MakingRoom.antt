@@ -5,11 +5,12 @@ use Rattle.ubifs_base.specs.Areas.{main_lebs}
 use Rattle.fs_model.specs.declared.backing_answers.StoreFault.{StoreFault}
 use Rattle.fs_model.specs.declared.backing_answers.StoreFault.TheVariants.{Memory, Volume, ReadOnly as IsReadOnly}
 use Rattle.fs_model.specs.declared.space.Need.{Need}
-use Rattle.fs_model.specs.Backing.{BackingState, Goes, HasCause, Rose}
+use Rattle.fs_model.specs.Backing.{BackingState, Goes, HasCause, Rose, granted}
 use Rattle.fs_model.specs.Cover.{tree_bytes}
 use Rattle.fs_model.specs.Files.{Files, Inodes, Tree}
 use Rattle.cached_files.specs.declared.kept.Kept.{Kept}
 use Rattle.cached_files.specs.Alike.{IsAlike}
+use Rattle.cached_files.specs.CallLaws.{Goes-granted, Goes-none, Goes-then, Goes-within}
 use Rattle.cached_files.specs.Calls.{HasCommitted, HasMadeRoom, IsWithoutRoom, TellsMode, refusal_of}
 use Rattle.cached_files.specs.Present.{DirtyPages, covered, present}
 
@@ -51,3 +52,7 @@ pub put_refused : (old mid new : BackingState) (kept : Kept) (need : Need) (faul
 put_refused old mid new kept need Memory more cause mode = tt
 put_refused old mid new kept need (Volume count) more cause mode = (rose_later old.faults mid.faults new.faults more cause.0, cause.1, cause.2)
 put_refused old mid new kept need (IsReadOnly why) more cause mode = mode
+
+-- what is put once its need was admitted at once is all that is put
+pub goes_at_once : (n : ℕ) (old mid new : BackingState) (need : Need) → mid ≡ granted old need → Goes n mid new → Goes n old new
+goes_at_once n old mid new need same goes = Goes-within (0 + n) n old new (omega arith) (Goes-then 0 n old mid new (Goes-granted 0 old old mid need (Goes-none old) same) goes)

@@ -9,8 +9,9 @@ use Rattle.fs_model.specs.declared.inode.Kind.TheVariants.{File}
 use Rattle.fs_model.specs.declared.refusal.Refusal.{Refusal}
 use Rattle.fs_model.specs.declared.refusal.Refusal.TheVariants.{Eio}
 use Rattle.fs_model.specs.declared.space.Need.{Need}
-use Rattle.fs_model.specs.Backing.{BackingState, Goes, IsModest}
+use Rattle.fs_model.specs.Backing.{BackingState, Goes, IsModest, granted}
 use Rattle.fs_model.specs.Change.{apply}
+use Rattle.fs_model.specs.Cover.{needed, room_for}
 use Rattle.fs_model.specs.Files.{Files, Inodes, Tree, inode_at, size_of}
 use Rattle.fs_model.specs.Making.{touched}
 use Rattle.fs_model.specs.Need.{truncation_need}
@@ -30,6 +31,7 @@ use Rattle.cached_files.specs.Present.{IsKept, present}
 use Rattle.cached_files.specs.Resized.{PutsSize, need_by, size_need}
 use Rattle.cached_files.proofs.Cutting.{group_then}
 use Rattle.cached_files.proofs.Growing.{admitted_failed, grows_on}
+use Rattle.cached_files.proofs.MakingRoom.{goes_at_once}
 use Rattle.cached_files.proofs.Putting.{same-none}
 use Rattle.cached_files.proofs.SizePut.{few_changes}
 
@@ -64,6 +66,10 @@ asked_none need b is = ap (λ (n : Need). n.credits) is ∙ none_by b
 refused_more : (T U : Type 0) (m n : ℕ) (r : Refusal) (a b : BackingState) (first last : Kept) → m ≤ n → GrowsBy (added_or_refused {T = T} m (max 2 m) (Err r)) a b first last → GrowsBy (added_or_refused {T = U} n (max 2 n) (Err r)) a b first last
 refused_more T U m n (Eio count) a b first last more p = omega (arith, p, more)
 refused_more T U m n r a b first last more p = p
+
+-- what was asked for is granted where it has room
+pub granted_asked : (old mid : BackingState) (need whole : Need) → need ≡ whole → needed old.space whole ≤ room_for old.geometry old.space whole → (needed old.space need ≤ room_for old.geometry old.space need → mid ≡ granted old need) → mid ≡ granted old whole
+granted_asked old mid need whole same room made = subst (λ n. mid ≡ granted old n) same (made (subst (λ n. needed old.space n ≤ room_for old.geometry old.space n) (sym same) room))
 
 -- the law that files alike stay alike
 abbrev pub IsStaying : Type 0
@@ -108,6 +114,9 @@ module _ (old mid : BackingState) (kept still : Kept) (ino : ℕ) (inode : Inode
   goes_then new first second =
       let n = few in
       Goes-within (2 * length kept.pages.dirty + length group) (2 * length kept.pages.dirty + need.nodes) old new (omega (arith, n)) (Goes-then (2 * length kept.pages.dirty) (length group) old mid new first second)
+
+  pub goes_alone : (new : BackingState) → mid ≡ granted old need → Goes (length group) mid new → Goes need.nodes old new
+  goes_alone new same goes = goes_at_once need.nodes old mid new need same (Goes-within (length group) need.nodes mid new few goes)
 
   pub covered_then : (new : BackingState) → WasCovered old mid kept need need 0 → Goes (length group) mid new → WasCovered old new kept need need need.nodes
   covered_then new tested goes = Covered-then need.nodes old mid new kept need need tested (Goes-within (length group) need.nodes mid new few goes)

@@ -79,6 +79,7 @@ pub fn apply_group<B: Backing>(
     ensures same { OnErr result (IsAlike (present (B.state backing.old).tree kept.old) (present (B.state backing.new).tree kept.new)) }
     ensures admitted { OnOk result (WasCovered (B.state backing.old) (B.state backing.new) kept.old need.now need.now (length group.now)) }
     ensures at_once { needed (B.state backing.old).space need.now ≤ room_for (B.state backing.old).geometry (B.state backing.old).space need.now → IsNotEnospc result }
+    ensures alone { needed (B.state backing.old).space need.now ≤ room_for (B.state backing.old).geometry (B.state backing.old).space need.now → Goes (length group.now) (B.state backing.old) (B.state backing.new) }
     ensures refused { IfErr result (IsWithoutRoom (B.state backing.old) (B.state backing.new) kept.new need.now) }
     ensures cut { PutsSeenWith (B.state backing.old) (B.state backing.new) kept.old group.now (group_fate result) }
     ensures goes { Goes (2 * length kept.old.pages.dirty + length group.now) (B.state backing.old) (B.state backing.new) }

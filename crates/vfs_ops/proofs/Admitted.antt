@@ -1,6 +1,6 @@
 -- What was admitted for an operation.
-use Rattle.std.proofs.Common.{◌≡◌, ℕ, ◌+◌, ◌-◌, ◌*◌, ◌≤◌, ◌⊎◌, inl, inr, false, true, Ok, Err, List, ◌++◌, length, sym, ap, subst, ◌∙◌, arith, Result}
-use Rattle.std.specs.Prelude.{OnOk}
+use Rattle.std.proofs.Common.{◌≡◌, ℕ, ◌+◌, ◌-◌, ◌*◌, ◌≤◌, ◌⊎◌, inl, inr, false, true, Ok, Err, List, [], ◌∷◌, ◌++◌, length, sym, ap, subst, ◌∙◌, arith, Result}
+use Rattle.std.specs.Prelude.{◌==◌, OnOk}
 use Rattle.std.proofs.lemmas.Bool.{false≢true}
 use Rattle.fs_model.specs.declared.change.Change.{Change}
 use Rattle.fs_model.specs.declared.op.Op.{Op}
@@ -24,7 +24,7 @@ use Rattle.cached_files.specs.Present.{DirtyPages, newly_dirty, present}
 use Rattle.vfs_plans.specs.Answers.{IsRefused, Looks}
 use Rattle.vfs_ops.specs.Operations.{has_group, is_of_names}
 use Rattle.vfs_ops.specs.Steps.{IsAtOnce, IsAtOnceReply, WasAdmitted, is_write, no_space_in}
-use Rattle.vfs_ops.specs.Writing.{HasGroupRoom, IsGroupAdmitted, WasPaid, credits_need, write_need}
+use Rattle.vfs_ops.specs.Writing.{HasGroupRoom, HasRoomAtOnce, IsGroupAdmitted, WasPaid, credits_need, write_need}
 use Rattle.vfs_ops.proofs.Groups.{outcome_is}
 use Rattle.vfs_ops.proofs.Serving.{none_noted}
 use Rattle.std.proofs.lemmas.List.{append-nil}
@@ -33,6 +33,24 @@ use Rattle.vfs_ops.proofs.States.{credits_on, tree_on}
 -- there is as much room after looks as before
 pub room_looked : {x y : Outlook} {a b : BackingState} → Looks x y a b → (need : Need) → HasGroupRoom a need → HasGroupRoom b need
 room_looked looks need room = let P : BackingState → Type 0 = λ s. HasGroupRoom s need in subst P (sym looks.reads) room
+
+-- a group with changes has room at the first test
+at_test : (state : BackingState) (need : Need) (group : List Change) → need.nodes ≡ length group → (length group == 0) ≡ false → HasRoomAtOnce state need → HasGroupRoom state need
+at_test state need group nodes some (inr room) = room
+at_test state need [] nodes some (inl none) = absurd (false≢true (sym some))
+at_test state need (change ∷ group) nodes some (inl none) = absurd (omega (arith, none, nodes))
+
+-- a group that is put after looks, and nothing else
+pub alone_whole : {x y : Outlook} {a b : BackingState} → Looks x y a b → (c : BackingState) (made group : List Change) → made ≡ group → Goes (length group) b c → Goes (length made) a c
+alone_whole {x} {y} {a} {b} looks c made group is goes =
+    let same : length made ≡ length group = ap (λ (g : List Change). length g) is in
+    Goes-within (0 + length group) (length made) a c (omega (arith, same)) (Goes-then 0 (length group) a b c looks.goes goes)
+
+-- and so it has where it was reckoned by looks
+pub fits_once : {x y : Outlook} {a b : BackingState} → Looks x y a b → (need whole : Need) (made group : List Change) → need ≡ whole → made ≡ group → whole.nodes ≡ length made → (length group == 0) ≡ false → HasRoomAtOnce a whole → HasGroupRoom b need
+fits_once {x} {y} {a} {b} looks need whole made group same is nodes some room =
+    let fits = at_test a whole group (nodes ∙ ap (λ (g : List Change). length g) is) some room in
+    subst (λ n. HasGroupRoom b n) (sym same) (room_looked looks whole fits)
 
 room_before : {x y : Outlook} {a b : BackingState} → Looks x y a b → (need : Need) → HasGroupRoom b need → HasGroupRoom a need
 room_before looks need room = let P : BackingState → Type 0 = λ s. HasGroupRoom s need in subst P looks.reads room
@@ -98,8 +116,8 @@ none_admitted old new before caller now grant (Write slot offs len byte) other w
 none_admitted old new before caller now grant op other without = λ is. absurd (false≢true (sym other ∙ is))
 
 -- what has no group is left out
-pub other_at_once : (T : Type 0) (old : BackingState) (before : Kept) (caller now : ℕ) (op : Op) (result : Result T Refusal) → has_group op ≡ false → IsAtOnce {T = T} old before caller now op result
-other_at_once T old before caller now op result other = λ is. absurd (false≢true (sym other ∙ is))
+pub other_at_once : (T : Type 0) (old new : BackingState) (before : Kept) (caller now : ℕ) (op : Op) (result : Result T Refusal) → has_group op ≡ false → IsAtOnce {T = T} old new before caller now op result
+other_at_once T old new before caller now op result other = λ is. absurd (false≢true (sym other ∙ is))
 
 -- a refusal of one answer is the same of another
 pub retyped : (T U : Type 0) (refusal : Refusal) → IsNotEnospc {T = T} (Err refusal) → IsNotEnospc {T = U} (Err refusal)
@@ -107,8 +125,8 @@ retyped T U (Enospc space) never = never
 retyped T U refusal other = tt
 
 -- a group that was admitted at once isn't told as want of room
-pub told_at_once : (T : Type 0) (old : BackingState) (before : Kept) (caller now : ℕ) (op : Op) (first last : List NoSpace) (refusal noted : Refusal)
-    → IsAtOnce {T = T} old before caller now op (Err refusal) → (noted ≡ refusal) ⊎ ((noted ≡ Enomem) × ((space : NoSpace) × (refusal ≡ Enospc space))) → last ≡ first ++ no_space_in (Refused noted)
-    → IsAtOnceReply old before caller now op first last
-told_at_once T old before caller now op first last refusal noted at_once told more =
-    λ is done out room. more ∙ ap (λ sides. first ++ sides) (none_noted T refusal noted (at_once is done out room) told) ∙ append-nil first
+pub told_at_once : (T : Type 0) (old new : BackingState) (before : Kept) (caller now : ℕ) (op : Op) (first last : List NoSpace) (refusal noted : Refusal)
+    → IsAtOnce {T = T} old new before caller now op (Err refusal) → (noted ≡ refusal) ⊎ ((noted ≡ Enomem) × ((space : NoSpace) × (refusal ≡ Enospc space))) → last ≡ first ++ no_space_in (Refused noted)
+    → IsAtOnceReply old new before caller now op first last
+told_at_once T old new before caller now op first last refusal noted at_once told more =
+    λ is done out room. let once = at_once is done out room in (more ∙ ap (λ sides. first ++ sides) (none_noted T refusal noted once.0 told) ∙ append-nil first, once.1)

@@ -1,5 +1,5 @@
 -- Events of the background, and the files that they leave.
-use Rattle.std.proofs.Common.{◌≡◌, ℕ, true, Option, Some, None, ◌+◌, ◌-◌, ◌<◌, ◌≤◌, length, inl, inr, refl, sym, ap, subst, arith}
+use Rattle.std.proofs.Common.{◌≡◌, ℕ, true, Option, Some, None, ◌+◌, ◌-◌, ◌<◌, ◌≤◌, length, inl, inr, refl, sym, ap, subst, arith, ◌∙◌}
 use Rattle.std.specs.Prelude.{Result, Ok, Err}
 use Rattle.std.proofs.lemmas.Bool.{cases_lt, false≢true}
 use Rattle.fs_model.specs.declared.backing_answers.Mode.TheVariants.{ReadOnly}
@@ -143,6 +143,7 @@ closed_call old cause is = record {
   cause = tt;
   mode = subst (λ m. HasMode {T = Unit {0}} m (Err (IsReadOnly cause))) (sym is) (inl refl);
   idle = λ closed. refl;
+  closed = λ other same. let e : ReadOnly cause ≡ ReadOnly other = sym is ∙ same in let c : cause ≡ other = cc e in ap (λ x. Err (IsReadOnly x)) c;
 }
 
 still : (j : Journal) → KeepsCommit j j

@@ -1,5 +1,5 @@
 -- A new size that passes its tests, over a backing that was looked at first.
-use Rattle.std.proofs.Common.{◌≡◌, ℕ, ◌+◌, ◌*◌, ◌≤◌, ◌⊎◌, inl, inr, false, true, length, max, Ok, Err, Some, refl, sym, ap, subst, arith, Result}
+use Rattle.std.proofs.Common.{◌≡◌, ℕ, ◌+◌, ◌*◌, ◌≤◌, ◌⊎◌, inl, inr, Bool, false, true, length, max, Ok, Err, Some, refl, sym, ap, subst, ◌∙◌, arith, Result}
 use Rattle.std.specs.Prelude.{IfOk, IsTrue, OnErr, nat_lt}
 use Rattle.std.proofs.lemmas.Bool.{false≢true}
 use Rattle.std.specs.BTreeMap.{is_at}
@@ -16,7 +16,7 @@ use Rattle.fs_model.specs.declared.reply.Reply.TheVariants.{Done}
 use Rattle.fs_model.specs.declared.space.Need.{Need}
 use Rattle.fs_model.specs.Backing.{BackingState, Goes, Outlook}
 use Rattle.fs_model.specs.Change.{apply}
-use Rattle.fs_model.specs.Files.{Files, handle_at, inode_at, pair_cmp}
+use Rattle.fs_model.specs.Files.{Files, handle_at, inode_at, pair_cmp, size_of}
 use Rattle.fs_model.specs.Handles.{is_bad_slot, size_limit}
 use Rattle.fs_model.specs.Need.{need_of}
 use Rattle.fs_model.specs.Operation.{group_of, outcome_of}
@@ -31,13 +31,13 @@ use Rattle.cached_files.specs.CallLaws.{Goes-then, Goes-within}
 use Rattle.cached_files.specs.Calls.{GrowsBy, IsWithoutRoom, WasCovered, added_or_refused}
 use Rattle.cached_files.specs.Cuts.{GroupFate, PutsSeenWith}
 use Rattle.cached_files.specs.Present.{present}
-use Rattle.cached_files.specs.Resized.{PutsSize, size_need}
+use Rattle.cached_files.specs.Resized.{PutsSize, need_by, size_need}
 use Rattle.vfs_plans.specs.Answers.{IsFault, IsRefused, Looks}
 use Rattle.vfs_ops.specs.Events.{PutsCall}
 use Rattle.vfs_ops.specs.Kinds.{KeepsOrphans}
 use Rattle.vfs_ops.specs.Operations.{nodes_asked}
 use Rattle.vfs_ops.specs.Steps.{IsLast}
-use Rattle.vfs_ops.specs.Writing.{HasGroupRoom}
+use Rattle.vfs_ops.specs.Writing.{HasGroupRoom, HasRoomAtOnce}
 use Rattle.vfs_ops.proofs.Admitted.{covered_looked, room_looked}
 use Rattle.vfs_ops.proofs.Buffering.{sound_written}
 use Rattle.vfs_ops.proofs.Fewer.{sized_keeps}
@@ -45,7 +45,7 @@ use Rattle.vfs_ops.proofs.Orphaning.{Keeps, alike_count, keeps_alike, keeps_few,
 use Rattle.vfs_ops.proofs.Serving.{fault_last}
 use Rattle.vfs_ops.proofs.Takes.{last_done}
 use Rattle.vfs_ops.proofs.States.{room_later}
-use Rattle.vfs_ops.proofs.Truncating.{size_planned, sized}
+use Rattle.vfs_ops.proofs.Truncating.{need_by_is, size_planned, sized}
 use Rattle.vfs_ops.proofs.Weighing.{after_look}
 
 -- The tests of a new size are passed: the slot is open, its inode is there, and the size isn't too big.
@@ -86,6 +86,17 @@ size_group {files} {caller} {now} {slot} {size} {ino} {inode} p =
 pub size_asked : {files : Files} {caller now slot size ino : ℕ} {inode : Inode} → PassesSize files caller now slot size ino inode → need_of files caller now (Truncate slot size) ≡ size_need files.tree ino inode size now
 size_asked {files} {caller} {now} {slot} {size} {ino} {inode} p =
     (sized files caller now slot size (Ok (Done, truncating files.tree ino inode size now)) (size_planned files caller now slot size ino inode p.good p.there p.found p.fits)).need
+
+-- a new size asks for nodes, so it has room at the first test
+pub size_test : {files : Files} {caller now slot size ino : ℕ} {inode : Inode} → PassesSize files caller now slot size ino inode → (state : BackingState) → HasRoomAtOnce state (need_of files caller now (Truncate slot size)) → HasGroupRoom state (need_of files caller now (Truncate slot size))
+size_test p state (inr room) = room
+size_test {files} {caller} {now} {slot} {size} {ino} {inode} p state (inl none) =
+    let by : need_of files caller now (Truncate slot size) ≡ need_by (nat_lt size (size_of files.tree ino inode)) = size_asked p ∙ need_by_is files.tree ino inode size now in
+    absurd (some_nodes (nat_lt size (size_of files.tree ino inode)) (ap (λ (need : Need). need.nodes) (sym by) ∙ none))
+  where
+    some_nodes : (b : Bool) → (need_by b).nodes ≡ 0 → ⊥
+    some_nodes true h = omega (arith, h)
+    some_nodes false h = omega (arith, h)
 
 -- and so they are by files that are alike
 pub size_seen : {files : Files} {caller now slot size ino : ℕ} {inode : Inode} → PassesSize files caller now slot size ino inode → (seen : Files) → IsAlike files seen → PassesSize seen caller now slot size ino inode
@@ -136,6 +147,13 @@ module _ {x y : Outlook} {a b : BackingState} (looks : Looks x y a b) (c : Backi
       let n = nodes_asked (present a.tree kept) caller now (Truncate slot size) in
       let same : m ≡ n = ap (λ (need : Need). need.nodes) asked_mid in
       Goes-within (0 + (d + m)) (d + n) a c (omega (arith, same)) (Goes-then 0 (d + m) a b c looks.goes h)
+
+  pub size_alone : Goes (size_need (present b.tree kept).tree ino inode size now).nodes b c → Goes (nodes_asked (present a.tree kept) caller now (Truncate slot size)) a c
+  size_alone h =
+      let m = (size_need (present b.tree kept).tree ino inode size now).nodes in
+      let n = nodes_asked (present a.tree kept) caller now (Truncate slot size) in
+      let same : m ≡ n = ap (λ (need : Need). need.nodes) asked_mid in
+      Goes-within (0 + m) n a c (omega (arith, same)) (Goes-then 0 m a b c looks.goes h)
 
   pub size_grows : {T : Type 0} (result : Result T Refusal) (last : Kept)
       → (let m = (size_need (present b.tree kept).tree ino inode size now).nodes in GrowsBy (added_or_refused m (max 2 m) result) b c kept last)

@@ -6,8 +6,10 @@ use Rattle.fs_model.specs.declared.backing_answers.Mode.TheVariants.{ReadWrite, 
 use Rattle.fs_model.specs.declared.backing_answers.StoreFault.{StoreFault}
 use Rattle.fs_model.specs.declared.backing_answers.StoreFault.TheVariants.{Memory, Volume, ReadOnly as IsReadOnly}
 use Rattle.fs_model.specs.declared.page_node.PageNode.{PageNode}
+use Rattle.fs_model.specs.declared.refusal.Cause.{Cause}
 use Rattle.fs_model.specs.Backing.{BackingState, Goes, HasCause, HasMode, next_orphans, page_group, page_puts, put_by}
 use Rattle.fs_model.specs.Journal.{Leaves}
+use Rattle.fs_model.specs.JournalLaws.{Leaves-none}
 use Rattle.page_cache.specs.Pages.{Pages, is_current, without_dirty}
 use Rattle.cached_files.specs.declared.kept.Kept.{Kept}
 use Rattle.cached_files.specs.Alike.{IsAlike}
@@ -64,8 +66,8 @@ placed p shown t put done current is pages inodes handles =
 
 -- the page that couldn't be put stays as it is
 pub unplaced : (p : Passage) (shown : Encoded) (node : PageNode) (why : StoreFault) → page_at p.before shown.ino shown.block ≡ Some node → IsPutOrKept {T = Bool} p.old p.new node (Err why) → encoded_at p.before shown.ino shown.block ≡ Some shown → p.after ≡ p.before
-    → HasCause {T = Bool} p.old p.new (Err why) → IsUnplaced p shown why
-unplaced p shown node why found kept current same cause = record {
+    → HasCause {T = Bool} p.old p.new (Err why) → p.old.mode ≡ ReadWrite → IsUnplaced p shown why
+unplaced p shown node why found kept current same cause writes = record {
   node = node;
   found = found;
   current = current;
@@ -74,6 +76,7 @@ unplaced p shown node why found kept current same cause = record {
   cause = cause_again Bool (Unit {0}) p.old p.new why cause;
   mode = mode_again Bool (Unit {0}) p.old.mode why kept.mode;
   goes = goes_again why kept.goes;
+  idle = λ other is. let never : ReadWrite ≡ ReadOnly other = sym writes ∙ is in absurd cc;
   cut = cut_again why kept.cut;
 }
   where
@@ -86,6 +89,22 @@ unplaced p shown node why found kept current same cause = record {
     cut_again Memory h = h
     cut_again (Volume count) h = h
     cut_again (IsReadOnly cause) h = h
+
+-- a store that is read-only isn't asked
+pub unasked : (old : BackingState) (kept : Kept) (shown : Encoded) (node : PageNode) (cause : Cause) → page_at kept shown.ino shown.block ≡ Some node → encoded_at kept shown.ino shown.block ≡ Some shown → old.mode ≡ ReadOnly cause
+    → IsUnplaced (record { old = old; new = old; before = kept; after = kept }) shown (IsReadOnly cause)
+unasked old kept shown node cause found current is = record {
+  node = node;
+  found = found;
+  current = current;
+  pages = refl;
+  files = record { tree = refl; credits = refl; grant = refl; held = omega arith; closed = omega arith };
+  cause = tt;
+  mode = subst (λ m. HasMode {T = Unit {0}} m (Err (IsReadOnly cause))) (sym is) (inl refl);
+  goes = Goes-none old;
+  idle = λ other same. let e : ReadOnly cause ≡ ReadOnly other = sym is ∙ same in let c : cause ≡ other = cc e in (ap (λ x. IsReadOnly x) c, refl);
+  cut = Leaves-none old.journal;
+}
 
 -- a page that couldn't be put is heavier only where the volume failed
 pub put_weighed : (shown : Encoded) (why : StoreFault) (a b : BackingState) (before after : Kept) → GrowsBy (added_or_failed {T = Bool} 0 2 (Err why)) a b before after → GrowsBy (added_in (Put shown) (Fault why)) a b before after

@@ -1,9 +1,10 @@
 -- What is done beside callers: pages are picked and put, all is synced, LEBs are collected, commits go on, and credits come and go.
 use Rattle.std.specs.Prelude.{◌≡◌, ◌≢◌, ℕ, ◌+◌, ◌<◌, ◌≤◌, Bool, true, false, Result, Ok, Err, Option, Some, [], length}
 use Rattle.std.specs.Option.{option_map, option_map_or}
-use Rattle.fs_model.specs.declared.backing_answers.Mode.TheVariants.{ReadWrite}
+use Rattle.fs_model.specs.declared.backing_answers.Mode.TheVariants.{ReadWrite, ReadOnly}
 use Rattle.fs_model.specs.declared.backing_answers.StoreFault.{StoreFault}
-use Rattle.fs_model.specs.declared.backing_answers.StoreFault.TheVariants.{Memory, Volume}
+use Rattle.fs_model.specs.declared.backing_answers.StoreFault.TheVariants.{Memory, Volume, ReadOnly as IsReadOnly}
+use Rattle.fs_model.specs.declared.refusal.Cause.{Cause}
 use Rattle.fs_model.specs.declared.page_node.PageNode.{PageNode}
 use Rattle.fs_model.specs.Backing.{BackingState, Goes, HasCause, HasMode, IsCollected, IsEnded, IsPagePut, IsStarted, IsStepped, IsSynced, KeepsCommit, KeepsFiles, KeepsOrEnds, ended_of, given_back, granted, next_orphans, page_group, page_puts, put_by, started_of}
 use Rattle.fs_model.specs.Cover.{needed, room_for}
@@ -60,6 +61,10 @@ pub record IsStale (p : Passage) (page : Encoded) (kept now : ℕ) : Type 0 wher
   pub backing : p.new ≡ p.old
   pub pages : p.after ≡ p.before
 
+-- One that is read-only answers its cause, and all stays as it is.
+abbrev pub IsIdleFor : BackingState → BackingState → StoreFault → Type 0
+IsIdleFor old new fault = (cause : Cause) → old.mode ≡ ReadOnly cause → (fault ≡ IsReadOnly cause) × (new ≡ old)
+
 -- A page that is still as it was picked couldn't be put. It is dirty and paid as before. Only where the volume failed may a cut leave its nodes, and the index be heavier.
 pub record IsUnplaced (p : Passage) (page : Encoded) (fault : StoreFault) : Type 0 where
   pub node : PageNode
@@ -70,6 +75,7 @@ pub record IsUnplaced (p : Passage) (page : Encoded) (fault : StoreFault) : Type
   pub cause : HasCause {T = Unit {0}} p.old p.new (Err fault)
   pub mode : HasMode {T = Unit {0}} p.old.mode (Err fault)
   pub goes : Goes (length (put_by {T = Unit {0}} (Err fault) (page_group node))) p.old p.new
+  pub idle : IsIdleFor p.old p.new fault
   pub cut : Leaves p.old.journal p.new.journal (put_by {T = Unit {0}} (Err fault) (page_puts node))
 
 -- what the put of a page answers and leaves
@@ -79,7 +85,7 @@ IsPut p shown (Stale kept now) = IsStale p shown kept now
 IsPut p shown (Fault why) = IsUnplaced p shown why
 IsPut p shown outcome = ⊥
 
--- What each call of the background of a backing keeps to: the files stay, nothing is put, and why it fails. One that is read-only isn't asked.
+-- What each call of the background of a backing keeps to: the files stay, nothing is put, and why it fails. One that is read-only isn't asked, and answers its cause.
 pub record IsBackingCall {T : Type 0} (old new : BackingState) (result : Result T StoreFault) : Type 0 where
   pub files : KeepsFiles old new
   pub cut : Leaves old.journal new.journal []
@@ -87,6 +93,7 @@ pub record IsBackingCall {T : Type 0} (old new : BackingState) (result : Result 
   pub cause : HasCause old new result
   pub mode : HasMode old.mode result
   pub idle : old.mode ≢ ReadWrite → new ≡ old
+  pub closed : (cause : Cause) → old.mode ≡ ReadOnly cause → result ≡ Err (IsReadOnly cause)
 
 -- more credits are covered, since there is room for them
 abbrev pub IsGranted : BackingState → BackingState → ℕ → Type 0

@@ -122,10 +122,10 @@ abbrev pub IsAdmittedCall : BackingState → BackingState → Kept → Event →
 IsAdmittedCall old new before (Call caller now grant op) (Replied reply left) = IsAdmittedReply old new before caller now grant op reply
 IsAdmittedCall old new before event outcome = ⊥
 
--- where there is room at once nothing is refused for want of it
-abbrev pub IsAtOnceCall : BackingState → Kept → List NoSpace → List NoSpace → Event → Type 0
-IsAtOnceCall old before first last (Call caller now grant op) = IsAtOnceReply old before caller now op first last
-IsAtOnceCall old before first last event = ⊥
+-- where there is room at once nothing is refused for want of it, and no more nodes are put than the group's
+abbrev pub IsAtOnceCall : BackingState → BackingState → Kept → List NoSpace → List NoSpace → Event → Type 0
+IsAtOnceCall old new before first last (Call caller now grant op) = IsAtOnceReply old new before caller now op first last
+IsAtOnceCall old new before first last event = ⊥
 
 -- a write that its grant or the first test covers is buffered
 abbrev pub IsBufferedCall : BackingState → BackingState → Kept → Kept → List NoSpace → List NoSpace → Event → Outcome → Type 0

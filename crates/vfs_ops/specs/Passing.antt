@@ -22,6 +22,7 @@ use Rattle.vfs_ops.specs.Events.{IsAdmittedCall, IsAnswer, IsAtOnceCall, IsBuffe
 use Rattle.vfs_ops.specs.FilesState.{FilesState, present_in}
 use Rattle.vfs_ops.specs.Kinds.{FitsNextOrphans, KeepsOrphans}
 use Rattle.vfs_ops.specs.Steps.{no_space_from}
+use Rattle.vfs_ops.specs.Writing.{HasGroupRoom}
 
 -- What a caller's event does to the files, and what comes of it.
 pub record IsCallStep (old new : FilesState) (event : Event) (outcome : Outcome) : Type 0 where
@@ -37,8 +38,8 @@ pub record IsCallStep (old new : FilesState) (event : Event) (outcome : Outcome)
   pub written : IsWrittenBack old.backing.mode new.backing old.kept new.kept event outcome
   -- What is done was admitted.
   pub admitted : IsAdmittedCall old.backing new.backing old.kept event outcome
-  -- Where the first test holds, a group isn't refused for want of room.
-  pub at_once : IsAtOnceCall old.backing old.kept old.refused new.refused event
+  -- Where its group is empty or the first test holds, it isn't refused for want of room, and no more nodes are put than the group's.
+  pub at_once : IsAtOnceCall old.backing new.backing old.kept old.refused new.refused event
   -- A write that its grant or the first test covers stays in memory.
   pub buffered : IsBufferedCall old.backing new.backing old.kept new.kept old.refused new.refused event outcome
   -- With the dirty pages the index gets heavier by what the call wrote and what its group asks for.
@@ -81,6 +82,8 @@ pub record IsApplied {T : Type 0} (old new : FilesState) (group : List Change) (
   pub same : OnErr result (IsAlike (present_in old) (present_in new))
   -- What is done was admitted.
   pub admitted : OnOk result (WasCovered old.backing new.backing old.kept need need (length group))
+  -- Where the first test holds, it isn't refused for want of room, and no more nodes are put than the group's.
+  pub at_once : HasGroupRoom old.backing need → (new.refused ≡ old.refused) × Goes (length group) old.backing new.backing
   -- Why it isn't done: no room with no page dirty and a commit ended, a fault, a read-only store, or want of memory.
   pub why : IfErr result (IsWithoutRoom old.backing new.backing new.kept need)
   -- A read-only store refuses before all else, and nothing changes.

@@ -10,7 +10,7 @@ use Rattle.fs_model.specs.declared.refusal.Refusal.TheVariants.{Enospc, Erofs}
 use Rattle.fs_model.specs.declared.reply.Reply.{Reply}
 use Rattle.fs_model.specs.declared.reply.Reply.TheVariants.{Refused}
 use Rattle.fs_model.specs.declared.space.Need.{Need}
-use Rattle.fs_model.specs.Backing.{BackingState, orphan_room}
+use Rattle.fs_model.specs.Backing.{BackingState, Goes, orphan_room}
 use Rattle.fs_model.specs.Files.{Files, handle_at}
 use Rattle.fs_model.specs.Need.{need_of}
 pub use Rattle.fs_model.specs.Legal.{is_read, is_sync, is_tight, read_only_cause}
@@ -24,8 +24,8 @@ use Rattle.cached_files.specs.Calls.{IsNotEnospc, IsWithoutRoom}
 use Rattle.cached_files.specs.Present.{present, IsKept}
 use Rattle.vfs_plans.specs.Answers.{IsFault}
 use Rattle.vfs_ops.specs.Kinds.{IsStopped, OnlyLooks, is_late, is_question}
-use Rattle.vfs_ops.specs.Operations.{has_group, is_of_names}
-use Rattle.vfs_ops.specs.Writing.{HasGroupRoom, IsGroupAdmitted, WasPaid, newly_by, write_need}
+use Rattle.vfs_ops.specs.Operations.{has_group, is_of_names, nodes_asked}
+use Rattle.vfs_ops.specs.Writing.{HasRoomAtOnce, IsGroupAdmitted, WasPaid, newly_by, write_need}
 
 -- What is kept fits the backing, each dirty page is paid, and the present files are sound.
 pub record IsReady (state : BackingState) (kept : Kept) : Type 0 where
@@ -103,15 +103,17 @@ WasAdmitted old new before caller now grant op =
 abbrev pub IsAdmittedReply : BackingState → BackingState → Kept → ℕ → ℕ → ℕ → Op → Reply → Type 0
 IsAdmittedReply old new before caller now grant op reply = ((refusal : Refusal) × (reply ≡ Refused refusal)) ⊎ WasAdmitted old new before caller now grant op
 
--- where the plain operation is done that has a group, and there is room for it at the first test, it isn't refused for want of room
-abbrev pub IsAtOnce : {T : Type 0} → BackingState → Kept → ℕ → ℕ → Op → Result T Refusal → Type 0
-IsAtOnce old before caller now op result =
-    has_group op ≡ true → (done : Reply × Files) → outcome_of (present old.tree before) caller now op ≡ Ok done → HasGroupRoom old (need_of (present old.tree before) caller now op) → IsNotEnospc result
+-- Where the plain operation is done that has a group, and that is empty or has room at the first test, it isn't refused for want of room, and no more nodes are put than the group's.
+abbrev pub IsAtOnce : {T : Type 0} → BackingState → BackingState → Kept → ℕ → ℕ → Op → Result T Refusal → Type 0
+IsAtOnce old new before caller now op result =
+    has_group op ≡ true → (done : Reply × Files) → outcome_of (present old.tree before) caller now op ≡ Ok done → HasRoomAtOnce old (need_of (present old.tree before) caller now op)
+    → IsNotEnospc result × Goes (nodes_asked (present old.tree before) caller now op) old new
 
 -- the same of its reply
-abbrev pub IsAtOnceReply : BackingState → Kept → ℕ → ℕ → Op → List NoSpace → List NoSpace → Type 0
-IsAtOnceReply old before caller now op first last =
-    has_group op ≡ true → (done : Reply × Files) → outcome_of (present old.tree before) caller now op ≡ Ok done → HasGroupRoom old (need_of (present old.tree before) caller now op) → last ≡ first
+abbrev pub IsAtOnceReply : BackingState → BackingState → Kept → ℕ → ℕ → Op → List NoSpace → List NoSpace → Type 0
+IsAtOnceReply old new before caller now op first last =
+    has_group op ≡ true → (done : Reply × Files) → outcome_of (present old.tree before) caller now op ≡ Ok done → HasRoomAtOnce old (need_of (present old.tree before) caller now op)
+    → (last ≡ first) × Goes (nodes_asked (present old.tree before) caller now op) old new
 
 -- the sides of a reply that there is no room
 abbrev pub no_space_in : Reply → List NoSpace

@@ -48,6 +48,10 @@ WasPaid old new kept ino offs len grant =
 abbrev pub HasGroupRoom : BackingState → Need → Type 0
 HasGroupRoom state need = needed state.space need ≤ room_for state.geometry state.space need
 
+-- no node is asked for, or there is room for what is asked at the first test
+abbrev pub HasRoomAtOnce : BackingState → Need → Type 0
+HasRoomAtOnce state need = (need.nodes ≡ 0) ⊎ HasGroupRoom state need
+
 -- a group has no change, or what it asks for was admitted
 abbrev pub IsGroupAdmitted : BackingState → BackingState → Kept → List Change → Need → Type 0
 IsGroupAdmitted old new kept group need = (length group ≡ 0) ⊎ WasCovered old new kept need need need.nodes

@@ -85,7 +85,7 @@ pub(crate) fn call<B: Backing>(
     ensures others { KeepsOthers kept.old kept.new caller op.now }
     ensures idle { IsIdle (B.state backing.old) (B.state backing.new) kept.old kept.new op.now }
     ensures admitted { OnOk result (WasAdmitted (B.state backing.old) (B.state backing.new) kept.old caller now grant op.now) }
-    ensures at_once { IsAtOnce (B.state backing.old) kept.old caller now op.now result }
+    ensures at_once { IsAtOnce (B.state backing.old) (B.state backing.new) kept.old caller now op.now result }
     ensures buffered { Buffers (B.state backing.old) (B.state backing.new) kept.old kept.new caller grant op.now result }
     ensures grows { GrowsBy (added_or_refused (2 * pages_in op.now + nodes_asked (present (B.state backing.old).tree kept.old) caller now op.now) (max 2 (nodes_asked (present (B.state backing.old).tree kept.old) caller now op.now)) result) (B.state backing.old) (B.state backing.new) kept.old kept.new }
     ensures orphans { KeepsOrphans (B.state backing.old) (B.state backing.new) (present (B.state backing.old).tree kept.old) (present (B.state backing.new).tree kept.new) }
@@ -127,7 +127,7 @@ pub(crate) fn serve<B: Backing>(
     ensures others { KeepsOthers kept.old kept.new caller op.now }
     ensures idle { IsIdle (B.state backing.old) (B.state backing.new) kept.old kept.new op.now }
     ensures admitted { OnOk result (WasAdmitted (B.state backing.old) (B.state backing.new) kept.old caller now grant op.now) }
-    ensures at_once { IsAtOnce (B.state backing.old) kept.old caller now op.now result }
+    ensures at_once { IsAtOnce (B.state backing.old) (B.state backing.new) kept.old caller now op.now result }
     ensures buffered { Buffers (B.state backing.old) (B.state backing.new) kept.old kept.new caller grant op.now result }
     ensures grows { GrowsBy (added_or_refused (2 * pages_in op.now + nodes_asked (present (B.state backing.old).tree kept.old) caller now op.now) (max 2 (nodes_asked (present (B.state backing.old).tree kept.old) caller now op.now)) result) (B.state backing.old) (B.state backing.new) kept.old kept.new }
     ensures orphans { KeepsOrphans (B.state backing.old) (B.state backing.new) (present (B.state backing.old).tree kept.old) (present (B.state backing.new).tree kept.new) }
@@ -179,7 +179,7 @@ fn serve_without<B: Backing>(
     ensures others { KeepsOthers kept.old kept.new caller op.now }
     ensures idle { IsIdle (B.state backing.old) (B.state backing.new) kept.old kept.new op.now }
     ensures admitted { OnOk result (WasAdmitted (B.state backing.old) (B.state backing.new) kept.old caller now grant op.now) }
-    ensures at_once { IsAtOnce (B.state backing.old) kept.old caller now op.now result }
+    ensures at_once { IsAtOnce (B.state backing.old) (B.state backing.new) kept.old caller now op.now result }
     ensures grows { GrowsBy (added_or_refused (nodes_asked (present (B.state backing.old).tree kept.old) caller now op.now) (max 2 (nodes_asked (present (B.state backing.old).tree kept.old) caller now op.now)) result) (B.state backing.old) (B.state backing.new) kept.old kept.new }
     ensures orphans { KeepsOrphans (B.state backing.old) (B.state backing.new) (present (B.state backing.old).tree kept.old) (present (B.state backing.new).tree kept.new) }
     ensures cut { PutsCall (B.state backing.old) (B.state backing.new) kept.old caller now op.now (group_fate result) }

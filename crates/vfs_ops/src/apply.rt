@@ -5,12 +5,13 @@ ghost use Rattle.fs_model.specs.Backing.{FitsGroup, FitsOrphans, Goes, IsModest}
 ghost use Rattle.fs_model.specs.Change.{apply};
 ghost use Rattle.fs_laws.specs.Sound.{IsSound};
 ghost use Rattle.cached_files.specs.Alike.{IsAlike};
-ghost use Rattle.cached_files.specs.Calls.{GrowsBy, IsWithoutRoom, SureGoes, WasCovered, added_or_refused};
+ghost use Rattle.cached_files.specs.Calls.{GrowsBy, IsNotEnospc, IsWithoutRoom, SureGoes, WasCovered, added_or_refused};
 ghost use Rattle.cached_files.specs.Cuts.{PutsSeenWith, group_fate};
 ghost use Rattle.cached_files.specs.Follow.{AreOfNames};
 ghost use Rattle.cached_files.specs.Present.{present};
 ghost use Rattle.vfs_ops.specs.Kinds.{FitsNextOrphans};
 ghost use Rattle.vfs_ops.specs.Steps.{IsReady};
+ghost use Rattle.vfs_ops.specs.Writing.{HasGroupRoom};
 
 use cached_files::{Kept, apply_group, present_files_are_sound};
 use fs_model::{Backing, Group, Need, Refusal};
@@ -37,6 +38,8 @@ pub(crate) fn apply_over<B: Backing>(
     ensures same { OnErr result (IsAlike (present (B.state backing.old).tree kept.old) (present (B.state backing.new).tree kept.new)) }
     ensures admitted { OnOk result (WasCovered (B.state backing.old) (B.state backing.new) kept.old need.now need.now (length group.now)) }
     ensures why { IfErr result (IsWithoutRoom (B.state backing.old) (B.state backing.new) kept.new need.now) }
+    ensures at_once { HasGroupRoom (B.state backing.old) need.now → IsNotEnospc result }
+    ensures alone { HasGroupRoom (B.state backing.old) need.now → Goes (length group.now) (B.state backing.old) (B.state backing.new) }
     ensures issued { (B.state backing.new).space.credits + length kept.old.pages.dirty ≡ (B.state backing.old).space.credits + length kept.new.pages.dirty }
     ensures grows { GrowsBy (added_or_refused (length group.now) (max 2 (length group.now)) result) (B.state backing.old) (B.state backing.new) kept.old kept.new }
     ensures list { FitsNextOrphans (B.state backing.old) (B.state backing.new) }

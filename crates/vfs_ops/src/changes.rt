@@ -17,7 +17,7 @@ ghost use Rattle.vfs_plans.specs.Answers.{IsRefused};
 ghost use Rattle.vfs_ops.specs.Kinds.{IsEarly, OnlyLooks};
 ghost use Rattle.vfs_ops.specs.Operations.{is_of_names, is_orphaned, orphans};
 ghost use Rattle.vfs_ops.specs.Steps.{IsLast};
-ghost use Rattle.vfs_ops.specs.Writing.{HasGroupRoom, IsGroupAdmitted};
+ghost use Rattle.vfs_ops.specs.Writing.{HasRoomAtOnce, IsGroupAdmitted};
 
 use crate::needs::{class_of, need_of};
 use cached_files::{Kept, apply_group, present_files_are_sound};
@@ -56,7 +56,8 @@ pub fn change<B: Backing>(
         × IsLast (within_orphans (orphan_room (B.state backing.old)) (B.state backing.old).orphan_limit (present (B.state backing.old).tree kept.old) (outcome_of (present (B.state backing.old).tree kept.old) caller now op.now)) refusal)) }
     ensures early { IsEarly result → OnlyLooks (B.state backing.old) (B.state backing.new) kept.old kept.new }
     ensures admitted { OnOk result (IsGroupAdmitted (B.state backing.old) (B.state backing.new) kept.old (group_of (present (B.state backing.old).tree kept.old) caller now op.now) (need_of (present (B.state backing.old).tree kept.old) caller now op.now)) }
-    ensures at_once { (done : AnyReply × Files) → outcome_of (present (B.state backing.old).tree kept.old) caller now op.now ≡ Ok done → HasGroupRoom (B.state backing.old) (need_of (present (B.state backing.old).tree kept.old) caller now op.now) → IsNotEnospc result }
+    ensures at_once { (done : AnyReply × Files) → outcome_of (present (B.state backing.old).tree kept.old) caller now op.now ≡ Ok done → HasRoomAtOnce (B.state backing.old) (need_of (present (B.state backing.old).tree kept.old) caller now op.now) → IsNotEnospc result }
+    ensures alone { (done : AnyReply × Files) → outcome_of (present (B.state backing.old).tree kept.old) caller now op.now ≡ Ok done → HasRoomAtOnce (B.state backing.old) (need_of (present (B.state backing.old).tree kept.old) caller now op.now) → Goes (length (group_of (present (B.state backing.old).tree kept.old) caller now op.now)) (B.state backing.old) (B.state backing.new) }
     ensures issued { (B.state backing.new).space.credits + length kept.old.pages.dirty ≡ (B.state backing.old).space.credits + length kept.new.pages.dirty }
     ensures grows { GrowsBy (added_or_refused (length (group_of (present (B.state backing.old).tree kept.old) caller now op.now)) (max 2 (length (group_of (present (B.state backing.old).tree kept.old) caller now op.now))) result) (B.state backing.old) (B.state backing.new) kept.old kept.new }
     ensures closed { (B.state backing.new).closed ≤ (B.state backing.old).closed }

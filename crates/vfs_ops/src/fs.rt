@@ -142,7 +142,7 @@ impl<B: Backing> Fs<B> {
         ensures written { HasSynced (B.state self.old.backing).mode (B.state self.new.backing) self.old.kept self.new.kept caller op.now result.0 }
         ensures others { KeepsOthers self.old.kept self.new.kept caller op.now }
         ensures admitted { IsAdmittedReply (B.state self.old.backing) (B.state self.new.backing) self.old.kept caller now grant op.now result.0 }
-        ensures at_once { IsAtOnceReply (B.state self.old.backing) self.old.kept caller now op.now self.old.refused.items self.new.refused.items }
+        ensures at_once { IsAtOnceReply (B.state self.old.backing) (B.state self.new.backing) self.old.kept caller now op.now self.old.refused.items self.new.refused.items }
         ensures buffered { BuffersReply (B.state self.old.backing) (B.state self.new.backing) self.old.kept self.new.kept self.old.refused.items self.new.refused.items caller grant op.now result.0 }
         ensures weighed { GrowsBy (added_by (2 * pages_in op.now + nodes_asked (present (B.state self.old.backing).tree self.old.kept) caller now op.now) (max 2 (nodes_asked (present (B.state self.old.backing).tree self.old.kept) caller now op.now)) result.0) (B.state self.old.backing) (B.state self.new.backing) self.old.kept self.new.kept }
         ensures orphans { KeepsOrphans (B.state self.old.backing) (B.state self.new.backing) (present (B.state self.old.backing).tree self.old.kept) (present (B.state self.new.backing).tree self.new.kept) }

@@ -2,6 +2,7 @@
 
 ghost use Rattle.std.specs.Prelude.{◌≡◌, ◌≢◌, ◌==◌, ◌+◌, ◌≤◌, true, false, length, IfOk, Some};
 ghost use Rattle.std.specs.List.{AllByRecursion};
+ghost use Rattle.fs_model.specs.declared.backing_answers.Mode.TheVariants.{ReadWrite};
 ghost use Rattle.fs_model.specs.Backing.{Goes, next_orphans};
 ghost use Rattle.page_cache.specs.Pages.{oldest_of};
 ghost use Rattle.cached_files.specs.Alike.{IsAlike};
@@ -14,7 +15,7 @@ ghost use Rattle.vfs_ops.specs.Steps.{IsReady};
 
 use crate::event::{Encoded, Outcome};
 use cached_files::{Kept, Ticket, has_bytes, page_bytes, present_files_are_sound, put_ticket};
-use fs_model::{Backing, StoreFault};
+use fs_model::{Backing, Mode, StoreFault};
 use std::alloc::Global;
 use ubifs_base::Memory;
 
@@ -79,7 +80,7 @@ pub(crate) fn put<B: Backing>(
     put_current(alloc, backing, kept, page)
 }
 
-// Puts a page that is still as it was picked.
+// Puts a page that is still as it was picked. A store that is read-only isn't asked.
 fn put_current<B: Backing>(
     alloc: Global,
     backing: &mut B,
@@ -88,6 +89,29 @@ fn put_current<B: Backing>(
 ) -> Outcome
     requires ready { IsReady (B.state backing.old) kept.old }
     requires current { encoded_at kept.old page.now.ino page.now.block ≡ Some page.now }
+    ensures ready { IsReady (B.state backing.new) kept.new }
+    ensures put { IsPut (record { old = B.state backing.old; new = B.state backing.new; before = kept.old; after = kept.new }) page.now result }
+    ensures same { IsAlike (present (B.state backing.old).tree kept.old) (present (B.state backing.new).tree kept.new) }
+    ensures issued { (B.state backing.new).space.credits + length kept.old.pages.dirty ≡ (B.state backing.old).space.credits + length kept.new.pages.dirty }
+    ensures weighed { GrowsBy (added_in (Put page.now) result) (B.state backing.old) (B.state backing.new) kept.old kept.new }
+    ensures orphans { next_orphans (B.state backing.new) ≤ next_orphans (B.state backing.old) }
+    ensures cut { PutsSeen (B.state backing.old) (B.state backing.new) kept.old }
+    ensures goes { Goes 2 (B.state backing.old) (B.state backing.new) }
+    ensures sure { SureGoes (B.outlook backing.old) (B.outlook backing.new) (B.state backing.old) (B.state backing.new) }
+{
+    match backing.mode() {
+        Mode::ReadWrite => put_open(alloc, backing, kept, page),
+        Mode::ReadOnly { cause } => Outcome::Fault {
+            fault: StoreFault::ReadOnly { cause },
+        },
+    }
+}
+
+// The same on a store that can be written.
+fn put_open<B: Backing>(alloc: Global, backing: &mut B, kept: &mut Kept, page: &Encoded) -> Outcome
+    requires ready { IsReady (B.state backing.old) kept.old }
+    requires current { encoded_at kept.old page.now.ino page.now.block ≡ Some page.now }
+    requires open { (B.state backing.old).mode ≡ ReadWrite }
     ensures ready { IsReady (B.state backing.new) kept.new }
     ensures put { IsPut (record { old = B.state backing.old; new = B.state backing.new; before = kept.old; after = kept.new }) page.now result }
     ensures same { IsAlike (present (B.state backing.old).tree kept.old) (present (B.state backing.new).tree kept.new) }

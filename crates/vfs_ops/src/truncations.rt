@@ -23,7 +23,7 @@ ghost use Rattle.vfs_ops.specs.Events.{PutsCall};
 ghost use Rattle.vfs_ops.specs.Kinds.{IsEarly, OnlyLooks};
 ghost use Rattle.vfs_ops.specs.Operations.{nodes_asked};
 ghost use Rattle.vfs_ops.specs.Steps.{IsLast};
-ghost use Rattle.vfs_ops.specs.Writing.{HasGroupRoom};
+ghost use Rattle.vfs_ops.specs.Writing.{HasRoomAtOnce};
 
 use crate::reads::size_there;
 use cached_files::{Kept, present_files_are_sound, set_size};
@@ -59,7 +59,8 @@ pub(crate) fn truncate<B: Backing>(
         × IsLast (outcome_of (present (B.state backing.old).tree kept.old) caller now (Truncate slot size)) refusal)) }
     ensures early { IsEarly result → OnlyLooks (B.state backing.old) (B.state backing.new) kept.old kept.new }
     ensures admitted { OnOk result (WasCovered (B.state backing.old) (B.state backing.new) kept.old (need_of (present (B.state backing.old).tree kept.old) caller now (Truncate slot size)) (need_of (present (B.state backing.old).tree kept.old) caller now (Truncate slot size)) (nodes_asked (present (B.state backing.old).tree kept.old) caller now (Truncate slot size))) }
-    ensures at_once { (done : AnyReply × Files) → outcome_of (present (B.state backing.old).tree kept.old) caller now (Truncate slot size) ≡ Ok done → HasGroupRoom (B.state backing.old) (need_of (present (B.state backing.old).tree kept.old) caller now (Truncate slot size)) → IsNotEnospc result }
+    ensures at_once { (done : AnyReply × Files) → outcome_of (present (B.state backing.old).tree kept.old) caller now (Truncate slot size) ≡ Ok done → HasRoomAtOnce (B.state backing.old) (need_of (present (B.state backing.old).tree kept.old) caller now (Truncate slot size)) → IsNotEnospc result }
+    ensures alone { (done : AnyReply × Files) → outcome_of (present (B.state backing.old).tree kept.old) caller now (Truncate slot size) ≡ Ok done → HasRoomAtOnce (B.state backing.old) (need_of (present (B.state backing.old).tree kept.old) caller now (Truncate slot size)) → Goes (nodes_asked (present (B.state backing.old).tree kept.old) caller now (Truncate slot size)) (B.state backing.old) (B.state backing.new) }
     ensures issued { (B.state backing.new).space.credits + length kept.old.pages.dirty ≡ (B.state backing.old).space.credits + length kept.new.pages.dirty }
     ensures grows { GrowsBy (added_or_refused (nodes_asked (present (B.state backing.old).tree kept.old) caller now (Truncate slot size)) (max 2 (nodes_asked (present (B.state backing.old).tree kept.old) caller now (Truncate slot size))) result) (B.state backing.old) (B.state backing.new) kept.old kept.new }
     ensures closed { (B.state backing.new).closed ≤ (B.state backing.old).closed }

@@ -8,8 +8,8 @@ use Rattle.cached_files.specs.Cuts.{refused_fate}
 use Rattle.cached_files.specs.Cuts.GroupFate.{WasPut}
 use Rattle.cached_files.proofs.Cutting.{group_then}
 use Rattle.cached_files.proofs.Growing.{admitted_failed, grows_on, not_admitted}
-use Rattle.cached_files.proofs.MakingRoom.{put_refused}
-use Rattle.cached_files.specs.CallLaws.{Covered-then, Goes-then, Goes-within, fewer_closed}
+use Rattle.cached_files.proofs.MakingRoom.{goes_at_once, put_refused}
+use Rattle.cached_files.specs.CallLaws.{Covered-then, Goes-none, Goes-then, Goes-within, fewer_closed}
 use Rattle.cached_files.proofs.groups.apply_group.Goals as goal
 
 pub put_group-requires-clause-granted : goal.put_group-requires-clause-granted
@@ -107,3 +107,15 @@ returns-in-Err-clause-cut g c =
     let new = g.B.Backing.state c.put_group.new.backing in
     let f = group_then old now new c.args.kept.now c.admit.new.kept c.args.group.now (refused_fate (refusal_of c.in-Err.fault)) c.requires.kept c.admit.ensures.kept c.admit.ensures.same c.admit.ensures.cut c.in-Err.ensures.cut in
     search (rules, f)
+
+pub returns-in-Ok-clause-alone : goal.returns-in-Ok-clause-alone
+returns-in-Ok-clause-alone g c room =
+    goes_at_once (length c.args.group.now) (g.B.Backing.state c.args.backing.now) (g.B.Backing.state c.admit.new.backing) (g.B.Backing.state c.put_group.new.backing) c.args.need.now (c.admit.ensures.covered room).1 c.put_group.ensures.goes
+
+pub returns-in-Err-clause-alone : goal.returns-in-Err-clause-alone
+returns-in-Err-clause-alone g c room =
+    goes_at_once (length c.args.group.now) (g.B.Backing.state c.args.backing.now) (g.B.Backing.state c.admit.new.backing) (g.B.Backing.state c.put_group.new.backing) c.args.need.now (c.admit.ensures.covered room).1 c.put_group.ensures.goes
+
+pub returns-in_err-admit-clause-alone : goal.returns-in_err-admit-clause-alone
+returns-in_err-admit-clause-alone g c room =
+    goes_at_once (length c.args.group.now) (g.B.Backing.state c.args.backing.now) (g.B.Backing.state c.admit.new.backing) (g.B.Backing.state c.admit.new.backing) c.args.need.now (c.admit.ensures.covered room).1 (Goes-within 0 (length c.args.group.now) (g.B.Backing.state c.admit.new.backing) (g.B.Backing.state c.admit.new.backing) (omega arith) (Goes-none (g.B.Backing.state c.admit.new.backing)))

@@ -1,15 +1,15 @@
 use Rattle.std.proofs.Common.{Some, ap, arith, length, rules, subst, sym, ◌∙◌}
 use Rattle.fs_model.specs.declared.space.Grant.{Grant}
 use Rattle.fs_model.specs.declared.space.Need.{Need}
-use Rattle.cached_files.specs.CallLaws.{Sure-then}
+use Rattle.cached_files.specs.CallLaws.{Goes-none, Goes-within, Sure-then}
 use Rattle.cached_files.specs.Calls.{IsWithoutRoom, WasCovered, refusal_of}
 use Rattle.cached_files.specs.Cuts.{refused_fate}
 use Rattle.cached_files.specs.Cuts.GroupFate.{WasPut}
 use Rattle.cached_files.specs.Present.{present}
 use Rattle.cached_files.specs.Resized.{size_need}
 use Rattle.cached_files.proofs.Growing.{not_admitted}
-use Rattle.cached_files.proofs.MakingRoom.{put_refused}
-use Rattle.cached_files.proofs.SizeAdmitted.{alike_then, asked_is, asked_modest, asked_none, covered_then, cut_then, failed_then, found_on, goes_then, grows_then, need_on, not_cut, not_goes, sized_on}
+use Rattle.cached_files.proofs.MakingRoom.{goes_at_once, put_refused}
+use Rattle.cached_files.proofs.SizeAdmitted.{alike_then, asked_is, asked_modest, asked_none, covered_then, cut_then, failed_then, found_on, goes_alone, goes_then, granted_asked, grows_then, need_on, not_cut, not_goes, sized_on}
 use Rattle.cached_files.proofs.sizes.set_size.Goals as goal
 
 pub admit-requires-clause-modest : goal.admit-requires-clause-modest
@@ -118,3 +118,27 @@ returns-in-Ok-clause-sure g c =
 pub returns-in-Err-clause-sure : goal.returns-in-Err-clause-sure
 returns-in-Err-clause-sure g c =
     Sure-then (g.B.Backing.outlook c.args.backing.now) (g.B.Backing.outlook c.admit.new.backing) (g.B.Backing.outlook c.put_size.new.backing) (g.B.Backing.state c.args.backing.now) (g.B.Backing.state c.admit.new.backing) (g.B.Backing.state c.put_size.new.backing) c.admit.ensures.sure c.put_size.ensures.sure
+
+pub returns-in-Ok-clause-alone : goal.returns-in-Ok-clause-alone
+returns-in-Ok-clause-alone g c room =
+    let old = g.B.Backing.state c.args.backing.now in
+    let mid = g.B.Backing.state c.admit.new.backing in
+    let asked = asked_is c.need_of-need.result c.args.old_size (present old.tree c.args.kept.now).tree c.args.ino c.args.inode c.args.size c.args.now c.need_of-need.ensures c.requires.sized in
+    goes_alone old mid c.args.kept.now c.admit.new.kept c.args.ino c.args.inode c.args.size c.args.now c.requires.kept c.admit.ensures.kept c.requires.found c.requires.file c.admit.ensures.same (g.B.Backing.state c.put_size.new.backing)
+    (granted_asked old mid c.need_of-need.result _ asked room (λ fits. (c.admit.ensures.covered fits).1)) c.put_size.ensures.goes
+
+pub returns-in-Err-clause-alone : goal.returns-in-Err-clause-alone
+returns-in-Err-clause-alone g c room =
+    let old = g.B.Backing.state c.args.backing.now in
+    let mid = g.B.Backing.state c.admit.new.backing in
+    let asked = asked_is c.need_of-need.result c.args.old_size (present old.tree c.args.kept.now).tree c.args.ino c.args.inode c.args.size c.args.now c.need_of-need.ensures c.requires.sized in
+    goes_alone old mid c.args.kept.now c.admit.new.kept c.args.ino c.args.inode c.args.size c.args.now c.requires.kept c.admit.ensures.kept c.requires.found c.requires.file c.admit.ensures.same (g.B.Backing.state c.put_size.new.backing)
+    (granted_asked old mid c.need_of-need.result _ asked room (λ fits. (c.admit.ensures.covered fits).1)) c.put_size.ensures.goes
+
+pub returns-in_err-admit-clause-alone : goal.returns-in_err-admit-clause-alone
+returns-in_err-admit-clause-alone g c room =
+    let old = g.B.Backing.state c.args.backing.now in
+    let mid = g.B.Backing.state c.admit.new.backing in
+    let asked = asked_is c.need_of-need.result c.args.old_size (present old.tree c.args.kept.now).tree c.args.ino c.args.inode c.args.size c.args.now c.need_of-need.ensures c.requires.sized in
+    let need : Need = size_need (present old.tree c.args.kept.now).tree c.args.ino c.args.inode c.args.size c.args.now in
+    goes_at_once need.nodes old mid mid need (granted_asked old mid c.need_of-need.result need asked room (λ fits. (c.admit.ensures.covered fits).1)) (Goes-within 0 need.nodes mid mid (omega arith) (Goes-none mid))

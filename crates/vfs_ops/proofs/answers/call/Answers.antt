@@ -1,5 +1,6 @@
-use Rattle.std.proofs.Common.{ap, refl, sym, ◌∙◌}
+use Rattle.std.proofs.Common.{ap, arith, refl, sym, ◌∙◌}
 use Rattle.fs_model.specs.declared.backing_answers.Mode.{Mode}
+use Rattle.cached_files.specs.CallLaws.{Goes-none, Goes-within}
 use Rattle.vfs_ops.specs.Steps.{read_only_cause}
 use Rattle.cached_files.specs.Cuts.GroupFate.{NotPut}
 use Rattle.vfs_ops.proofs.Cutting.{call_seen, cut_same, cut_with}
@@ -24,3 +25,6 @@ returns-in-Some-clause-cut g c =
 
 pub returns-in-Some-clause-idle : goal.returns-in-Some-clause-idle
 returns-in-Some-clause-idle g c = λ sync closed. (refl, refl)
+
+pub returns-in-Some-clause-at_once : goal.returns-in-Some-clause-at_once
+returns-in-Some-clause-at_once g c = let old = g.B.Backing.state c.args.backing.now in λ is done out room. (tt, Goes-within 0 _ old old (omega arith) (Goes-none old))

@@ -31,7 +31,7 @@ returns-in-Err g c = let e = c.in-Err.ensures in record {
   others = e.others;
   idle = e.idle;
   admitted = tt;
-  at_once = λ is done out room. retyped Reply (Reply × ℕ) c.in-Err.refusal (e.at_once is done out room);
+  at_once = λ is done out room. let once = e.at_once is done out room in (retyped Reply (Reply × ℕ) c.in-Err.refusal once.0, once.1);
   buffered = none_buffered (g.B.Backing.state c.args.backing.now) (g.B.Backing.state c.serve_without.new.backing) c.args.kept.now c.serve_without.new.kept c.args.caller c.args.grant c.args.op.now _ (not_write c.args.op.now c.in_default.not-Write);
   grows = refused_wider Reply (Reply × ℕ) (nodes_asked (present (g.B.Backing.state c.args.backing.now).tree c.args.kept.now) c.args.caller c.args.now c.args.op.now) (2 * pages_in c.args.op.now + nodes_asked (present (g.B.Backing.state c.args.backing.now).tree c.args.kept.now) c.args.caller c.args.now c.args.op.now) (max 2 (nodes_asked (present (g.B.Backing.state c.args.backing.now).tree c.args.kept.now) c.args.caller c.args.now c.args.op.now)) (max 2 (nodes_asked (present (g.B.Backing.state c.args.backing.now).tree c.args.kept.now) c.args.caller c.args.now c.args.op.now)) c.in-Err.refusal (g.B.Backing.state c.args.backing.now) (g.B.Backing.state c.serve_without.new.backing) c.args.kept.now c.serve_without.new.kept (omega arith) e.grows;
   orphans = e.orphans;
@@ -41,7 +41,7 @@ returns-in-Err g c = let e = c.in-Err.ensures in record {
 }
 
 pub returns-in-Ok-clause-at_once : goal.returns-in-Ok-clause-at_once
-returns-in-Ok-clause-at_once g c = λ is done out room. tt
+returns-in-Ok-clause-at_once g c = λ is done out room. (tt, (c.in-Ok.ensures.at_once is done out room).1)
 
 pub returns-in-Write-clause-admitted : goal.returns-in-Write-clause-admitted
 returns-in-Write-clause-admitted g c =
@@ -49,7 +49,7 @@ returns-in-Write-clause-admitted g c =
 
 pub returns-in-Write-clause-at_once : goal.returns-in-Write-clause-at_once
 returns-in-Write-clause-at_once g c =
-    other_at_once _ (g.B.Backing.state c.args.backing.now) c.args.kept.now c.args.caller c.args.now c.args.op.now c.write.result (ap (λ (o : Op). has_group o) c.in-Write.is)
+    other_at_once _ (g.B.Backing.state c.args.backing.now) (g.B.Backing.state c.write.new.backing) c.args.kept.now c.args.caller c.args.now c.args.op.now c.write.result (ap (λ (o : Op). has_group o) c.in-Write.is)
 
 pub returns-in-Ok-clause-left : goal.returns-in-Ok-clause-left
 returns-in-Ok-clause-left g c = whole_left c.args.kept.now c.args.caller c.args.grant c.args.op.now (not_write c.args.op.now c.in_default.not-Write)

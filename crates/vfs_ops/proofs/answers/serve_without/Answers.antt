@@ -95,19 +95,23 @@ returns-in-Flush-clause-admitted g c =
     after_ok c.flushed.result (none_admitted (g.B.Backing.state c.args.backing.now) (g.B.Backing.state c.flushed.new.backing) c.args.kept.now c.args.caller c.args.now c.args.grant c.args.op.now (ap has_group c.in-Flush.is) c.requires.without)
 
 pub returns-then-is_of_names-clause-at_once : goal.returns-then-is_of_names-clause-at_once
-returns-then-is_of_names-clause-at_once g c = λ is done out room. c.change.ensures.at_once done out room
+returns-then-is_of_names-clause-at_once g c =
+    let files = present (g.B.Backing.state c.args.backing.now).tree c.args.kept.now in
+    let names = sym c.is_of_names.ensures ∙ c.if-is_of_names.true in
+    let P : ℕ → Type 0 = λ n. Goes n (g.B.Backing.state c.args.backing.now) (g.B.Backing.state c.change.new.backing) in
+    λ is done out room. (c.change.ensures.at_once done out room, subst P (sym (nodes_are files c.args.caller c.args.now c.args.op.now (not_truncate c.args.op.now names))) (c.change.ensures.alone done out room))
 
 pub returns-in-OpenFile-clause-at_once : goal.returns-in-OpenFile-clause-at_once
-returns-in-OpenFile-clause-at_once g c = other_at_once _ (g.B.Backing.state c.args.backing.now) c.args.kept.now c.args.caller c.args.now c.args.op.now c.open.result (ap has_group c.in-OpenFile.is)
+returns-in-OpenFile-clause-at_once g c = other_at_once _ (g.B.Backing.state c.args.backing.now) (g.B.Backing.state c.open.new.backing) c.args.kept.now c.args.caller c.args.now c.args.op.now c.open.result (ap has_group c.in-OpenFile.is)
 
 pub returns-in-Close-clause-at_once : goal.returns-in-Close-clause-at_once
-returns-in-Close-clause-at_once g c = other_at_once _ (g.B.Backing.state c.args.backing.now) c.args.kept.now c.args.caller c.args.now c.args.op.now c.close.result (ap has_group c.in-Close.is)
+returns-in-Close-clause-at_once g c = other_at_once _ (g.B.Backing.state c.args.backing.now) (g.B.Backing.state c.close.new.backing) c.args.kept.now c.args.caller c.args.now c.args.op.now c.close.result (ap has_group c.in-Close.is)
 
 pub returns-in-Fsync-clause-at_once : goal.returns-in-Fsync-clause-at_once
-returns-in-Fsync-clause-at_once g c = other_at_once _ (g.B.Backing.state c.args.backing.now) c.args.kept.now c.args.caller c.args.now c.args.op.now c.synced.result (ap has_group c.in-Fsync.is)
+returns-in-Fsync-clause-at_once g c = other_at_once _ (g.B.Backing.state c.args.backing.now) (g.B.Backing.state c.synced.new.backing) c.args.kept.now c.args.caller c.args.now c.args.op.now c.synced.result (ap has_group c.in-Fsync.is)
 
 pub returns-in-Flush-clause-at_once : goal.returns-in-Flush-clause-at_once
-returns-in-Flush-clause-at_once g c = other_at_once _ (g.B.Backing.state c.args.backing.now) c.args.kept.now c.args.caller c.args.now c.args.op.now c.flushed.result (ap has_group c.in-Flush.is)
+returns-in-Flush-clause-at_once g c = other_at_once _ (g.B.Backing.state c.args.backing.now) (g.B.Backing.state c.flushed.new.backing) c.args.kept.now c.args.caller c.args.now c.args.op.now c.flushed.result (ap has_group c.in-Flush.is)
 
 pub returns-then-is_of_names-clause-looked : goal.returns-then-is_of_names-clause-looked
 returns-then-is_of_names-clause-looked g c = names_early c.args.op.now c.change.result (sym c.is_of_names.ensures ∙ c.if-is_of_names.true) c.change.ensures.early
@@ -251,7 +255,7 @@ returns-in-Truncate-clause-admitted g c =
 
 pub returns-in-Truncate-clause-at_once : goal.returns-in-Truncate-clause-at_once
 returns-in-Truncate-clause-at_once g c =
-    subst (λ (o : Op). IsAtOnce (g.B.Backing.state c.args.backing.now) c.args.kept.now c.args.caller c.args.now o c.truncate.result) (sym c.in-Truncate.is) (λ has. c.truncate.ensures.at_once)
+    subst (λ (o : Op). IsAtOnce (g.B.Backing.state c.args.backing.now) (g.B.Backing.state c.truncate.new.backing) c.args.kept.now c.args.caller c.args.now o c.truncate.result) (sym c.in-Truncate.is) (λ has done out room. (c.truncate.ensures.at_once done out room, c.truncate.ensures.alone done out room))
 
 pub returns-in-Truncate-clause-looked : goal.returns-in-Truncate-clause-looked
 returns-in-Truncate-clause-looked g c = only_early c.args.op.now _ c.truncate.result c.in-Truncate.is refl c.truncate.ensures.early

@@ -13,7 +13,7 @@ use Rattle.fs_model.specs.Orphan.{within_orphans}
 use Rattle.cached_files.specs.Cuts.{refused_fate}
 use Rattle.cached_files.specs.Cuts.GroupFate.{NotPut, WasPut}
 use Rattle.vfs_ops.proofs.Cutting.{cut_looked, cut_refused, cut_with, looked_put, no_changes}
-use Rattle.vfs_ops.proofs.Admitted.{group_admitted, plan_refused, room_looked}
+use Rattle.vfs_ops.proofs.Admitted.{alone_whole, fits_once, group_admitted, plan_refused}
 use Rattle.vfs_ops.proofs.Groups.{AreFitting, group_fits, leaves, names_of}
 use Rattle.vfs_ops.proofs.Looking.{looked, room_late}
 use Rattle.vfs_ops.proofs.Orphans.{closed_on, within_none, within_full, within_done, done_alike, orphans_fit, orphan_room_on, orphan_limit_on}
@@ -22,7 +22,6 @@ use Rattle.vfs_ops.proofs.Takes.{alike_on, alike_sound, sound_done, sound_on, fi
 use Rattle.vfs_ops.proofs.Truncating.{nodes_are}
 use Rattle.vfs_ops.proofs.changes.change.Given.{Over}
 use Rattle.vfs_ops.specs.Operations.{orphans}
-use Rattle.vfs_ops.specs.Writing.{HasGroupRoom}
 use Rattle.std.proofs.lemmas.Bool.{eqb-true}
 use Rattle.fs_model.specs.declared.refusal.Refusal.TheVariants.{Enfile}
 use Rattle.fs_model.specs.declared.refusal.Table.TheVariants.{Orphans as OrphanTable}
@@ -222,12 +221,52 @@ returns-in_err-reply-clause-at_once g c done out room =
 
 pub returns-in_err-apply_group-clause-at_once : goal.returns-in_err-apply_group-clause-at_once
 returns-in_err-apply_group-clause-at_once g c done out room =
-    let b = g.B.Backing.state c.need_of.new.backing in
-    let made = group_is (present (g.B.Backing.state c.args.backing.now).tree c.args.kept.now) c.args.caller c.args.now c.args.op.now c.in_ok-reply.reply c.in_ok-reply.group c.in_ok-reply.ensures.found in
-    let is = need_whole (g.B.Backing.state c.plan.new.backing).tree (g.B.Backing.state c.args.backing.now).tree c.args.kept.now c.args.caller c.args.now c.args.op.now c.in_ok-reply.group c.class_of.result c.in_ok-need.need c.requires.op (tree_on c.plan.ensures.looks) made c.class_of.ensures c.in_ok-need.ensures.need in
-    let there = subst (λ need. HasGroupRoom b need) (sym is) (room_looked (both c.plan.ensures.looks c.need_of.ensures.looks) (need_of (present (g.B.Backing.state c.args.backing.now).tree c.args.kept.now) c.args.caller c.args.now c.args.op.now) room) in
-    let never = c.in_err-apply_group.ensures.at_once there in
+    let old = g.B.Backing.state c.args.backing.now in
+    let files = present old.tree c.args.kept.now in
+    let whole = need_of files c.args.caller c.args.now c.args.op.now in
+    let made = group_is files c.args.caller c.args.now c.args.op.now c.in_ok-reply.reply c.in_ok-reply.group c.in_ok-reply.ensures.found in
+    let is = need_whole (g.B.Backing.state c.plan.new.backing).tree old.tree c.args.kept.now c.args.caller c.args.now c.args.op.now c.in_ok-reply.group c.class_of.result c.in_ok-need.need c.requires.op (tree_on c.plan.ensures.looks) made c.class_of.ensures c.in_ok-need.ensures.need in
+    let some : (length c.in_ok-reply.group == 0) ≡ false = ap (λ (group : List Change). length group == 0) (sym c.as_slice.ensures) ∙ sym c.is_empty.ensures ∙ c.if-is_empty.false in
+    let nodes = nodes_are files c.args.caller c.args.now c.args.op.now (not_truncate c.args.op.now c.requires.op) in
+    let fits = fits_once (both c.plan.ensures.looks c.need_of.ensures.looks) c.in_ok-need.need whole (group_of files c.args.caller c.args.now c.args.op.now) c.in_ok-reply.group is made nodes some room in
+    let never = c.in_err-apply_group.ensures.at_once fits in
     search (rules, never)
+
+pub returns-in_err-reply-clause-alone : goal.returns-in_err-reply-clause-alone
+returns-in_err-reply-clause-alone g c done out room = goes_looked c.plan.ensures.looks _
+
+pub returns-then-is_empty-clause-alone : goal.returns-then-is_empty-clause-alone
+returns-then-is_empty-clause-alone g c done out room = goes_looked c.plan.ensures.looks _
+
+pub returns-then-lacks_orphan_room-clause-alone : goal.returns-then-lacks_orphan_room-clause-alone
+returns-then-lacks_orphan_room-clause-alone g c done out room = goes_looked c.plan.ensures.looks _
+
+pub returns-in_err-need-clause-alone : goal.returns-in_err-need-clause-alone
+returns-in_err-need-clause-alone g c done out room = goes_looked (both c.plan.ensures.looks c.need_of.ensures.looks) _
+
+pub returns-in_err-apply_group-clause-alone : goal.returns-in_err-apply_group-clause-alone
+returns-in_err-apply_group-clause-alone g c done out room =
+    let old = g.B.Backing.state c.args.backing.now in
+    let files = present old.tree c.args.kept.now in
+    let whole = need_of files c.args.caller c.args.now c.args.op.now in
+    let made = group_is files c.args.caller c.args.now c.args.op.now c.in_ok-reply.reply c.in_ok-reply.group c.in_ok-reply.ensures.found in
+    let is = need_whole (g.B.Backing.state c.plan.new.backing).tree old.tree c.args.kept.now c.args.caller c.args.now c.args.op.now c.in_ok-reply.group c.class_of.result c.in_ok-need.need c.requires.op (tree_on c.plan.ensures.looks) made c.class_of.ensures c.in_ok-need.ensures.need in
+    let some : (length c.in_ok-reply.group == 0) ≡ false = ap (λ (group : List Change). length group == 0) (sym c.as_slice.ensures) ∙ sym c.is_empty.ensures ∙ c.if-is_empty.false in
+    let nodes = nodes_are files c.args.caller c.args.now c.args.op.now (not_truncate c.args.op.now c.requires.op) in
+    let fits = fits_once (both c.plan.ensures.looks c.need_of.ensures.looks) c.in_ok-need.need whole (group_of files c.args.caller c.args.now c.args.op.now) c.in_ok-reply.group is made nodes some room in
+    alone_whole (both c.plan.ensures.looks c.need_of.ensures.looks) (g.B.Backing.state c.apply_group.new.backing) (group_of files c.args.caller c.args.now c.args.op.now) c.in_ok-reply.group made (c.apply_group.ensures.alone fits)
+
+pub returns-clause-alone : goal.returns-clause-alone
+returns-clause-alone g c done out room =
+    let old = g.B.Backing.state c.args.backing.now in
+    let files = present old.tree c.args.kept.now in
+    let whole = need_of files c.args.caller c.args.now c.args.op.now in
+    let made = group_is files c.args.caller c.args.now c.args.op.now c.in_ok-reply.reply c.in_ok-reply.group c.in_ok-reply.ensures.found in
+    let is = need_whole (g.B.Backing.state c.plan.new.backing).tree old.tree c.args.kept.now c.args.caller c.args.now c.args.op.now c.in_ok-reply.group c.class_of.result c.in_ok-need.need c.requires.op (tree_on c.plan.ensures.looks) made c.class_of.ensures c.in_ok-need.ensures.need in
+    let some : (length c.in_ok-reply.group == 0) ≡ false = ap (λ (group : List Change). length group == 0) (sym c.as_slice.ensures) ∙ sym c.is_empty.ensures ∙ c.if-is_empty.false in
+    let nodes = nodes_are files c.args.caller c.args.now c.args.op.now (not_truncate c.args.op.now c.requires.op) in
+    let fits = fits_once (both c.plan.ensures.looks c.need_of.ensures.looks) c.in_ok-need.need whole (group_of files c.args.caller c.args.now c.args.op.now) c.in_ok-reply.group is made nodes some room in
+    alone_whole (both c.plan.ensures.looks c.need_of.ensures.looks) (g.B.Backing.state c.apply_group.new.backing) (group_of files c.args.caller c.args.now c.args.op.now) c.in_ok-reply.group made (c.apply_group.ensures.alone fits)
 
 pub returns-in_err-reply-clause-early : goal.returns-in_err-reply-clause-early
 returns-in_err-reply-clause-early g c early = looked c.plan.ensures.looks c.args.kept.now c.args.kept.now refl

@@ -6,14 +6,14 @@ use Rattle.fs_model.specs.declared.op.Op.TheVariants.{Truncate}
 use Rattle.fs_model.specs.Files.{handle_at}
 use Rattle.fs_model.specs.Outcome.{done_by}
 use Rattle.cached_files.specs.Alike.{IsAlike}
-use Rattle.cached_files.specs.CallLaws.{Sure-then}
+use Rattle.cached_files.specs.CallLaws.{Goes-none, Goes-within, Sure-then}
 use Rattle.cached_files.specs.Present.{IsKept, present}
 use Rattle.cached_files.specs.Cuts.{refused_fate}
 use Rattle.cached_files.specs.Cuts.GroupFate.{WasPut}
 use Rattle.vfs_ops.proofs.Buffering.{at_hand, open_file}
 use Rattle.vfs_ops.proofs.Cutting.{call_refused, cut_looked, cut_same}
 use Rattle.vfs_ops.proofs.Looking.{looked, room_late}
-use Rattle.vfs_ops.proofs.NewSize.{PassesSize, file_kind, passes, resized_files, size_admitted, size_cut, size_done, size_goes, size_grows, size_ok, size_refused, size_room, size_sound}
+use Rattle.vfs_ops.proofs.NewSize.{PassesSize, file_kind, passes, resized_files, size_admitted, size_alone, size_cut, size_done, size_goes, size_grows, size_ok, size_refused, size_room, size_sound, size_test}
 use Rattle.vfs_ops.proofs.Orphans.{closed_on}
 use Rattle.vfs_ops.specs.Operations.{nodes_asked}
 use Rattle.vfs_ops.proofs.States.{tree_on}
@@ -84,8 +84,36 @@ returns-clause-admitted g c = size_admitted c.measured.ensures.looks (g.B.Backin
 
 pub returns-in_err-set_size-clause-at_once : goal.returns-in_err-set_size-clause-at_once
 returns-in_err-set_size-clause-at_once g c done out room =
-    let never = c.in_err-set_size.ensures.at_once (size_room c.measured.ensures.looks (g.B.Backing.state c.set_size.new.backing) c.args.kept.now (passes (sym c.is_bad_slot.ensures ∙ c.if-is_bad_slot.false) (sym c.get.ensures ∙ c.in-Some.is) c.in_ok-inode.ensures.found (sym c.is_too_big.ensures ∙ c.if-is_too_big.false)) room) in
+    let old = g.B.Backing.state c.args.backing.now in
+    let p : PassesSize (present old.tree c.args.kept.now) c.args.caller c.args.now c.args.slot c.args.size c.in-Some.ino c.in_ok-inode.inode = passes (sym c.is_bad_slot.ensures ∙ c.if-is_bad_slot.false) (sym c.get.ensures ∙ c.in-Some.is) c.in_ok-inode.ensures.found (sym c.is_too_big.ensures ∙ c.if-is_too_big.false) in
+    let never = c.in_err-set_size.ensures.at_once (size_room c.measured.ensures.looks (g.B.Backing.state c.set_size.new.backing) c.args.kept.now p (size_test p old room)) in
     search (rules, never)
+
+pub returns-then-is_bad_slot-clause-alone : goal.returns-then-is_bad_slot-clause-alone
+returns-then-is_bad_slot-clause-alone g c done out room = let old = g.B.Backing.state c.args.backing.now in Goes-within 0 _ old old (omega arith) (Goes-none old)
+
+pub returns-in_default-clause-alone : goal.returns-in_default-clause-alone
+returns-in_default-clause-alone g c done out room = let old = g.B.Backing.state c.args.backing.now in Goes-within 0 _ old old (omega arith) (Goes-none old)
+
+pub returns-then-is_too_big-clause-alone : goal.returns-then-is_too_big-clause-alone
+returns-then-is_too_big-clause-alone g c done out room = let old = g.B.Backing.state c.args.backing.now in Goes-within 0 _ old old (omega arith) (Goes-none old)
+
+pub returns-in_err-inode-clause-alone : goal.returns-in_err-inode-clause-alone
+returns-in_err-inode-clause-alone g c done out room = goes_looked c.measured.ensures.looks _
+
+pub returns-in_err-set_size-clause-alone : goal.returns-in_err-set_size-clause-alone
+returns-in_err-set_size-clause-alone g c done out room =
+    let old = g.B.Backing.state c.args.backing.now in
+    let p : PassesSize (present old.tree c.args.kept.now) c.args.caller c.args.now c.args.slot c.args.size c.in-Some.ino c.in_ok-inode.inode = passes (sym c.is_bad_slot.ensures ∙ c.if-is_bad_slot.false) (sym c.get.ensures ∙ c.in-Some.is) c.in_ok-inode.ensures.found (sym c.is_too_big.ensures ∙ c.if-is_too_big.false) in
+    let new = g.B.Backing.state c.set_size.new.backing in
+    size_alone c.measured.ensures.looks new c.args.kept.now p (c.set_size.ensures.alone (size_room c.measured.ensures.looks new c.args.kept.now p (size_test p old room)))
+
+pub returns-clause-alone : goal.returns-clause-alone
+returns-clause-alone g c done out room =
+    let old = g.B.Backing.state c.args.backing.now in
+    let p : PassesSize (present old.tree c.args.kept.now) c.args.caller c.args.now c.args.slot c.args.size c.in-Some.ino c.in_ok-inode.inode = passes (sym c.is_bad_slot.ensures ∙ c.if-is_bad_slot.false) (sym c.get.ensures ∙ c.in-Some.is) c.in_ok-inode.ensures.found (sym c.is_too_big.ensures ∙ c.if-is_too_big.false) in
+    let new = g.B.Backing.state c.set_size.new.backing in
+    size_alone c.measured.ensures.looks new c.args.kept.now p (c.set_size.ensures.alone (size_room c.measured.ensures.looks new c.args.kept.now p (size_test p old room)))
 
 pub returns-in_err-inode-clause-early : goal.returns-in_err-inode-clause-early
 returns-in_err-inode-clause-early g c early = looked c.measured.ensures.looks c.args.kept.now c.args.kept.now refl

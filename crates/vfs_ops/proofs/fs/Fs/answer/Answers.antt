@@ -38,7 +38,7 @@ returns-in-Err-clause-buffered g c =
 
 pub returns-in-Err-clause-at_once : goal.returns-in-Err-clause-at_once
 returns-in-Err-clause-at_once g c =
-    told_at_once (Reply × ℕ) (g.B.Backing.state c.args.self.now.backing) c.args.self.now.kept c.args.caller c.args.now c.args.op.now c.args.self.now.refused.items c.noted-refusal.new.refused.items c.in-Err.refusal c.noted-refusal.result
+    told_at_once (Reply × ℕ) (g.B.Backing.state c.args.self.now.backing) (g.B.Backing.state c.call.new.backing) c.args.self.now.kept c.args.caller c.args.now c.args.op.now c.args.self.now.refused.items c.noted-refusal.new.refused.items c.in-Err.refusal c.noted-refusal.result
     c.in-Err.ensures.at_once c.noted-refusal.ensures.refusal c.noted-refusal.ensures.noted
 
 pub returns-in-Ok-clause-buffered : goal.returns-in-Ok-clause-buffered
@@ -85,3 +85,6 @@ pub returns-in-Ok-clause-cut : goal.returns-in-Ok-clause-cut
 returns-in-Ok-clause-cut g c =
     call_replied (g.B.Backing.state c.args.self.now.backing) (g.B.Backing.state c.call.new.backing) c.args.self.now.kept c.args.caller c.args.now c.args.op.now _
     (done_plain (g.B.Backing.state c.args.self.now.backing) (present (g.B.Backing.state c.args.self.now.backing).tree c.args.self.now.kept) c.args.caller c.args.now c.args.op.now _ c.in-Ok.ensures.done.0 c.args.self.now.ready.sound c.in-Ok.ensures.done.1) c.in-Ok.ensures.cut
+
+pub returns-in-Ok-clause-at_once : goal.returns-in-Ok-clause-at_once
+returns-in-Ok-clause-at_once g c = λ is done out room. (refl, (c.in-Ok.ensures.at_once is done out room).1)
