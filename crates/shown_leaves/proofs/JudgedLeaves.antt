@@ -21,7 +21,7 @@ use Rattle.sound_image.specs.Wrong.{Wrong, differs}
 use Rattle.image_check.specs.FirstLaws.{first_alone, first_of_both, first_same}
 use Rattle.image_check.specs.WrongValues.{IsFirstOf, sooner_of, wrong_at}
 use Rattle.image_check.specs.declared.wrong_value.WrongValue.{WrongValue}
-use Rattle.shown_leaves.specs.Judged.{is_at_source, is_shown_told, judged_of, known_in_place, unlike_told}
+use Rattle.shown_leaves.specs.Judged.{is_at_source, is_shown_told, judged_of, known_in_place, source_in_place, unlike_told}
 use Rattle.tree_check.specs.Places.{number_shown}
 use Rattle.tree_check.specs.Told.{AreShownBy, IsShownBy, shown_told}
 use Rattle.shown_leaves.specs.Sources.{AreSourced, IsReadFrom, HasSource, IsKnownBlock, IsSourced, IsUnlike, IsUnlikeIn, StandsAtLeaf, bytes_of}
@@ -112,6 +112,14 @@ pub known_here : (leaf : SourcedLeaf) (known : KnownBlock) → known_in_place le
 known_here leaf known e = by (is_at_source leaf) refl e
   where
     by : (b : Bool) → is_at_source leaf ≡ b → cond b leaf.block None ≡ Some known → (is_at_source leaf ≡ true) × (leaf.block ≡ Some known)
+    by true h e = (h, e)
+    by false h e = absurd cc
+
+-- where a leaf stands at its source
+pub source_here : (leaf : SourcedLeaf) (source : Source) → source_in_place leaf ≡ Some source → (is_at_source leaf ≡ true) × (leaf.source ≡ Some source)
+source_here leaf source e = by (is_at_source leaf) refl e
+  where
+    by : (b : Bool) → is_at_source leaf ≡ b → cond b leaf.source None ≡ Some source → (is_at_source leaf ≡ true) × (leaf.source ≡ Some source)
     by true h e = (h, e)
     by false h e = absurd cc
 

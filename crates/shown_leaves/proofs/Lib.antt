@@ -8,5 +8,6 @@ pub mod Members
 pub mod Ordered
 pub mod Rights
 pub mod SameLeaves
+pub mod StandingNodes
 pub mod Stored
 pub mod TwoKinds

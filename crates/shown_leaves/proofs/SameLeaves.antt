@@ -1,21 +1,20 @@
 -- Leaves that are there twice.
-use Rattle.std.proofs.Common.{◌≡◌, ◌⊎◌, ℕ, Bool, true, false, cond, ◌&&◌, ◌||◌, List, [], ◌∷◌, ◌++◌, refl, ap, sym, subst, ◌∙◌, inl, inr, Option, Some, None, append_assoc, arith}
-use Rattle.std.specs.Prelude.{◌==◌, IsTrue}
+use Rattle.std.proofs.Common.{◌≡◌, ◌⊎◌, ℕ, ◌<◌, Bool, true, false, cond, ◌&&◌, ◌||◌, List, [], ◌∷◌, ◌++◌, refl, ap, sym, subst, ◌∙◌, inl, inr, Option, Some, None, append_assoc, arith}
+use Rattle.std.specs.Prelude.{◌==◌, IsTrue, length}
 use Rattle.std.specs.BTreeSet.{BTreeSet}
 use Rattle.std.specs.Ordering.{is_eq, nat_cmp, ordering_then}
 use Rattle.std.specs.declared.cmp.Ordering.{Ordering}
 use Rattle.std.specs.declared.cmp.Ordering.TheVariants.{Less, Equal, Greater}
-use Rattle.ubifs_base.specs.Key.{key_words}
 use Rattle.index_tree.specs.Order.{leaf_rank}
 use Rattle.index_tree.specs.Removal.{holds, same_leaf}
 use Rattle.index_tree.specs.declared.leaf.Leaf.{Leaf}
-use Rattle.sound_image.specs.Wrong.{Wrong, differs}
+use Rattle.sound_image.specs.Wrong.{Wrong}
 use Rattle.std.proofs.lemmas.Bool.{false≢true}
 use Rattle.std.proofs.lemmas.Bool.Decides.{nat_tests}
 use Rattle.image_check.specs.FirstLaws.{first_alone, first_of_both, first_same}
 use Rattle.image_check.specs.WrongValues.{IsFirstOf, sooner_of, wrong_at}
 use Rattle.image_check.specs.declared.wrong_value.WrongValue.{WrongValue}
-use Rattle.shown_leaves.specs.Spots.{Spot, has_spot, is_same_spot, spot_of, wrong_leaf}
+use Rattle.shown_leaves.specs.Spots.{AreLeavesApart, IsApartFrom, IsTwiceIn, Spot, has_spot, is_at_one_place, is_same_spot, spot_of, wrong_leaf}
 use Rattle.shown_leaves.proofs.Members.{head_of}
 
 -- ---- the same spot is the same leaf
@@ -71,12 +70,6 @@ pub seen_next : (old new : BTreeSet Spot) (done : List Leaf) (leaf : Leaf) → H
 seen_next old new done leaf before step q = step (spot_of q) ∙ ap (λ t. t || has_spot old (spot_of q)) (same_spot leaf q) ∙ ap (λ t. same_leaf leaf q || t) (before q) ∙ sym (held_end q leaf done)
 
 -- ---- what is there twice
--- one of these leaves has the key and the place of one before it
-abbrev pub IsTwiceIn : List Leaf → Wrong → Type 0
-IsTwiceIn leaves at =
-    (leaf : Leaf) × (before : List Leaf) × (behind : List Leaf) × (leaves ≡ before ++ (leaf ∷ behind)) × IsTrue (holds leaf before)
-    × (at ≡ record { lnum = leaf.lnum; offs = leaf.offs; misfit = differs (key_words leaf.key).0 0 })
-
 -- a leaf behind others is the last, or stands before it
 split_end : (done : List Leaf) (last leaf : Leaf) (before behind : List Leaf) → done ++ last ∷ [] ≡ before ++ (leaf ∷ behind)
     → ((done ≡ before) × (last ≡ leaf)) ⊎ ((rest : List Leaf) × (done ≡ before ++ (leaf ∷ rest)))
@@ -123,3 +116,53 @@ twice_again done last first next e held h =
 -- and a new one
 pub twice_new : (done : List Leaf) (last : Leaf) (first : Option WrongValue) → holds last done ≡ false → IsFirstOf (IsTwiceIn done) first → IsFirstOf (IsTwiceIn (done ++ last ∷ [])) first
 twice_new done last first new h = first_same (IsTwiceIn done) (IsTwiceIn (done ++ last ∷ [])) first (λ at w. twice_of done last at (inl w)) (λ at w. elim (of_twice done last at w) [ inl old ↦ old | inr again ↦ absurd (false≢true (sym new ∙ again.0)) ]) h
+
+-- ---- leaves of which none is there twice
+through : (a b c : ℕ) → a < b → b < c → a < c
+through a b c h k = omega arith
+
+unlike_ranks : (a b : ℕ) → a < b → (a == b) ≡ false
+unlike_ranks a b h = grind (arith, nat_tests)
+
+never_both : (a b : Bool) → b ≡ false → cond a b false ≡ false
+never_both true b h = h
+never_both false b h = refl
+
+nested : (b c d : Bool) → (b && (c && d)) ≡ cond b (cond c d false) false
+nested true true d = refl
+nested true false d = refl
+nested false c d = refl
+
+lesser_key : (x y : Leaf) → leaf_rank x < leaf_rank y → same_leaf x y ≡ false
+unfolding same_leaf
+lesser_key x y h = ap (λ (t : Bool). cond t (cond (x.lnum == y.lnum) (cond (x.offs == y.offs) (x.len == y.len) false) false) false) (unlike_ranks (leaf_rank x) (leaf_rank y) h)
+
+other_place : (x y : Leaf) → is_at_one_place x y ≡ false → same_leaf x y ≡ false
+unfolding same_leaf
+other_place x y h =
+    never_both (leaf_rank x == leaf_rank y) (cond (x.lnum == y.lnum) (cond (x.offs == y.offs) (x.len == y.len) false) false)
+    (sym (nested (x.lnum == y.lnum) (x.offs == y.offs) (x.len == y.len)) ∙ h)
+
+-- what stands behind a greater key has a greater one
+further : (x y : Leaf) (before : List Leaf) (leaf : Leaf) (behind : List Leaf) → leaf_rank x < leaf_rank y → IsApartFrom y (before ++ (leaf ∷ behind)) → AreLeavesApart (before ++ (leaf ∷ behind)) → leaf_rank x < leaf_rank leaf
+further x y [] leaf behind l (inl a) g = through (leaf_rank x) (leaf_rank y) (leaf_rank leaf) l a
+further x y [] leaf behind l (inr a) g = subst (λ (n : ℕ). leaf_rank x < n) a.0 l
+further x y (z ∷ before) leaf behind l (inl a) g = further x z before leaf behind (through (leaf_rank x) (leaf_rank y) (leaf_rank z) l a) g.0 g.1
+further x y (z ∷ before) leaf behind l (inr a) g = further x z before leaf behind (subst (λ (n : ℕ). leaf_rank x < n) a.0 l) g.0 g.1
+
+apart_one : (x : Leaf) (before : List Leaf) (leaf : Leaf) (behind : List Leaf) → IsApartFrom x (before ++ (leaf ∷ behind)) → AreLeavesApart (before ++ (leaf ∷ behind)) → same_leaf x leaf ≡ false
+apart_one x [] leaf behind (inl less) g = lesser_key x leaf less
+apart_one x [] leaf behind (inr a) g = other_place x leaf a.1
+apart_one x (y ∷ before) leaf behind (inl less) g = lesser_key x leaf (further x y before leaf behind less g.0 g.1)
+apart_one x (y ∷ before) leaf behind (inr a) g = apart_one x before leaf behind a.2 g.1
+
+once : (before : List Leaf) (leaf : Leaf) (behind : List Leaf) → AreLeavesApart (before ++ (leaf ∷ behind)) → holds leaf before ≡ false
+once [] leaf behind g = refl
+once (x ∷ before) leaf behind g = ap (λ (t : Bool). cond t true (holds leaf before)) (apart_one x before leaf behind g.0 g.1) ∙ once before leaf behind g.1
+
+pub none_twice : (leaves : List Leaf) → AreLeavesApart leaves → IsFirstOf (IsTwiceIn leaves) None
+none_twice leaves apart at (leaf, before, behind, e, held, is) = false≢true (sym (once before leaf behind (subst AreLeavesApart e apart)) ∙ held)
+
+pub none_apart : (leaves : List Leaf) → length leaves ≡ 0 → AreLeavesApart leaves
+none_apart [] h = tt
+none_apart (x ∷ leaves) h = absurd (omega (arith, h))

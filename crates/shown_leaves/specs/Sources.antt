@@ -1,5 +1,5 @@
 -- Where the nodes of leaves were read, and which leaves don't show what stands at their places.
-use Rattle.std.specs.Prelude.{◌≡◌, ⊤, ℕ, List, [], ◌∷◌, Option, Some, None, take, drop}
+use Rattle.std.specs.Prelude.{◌≡◌, ⊤, ℕ, ◌+◌, ◌<◌, ◌≤◌, List, [], ◌∷◌, length, Option, Some, None, take, drop}
 use Rattle.leaf_map.specs.Kept.{Kept, Placed}
 use Rattle.leaf_map.specs.Recovered.{stand_in}
 use Rattle.media_leaf.specs.LeafNode.{IsLeafNode, LeafNode, block}
@@ -8,6 +8,7 @@ use Rattle.sound_image.specs.Leaves.{IsPlacedIn}
 use Rattle.sound_image.specs.Tree.{ShowsItsNode}
 use Rattle.sound_image.specs.Wrong.{IsOneOf, Wrong, differs}
 use Rattle.index_tree.specs.declared.leaf.Leaf.{Leaf}
+use Rattle.ubi_volume.specs.Volume.{VolumeState}
 use Rattle.shown_leaves.specs.declared.sourced_leaf.KnownBlock.{KnownBlock}
 use Rattle.shown_leaves.specs.declared.sourced_leaf.Source.{Source}
 use Rattle.shown_leaves.specs.declared.sourced_leaf.SourcedLeaf.{SourcedLeaf}
@@ -17,6 +18,13 @@ pub record IsReadFrom (source : Source) (node : Placed) : Type 0 where
   pub lnum : node.lnum ≡ source.lnum
   pub offs : node.offs ≡ source.offs
   pub len : node.len ≡ source.len
+
+-- a place lies in the volume, and is no longer than any leaf node
+pub record IsPlaceIn (state : VolumeState) (source : Source) : Type 0 where
+  pub lnum : source.lnum < state.leb_cnt
+  pub range : source.offs + source.len ≤ state.leb_size
+  pub room : source.offs + source.len ≤ length (state.holds source.lnum)
+  pub most : source.len ≤ 4256
 
 -- a leaf's node stands where it was read; without a source it is what stands in for it
 abbrev pub HasSource : (ℕ → List ℕ) → Kept → Option Source → Type 0

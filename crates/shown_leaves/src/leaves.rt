@@ -1,6 +1,6 @@
 // What leaves show, and which of them don't show what stands at their places.
 
-ghost use Rattle.std.specs.Prelude.{◌≡◌, ◌↔◌, All, IfNone, IfOk, IsTrue, List, Some};
+ghost use Rattle.std.specs.Prelude.{◌≡◌, ◌↔◌, All, IfNone, IfOk, IsTrue, List, Some, length};
 ghost use Rattle.std.specs.Option.{option_map};
 ghost use Rattle.leaf_map.specs.Kept.{Kept};
 ghost use Rattle.ubi_volume.specs.Volume.{Keeps, SameShape};
@@ -10,14 +10,15 @@ ghost use Rattle.image_check.specs.WrongValues.{IsFirstOf};
 ghost use Rattle.tree_check.specs.Told.{AreShownBy, IsShownBy};
 ghost use Rattle.tree_check.specs.declared.shown_leaf.Shown.TheVariants.{Block};
 ghost use Rattle.shown_leaves.specs.Sources.{AreSourced, IsSourced, IsUnlike, IsUnlikeIn, StandsAtLeaf};
-ghost use Rattle.shown_leaves.specs.Judged.{is_at_source, judged_of, known_in_place};
+ghost use Rattle.shown_leaves.specs.Judged.{is_at_source, judged_of, known_in_place, source_in_place};
 ghost use Rattle.shown_leaves.specs.Stored.{leaf_node};
 
 use crate::key_order::number_of;
 use crate::reading::read_node;
 use crate::shown::{is_leaf_shown, shown_of};
 use crate::shown_leaves::ShownLeaves;
-use crate::sourced_leaf::{KnownBlock, SourcedLeaf};
+use crate::sourced_leaf::{KnownBlock, Source, SourcedLeaf};
+use crate::standing::{MOST_BYTES, read_standing};
 use crate::standing_in::stand_in;
 use crate::stored_node::{StoredNode, is_same_node};
 use image_check::{WrongValue, sooner};
@@ -36,7 +37,7 @@ struct JudgedLeaf {
 /// What leaves of a recovered index show (the node table of ubifs-media.h), and the first of them that doesn't show what stands at its
 /// place: an inode of a known kind, a block or a name (`dbg_check_filesystem` of Linux fs/ubifs reads each leaf's node). Each leaf's
 /// node stands where it was read; without a source it is what stands in for it. A leaf that stands where its node was read takes one
-/// read, another one two; a block that is known and stands there takes none. Places may lie outside the volume. Takes memory for a node's bytes and for what is shown.
+/// read, another one two; a block that is known and stands there takes none. Places may lie outside the volume. Takes memory for two nodes' bytes and for what is shown.
 pub fn read_shown<V: Volume>(
     alloc: Global,
     volume: &mut V,
@@ -49,11 +50,30 @@ pub fn read_shown<V: Volume>(
     ensures cause { HasAreaCause (V.state volume.old).faults (V.state volume.new).faults result }
     ensures sure { StaysSureArea (V.state volume.old) (V.state volume.new) result }
 {
+    let mut buffer = vec![in alloc; 0; MOST_BYTES as usize]?;
+    read_all(alloc, volume, leaves, &mut buffer)
+}
+
+// The same, with room for any leaf node.
+fn read_all<V: Volume>(
+    alloc: Global,
+    volume: &mut V,
+    leaves: &[SourcedLeaf],
+    buffer: &mut [u8],
+) -> Result<ShownLeaves, AreaFault>
+    requires room { length buffer.old ≡ 4256 }
+    ensures shown { IfOk result (λ made. (kept : List Kept) → AreSourced (V.state volume.old).holds kept leaves.now → AreShownBy kept made.leaves.items) }
+    ensures unlike { IfOk result (λ made. (kept : List Kept) → AreSourced (V.state volume.old).holds kept leaves.now → IsFirstOf (IsUnlikeIn (V.state volume.old).holds kept) made.unlike) }
+    ensures all { IfOk result (λ made. (kept : List Kept) → AreSourced (V.state volume.old).holds kept leaves.now → IfNone made.unlike (All (ShowsItsNode (V.state volume.old).holds) kept)) }
+    ensures keeps { Keeps (V.state volume.old) (V.state volume.new) × SameShape (V.state volume.old) (V.state volume.new) }
+    ensures cause { HasAreaCause (V.state volume.old).faults (V.state volume.new).faults result }
+    ensures sure { StaysSureArea (V.state volume.old) (V.state volume.new) result }
+{
     let mut shown = Vec::new(alloc);
     let mut unlike = None;
     let mut left = leaves;
     'reading: while let Some((leaf, rest)) = left.split_first() {
-        let one = judge_leaf(alloc, volume, leaf)?;
+        let one = judge_leaf(alloc, volume, leaf, buffer)?;
         unlike = sooner(unlike, one.unlike);
         shown.push(one.leaf)?;
         left = rest;
@@ -69,7 +89,10 @@ fn judge_leaf<V: Volume>(
     alloc: Global,
     volume: &mut V,
     leaf: &SourcedLeaf,
+    buffer: &mut [u8],
 ) -> Result<JudgedLeaf, AreaFault>
+    requires room { length buffer.old ≡ 4256 }
+    ensures len { length buffer.new ≡ length buffer.old }
     ensures judged { IfOk result (λ one. (x : Kept) → IsSourced (V.state volume.old).holds x leaf.now → IsShownBy x one.leaf × IsFirstOf (IsUnlike (V.state volume.old).holds x) one.unlike × IfNone one.unlike (ShowsItsNode (V.state volume.old).holds x)) }
     ensures keeps { Keeps (V.state volume.old) (V.state volume.new) }
     ensures shape { SameShape (V.state volume.old) (V.state volume.new) }
@@ -78,11 +101,33 @@ fn judge_leaf<V: Volume>(
 {
     match known_in_place(leaf) {
         Some(known) => Ok(judged(leaf, known_shown(known), true)),
-        None => judge_read(alloc, volume, leaf),
+        None => judge_unknown(alloc, volume, leaf, buffer),
     }
 }
 
-// One that is read.
+// One that is read: once if it stands where its node was read.
+fn judge_unknown<V: Volume>(
+    alloc: Global,
+    volume: &mut V,
+    leaf: &SourcedLeaf,
+    buffer: &mut [u8],
+) -> Result<JudgedLeaf, AreaFault>
+    requires room { length buffer.old ≡ 4256 }
+    ensures len { length buffer.new ≡ length buffer.old }
+    ensures judged { IfOk result (λ one. (x : Kept) → IsSourced (V.state volume.old).holds x leaf.now → IsShownBy x one.leaf × IsFirstOf (IsUnlike (V.state volume.old).holds x) one.unlike × IfNone one.unlike (ShowsItsNode (V.state volume.old).holds x)) }
+    ensures keeps { Keeps (V.state volume.old) (V.state volume.new) }
+    ensures shape { SameShape (V.state volume.old) (V.state volume.new) }
+    ensures cause { HasAreaCause (V.state volume.old).faults (V.state volume.new).faults result }
+    ensures sure { StaysSureArea (V.state volume.old) (V.state volume.new) result }
+{
+    let Some(source) = source_in_place(leaf) else {
+        return judge_read(alloc, volume, leaf);
+    };
+    let shown = read_standing(alloc, volume, source, buffer)?;
+    Ok(judged(leaf, shown, true))
+}
+
+// One that stands elsewhere.
 fn judge_read<V: Volume>(
     alloc: Global,
     volume: &mut V,
@@ -155,6 +200,17 @@ fn is_at_source(leaf: &SourcedLeaf) -> bool
                 && source.len == leaf.leaf.len
         }
         None => false,
+    }
+}
+
+// Where a leaf stands, if its node was read there.
+fn source_in_place(leaf: &SourcedLeaf) -> Option<Source>
+    ensures { result ≡ source_in_place leaf.now }
+{
+    if is_at_source(leaf) {
+        leaf.source
+    } else {
+        None
     }
 }
 

@@ -1,8 +1,8 @@
 //! What do the leaves of a recovered index show, and which of them, and which of the collector's copies, aren't what they should be?
 //!
 //! Of the rule on the tree (`HasTree` of sound_image) these are the parts that need a node's whole content, which no index keeps. So
-//! nodes are read again, each where it was found. A leaf that stands where its node was read takes one read. One that stands
-//! elsewhere, as at a copy, takes two, and node is compared with node, since ignored bytes of the medium may differ. A copy is compared
+//! nodes are read again, each where it was found. A leaf that stands where its node was read takes one read and no checksum. One that
+//! stands elsewhere, as at a copy, takes two, and node is compared with node, since ignored bytes of the medium may differ. A copy is compared
 //! with the own nodes of those committed leaves alone that have its key. The idea: bytes are at most one node, so what is read at a
 //! place is the node that stands there. The invariant of each walk: what was told so far is what holds of the leaves so far.
 #![tactic(auto)]
@@ -15,6 +15,7 @@ mod reading;
 mod shown;
 mod shown_leaves;
 mod sourced_leaf;
+mod standing;
 mod standing_in;
 mod stored_node;
 mod twice;

@@ -1,8 +1,8 @@
-use Rattle.std.proofs.Common.{sym}
+use Rattle.std.proofs.Common.{sym, ◌∙◌}
 use Rattle.shown_leaves.proofs.JudgedLeaves.{all_right, all_told, judged_moved, sourced_moved, told_next}
 use Rattle.shown_leaves.proofs.Kept.{kept_next, sure_of_area}
 use Rattle.shown_leaves.proofs.Members.{no_left}
-use Rattle.shown_leaves.proofs.leaves.read_shown.Goals as goal
+use Rattle.shown_leaves.proofs.leaves.read_all.Goals as goal
 
 pub reading-preserved : goal.reading-preserved
 reading-preserved g c =
@@ -14,6 +14,7 @@ reading-preserved g c =
     let one = c.in_ok-one.one in
     let leaf = c.in-Some.leaf.now in
     record {
+      room = c.judge_leaf.ensures.len ∙ i.room;
       kept = kept_next old now new i.kept c.judge_leaf.ensures.keeps c.judge_leaf.ensures.shape c.in_ok-one.ensures.cause (sure_of_area now new c.judge_leaf.result c.judge_leaf.ensures.sure);
       told = λ kept sourced. told_next old.holds kept c.reading.left.now c.in-Some.rest.now leaf c.reading.shown.items c.push.new.self.items one.leaf c.reading.unlike one.unlike c.sooner-unlike.result c.in-Some.ensures.cases.0 c.in_ok-push.ensures.items c.sooner-unlike.ensures
           (λ x s. let j = c.in_ok-one.ensures.judged x (sourced_moved old.holds now.holds same x leaf s) in judged_moved now.holds old.holds (λ k. sym (same k)) x one.leaf one.unlike (record { shows = j.0; first = j.1; right = j.2 }))

@@ -1,8 +1,9 @@
 use Rattle.std.proofs.Common.{◌≡◌, ◌++◌, List, length}
 use Rattle.index_tree.specs.declared.leaf.Leaf.{Leaf}
 use Rattle.image_check.specs.WrongValues.{IsFirstOf}
-use Rattle.shown_leaves.proofs.SameLeaves.{HasSeen, IsTwiceIn}
-use Rattle.shown_leaves.proofs.twice.first_twice.Given as goal
+use Rattle.shown_leaves.proofs.SameLeaves.{HasSeen}
+use Rattle.shown_leaves.specs.Spots.{IsTwiceIn}
+use Rattle.shown_leaves.proofs.twice.first_seen.Given as goal
 
 -- the leaves so far were seen, and of those of them that are there twice the first is kept
 abbrev pub invariant-seeing : goal.invariant-seeing
