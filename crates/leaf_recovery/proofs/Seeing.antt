@@ -19,7 +19,7 @@ use Rattle.leaf_recovery.specs.Seen.{cut_seen, has_seen}
 use Rattle.leaf_recovery.specs.Things.{shows_told}
 
 -- ---- keys of a map
-at_same : {K : Type 0} (cmp : K → K → Ordering) → IsOrder cmp → (a b : K) → is_at (cmp a) b ≡ true → a ≡ b
+pub at_same : {K : Type 0} (cmp : K → K → Ordering) → IsOrder cmp → (a b : K) → is_at (cmp a) b ≡ true → a ≡ b
 at_same cmp order a b h = by (cmp a b) refl h
   where
     by : (o : Ordering) → cmp a b ≡ o → is_eq o ≡ true → a ≡ b
@@ -27,7 +27,7 @@ at_same cmp order a b h = by (cmp a b) refl h
     by Equal e t = order.exact a b e
     by Greater e t = absurd (false≢true t)
 
-at_itself : {K : Type 0} (cmp : K → K → Ordering) → IsOrder cmp → (a b : K) → a ≡ b → is_at (cmp a) b ≡ true
+pub at_itself : {K : Type 0} (cmp : K → K → Ordering) → IsOrder cmp → (a b : K) → a ≡ b → is_at (cmp a) b ≡ true
 at_itself {K} cmp order a b e = subst (λ (z : K). is_at (cmp a) z ≡ true) e (ap is_eq (order.same a))
 
 -- a test that holds of a key alone is that of the map

@@ -3,6 +3,7 @@ pub mod Found
 pub mod Lost
 pub mod Moved
 pub mod Named
+pub mod Ranked
 pub mod Recovery
 pub mod Repeated
 pub mod Seen

@@ -60,7 +60,7 @@ fn is_idle(kept: &[RecoveredLeaf], content: &NodeContent) -> bool
     }
 }
 
-fn has_inode(kept: &[RecoveredLeaf], ino: u32) -> bool
+pub(crate) fn has_inode(kept: &[RecoveredLeaf], ino: u32) -> bool
     ensures { result ≡ has_inode_told kept.now ino }
 {
     for leaf in kept {
@@ -72,14 +72,14 @@ fn has_inode(kept: &[RecoveredLeaf], ino: u32) -> bool
 }
 
 // Drops the leaves that a node makes obsolete.
-fn drop_ended(kept: &mut Vec<RecoveredLeaf>, content: &NodeContent)
+pub(crate) fn drop_ended(kept: &mut Vec<RecoveredLeaf>, content: &NodeContent)
     ensures { kept.new.items ≡ without_ended content.now kept.old.items }
 {
     kept.retain(|leaf| !ends(content, &leaf.content));
 }
 
 // Puts a leaf in the place of the one that its node makes obsolete, or else behind all leaves whose key isn't greater.
-fn put_leaf(
+pub(crate) fn put_leaf(
     kept: &mut Vec<RecoveredLeaf>,
     content: &NodeContent,
     new: RecoveredLeaf,

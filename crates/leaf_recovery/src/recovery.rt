@@ -6,7 +6,7 @@ ghost use Rattle.leaf_recovery.specs.Applied.{leaves_left_told};
 ghost use Rattle.leaf_recovery.specs.Recovery.{empty_names_told, missing_told, recovered_told, repeated_told};
 ghost use Rattle.leaf_recovery.specs.Told.{AreTold, IsRecoveredFrom};
 
-use crate::applied::apply_nodes;
+use crate::after_nodes::leaves_after;
 use crate::copies::spare_copies;
 use crate::found::find_leaves;
 use crate::lost::{empty_leaves, missing_leaves};
@@ -23,8 +23,9 @@ use ubifs_base::Memory;
 /// What recovery makes of the committed leaves in order with what stands at the place of each, the references of the log, the nodes
 /// of the journal in order of number, the collector's copies in order of the log, and the list of orphans (Hunter 2008, "The journal";
 /// `ubifs_replay_journal` of Linux fs/ubifs). Nothing is asked of them but that they are told of nodes of the grammar. It takes
-/// memory for a fixed multiple of what is given; the error is want of it. For each node, each copy and each listed inode all leaves are
-/// looked at, and for each leaf all references; where there is none of them, a leaf takes a look-up in a map.
+/// memory for a fixed multiple of what is given; the error is want of it. Of n leaves in the order of their keys m nodes take work that
+/// grows as (n + m) log n; if the leaves aren't, or many of one key are, it may grow as n times m. For each copy and each listed inode
+/// all leaves are looked at, and for each leaf all references; where there is none of them, a leaf takes look-ups in maps.
 pub fn recover(
     alloc: Global,
     committed: &[CommittedLeaf],
@@ -85,8 +86,7 @@ fn leaves_left(
 ) -> Result<Vec<RecoveredLeaf>, Memory>
     ensures { IfOk result (λ left. left.items ≡ leaves_left_told found.items nodes.now listed.now) }
 {
-    let mut kept = found;
-    apply_nodes(alloc, &mut kept, nodes)?;
+    let mut kept = leaves_after(alloc, found, nodes)?;
     drop_listed(&mut kept, listed);
     Ok(kept)
 }

@@ -188,7 +188,7 @@ pub(crate) fn ends(one: &NodeContent, other: &NodeContent) -> bool
 }
 
 // The inode number of a key.
-fn number_of(key: &Key) -> u32
+pub(crate) fn number_of(key: &Key) -> u32
     ensures { result ≡ (key_words key.now).0 }
 {
     match *key {
