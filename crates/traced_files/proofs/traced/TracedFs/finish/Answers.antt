@@ -12,9 +12,10 @@ returns-clause-history g c =
     let i = c.self.invariant.0 in
     let old = files_state c.self.inside.credited.fs in
     let new = files_state c.finish.result in
-    subst (λ (x : TracedState). IsClosedHistory g.J.Site.start x.trace new (g.B.Backing.outlook c.finish.result.backing)) c.self.view_is
-    (history_credits (opened_at g.J.Site.start) g.J.Site.start.files.refused c.self.inside.trace.items old new c.finish.ensures.only i.history,
-    sure_on g.J.Site.start old.backing new.backing (g.B.Backing.outlook c.self.inside.credited.fs.backing) (g.B.Backing.outlook c.finish.result.backing) i.sure c.finish.ensures.sure)
+    subst (λ (x : TracedState). IsClosedHistory g.J.Site.start x.trace new (g.B.Backing.outlook c.finish.result.backing)) c.self.view_is (
+      history_credits (opened_at g.J.Site.start) g.J.Site.start.files.refused c.self.inside.trace.items old new c.finish.ensures.only i.history,
+      sure_on g.J.Site.start old.backing new.backing (g.B.Backing.outlook c.self.inside.credited.fs.backing) (g.B.Backing.outlook c.finish.result.backing) i.sure c.finish.ensures.sure,
+    )
 
 pub returns-clause-legal : goal.returns-clause-legal
 returns-clause-legal g c =
