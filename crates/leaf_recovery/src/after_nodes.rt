@@ -17,7 +17,7 @@ use std::collections::BTreeMap;
 use ubifs_base::Memory;
 
 // For so many nodes no map is made.
-const FEW_NODES: usize = 16;
+const FEW_NODES: usize = 128;
 
 // The leaves after nodes. If there are many, and the leaves stand in the order of their keys, each node takes look-ups.
 pub(crate) fn leaves_after(
