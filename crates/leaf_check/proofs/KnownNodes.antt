@@ -1,7 +1,6 @@
--- Nodes of blocks and of names need no feature.
-use Rattle.std.proofs.Common.{◌≡◌, ℕ, Bool, true, false, List, inl, inr, length, drop, ap, sym, ◌∙◌, subst, arith, take_all}
-use Rattle.std.specs.Prelude.{if◌then◌else◌}
-use Rattle.std.proofs.lemmas.Bool.{false≢true}
+-- Which leaf nodes need a feature that isn't known here.
+use Rattle.std.proofs.Common.{◌≡◌, ℕ, ◌<◌, ◌≤◌, Bool, true, false, List, inl, inr, length, drop, length-drop, drop-drop, refl, ap, sym, ◌∙◌, subst, arith, take_all, bit_and}
+use Rattle.std.specs.Prelude.{◌≢◌, if◌then◌else◌}
 use Rattle.byteorder.specs.Endian.{little_number}
 use Rattle.ubifs_base.specs.Node.{IsNode}
 use Rattle.ubifs_base.specs.NodeLaws.{IsBytes, has_head}
@@ -12,8 +11,8 @@ use Rattle.node_fields.specs.FieldLaws.{reads_back}
 use Rattle.node_fields.specs.FormLaws.{body_in}
 use Rattle.media_leaf.specs.LeafNode.{LeafNode, IsLeafNode, block, entry, fields_of, inode, leaf_form, tail_of, truncation, type_of}
 use Rattle.leb_scan.specs.Text.{leaf_type}
-use Rattle.sound_image.specs.Frames.{HasFrameAt, IsKnownAt}
-use Rattle.leaf_check.specs.NodeKeys.{may_need}
+use Rattle.media_sys.specs.declared.feature.Feature.TheVariants.{Attributes}
+use Rattle.sound_image.specs.Frames.{HasAttributes, HasFrameAt, IsKnownAt}
 use Rattle.leaf_check.proofs.SoundLeaves.{front_len}
 use Rattle.leaf_check.proofs.WholeLeaves.{leaf_numbered}
 
@@ -45,6 +44,21 @@ module _ (bytes : List ℕ) (fits : IsBytes bytes) (sqnum group : ℕ) (node : L
   plain no_inode no_attribute stored what (inr (e, body, inl frame)) = not_framed types.Attribute body (λ same. no_attribute (sym same)) frame
   plain no_inode no_attribute stored what (inr (e, body, inr (frame, has))) = not_framed types.Inode body (λ same. no_inode (sym same)) frame
 
+  -- an inode, of which its body tells it
+  inode_plain : type_of node ≡ 0 → (HasAttributes (drop 24 bytes) → ⊥) → IsKnownAt bytes 0
+  inode_plain number none what (inl (e, body, frame, compressed)) = not_framed types.Data body (λ same. omega (arith, number, same)) frame
+  inode_plain number none what (inr (e, body, inl frame)) = not_framed types.Attribute body (λ same. omega (arith, number, same)) frame
+  inode_plain number none what (inr (e, body, inr (frame, has))) = let P : List ℕ → Type 0 = λ b. HasAttributes b in none (subst P (sym (frame_is types.Inode body frame).1) has)
+
+  inode_unknown : type_of node ≡ 0 → HasAttributes (drop 24 bytes) → IsKnownAt bytes 0 → ⊥
+  inode_unknown number has known =
+      let head = has_head bytes is.body sqnum (type_of node) group fits is.framed in
+      let P : ℕ → Type 0 = λ type. IsNode bytes sqnum type group is.body in
+      let Q : List ℕ → Type 0 = λ body. IsNode bytes sqnum 0 group body in
+      let R : List ℕ → Type 0 = λ b. IsNode b sqnum 0 group (drop 24 bytes) in
+      let framed = subst R (sym (take_all (length bytes) bytes (omega arith))) (subst Q (sym head.1) (subst P number is.framed)) in
+      known Attributes (inr (refl, drop 24 bytes, inr (record { len = length bytes; sqnum = sqnum; group = group; room = omega arith; framed = framed }, has)))
+
 -- an entry is no block
 no_data : (b : Bool) → type_number types.Data ≡ type_number (if b then types.Attribute else types.Entry) → ⊥
 no_data true f = absurd (omega (arith, f))
@@ -68,17 +82,35 @@ entry_known bytes sqnum group node fits h type =
     let number : type_of node ≡ 2 = leaf_numbered node ∙ ap type_number (sym type) in
     plain bytes fits sqnum group node h (λ e. absurd (omega (arith, e, number))) (λ e. absurd (omega (arith, e, number))) (λ e. absurd (omega (arith, e, number)))
 
--- a node of a type that needs none
-pub plain_known : (bytes : List ℕ) (sqnum group : ℕ) (node : LeafNode) (kind : NodeType) → IsBytes bytes → IsLeafNode bytes sqnum group node → kind ≡ leaf_type node → may_need kind ≡ false → IsKnownAt bytes 0
-plain_known bytes sqnum group node types.Data fits h e none = block_known bytes sqnum group node fits h e
-plain_known bytes sqnum group node types.Entry fits h e none = entry_known bytes sqnum group node fits h e
-plain_known bytes sqnum group node types.Inode fits h e none = absurd (false≢true (sym none))
-plain_known bytes sqnum group node types.Attribute fits h e none = absurd (false≢true (sym none))
-plain_known bytes sqnum group node types.Truncation fits h e none = absurd (false≢true (sym none))
-plain_known bytes sqnum group node types.Padding fits h e none = absurd (false≢true (sym none))
-plain_known bytes sqnum group node types.Superblock fits h e none = absurd (false≢true (sym none))
-plain_known bytes sqnum group node types.Master fits h e none = absurd (false≢true (sym none))
-plain_known bytes sqnum group node types.Reference fits h e none = absurd (false≢true (sym none))
-plain_known bytes sqnum group node types.Index fits h e none = absurd (false≢true (sym none))
-plain_known bytes sqnum group node types.CommitStart fits h e none = absurd (false≢true (sym none))
-plain_known bytes sqnum group node types.Orphans fits h e none = absurd (false≢true (sym none))
+-- an inode needs one if its body says that it has attributes
+pub inode_known : (bytes : List ℕ) (sqnum group : ℕ) (node : LeafNode) → IsBytes bytes → IsLeafNode bytes sqnum group node → types.Inode ≡ leaf_type node → (HasAttributes (drop 24 bytes) → ⊥) → IsKnownAt bytes 0
+inode_known bytes sqnum group node fits h type none = inode_plain bytes fits sqnum group node h (leaf_numbered node ∙ ap type_number (sym type)) none
+
+pub inode_needed : (bytes : List ℕ) (sqnum group : ℕ) (node : LeafNode) → IsBytes bytes → IsLeafNode bytes sqnum group node → types.Inode ≡ leaf_type node → HasAttributes (drop 24 bytes) → IsKnownAt bytes 0 → ⊥
+inode_needed bytes sqnum group node fits h type has = inode_unknown bytes fits sqnum group node h (leaf_numbered node ∙ ap type_number (sym type)) has
+
+-- ---- what an inode's numbers tell
+body_long : (bytes : List ℕ) → 160 ≤ length bytes → 136 ≤ length (drop 24 bytes)
+body_long bytes long = let less = length-drop 24 bytes in omega (arith, long, less)
+
+pub too_short : (bytes : List ℕ) → length bytes < 160 → HasAttributes (drop 24 bytes) → ⊥
+too_short bytes short has = let long = has.long in let less = length-drop 24 bytes in omega (arith, long, less, short)
+
+module _ (bytes : List ℕ) (flags number : ℕ) (f : flags ≡ little_number 4 (drop 108 bytes)) (n : number ≡ little_number 4 (drop 116 bytes)) where
+  flags_there : flags ≡ little_number 4 (drop 84 (drop 24 bytes))
+  flags_there = f ∙ ap (little_number 4) (sym (drop-drop 84 24 bytes))
+
+  number_there : number ≡ little_number 4 (drop 92 (drop 24 bytes))
+  number_there = n ∙ ap (little_number 4) (sym (drop-drop 92 24 bytes))
+
+  pub is_attribute : 160 ≤ length bytes → bit_and flags 0x20 ≢ 0 → HasAttributes (drop 24 bytes)
+  is_attribute long set = let P : ℕ → Type 0 = λ k. bit_and k 0x20 ≢ 0 in record { long = body_long bytes long; some = inl (subst P flags_there set) }
+
+  pub has_some : 160 ≤ length bytes → 0 < number → HasAttributes (drop 24 bytes)
+  has_some long more = let P : ℕ → Type 0 = λ k. 0 < k in record { long = body_long bytes long; some = inr (subst P number_there more) }
+
+  pub has_none : bit_and flags 0x20 ≡ 0 → number ≡ 0 → HasAttributes (drop 24 bytes) → ⊥
+  has_none clear none has = elim has.some [
+    | inl set ↦ set (ap (λ (k : ℕ). bit_and k 0x20) (sym flags_there) ∙ clear)
+    | inr more ↦ let zero = sym number_there ∙ none in omega (arith, zero, more)
+  ]

@@ -1,5 +1,5 @@
 -- The key of a leaf node, by its type and the words in it.
-use Rattle.std.specs.Prelude.{ℕ, Bool, true, false, Option, Some, None}
+use Rattle.std.specs.Prelude.{ℕ, Option, Some, None}
 use Rattle.ubifs_base.specs.declared.key.Key.{Key}
 use Rattle.ubifs_base.specs.declared.key.Key.TheVariants.{Ino, Block, Dent, Xent}
 use Rattle.ubifs_base.specs.declared.node_type.NodeType.{NodeType}
@@ -12,9 +12,3 @@ key_by types.Data first value = Some (Block first value)
 key_by types.Entry first value = Some (Dent first value)
 key_by types.Attribute first value = Some (Xent first value)
 key_by other first value = None
-
--- whether a leaf node of this type may need a feature that isn't known here
-abbrev pub may_need : NodeType → Bool
-may_need types.Data = false
-may_need types.Entry = false
-may_need other = true

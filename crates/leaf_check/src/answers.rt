@@ -68,8 +68,8 @@ fn nothing_at(leaf: &Leaf) -> LeafAnswer
     }
 }
 
-// What is told of a leaf at whose place the bytes are this leaf node, all of them. Its checksum isn't computed again for a block or a
-// name.
+// What is told of a leaf at whose place the bytes are this leaf node, all of them. Its checksum isn't computed again for an inode, a
+// block or a name.
 fn answer_of(alloc: Global, leaf: &Leaf, found: Found, bytes: &[u8]) -> Result<LeafAnswer, Memory>
     requires node { (node : LeafNode) × IsWholeOf bytes.now found node }
     requires len { length bytes.now < 2 ^ 32 }

@@ -68,15 +68,21 @@ pub(crate) fn read_bytes<V: Volume>(
     })
 }
 
+// What new room is filled with.
+const ZEROS: [u8; 4256] = [0; 4256];
+
 // Room for so many bytes: the last of the spare ones, or one of its own.
 fn room_of(alloc: Global, len: usize, spare: &mut Vec<Vec<u8>>) -> Result<Vec<u8>, Memory>
+    requires { len ≤ 4256 }
     ensures { IfOk result (λ room. length room.items ≡ len) }
 {
     let mut room = match spare.pop() {
         Some(room) => room,
         None => Vec::new(alloc),
     };
-    room.resize(len, 0)?;
+    room.truncate(len);
+    let more = len - room.len();
+    room.extend_from_slice(ZEROS.split_at(more).0)?;
     Ok(room)
 }
 

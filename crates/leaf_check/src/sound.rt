@@ -1,15 +1,16 @@
 // Whether a leaf is sound.
 
-ghost use Rattle.std.specs.Prelude.{◌≡◌, ◌<◌, ◌^◌, ◌↔◌, IfOk, IsFalse, IsTrue, Some, length};
+ghost use Rattle.std.specs.Prelude.{◌≡◌, ◌<◌, ◌^◌, ◌↔◌, ℕ, IfOk, IsFalse, IsTrue, Some, length};
 ghost use Rattle.ubifs_base.specs.RawOf.{raw_of};
+ghost use Rattle.ubifs_base.specs.declared.node_type.NodeType.TheVariants as types;
 ghost use Rattle.ubi_volume.specs.Volume.{Keeps, SameShape};
 ghost use Rattle.ubi_volume.specs.Faults.{HasCause, StaysSure};
-ghost use Rattle.media_leaf.specs.LeafNode.{LeafNode};
+ghost use Rattle.media_leaf.specs.LeafNode.{IsLeafNode, LeafNode};
+ghost use Rattle.leb_scan.specs.Text.{leaf_type};
 ghost use Rattle.sound_image.specs.Frames.{IsKnownAt};
 ghost use Rattle.sound_image.specs.Leaves.{HasItsNode, IsSoundLeaf};
 ghost use Rattle.sound_image.specs.Properties.{is_unmarked as is_no_index};
 ghost use Rattle.leaf_check.specs.LeafReads.{IsItsNode, IsWholeOf};
-ghost use Rattle.leaf_check.specs.NodeKeys.{may_need};
 
 use crate::keys::key_in;
 use crate::reading::read_node;
@@ -18,6 +19,7 @@ use index_tree::Leaf;
 use leb_scan::Found;
 use media_leaf::one_node;
 use media_lpt::Lprop;
+use node_fields::u32_at;
 use ubi_volume::{VolFault, Volume};
 use ubifs_base::{Geometry, Key, NodeType};
 
@@ -69,28 +71,44 @@ pub(crate) fn is_its_node(leaf: &Leaf, found: Found, bytes: &[u8]) -> bool
     is_key(key_in(found.kind, bytes), leaf.key)
 }
 
-// Whether the leaf node that the bytes are needs a feature that isn't known here. A node of a block or of a name needs none.
+// Whether the leaf node that the bytes are needs a feature that isn't known here. A node of a block or of a name needs none, and an
+// inode's body tells it.
 fn needs_feature(found: Found, bytes: &[u8]) -> bool
     requires node { (node : LeafNode) × IsWholeOf bytes.now found node }
     requires len { length bytes.now < 2 ^ 32 }
     ensures yes { IsTrue result → IsKnownAt bytes.now 0 → ⊥ }
     ensures no { IsFalse result → IsKnownAt bytes.now 0 }
 {
-    if may_need(found.kind) {
-        return has_unknown(bytes);
-    }
-    false
-}
-
-// Whether a leaf node of this type may need a feature.
-fn may_need(kind: NodeType) -> bool
-    ensures { result ≡ may_need kind }
-{
-    match kind {
+    match found.kind {
         NodeType::Data => false,
         NodeType::Entry => false,
-        _ => true,
+        NodeType::Inode => inode_needs(bytes),
+        _ => has_unknown(bytes),
     }
+}
+
+// Where an inode's node has its flags and the number of its attributes, and where what follows its numbers begins.
+const FLAGS_PLACE: usize = 24 + 84;
+
+const ATTRIBUTES_PLACE: usize = 24 + 92;
+
+const INODE_END: usize = 160;
+
+// Whether the inode's node that the bytes are does: it has attributes, or is one.
+fn inode_needs(bytes: &[u8]) -> bool
+    requires { (sqnum : ℕ) × (group : ℕ) × (node : LeafNode) × IsLeafNode bytes.now sqnum group node × (types.Inode ≡ leaf_type node) }
+    ensures yes { IsTrue result → IsKnownAt bytes.now 0 → ⊥ }
+    ensures no { IsFalse result → IsKnownAt bytes.now 0 }
+{
+    if bytes.len() < INODE_END {
+        return false;
+    }
+    let flags = u32_at(bytes, FLAGS_PLACE);
+    let count = u32_at(bytes, ATTRIBUTES_PLACE);
+    if flags & 0x20 != 0 {
+        return true;
+    }
+    count > 0
 }
 
 // Whether what the bytes begin with does, whatever it is.
