@@ -1,18 +1,22 @@
 -- What holds after a step.
-use Rattle.std.proofs.Common.{◌≡◌, ℕ, ◌+◌, ◌<◌, ◌≤◌, List, [], ◌∷◌, ap, sym, ◌∙◌, subst, arith, inl, inr}
+use Rattle.std.proofs.Common.{◌≡◌, ℕ, ◌+◌, ◌<◌, ◌≤◌, ◌++◌, List, [], ◌∷◌, ap, sym, ◌∙◌, subst, arith, inl, inr}
 use Rattle.std.specs.Prelude.{Option, Some, Result, Ok}
+use Rattle.std.proofs.lemmas.List.Elements.{All-weaker}
+use Rattle.commit_steps.specs.UnderWayLaws.{given_front, given_of}
 use Rattle.index_commit.specs.Answers.{IsIndexNotFailed}
 use Rattle.index_commit.specs.Lebs.{AreApart, IsGiven}
 use Rattle.index_commit.specs.declared.index_at.IndexAt.{IndexAt}
 use Rattle.index_commit.specs.declared.index_fault.IndexFault.{IndexFault}
 use Rattle.index_media.specs.KeyedRow.{KeyedRow, no_more, all_clean}
-use Rattle.index_media.specs.PlacedRow.{PlacedRow}
+use Rattle.index_media.specs.PlacedRow.{PlacedRow, lebs_of}
+use Rattle.node_table.specs.Clean.{placed_of}
 use Rattle.media_sys.specs.declared.branch.Branch.{Branch}
 use Rattle.node_cache.specs.Loaded.{IsIndexOn}
 use Rattle.mounted_index.specs.Changed.{AreChangesMade}
 use Rattle.mounted_index.specs.Committed.{IsCommit, IsRootOn}
+use Rattle.mounted_index.specs.Running.{IsCommitEnded, IsCommitRunning}
 use Rattle.mounted_index.specs.Shown.{KeepsShown, Shows, StandsIn}
-use Rattle.mounted_index.specs.ShownLaws.{StandsIn-beside}
+use Rattle.mounted_index.specs.ShownLaws.{StandsIn-beside, all_given}
 use Rattle.mounted_index.specs.declared.mounted.MountedIndex.{MountedIndex}
 use Rattle.ubi_volume.specs.Geometry.{IsGeometryOf}
 use Rattle.ubi_volume.specs.MemVolume.{IsBlank}
@@ -22,7 +26,7 @@ use Rattle.ubi_volume.specs.Volume.{VolumeState, Keeps, SameShape}
 use Rattle.ubifs_base.specs.RawOf.{raw_of}
 use Rattle.ubifs_base.specs.declared.geometry.Geometry.{Geometry}
 use Rattle.ubifs_base.specs.declared.raw_geometry.RawGeometry.{RawGeometry}
-use Rattle.index_tests.specs.Standing.{StandsInLebsBefore}
+use Rattle.index_tests.specs.Standing.{RunsInLebsBefore, StandsInLebsBefore}
 
 pub same_geometry : (geo : RawGeometry) (a b : VolumeState) → SameShape a b → IsGeometryOf geo a → IsGeometryOf geo b
 same_geometry geo a b shape h =
@@ -125,3 +129,69 @@ begun geometry shape a index next is small blank shown same =
         leb_cnt = omega (arith, count, lebs);
       };
     }
+
+-- ---- while a commit runs
+-- a change, or a look-up
+pub runs_on : (geometry : Geometry) (a b : VolumeState) (index after : MountedIndex) (next : ℕ) (made : KeyedRow) → (h : RunsInLebsBefore geometry a index next) → IsCommitRunning b h.kept h.given h.begun after made → SameShape a b
+    → after.geometry ≡ index.geometry → RunsInLebsBefore geometry b after next
+runs_on geometry a b index after next made h running shape same = record {
+  row = made;
+  begun = h.begun;
+  kept = h.kept;
+  given = h.given;
+  running = running;
+  before = h.before;
+  own = same ∙ h.own;
+  fits = same_geometry (raw_of geometry) a b shape h.fits;
+}
+
+-- the next LEB is none of those before it
+pub not_before : (lebs : List ℕ) (next : ℕ) → ((k : ℕ) → IsGiven lebs k → k < next) → IsGiven lebs next → ⊥
+not_before lebs next before given = let less = before next given in absurd (omega (arith, less))
+
+-- a step to the next LEB
+pub stepped_well : (geometry : Geometry) (a b : VolumeState) (index after : MountedIndex) (next : ℕ) (now : KeyedRow) → (h : RunsInLebsBefore geometry a index next) → IsCommitRunning b h.kept (next ∷ h.given) h.begun after now → SameShape a b
+    → after.geometry ≡ index.geometry → RunsInLebsBefore geometry b after (next + 1)
+stepped_well geometry a b index after next now h running shape same = record {
+  row = now;
+  begun = h.begun;
+  kept = h.kept;
+  given = next ∷ h.given;
+  running = running;
+  before = one_more (h.given ++ h.kept) next h.before;
+  own = same ∙ h.own;
+  fits = same_geometry (raw_of geometry) a b shape h.fits;
+}
+
+-- the commit ended, and the next one began
+pub renewed_well : (geometry : Geometry) (a : VolumeState) (index ended after : MountedIndex) (next : ℕ) (at : Option Branch) → (h : RunsInLebsBefore geometry a index next) → (end : IsCommitEnded a h.kept h.given h.begun h.row ended at)
+    → IsCommitRunning a (h.given ++ lebs_of (placed_of end.now)) [] h.row after h.row → after.geometry ≡ index.geometry → RunsInLebsBefore geometry a after next
+renewed_well geometry a index ended after next at h end running same =
+    let own : List ℕ = lebs_of (placed_of end.now) in
+    let P : ℕ → Type 0 = λ k. k < next in
+    record {
+      row = h.row;
+      begun = h.row;
+      kept = h.given ++ own;
+      given = [];
+      running = running;
+      before = λ k one. elim (given_of h.given own k one) [
+        | inl front ↦ h.before k (given_front h.given h.kept k front)
+        | inr behind ↦ all_given P own (All-weaker (IsGiven (h.given ++ h.kept)) P h.before own end.lebs) k behind
+      ];
+      own = same ∙ h.own;
+      fits = h.fits;
+    }
+
+-- a commit of an empty index began
+pub runs_from_none : (geometry : Geometry) (a : VolumeState) (index after : MountedIndex) (next : ℕ) → StandsInLebsBefore geometry a index next → IsCommitRunning a [] [] no_more after no_more → after.geometry ≡ index.geometry → RunsInLebsBefore geometry a after next
+runs_from_none geometry a index after next h running same = record {
+  row = no_more;
+  begun = no_more;
+  kept = [];
+  given = [];
+  running = running;
+  before = λ k given. absurd given;
+  own = same ∙ h.own;
+  fits = h.fits;
+}

@@ -1,7 +1,8 @@
 -- What holds between the steps of a test.
-use Rattle.std.specs.Prelude.{◌≡◌, ◌<◌, ℕ, List}
+use Rattle.std.specs.Prelude.{◌≡◌, ◌<◌, ◌++◌, ℕ, List}
 use Rattle.index_commit.specs.Lebs.{IsGiven}
 use Rattle.index_media.specs.KeyedRow.{KeyedRow}
+use Rattle.mounted_index.specs.Running.{IsCommitRunning}
 use Rattle.mounted_index.specs.Shown.{Shows, StandsIn}
 use Rattle.mounted_index.specs.declared.mounted.MountedIndex.{MountedIndex}
 use Rattle.ubi_volume.specs.Geometry.{IsGeometryOf}
@@ -16,5 +17,16 @@ pub record StandsInLebsBefore (geometry : Geometry) (state : VolumeState) (index
   pub shown : Shows state index row
   pub stands : StandsIn state kept row
   pub before : (k : ℕ) → IsGiven kept k → k < next
+  pub own : index.geometry ≡ geometry
+  pub fits : IsGeometryOf (raw_of geometry) state
+
+-- a commit in steps runs, of which all nodes stand in LEBs before the next one
+pub record RunsInLebsBefore (geometry : Geometry) (state : VolumeState) (index : MountedIndex) (next : ℕ) : Type 0 where
+  pub row : KeyedRow
+  pub begun : KeyedRow
+  pub kept : List ℕ
+  pub given : List ℕ
+  pub running : IsCommitRunning state kept given begun index row
+  pub before : (k : ℕ) → IsGiven (given ++ kept) k → k < next
   pub own : index.geometry ≡ geometry
   pub fits : IsGeometryOf (raw_of geometry) state

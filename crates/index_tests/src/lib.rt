@@ -4,4 +4,6 @@
 #![tactic(auto)]
 
 #[cfg(test)]
+mod commit_step_tests;
+#[cfg(test)]
 mod mounted_index_tests;

@@ -16,19 +16,19 @@ use std::alloc::Global;
 use ubi_volume::{AreaFault, MemVolume, VolShape, Volume};
 use ubifs_base::{Geometry, Key, RawGeometry};
 
-const SHAPE: VolShape = VolShape {
+pub(crate) const SHAPE: VolShape = VolShape {
     leb_size: 16384,
     min_io: 512,
     leb_cnt: 74,
 };
 
 // The first LEB to which an index is committed.
-const FIRST: u32 = 20;
+pub(crate) const FIRST: u32 = 20;
 
 // Sequence numbers stay below.
-const MOST: u64 = 1 << 32;
+pub(crate) const MOST: u64 = 1 << 32;
 
-fn geometry() -> Option<Geometry>
+pub(crate) fn geometry() -> Option<Geometry>
     ensures { IfSome result (λ geo. raw_of geo ≡ plain_geometry 16384 512 64 3) }
 {
     Geometry::new(&RawGeometry::plain(16384, 512, 64, 3)).ok()
@@ -62,7 +62,7 @@ enum Step {
 }
 
 // The leaf of an inode, whose node stands somewhere.
-fn leaf_of(ino: u32) -> Leaf
+pub(crate) fn leaf_of(ino: u32) -> Leaf
     ensures { result.key ≡ Ino ino }
 {
     Leaf {
@@ -198,7 +198,7 @@ fn are_all<V: Volume>(
     are_found(found, inos)
 }
 
-fn are_found(found: Result<Vec<Leaf>, AreaFault>, inos: &[u32]) -> bool {
+pub(crate) fn are_found(found: Result<Vec<Leaf>, AreaFault>, inos: &[u32]) -> bool {
     match found {
         Ok(leaves) => are_of(leaves.as_slice(), inos),
         Err(_) => false,
@@ -564,7 +564,7 @@ const ROOTS: &[(u32, u32, [u8; 40])] = &[
 ];
 
 // The 40 bytes behind the first 28 of a node.
-fn branches_at(volume: &mut MemVolume, lnum: u32, offs: u32) -> Option<[u8; 40]> {
+pub(crate) fn branches_at(volume: &mut MemVolume, lnum: u32, offs: u32) -> Option<[u8; 40]> {
     if lnum >= volume.leb_cnt() || offs > 1024 || volume.leb_size() < 2048 {
         return None;
     }

@@ -96,7 +96,7 @@ root_key : (root : Branch) (row : KeyedRow) (placed children : PlacedRow) → ro
 root_key root row placed children clean whole h = let K : KeyedRow → Type 0 = λ r. AreKeys r in (subst K (clean ∙ ap all_clean whole) h).0
 
 -- a clean row that stands from a root on is an index that a mount takes up
-root_on : (b : VolumeState) (f : ℕ) (lebs : List ℕ) (row : KeyedRow) (root : Option Branch) → row ≡ all_clean (placed_of row) → IsRootOf b.holds f row root
+pub root_on : (b : VolumeState) (f : ℕ) (lebs : List ℕ) (row : KeyedRow) (root : Option Branch) → row ≡ all_clean (placed_of row) → IsRootOf b.holds f row root
     → StandsIn b lebs row → AreKeys row → IsRootOn b f row root
 root_on b f lebs row None clean h stands keys = h
 root_on b f lebs row (Some root) clean h stands keys =
@@ -157,7 +157,7 @@ want_of F M P need given (Err (Full n k)) full memory f m = f full.3
 want_of F M P need given (Err EqualKeys) full memory f m = tt
 want_of F M P need given (Err (Volume count)) full memory f m = tt
 
-nodes_count : {r : ℕ → Room} (a b : PagedIndex) (i j : ℕ) → IsIndexTaken r a b i j → j ≡ i + length (nodes_written a b (j - i))
+pub nodes_count : {r : ℕ → Room} (a b : PagedIndex) (i j : ℕ) → IsIndexTaken r a b i j → j ≡ i + length (nodes_written a b (j - i))
 nodes_count a b i j h =
     let number = h.number in
     let count : j - i ≡ length h.numbers = omega (arith, number) in

@@ -1,3 +1,5 @@
 pub mod Shown
 pub mod Standing
 pub mod Committed
+pub mod Running
+pub mod CallerSteps

@@ -91,7 +91,7 @@ changed_fit laws f (Replace gone come) row three h =
     record { sound = laws.replaced f gone come row h.sound; one = omega (arith, same, one) }
 changed_fit laws f (RemoveRange from to) row three h = pruned_fit laws f (key_rank from) (key_rank to) row h
 
-all_outside : ChangedNodesStand → ChangesFit → (f : ℕ) (changes : List Change) (contents : ℕ → List ℕ) (lebs : List ℕ) (row : KeyedRow) → 3 ≤ f → IsFitRow f row → AreOutside contents lebs row
+pub all_outside : ChangedNodesStand → ChangesFit → (f : ℕ) (changes : List Change) (contents : ℕ → List ℕ) (lebs : List ℕ) (row : KeyedRow) → 3 ≤ f → IsFitRow f row → AreOutside contents lebs row
     → AreOutside contents lebs (changed_by f changes row)
 all_outside stand laws f [] contents lebs row three fit h = h
 all_outside stand laws f (change ∷ changes) contents lebs row three fit h =

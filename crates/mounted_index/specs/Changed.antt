@@ -8,15 +8,16 @@ use Rattle.node_table.specs.Changing.{changed}
 use Rattle.node_table.specs.declared.change.Change.{Change}
 use Rattle.ubi_volume.specs.Volume.{VolumeState}
 use Rattle.ubi_volume.specs.declared.fault.AreaFault.{AreaFault}
-use Rattle.mounted_index.specs.Shown.{Shows, ShowsStaged, StandsIn}
+use Rattle.mounted_index.specs.Shown.{KeepsOutside, Shows, ShowsStaged, StandsIn}
 use Rattle.mounted_index.specs.declared.mounted.MountedIndex.{MountedIndex}
 
 -- Changes that make a row of one that the index shows were staged: it shows the latter until they are adopted. Clean nodes of the row that
--- they make stand where those of the other one stood
+-- they make stand where those of the other one stood, whatever is written elsewhere
 pub record AreChangesStaged (old new : VolumeState) (after : MountedIndex) (row made : KeyedRow) (result : Result Staged AreaFault) : Type 0 where
   pub shown : Shows new after row
   pub staged : IfOk result (λ staged. ShowsStaged new after staged made)
   pub stands : (kept : List ℕ) → StandsIn old kept row → OnOk result (StandsIn new kept made)
+  pub outside : OnOk result (KeepsOutside row made)
 
 -- changes that make a row of one that the index showed were made, or none of them was
 pub record AreChangesMade {T : Type 0} (old new : VolumeState) (after : MountedIndex) (row made : KeyedRow) (result : Result T AreaFault) : Type 0 where

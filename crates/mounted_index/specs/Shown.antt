@@ -4,6 +4,7 @@ use Rattle.commit_steps.specs.UnderWay.{AreWithinLebs}
 use Rattle.index_cache.specs.Paged.{fanout_of, tree_of}
 use Rattle.index_cache.specs.declared.calls.Staged.{Staged}
 use Rattle.index_commit.specs.Lebs.{IsGiven}
+use Rattle.index_commit.specs.Standing.{AreOutside}
 use Rattle.index_media.specs.KeyedRow.{KeyedRow, all_clean}
 use Rattle.index_media.specs.PlacedRow.{PlacedRow}
 use Rattle.node_cache.specs.Kept.{AreKept}
@@ -59,3 +60,7 @@ pub record KeepsShown (old new : VolumeState) (before after : MountedIndex) : Ty
 pub record StandsIn (state : VolumeState) (lebs : List ℕ) (row : KeyedRow) : Type 0 where
   pub there : (k : ℕ) → IsGiven lebs k → k < state.leb_cnt
   pub within : AreWithinLebs state.holds lebs row
+
+-- wherever clean nodes of the one row stand outside of some LEBs, those of the other one do
+abbrev pub KeepsOutside : KeyedRow → KeyedRow → Type 0
+KeepsOutside row made = (contents : ℕ → List ℕ) (others : List ℕ) → AreOutside contents others row → AreOutside contents others made

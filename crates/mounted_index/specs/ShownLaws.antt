@@ -55,7 +55,7 @@ pub IsTakenUp-beside : DependsOnItsLebs → (old new : VolumeState) (lebs : List
     → ((k : ℕ) → IsGiven lebs k → new.holds k ≡ old.holds k) → StandsIn old lebs row → IsTakenUp old index row → IsTakenUp new index row
 IsTakenUp-beside depends old new lebs index row shape same stands h = nodes_beside depends old new index.geometry.fanout lebs row index.nodes shape same stands h
 
-all_given : (P : ℕ → Type 0) (xs : List ℕ) → All P xs → (k : ℕ) → IsGiven xs k → P k
+pub all_given : (P : ℕ → Type 0) (xs : List ℕ) → All P xs → (k : ℕ) → IsGiven xs k → P k
 all_given P [] all k given = absurd given
 all_given P (x ∷ xs) all k (inl e) = subst P (sym e) (All-head P x xs all)
 all_given P (x ∷ xs) all k (inr h) = all_given P xs (All-tail P x xs all) k h
@@ -90,7 +90,7 @@ own_moved : (old new : ℕ → List ℕ) (lebs : List ℕ) (key : Key) (place : 
 own_moved old new lebs key None children same h = tt
 own_moved old new lebs key (Some s) children same h = stands_moved old new lebs key s children same h
 
-within_moved : (old new : ℕ → List ℕ) (lebs : List ℕ) (row : KeyedRow) → ((k : ℕ) → IsGiven lebs k → new k ≡ old k) → AreWithinLebs old lebs row → AreWithinLebs new lebs row
+pub within_moved : (old new : ℕ → List ℕ) (lebs : List ℕ) (row : KeyedRow) → ((k : ℕ) → IsGiven lebs k → new k ≡ old k) → AreWithinLebs old lebs row → AreWithinLebs new lebs row
 within_moved old new lebs no_more same h = tt
 within_moved old new lebs (leaf_in x rest) same h = within_moved old new lebs rest same h
 within_moved old new lebs (node_in key place children rest) same h =

@@ -1,11 +1,12 @@
 // Changes, for which the index is loaded.
 
-ghost use Rattle.std.specs.Prelude.{◌≡◌, false, OnOk};
+ghost use Rattle.std.specs.Prelude.{◌≡◌, ℕ, false, List, OnErr, OnOk};
 ghost use Rattle.index_media.specs.KeyedRow.{KeyedRow};
 ghost use Rattle.node_cache.specs.Loaded.{IsRead};
 ghost use Rattle.node_table.specs.Changing.{AreChanges, changed_by};
 ghost use Rattle.mounted_index.specs.Changed.{AreChangesMade, AreChangesStaged};
-ghost use Rattle.mounted_index.specs.Shown.{Shows, ShowsStaged, on_volume_alone};
+ghost use Rattle.mounted_index.specs.Running.{IsCommitRunning, KeepsRunning};
+ghost use Rattle.mounted_index.specs.Shown.{KeepsOutside, Shows, ShowsStaged, on_volume_alone};
 
 use crate::mounted::{IndexNodes, MountedIndex};
 use index_cache::{PagedIndex, Staged};
@@ -15,7 +16,7 @@ use index_media::{
     a_replacement_keeps_what_nodes_are, an_insertion_keeps_what_nodes_are,
 };
 use node_cache::kept_nodes_stay;
-use node_table::Change;
+use node_table::{Change, places_are_kept};
 use std::alloc::Global;
 use ubi_volume::{AreaFault, Volume};
 
@@ -34,6 +35,7 @@ impl MountedIndex {
         requires changes { AreChanges changes.now }
         ensures staged { (row : KeyedRow) → Shows (V.state volume.old) self.old row
             → AreChangesStaged (V.state volume.old) (V.state volume.new) self.new row (changed_by self.old.geometry.fanout changes.now row) result }
+        ensures running { KeepsRunning (V.state volume.old) (V.state volume.new) self.old self.new }
         ensures reads { IsRead (V.state volume.old) (V.state volume.new) result }
         ensures geometry { self.new.geometry ≡ self.old.geometry }
     {
@@ -57,6 +59,8 @@ impl MountedIndex {
     pub fn adopt<V: Volume>(&mut self, volume: &V, staged: Staged)
         requires staged { (row : KeyedRow) × ShowsStaged (V.state volume.now) self.old staged row }
         ensures shown { (row : KeyedRow) → ShowsStaged (V.state volume.now) self.old staged row → Shows (V.state volume.now) self.new row }
+        ensures running { (kept given : List ℕ) (begun row made : KeyedRow) → IsCommitRunning (V.state volume.now) kept given begun self.old row → ShowsStaged (V.state volume.now) self.old staged made → KeepsOutside row made
+            → IsCommitRunning (V.state volume.now) kept given begun self.new made }
         ensures geometry { self.new.geometry ≡ self.old.geometry }
     {
         let _ = volume;
@@ -79,6 +83,8 @@ impl MountedIndex {
         requires changes { AreChanges changes.now }
         ensures changed { (row : KeyedRow) → Shows (V.state volume.old) self.old row
             → AreChangesMade (V.state volume.old) (V.state volume.new) self.new row (changed_by self.old.geometry.fanout changes.now row) result }
+        ensures running { (kept given : List ℕ) (begun row : KeyedRow) → IsCommitRunning (V.state volume.old) kept given begun self.old row
+            → OnOk result (IsCommitRunning (V.state volume.new) kept given begun self.new (changed_by self.old.geometry.fanout changes.now row)) × OnErr result (IsCommitRunning (V.state volume.new) kept given begun self.new row) }
         ensures reads { IsRead (V.state volume.old) (V.state volume.new) result }
         ensures geometry { self.new.geometry ≡ self.old.geometry }
     {
@@ -87,18 +93,21 @@ impl MountedIndex {
         Ok(())
     }
 
-    // Loads the index, if it is on the volume alone.
+    // Loads the index, if it is on the volume alone. It is frozen then, since a commit of it may run.
     fn load<V: Volume>(&mut self, alloc: Global, volume: &mut V) -> Result<(), AreaFault>
         requires shown { (row : KeyedRow) × Shows (V.state volume.old) self.old row }
         ensures shown { (row : KeyedRow) → Shows (V.state volume.old) self.old row → Shows (V.state volume.new) self.new row }
+        ensures running { KeepsRunning (V.state volume.old) (V.state volume.new) self.old self.new }
         ensures loaded { OnOk result (on_volume_alone self.new ≡ false) }
         ensures reads { IsRead (V.state volume.old) (V.state volume.new) result }
         ensures geometry { self.new.geometry ≡ self.old.geometry }
     {
         kept_nodes_stay();
+        places_are_kept();
         match &self.nodes {
             IndexNodes::OnMedium(root) => {
-                let index = PagedIndex::at_root(alloc, volume, &self.geometry, root)?;
+                let mut index = PagedIndex::at_root(alloc, volume, &self.geometry, root)?;
+                index.freeze();
                 self.nodes = IndexNodes::InMemory(index);
                 self.cache.clear();
                 Ok(())

@@ -79,7 +79,7 @@ impl MountedIndex {
 }
 
 // The nodes of an index that is on the volume alone, from this root on; without a root it is empty.
-fn nodes_of(alloc: Global, fanout: u32, root: Option<Branch>) -> IndexNodes
+pub(crate) fn nodes_of(alloc: Global, fanout: u32, root: Option<Branch>) -> IndexNodes
     requires least { 3 ≤ fanout }
     requires most { fanout ≤ 256 }
     ensures { HasNodesFrom fanout root result }

@@ -31,6 +31,7 @@ impl MountedIndex {
             → IfOk result (λ size. (size.nodes ≡ node_count (bare row)) × (size.weight ≡ shape_weight self.old.geometry.fanout (bare row))) }
         ensures reads { IsRead (V.state volume.old) (V.state volume.new) result }
         ensures kept { KeepsShown (V.state volume.old) (V.state volume.new) self.old self.new }
+        ensures nodes { self.new.nodes ≡ self.old.nodes }
     {
         an_insertion_goes_by_the_keys_of_branches();
         kept_nodes_stay();

@@ -11,6 +11,7 @@ mod commit;
 mod counts;
 mod lookups;
 mod mounted;
+mod steps;
 
 pub use crate::counts::IndexSize;
 pub use crate::mounted::MountedIndex;

@@ -34,6 +34,7 @@ impl MountedIndex {
             → IfOk result (λ found. found ≡ slice_get (of_rank (key_rank key.now) (contents (bare row))) nth) }
         ensures reads { IsRead (V.state volume.old) (V.state volume.new) result }
         ensures kept { KeepsShown (V.state volume.old) (V.state volume.new) self.old self.new }
+        ensures nodes { self.new.nodes ≡ self.old.nodes }
     {
         an_insertion_goes_by_the_keys_of_branches();
         match &self.nodes {
@@ -56,6 +57,7 @@ impl MountedIndex {
             → IfOk result (λ found. found ≡ first_after (key_rank key.now) (contents (bare row))) }
         ensures reads { IsRead (V.state volume.old) (V.state volume.new) result }
         ensures kept { KeepsShown (V.state volume.old) (V.state volume.new) self.old self.new }
+        ensures nodes { self.new.nodes ≡ self.old.nodes }
     {
         an_insertion_goes_by_the_keys_of_branches();
         match &self.nodes {
@@ -78,6 +80,7 @@ impl MountedIndex {
         ensures found { (row : KeyedRow) → Shows (V.state volume.old) self.old row → IfOk result (λ found. found ≡ last_block ino (contents (bare row))) }
         ensures reads { IsRead (V.state volume.old) (V.state volume.new) result }
         ensures kept { KeepsShown (V.state volume.old) (V.state volume.new) self.old self.new }
+        ensures nodes { self.new.nodes ≡ self.old.nodes }
     {
         an_insertion_goes_by_the_keys_of_branches();
         match &self.nodes {
@@ -99,6 +102,7 @@ impl MountedIndex {
         ensures found { (row : KeyedRow) → Shows (V.state volume.old) self.old row → IfOk result (λ found. found ≡ holds leaf.now (contents (bare row))) }
         ensures reads { IsRead (V.state volume.old) (V.state volume.new) result }
         ensures kept { KeepsShown (V.state volume.old) (V.state volume.new) self.old self.new }
+        ensures nodes { self.new.nodes ≡ self.old.nodes }
     {
         an_insertion_goes_by_the_keys_of_branches();
         match &self.nodes {
@@ -123,6 +127,7 @@ impl MountedIndex {
             → IfOk result (λ leaves. leaves.items ≡ within_range (key_rank from.now) (key_rank to.now) (contents (bare row))) }
         ensures reads { IsRead (V.state volume.old) (V.state volume.new) result }
         ensures kept { KeepsShown (V.state volume.old) (V.state volume.new) self.old self.new }
+        ensures nodes { self.new.nodes ≡ self.old.nodes }
     {
         an_insertion_goes_by_the_keys_of_branches();
         match &self.nodes {
@@ -147,6 +152,7 @@ impl MountedIndex {
             → IfOk result (λ leaves. leaves.items ≡ filter (λ x. x.lnum == lnum) (contents (bare row))) }
         ensures reads { IsRead (V.state volume.old) (V.state volume.new) result }
         ensures kept { KeepsShown (V.state volume.old) (V.state volume.new) self.old self.new }
+        ensures nodes { self.new.nodes ≡ self.old.nodes }
     {
         an_insertion_goes_by_the_keys_of_branches();
         match &self.nodes {

@@ -95,6 +95,7 @@ impl MountedIndex {
         ensures shown { (row : KeyedRow) → IsTakenUp (V.state volume.now) self.old row → Shows (V.state volume.now) self.new row }
         ensures staged { (staged : AStaged) (row : KeyedRow) → IsStagedRow self.old.geometry.fanout row staged self.old.nodes → ShowsStaged (V.state volume.now) self.new staged row }
         ensures geometry { self.new.geometry ≡ self.old.geometry }
+        ensures nodes { self.new.nodes ≡ self.old.nodes }
         ensures alone { on_volume_alone self.new ≡ on_volume_alone self.old }
     {
         let _ = volume;

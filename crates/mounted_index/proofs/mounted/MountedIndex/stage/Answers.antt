@@ -1,16 +1,18 @@
 use Rattle.std.proofs.Common.{rules, ◌≡◌, ap, sym, ◌∙◌, subst}
 use Rattle.ubifs_base.specs.declared.geometry.Geometry.{Geometry}
 use Rattle.index_cache.specs.Paged.{fanout_of, tree_of}
+use Rattle.index_commit.specs.Standing.{AreOutside}
 use Rattle.index_media.specs.KeyedRow.{KeyedRow}
 use Rattle.node_table.specs.Changing.{changed_by}
 use Rattle.mounted_index.specs.Shown.{StandsIn}
 use Rattle.mounted_index.specs.declared.mounted.IndexNodes.TheVariants.{InMemory}
 use Rattle.mounted_index.proofs.Shown.{made_there, nodes_as, staged_row}
-use Rattle.mounted_index.proofs.Standing.{ChangesFit, IsFitRow, all_stand, one_at, stands_kept}
+use Rattle.mounted_index.proofs.Running.{staged_running}
+use Rattle.mounted_index.proofs.Standing.{ChangesFit, IsFitRow, all_outside, all_stand, one_at, stands_kept}
 use Rattle.mounted_index.proofs.mounted.MountedIndex.stage.Goals as goal
 
 pub returns-in_err-load-clause-staged : goal.returns-in_err-load-clause-staged
-returns-in_err-load-clause-staged g c = λ row h. record { shown = c.load.ensures.shown row h; staged = search rules; stands = λ kept stands. search rules }
+returns-in_err-load-clause-staged g c = λ row h. record { shown = c.load.ensures.shown row h; staged = search rules; stands = λ kept stands. search rules; outside = search rules }
 
 pub returns-in_err-staged-in-InMemory-clause-staged : goal.returns-in_err-staged-in-InMemory-clause-staged
 returns-in_err-staged-in-InMemory-clause-staged g c = λ row h.
@@ -23,6 +25,7 @@ returns-in_err-staged-in-InMemory-clause-staged g c = λ row h.
       shown = record { nodes = (own.0 ∙ sym c.stage.ensures.tree, c.stage.ensures.kept.fanout ∙ own.1); kept = s.kept };
       staged = search rules;
       stands = λ kept stands. search rules;
+      outside = search rules;
     }
 
 pub returns-in_ok-staged-in-InMemory-clause-staged : goal.returns-in_ok-staged-in-InMemory-clause-staged
@@ -55,4 +58,21 @@ returns-in_ok-staged-in-InMemory-clause-staged g c = λ row h.
           let fit : IsFitRow (fanout_of index) (tree_of index) = record { sound = sound.fits; one = one_at index.table.nodes.items index.root } in
           let after = all_stand c.changes_keep_what_stands.ensures.changed laws a kept (fanout_of index) changes (tree_of index) sound.least fit (subst S own.0 stands) in
           subst M (sym (made_there f loaded.geometry.fanout row changes index same own)) (stands_kept a b kept (changed_by (fanout_of index) changes (tree_of index)) c.load.ensures.reads.keeps c.load.ensures.reads.shape after);
+      outside = λ contents others out.
+          let O : KeyedRow → Type 0 = λ r. AreOutside contents others r in
+          let fit : IsFitRow (fanout_of index) (tree_of index) = record { sound = sound.fits; one = one_at index.table.nodes.items index.root } in
+          subst O (sym (made_there f loaded.geometry.fanout row changes index same own)) (all_outside c.changes_keep_what_stands.ensures.changed laws (fanout_of index) changes contents others (tree_of index) sound.least fit (subst O own.0 out));
     }
+
+pub returns-in_err-load-clause-running : goal.returns-in_err-load-clause-running
+returns-in_err-load-clause-running g c = c.load.ensures.running
+
+pub returns-in_err-staged-in-InMemory-clause-running : goal.returns-in_err-staged-in-InMemory-clause-running
+returns-in_err-staged-in-InMemory-clause-running g c = λ kept given begun row h.
+    let b = g.V.Volume.state c.load.new.volume in
+    staged_running b kept given begun c.load.new.self row c.in-InMemory.index c.stage.new.self c.in-InMemory.is c.stage.ensures.kept c.stage.ensures.tree (c.load.ensures.running kept given begun row h)
+
+pub returns-in_ok-staged-in-InMemory-clause-running : goal.returns-in_ok-staged-in-InMemory-clause-running
+returns-in_ok-staged-in-InMemory-clause-running g c = λ kept given begun row h.
+    let b = g.V.Volume.state c.load.new.volume in
+    staged_running b kept given begun c.load.new.self row c.in-InMemory.index c.stage.new.self c.in-InMemory.is c.stage.ensures.kept c.stage.ensures.tree (c.load.ensures.running kept given begun row h)
