@@ -1,9 +1,7 @@
 pub mod Covered
-pub mod Ending
-pub mod FourWords
+pub mod EndedRuns
 pub mod Imaging
 pub mod Making
 pub mod Performing
 pub mod Readings
-pub mod ThreeWords
 pub mod Sequel

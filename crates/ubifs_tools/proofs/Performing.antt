@@ -26,7 +26,7 @@ use Rattle.ubifs_tools.specs.Command.{IsLeftImage, bad_line}
 use Rattle.ubifs_tools.specs.Copies.{IsUnfilled}
 use Rattle.ubifs_tools.specs.Making.{IsMadeOf}
 use Rattle.ubifs_tools.specs.Performed.{IsRunFrom}
-use Rattle.ubifs_tools.specs.RunCommand.{BeginsAsManifest, HasGoodText, IsBadText, IsCopyUnread, IsDone, IsRunFor, IsRunOf, files_left}
+use Rattle.ubifs_tools.specs.RunCommand.{BeginsAsManifest, HasGoodText, IsBadText, IsCopyUnread, ImageRun, IsDone, IsRunFor, IsRunOf, files_left}
 
 pub bad_script : (fault : TextFault) (volume script line word : List ℕ) → word ≡ codes "script" → HasGoodText volume → OnLine fault (IsFirstBadLine script) → OnLine fault (λ number. line ≡ bad_line word number) → (fault ≡ Memory → ⊥)
     → IsBadText (volume, script) line
@@ -69,18 +69,19 @@ image_done files bytes script parts out left none is_script from = record {
 
 -- what was put of a volume that may be written
 pub written_run : (geo : RawGeometry) (start : List ℕ) (tree : Tree) (space : Space) (parts : List Part) (run : Run) (image : List ℕ) → IsPlayedOn geo tree space parts (Written run)
-    → (x : ℕ → List ℕ) × IsLeftImage geo run.tree x × AreLebsOf x geo × (image ≡ image_of x geo.leb_cnt) → (left : Tree) × IsRunOf geo start tree space parts run.text.items image left
+    → (x : ℕ → List ℕ) × IsLeftImage geo run.tree x × AreLebsOf x geo × (image ≡ image_of x geo.leb_cnt)
+    → (left : Tree) × IsRunOf (record { geo = geo; start = start; tree = tree; space = space; parts = parts; text = run.text.items; image = image; left = left })
 written_run geo start tree space parts run image played (holds, left, lebs, is) =
-    let numbers = mounted_space geo tree space in
-    let P : Option Cause → Type 0 = λ cause. IsRunFor cause geo start tree numbers.weight parts run.text.items image (files_left run) in
+    let it : ImageRun = record { geo = geo; start = start; tree = tree; space = space; parts = parts; text = run.text.items; image = image; left = files_left run } in
+    let P : Option Cause → Type 0 = λ cause. IsRunFor cause it in
     (files_left run, subst P (sym played.0) (record { run = run; played = played.1; text_is = refl; holds = holds; image_left = left; lebs = lebs; image_is = is; left_is = refl }))
 
 -- what is left of one that may only be read
 pub unchanged_run : (geo : RawGeometry) (start : List ℕ) (tree : Tree) (space : Space) (parts : List Part) (text : List ℕ) (cause : Cause) → settled geo (mounted_space geo tree space) ≡ Some cause → IsReadText cause tree parts text
-    → (left : Tree) × IsRunOf geo start tree space parts text start left
+    → (left : Tree) × IsRunOf (record { geo = geo; start = start; tree = tree; space = space; parts = parts; text = text; image = start; left = left })
 unchanged_run geo start tree space parts text cause closed printed =
-    let numbers = mounted_space geo tree space in
-    let P : Option Cause → Type 0 = λ why. IsRunFor why geo start tree numbers.weight parts text start tree in
+    let it : ImageRun = record { geo = geo; start = start; tree = tree; space = space; parts = parts; text = text; image = start; left = tree } in
+    let P : Option Cause → Type 0 = λ why. IsRunFor why it in
     (tree, subst P (sym closed) (record { printed = printed; image_is = refl; left_is = refl }))
 
 -- a file that the manifest copies wasn't read

@@ -28,7 +28,7 @@ use Rattle.whole_image.specs.Made.{IsMadeImage}
 use Rattle.ubifs_tools.specs.Command.{IsLeftImage, Told, no_identifier}
 use Rattle.ubifs_tools.specs.Ended.{IsFinished}
 use Rattle.ubifs_tools.specs.Making.{IsToldImage}
-use Rattle.ubifs_tools.specs.RunCommand.{BeginsAsManifest, IsBegunOn, IsDone, IsRunFor, IsVolumeOf, IsWritten, files_left}
+use Rattle.ubifs_tools.specs.RunCommand.{BeginsAsManifest, ImageRun, IsBegunOn, IsDone, IsRunFor, IsRunWritten, IsVolumeOf, files_left, mount_numbers}
 
 -- what the crates below say of the bytes of a volume, and of a stored tree
 abbrev pub HoldFiles : Type 0
@@ -87,36 +87,39 @@ left_lebs geo tree holds left lebs =
     record { all = lebs; image = made.image; sound = made.sound; geometry = made.geometry; recovered = made.files }
 
 -- The image of what was put holds the files that are left of it.
-written_holds : HoldFiles → (geo : RawGeometry) (tree : Tree) (weight : ℕ) (parts : List Part) (text image : List ℕ) (left : Tree) → IsWritten geo tree weight parts text image left → HoldsFiles image geo left
-written_holds hold geo tree weight parts text image left ended =
+written_holds : HoldFiles → (it : ImageRun) → IsRunWritten it → HoldsFiles it.image it.geo it.left
+written_holds hold it ended =
     let files = files_left ended.run in
-    let P : List ℕ → Type 0 = λ bytes. HoldsFiles bytes geo files in
-    let Q : Tree → Type 0 = λ t. HoldsFiles image geo t in
-    subst Q (sym ended.left_is) (subst P (sym ended.image_is) (hold ended.holds geo files (left_lebs geo ended.run.tree ended.holds ended.image_left ended.lebs) (stored_owned ended.run.tree)))
+    let P : List ℕ → Type 0 = λ bytes. HoldsFiles bytes it.geo files in
+    let Q : Tree → Type 0 = λ t. HoldsFiles it.image it.geo t in
+    subst Q (sym ended.left_is) (subst P (sym ended.image_is) (hold ended.holds it.geo files (left_lebs it.geo ended.run.tree ended.holds ended.image_left ended.lebs) (stored_owned ended.run.tree)))
 
 -- So does the image that was there, where the volume may only be read.
-run_holds : HoldFiles → (cause : Option Cause) (geo : RawGeometry) (start : List ℕ) (tree : Tree) (weight : ℕ) (parts : List Part) (text image : List ℕ) (left : Tree)
-    → IsRunFor cause geo start tree weight parts text image left → HoldsFiles start geo tree → HoldsFiles image geo left
-run_holds hold None geo start tree weight parts text image left run holds = written_holds hold geo tree weight parts text image left run
-run_holds hold (Some cause) geo start tree weight parts text image left run holds =
-    let P : List ℕ → Type 0 = λ bytes. HoldsFiles bytes geo tree in
-    let Q : Tree → Type 0 = λ t. HoldsFiles image geo t in
+run_holds : HoldFiles → (cause : Option Cause) (it : ImageRun) → IsRunFor cause it → HoldsFiles it.start it.geo it.tree → HoldsFiles it.image it.geo it.left
+run_holds hold None it run holds = written_holds hold it run
+run_holds hold (Some cause) it run holds =
+    let P : List ℕ → Type 0 = λ bytes. HoldsFiles bytes it.geo it.tree in
+    let Q : Tree → Type 0 = λ t. HoldsFiles it.image it.geo t in
     subst Q (sym run.left_is) (subst P (sym run.image_is) holds)
 
-run_bytes : AreBytes → (cause : Option Cause) (geo : RawGeometry) (start : List ℕ) (tree : Tree) (weight : ℕ) (parts : List Part) (text image : List ℕ) (left : Tree)
-    → IsRunFor cause geo start tree weight parts text image left → IsBytes start → IsBytes image
-run_bytes bytes None geo start tree weight parts text image left run are = let P : List ℕ → Type 0 = λ b. IsBytes b in subst P (sym run.image_is) (bytes run.holds geo run.lebs)
-run_bytes bytes (Some cause) geo start tree weight parts text image left run are = let P : List ℕ → Type 0 = λ b. IsBytes b in subst P (sym run.image_is) are
+run_bytes : AreBytes → (cause : Option Cause) (it : ImageRun) → IsRunFor cause it → IsBytes it.start → IsBytes it.image
+run_bytes bytes None it run are = let P : List ℕ → Type 0 = λ b. IsBytes b in subst P (sym run.image_is) (bytes run.holds it.geo run.lebs)
+run_bytes bytes (Some cause) it run are = let P : List ℕ → Type 0 = λ b. IsBytes b in subst P (sym run.image_is) are
+
+-- the run of work that was done
+abbrev run_of : (files : KeeperState) (texts : List ℕ × List ℕ) (text image : List ℕ) → IsDone files texts text image → ImageRun
+run_of files texts text image done =
+    record { geo = done.geo; start = done.start; tree = done.tree; space = done.space; parts = done.parts; text = text; image = image; left = done.left }
 
 done_holds : HoldFiles → (files : KeeperState) (texts : List ℕ × List ℕ) (text image : List ℕ) (done : IsDone files texts text image) → HoldsFiles image done.geo done.left
 done_holds hold files texts text image done =
-    let space = mounted_space done.geo done.tree done.space in
-    run_holds hold (settled done.geo space) done.geo done.start done.tree space.weight done.parts text image done.left done.run done.volume.files
+    let it : ImageRun = run_of files texts text image done in
+    run_holds hold (settled done.geo (mount_numbers it)) it done.run done.volume.files
 
 done_bytes : AreBytes → (files : KeeperState) (texts : List ℕ × List ℕ) (text image : List ℕ) → IsDone files texts text image → IsBytes image
 done_bytes bytes files texts text image done =
-    let space = mounted_space done.geo done.tree done.space in
-    run_bytes bytes (settled done.geo space) done.geo done.start done.tree space.weight done.parts text image done.left done.run done.bytes
+    let it : ImageRun = run_of files texts text image done in
+    run_bytes bytes (settled done.geo (mount_numbers it)) it done.run done.bytes
 
 -- a sound image is a volume
 volume_of : BeginWithMagic → (other : KeeperState) (image : List ℕ) (geo : RawGeometry) (tree : Tree) → HoldsFiles image geo tree → IsVolumeOf other image geo tree

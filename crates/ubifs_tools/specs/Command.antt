@@ -13,25 +13,6 @@ use Rattle.whole_image.specs.Made.{IsMadeImage}
 use Rattle.script_text.specs.declared.manifest.Manifest.{Manifest}
 use Rattle.text_lines.specs.Lines.{line_of}
 
--- a word that names a file: it isn't empty, and no dash stands in front
-abbrev pub IsFileName : List ℕ → Type 0
-IsFileName word = (word ≢ []) × (slice_index word 0 ≢ 45)
-
--- the words `run`, a manifest or an image, a script, and the image to be written
-pub record IsRun (words : List (List ℕ)) (manifest script image : List ℕ) : Type 0 where
-  pub words_are : words ≡ codes "run" ∷ manifest ∷ script ∷ image ∷ []
-  pub manifest_is : IsFileName manifest
-  pub script_is : IsFileName script
-  pub image_is : IsFileName image
-
--- the words are of this form, and this holds of the three names
-pub record OnRun (words : List (List ℕ)) (P : List ℕ → List ℕ → List ℕ → Type 0) : Type 0 where
-  pub manifest : List ℕ
-  pub script : List ℕ
-  pub image : List ℕ
-  pub is : IsRun words manifest script image
-  pub holds : P manifest script image
-
 -- where the files are told, this one has these bytes
 abbrev pub Told : KeeperState → List ℕ → List ℕ → Type 0
 Told files name bytes = IsTrue files.tells → files.content name ≡ Some bytes

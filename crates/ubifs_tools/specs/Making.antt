@@ -17,7 +17,7 @@ use Rattle.image_report.specs.Lebs.{AreLebsOf}
 use Rattle.whole_image.specs.Made.{IsMadeImage, packed_geometry}
 use Rattle.io_edges.specs.Keeper.{KeeperState, SameFiles, SetsFile}
 use Rattle.ubifs_tools.specs.Copies.{CopiesFile, IsFilledManifest, IsUnfilled}
-use Rattle.ubifs_tools.specs.Command.{IsFileName, IsMissing, Told, bad_line, field_name, file_line, geometry_of, no_identifier}
+use Rattle.ubifs_tools.specs.Command.{IsMissing, Told, bad_line, field_name, file_line, geometry_of, no_identifier}
 use Rattle.ubifs_tools.specs.declared.command.Ended.{Ended}
 use Rattle.ubifs_tools.specs.declared.command.Ended.TheVariants.{Unread, BadText, BadGeometry, Done}
 use Rattle.ubifs_tools.specs.declared.mkfs.Copied.{Copied}
@@ -26,19 +26,6 @@ use Rattle.ubifs_tools.specs.declared.mkfs.Filled.{Filled}
 use Rattle.ubifs_tools.specs.declared.mkfs.Filled.TheVariants as filled
 use Rattle.ubifs_tools.specs.declared.perform.Performed.{Performed}
 use Rattle.ubifs_tools.specs.declared.perform.Performed.TheVariants as performed
-
--- the words `mkfs`, a manifest, and the image to be written
-pub record IsMkfs (words : List (List ℕ)) (manifest image : List ℕ) : Type 0 where
-  pub words_are : words ≡ codes "mkfs" ∷ manifest ∷ image ∷ []
-  pub manifest_is : IsFileName manifest
-  pub image_is : IsFileName image
-
--- the words are of this form, and this holds of the two names
-pub record OnMkfs (words : List (List ℕ)) (P : List ℕ → List ℕ → Type 0) : Type 0 where
-  pub manifest : List ℕ
-  pub image : List ℕ
-  pub is : IsMkfs words manifest image
-  pub holds : P manifest image
 
 -- the text isn't in its grammar, and the line names its first bad line
 pub record IsBadTree (text line : List ℕ) : Type 0 where

@@ -21,12 +21,12 @@ pub record IsRunFrom (start : List ℕ) (parts : List Part) (text image : List �
   pub left : Tree
   pub bytes : IsBytes start
   pub volume : HoldsVolume start geo tree space
-  pub run : IsRunOf geo start tree space parts text image left
+  pub run : IsRunOf (record { geo = geo; start = start; tree = tree; space = space; parts = parts; text = text; image = image; left = left })
 
 -- what became of an image on which a run was to begin
 abbrev pub IsRunOn : List ℕ → List Part → RunOn → Type 0
 IsRunOn start parts (on.Unsound line) = IsUnsound start line.items
-IsRunOn start parts (on.Ended ending) = IsRunFrom start parts ending.text.items ending.image.items
+IsRunOn start parts (on.Ended output) = IsRunFrom start parts output.text.items output.image.items
 
 -- what became of a volume and a script
 abbrev pub IsRan : KeeperState → KeeperState → List ℕ × List ℕ → Ran → Type 0

@@ -2,7 +2,7 @@
 use Rattle.std.specs.Prelude.{ℕ, List}
 use Rattle.io_edges.specs.Keeper.{KeeperState, SameFiles}
 use Rattle.ubifs_tools.specs.ImageCommand.{IsBadImage, IsNoImage, IsTextOf}
-use Rattle.ubifs_tools.specs.declared.image_command.ImageCommand.{ImageCommand}
+use Rattle.command_words.specs.declared.command.ImageCommand.{ImageCommand}
 use Rattle.ubifs_tools.specs.declared.image_command.Reported.{Reported}
 use Rattle.ubifs_tools.specs.declared.image_command.Reported.TheVariants.{Unread, BadImage, Done}
 

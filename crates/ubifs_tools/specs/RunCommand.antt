@@ -86,33 +86,47 @@ IsUnread old new manifest script image line =
 abbrev pub files_left : Run → Tree
 files_left run = stored_tree run.tree
 
--- The text is that of the script's lines, one after another, from a volume with this tree on, beside an index of this weight. The image's bytes are those of a volume that holds what is left of the
--- tree that was put, without what has no name.
-pub record IsWritten (geo : RawGeometry) (tree : Tree) (weight : ℕ) (parts : List Part) (text image : List ℕ) (left : Tree) : Type 0 where
-  pub run : Run
-  pub played : IsPlayed geo tree weight parts run
-  pub text_is : text ≡ run.text.items
-  pub holds : ℕ → List ℕ
-  pub image_left : IsLeftImage geo run.tree holds
-  pub lebs : AreLebsOf holds geo
-  pub image_is : image ≡ image_of holds geo.leb_cnt
-  pub left_is : left ≡ files_left run
+-- A run of a script on the volume of an image: its geometry, its bytes, its tree and its space; the script's lines; and what was printed and left.
+pub record ImageRun : Type 0 where
+  pub geo : RawGeometry
+  pub start : List ℕ
+  pub tree : Tree
+  pub space : Space
+  pub parts : List Part
+  pub text : List ℕ
+  pub image : List ℕ
+  pub left : Tree
 
--- The text is that of the script's lines on a volume with this tree that may only be read. The image is the one that was there, and so are the files.
-pub record IsUnchanged (cause : Cause) (start : List ℕ) (tree : Tree) (parts : List Part) (text image : List ℕ) (left : Tree) : Type 0 where
-  pub printed : IsReadText cause tree parts text
-  pub image_is : image ≡ start
-  pub left_is : left ≡ tree
+-- the numbers with which its volume is mounted
+abbrev pub mount_numbers : ImageRun → Space
+mount_numbers it = mounted_space it.geo it.tree it.space
+
+-- The text is that of the script's lines, one after another, from the volume's tree on, beside its index. The image's bytes are those of a volume that holds what is left of the
+-- tree that was put, without what has no name.
+pub record IsRunWritten (it : ImageRun) : Type 0 where
+  pub run : Run
+  pub played : IsPlayed it.geo it.tree (mount_numbers it).weight it.parts run
+  pub text_is : it.text ≡ run.text.items
+  pub holds : ℕ → List ℕ
+  pub image_left : IsLeftImage it.geo run.tree holds
+  pub lebs : AreLebsOf holds it.geo
+  pub image_is : it.image ≡ image_of holds it.geo.leb_cnt
+  pub left_is : it.left ≡ files_left run
+
+-- The text is that of the script's lines on the volume, which may only be read. The image is the one that was there, and so are the files.
+pub record IsUnchanged (cause : Cause) (it : ImageRun) : Type 0 where
+  pub printed : IsReadText cause it.tree it.parts it.text
+  pub image_is : it.image ≡ it.start
+  pub left_is : it.left ≡ it.tree
 
 -- what a run leaves on a volume that may be written, or for a cause only be read
-abbrev pub IsRunFor : Option Cause → RawGeometry → List ℕ → Tree → ℕ → List Part → List ℕ → List ℕ → Tree → Type 0
-IsRunFor None geo start tree weight parts text image left = IsWritten geo tree weight parts text image left
-IsRunFor (Some cause) geo start tree weight parts text image left = IsUnchanged cause start tree parts text image left
+abbrev pub IsRunFor : Option Cause → ImageRun → Type 0
+IsRunFor None it = IsRunWritten it
+IsRunFor (Some cause) it = IsUnchanged cause it
 
--- What a run leaves on the volume of an image with this tree and this space. Whether it may be written its numbers say.
-abbrev pub IsRunOf : RawGeometry → List ℕ → Tree → Space → List Part → List ℕ → List ℕ → Tree → Type 0
-IsRunOf geo start tree space parts text image left =
-    IsRunFor (settled geo (mounted_space geo tree space)) geo start tree (mounted_space geo tree space).weight parts text image left
+-- What a run leaves on its volume. Whether that may be written its numbers say.
+abbrev pub IsRunOf : ImageRun → Type 0
+IsRunOf it = IsRunFor (settled it.geo (mount_numbers it)) it
 
 -- The work was done: the volume is a manifest of which an image was made, or a sound image; the script is in its grammar, and it was run on the volume of that image.
 pub record IsDone (files : KeeperState) (texts : List ℕ × List ℕ) (text image : List ℕ) : Type 0 where
@@ -126,4 +140,4 @@ pub record IsDone (files : KeeperState) (texts : List ℕ × List ℕ) (text ima
   pub parts : List Part
   pub script : IsScript texts.1 parts
   pub left : Tree
-  pub run : IsRunOf geo start tree space parts text image left
+  pub run : IsRunOf (record { geo = geo; start = start; tree = tree; space = space; parts = parts; text = text; image = image; left = left })

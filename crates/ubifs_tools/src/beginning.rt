@@ -22,7 +22,7 @@ use ubifs_base::{Geometry, Memory};
 
 /// What a run printed, and the image that it leaves.
 #[derive(Drop)]
-pub(crate) struct Ending {
+pub(crate) struct RunOutput {
     pub(crate) text: Vec<u8>,
     pub(crate) image: Vec<u8>,
 }
@@ -31,7 +31,7 @@ pub(crate) struct Ending {
 #[derive(Drop)]
 pub(crate) enum RunOn {
     Unsound { line: Vec<u8> },
-    Ended { ending: Ending },
+    Ended { output: RunOutput },
 }
 
 /// Runs a script on the volume of an image, if that is sound.
@@ -54,8 +54,8 @@ pub(crate) fn run_on<R: Threads + Sync>(
             tree,
             space,
         } => {
-            let ending = run_volume(alloc, geometry, tree, &space, parts, start)?;
-            Ok(RunOn::Ended { ending })
+            let output = run_volume(alloc, geometry, tree, &space, parts, start)?;
+            Ok(RunOn::Ended { output })
         }
     }
 }
@@ -74,22 +74,22 @@ fn run_volume(
     space: &Space,
     parts: Vec<Part>,
     start: Vec<u8>,
-) -> Result<Ending, Memory>
+) -> Result<RunOutput, Memory>
     requires proper { IsProper tree }
     requires small { geometry.big ≡ false }
     requires order { (last : Bool) × Leads false parts.items last }
     requires range { AllByRecursion IsInRange parts.items }
     requires few { length parts.items ≤ 100000 }
-    ensures { IfOk result (λ ending. (left : ATree) × IsRunOf (raw_of geometry) start.items tree space.now parts.items ending.text.items ending.image.items left) }
+    ensures { IfOk result (λ output. (left : ATree) × IsRunOf (record { geo = raw_of geometry; start = start.items; tree = tree; space = space.now; parts = parts.items; text = output.text.items; image = output.image.items; left = left })) }
 {
     match play(alloc, geometry, tree, space, parts)? {
         Played::Written { run } => {
             let image = image_bytes(alloc, &geometry, &run.tree)?;
-            Ok(Ending {
+            Ok(RunOutput {
                 text: run.text,
                 image,
             })
         }
-        Played::Unchanged { text } => Ok(Ending { text, image: start }),
+        Played::Unchanged { text } => Ok(RunOutput { text, image: start }),
     }
 }

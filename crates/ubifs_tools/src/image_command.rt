@@ -7,19 +7,13 @@ ghost use Rattle.ubifs_tools.specs.Command.{file_line};
 ghost use Rattle.ubifs_tools.specs.ImageCommand.{Tells};
 ghost use Rattle.ubifs_tools.specs.Reported.{IsReported};
 
+use command_words::ImageCommand;
 use image_report::{ImageText, check_text, dump_text};
 use io_edges::{KeepFault, Keeper};
 use std::alloc::Global;
 use std::thread::Threads;
 use text_lines::line_of_two;
 use ubifs_base::Memory;
-
-/// What is asked of an image: whether it is sound, or what stands in each LEB of it if it is.
-#[derive(Clone, Copy, Debug, PartialEq, Eq)]
-pub enum ImageCommand {
-    Check,
-    Dump,
-}
 
 /// How such a command ended: a line that says why nothing was told, or the text.
 #[derive(Drop)]

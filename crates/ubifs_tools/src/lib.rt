@@ -10,8 +10,6 @@ mod laws;
 mod mkfs;
 mod perform;
 mod top;
-mod words;
 
-pub use crate::image_command::ImageCommand;
 pub use crate::laws::{a_run_begins_on_what_mkfs_made, a_run_begins_where_another_ended};
 pub use crate::top::ubifs;

@@ -1,8 +1,7 @@
 // The command `mkfs`.
 
-ghost use Rattle.std.specs.Prelude.{◌≡◌, ◌<◌, ◌∷◌, ◌↔◌, [], ℕ, List, IsTrue, IfOk, IfSome, IfNone, OnErr, false, map, codes};
+ghost use Rattle.std.specs.Prelude.{◌≡◌, ◌<◌, ◌∷◌, [], ℕ, List, IfOk, OnErr, false, codes};
 ghost use Rattle.std.specs.Fmt.{decimal};
-ghost use Rattle.std.specs.String.{string_bytes};
 ghost use Rattle.ubifs_base.specs.RawOf.{raw_of};
 ghost use Rattle.text_lines.specs.Lines.{line_of};
 ghost use Rattle.fs_model.specs.Proper.{IsProper};
@@ -10,13 +9,12 @@ ghost use Rattle.manifest_tree.specs.CopiedFiles.{IsNamedManifest};
 ghost use Rattle.io_edges.specs.Keeper.{KeeperState, SameFiles};
 ghost use Rattle.tree_space.specs.Laid.{IsAdmitted};
 ghost use Rattle.ubifs_tools.specs.Copies.{FilesStay, IsFilledManifest};
-ghost use Rattle.ubifs_tools.specs.Making.{IsCopiedAs, IsFilledAs, IsImageMade, IsMkfsMade, IsMkfs, IsMkfsEnded, IsPackedMade};
+ghost use Rattle.ubifs_tools.specs.Making.{IsCopiedAs, IsFilledAs, IsImageMade, IsMkfsMade, IsMkfsEnded, IsPackedMade};
 
 use crate::command::{Ended, unread};
 use crate::copies::{Copies, read_copies};
 use crate::image::blank_volume;
 use crate::perform::{Performed, bad_geometry_line, bad_text_line, small_line};
-use crate::words::is_file_name;
 use io_edges::{KeepFault, Keeper};
 use manifest_tree::{MadeManifest, NamedManifest, fill_copied, read_names};
 use plain_backing::Tree;
@@ -40,32 +38,6 @@ pub(crate) enum Filled {
 pub(crate) enum Copied {
     Unread { line: Vec<u8> },
     Made { made: MadeManifest },
-}
-
-/// The files that the words `mkfs MANIFEST IMAGE` name.
-pub(crate) fn mkfs_words(words: &[String]) -> Option<(&str, &str)>
-    ensures some { IfSome result (λ names. IsMkfs (map string_bytes words.now) names.0.now names.1.now) }
-    ensures none { IfNone result ((manifest image : List ℕ) → IsMkfs (map string_bytes words.now) manifest image → ⊥) }
-{
-    let [command, manifest, image] = words else {
-        return None;
-    };
-    if !is_mkfs(command.as_bytes()) {
-        return None;
-    }
-    if !is_file_name(manifest.as_bytes()) {
-        return None;
-    }
-    if !is_file_name(image.as_bytes()) {
-        return None;
-    }
-    Some((manifest.as_str(), image.as_str()))
-}
-
-fn is_mkfs(word: &[u8]) -> bool
-    ensures { IsTrue result ↔ (word.now ≡ codes "mkfs") }
-{
-    word == b"mkfs".as_slice()
 }
 
 /// Reads the manifest and the files that it copies, makes the image of its tree, and writes it.

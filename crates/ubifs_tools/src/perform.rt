@@ -124,9 +124,9 @@ fn run_made<R: Threads + Sync>(
         Performed::Done { text: _, image } => match run_on(rt, alloc, image, parts)? {
             // This isn't met: what was made is sound.
             RunOn::Unsound { line } => Ok(Ran::BadImage { line }),
-            RunOn::Ended { ending } => Ok(Ran::Done {
-                text: ending.text,
-                image: ending.image,
+            RunOn::Ended { output } => Ok(Ran::Done {
+                text: output.text,
+                image: output.image,
             }),
         },
     }
@@ -152,9 +152,9 @@ fn perform_on_image<R: Threads + Sync>(
     parts_are_in_range();
     match run_on(rt, alloc, image, parts)? {
         RunOn::Unsound { line } => Ok(Ran::BadImage { line }),
-        RunOn::Ended { ending } => Ok(Ran::Done {
-            text: ending.text,
-            image: ending.image,
+        RunOn::Ended { output } => Ok(Ran::Done {
+            text: output.text,
+            image: output.image,
         }),
     }
 }

@@ -1,21 +1,21 @@
 // The program's one call.
 
-ghost use Rattle.std.specs.Prelude.{◌≡◌, ◌≢◌, ◌≤◌, ◌⊎◌, ◌↔◌, ◌++◌, ◌∷◌, [], ℕ, List, IsTrue, map, codes};
+ghost use Rattle.std.specs.Prelude.{◌≡◌, ◌≢◌, ◌≤◌, ◌⊎◌, ◌↔◌, ◌∷◌, [], ℕ, List, map, codes};
 ghost use Rattle.std.specs.String.{string_bytes};
 ghost use Rattle.ubifs_base.specs.Faults.{Rose};
 ghost use Rattle.text_lines.specs.Lines.{line_of};
 ghost use Rattle.io_edges.specs.Keeper.{SameFiles};
-ghost use Rattle.ubifs_tools.specs.Command.{IsRun, OnRun, IsPrinted, IsTold};
+ghost use Rattle.command_words.specs.Words.{IsOutsideGrammar, OnImage, OnMkfs, OnRun};
+ghost use Rattle.ubifs_tools.specs.Command.{IsPrinted, IsTold};
 ghost use Rattle.ubifs_tools.specs.RunCommand.{IsBadText, IsBadVolume, IsBadGeometry, IsUnread};
-ghost use Rattle.ubifs_tools.specs.ImageCommand.{IsBadImage, IsNoImage, IsOfImage, IsTextOf, OnImage};
+ghost use Rattle.ubifs_tools.specs.ImageCommand.{IsBadImage, IsNoImage, IsTextOf};
 ghost use Rattle.ubifs_tools.specs.Ended.{IsFinished, IsTurnedDown};
-ghost use Rattle.ubifs_tools.specs.Making.{HasNoImage, IsBadTree, IsMkfs, IsMkfsFinished, IsMkfsTurnedDown, IsMkfsUnread, OnMkfs};
-ghost use Rattle.ubifs_tools.specs.declared.image_command.ImageCommand.{ImageCommand as Command};
+ghost use Rattle.ubifs_tools.specs.Making.{HasNoImage, IsBadTree, IsMkfsFinished, IsMkfsTurnedDown, IsMkfsUnread};
 
 use crate::command::{Ended, RunEnded, run};
-use crate::image_command::{ImageCommand, Reported, report};
-use crate::mkfs::{mkfs, mkfs_words};
-use crate::words::{image_words, run_words};
+use crate::image_command::{Reported, report};
+use crate::mkfs::mkfs;
+use command_words::{Command, ImageCommand, read_words};
 use io_edges::{Keeper, Sink, SinkFault};
 use std::alloc::Global;
 use std::thread::Threads;
@@ -34,9 +34,7 @@ pub fn ubifs<R: Threads + Sync, K: Keeper, O: Sink>(
     ensures known { result ≤ 7 }
 
     // The words are neither a run of three files, nor a check or a dump of one, nor a making of an image.
-    ensures words { (result ≡ 1) ↔ (((manifest script image : List ℕ) → IsRun (map string_bytes words.now) manifest script image → ⊥)
-        × ((command : Command) (image : List ℕ) → IsOfImage (map string_bytes words.now) command image → ⊥)
-        × ((manifest image : List ℕ) → IsMkfs (map string_bytes words.now) manifest image → ⊥)) }
+    ensures words { (result ≡ 1) ↔ IsOutsideGrammar (map string_bytes words.now) }
     ensures usage { result ≡ 1 → IsPrinted (O.state out.old) (O.state out.new) (line_of (codes "usage" ∷ [])) }
 
     // The work was done, and all of its text was printed.
@@ -93,16 +91,25 @@ pub fn ubifs<R: Threads + Sync, K: Keeper, O: Sink>(
         ⊎ OnMkfs (map string_bytes words.now) (λ manifest image. (text : List ℕ)
         × IsMkfsFinished (K.state keeper.old) (K.state keeper.new) manifest image text) }
 {
-    if let Some((manifest, script, image)) = run_words(words) {
-        return run_told(rt, alloc, manifest, script, image, keeper, out);
+    match read_words(alloc, words) {
+        Ok(
+            Some(
+                Command::Run {
+                    volume,
+                    script,
+                    image,
+                },
+            ),
+        ) => run_told(rt, alloc, volume, script, image, keeper, out),
+        Ok(Some(Command::OfImage { command, image })) => {
+            image_told(rt, alloc, command, image, keeper, out)
+        }
+        Ok(Some(Command::Mkfs { manifest, image })) => mkfs_told(
+            alloc, manifest, image, keeper, out,
+        ),
+        Ok(None) => told(out, b"usage\n".as_slice(), 1),
+        Err(Memory) => told(out, b"memory\n".as_slice(), 6),
     }
-    if let Some((command, image)) = image_words(words) {
-        return image_told(rt, alloc, command, image, keeper, out);
-    }
-    if let Some((manifest, image)) = mkfs_words(words) {
-        return mkfs_told(alloc, manifest, image, keeper, out);
-    }
-    told(out, b"usage\n".as_slice(), 1)
 }
 
 // Runs a script, and prints what became of it.

@@ -21,8 +21,8 @@ run_volume-requires-clause-small g c =
     let P : ImageFiles → Type 0 = λ files. AreImageFiles c.deref-2.result.now files in
     small_files c.deref-2.result.now (raw_of c.in-Sound.geometry) c.in-Sound.tree (subst P c.in-Sound.is c.in_ok-line.ensures).files
 
-pub returns-in_ok-ending-in-Sound : goal.returns-in_ok-ending-in-Sound
-returns-in_ok-ending-in-Sound g c =
+pub returns-in_ok-output-in-Sound : goal.returns-in_ok-output-in-Sound
+returns-in_ok-output-in-Sound g c =
     let P : ImageFiles → Type 0 = λ files. AreImageFiles c.deref-2.result.now files in
     let Q : List ℕ → Type 0 = λ bytes. HoldsVolume bytes (raw_of c.in-Sound.geometry) c.in-Sound.tree c.in-Sound.space in
     let R : List ℕ → Type 0 = λ bytes. IsBytes bytes in
@@ -30,8 +30,8 @@ returns-in_ok-ending-in-Sound g c =
       geo = raw_of c.in-Sound.geometry;
       tree = c.in-Sound.tree;
       space = c.in-Sound.space;
-      left = c.in_ok-ending-in-Sound.ensures.0;
+      left = c.in_ok-output-in-Sound.ensures.0;
       bytes = subst R c.deref.ensures.value c.show_bytes.ensures;
       volume = subst Q c.deref-2.ensures.value (subst P c.in-Sound.is c.in_ok-line.ensures);
-      run = c.in_ok-ending-in-Sound.ensures.1;
+      run = c.in_ok-output-in-Sound.ensures.1;
     }

@@ -3,7 +3,7 @@ use Rattle.ubifs_tools.specs.Command.{Told}
 use Rattle.ubifs_tools.specs.Copies.{FilesStay}
 use Rattle.ubifs_tools.specs.Performed.{IsRan}
 use Rattle.ubifs_tools.specs.declared.perform.Ran.{Ran}
-use Rattle.ubifs_tools.proofs.Ending.{HasBegun, left_same, turned_geometry, unread_copy, written_out}
+use Rattle.ubifs_tools.proofs.EndedRuns.{HasBegun, left_same, turned_geometry, unread_copy, written_out}
 use Rattle.ubifs_tools.proofs.Readings.{stay_all, told_before}
 use Rattle.ubifs_tools.proofs.command.run.Goals as goal
 

@@ -20,4 +20,4 @@ returns-in-Unsound g c = λ old new.
 pub returns-in-Ended : goal.returns-in-Ended
 returns-in-Ended g c = λ old new.
     let P : RunOn → Type 0 = λ r. IsRunOn c.args.image.items c.in-Ok.script.parts.items r in
-    image_done old c.args.image.items c.args.script.now c.in-Ok.script.parts.items c.in-Ended.ending.text.items c.in-Ended.ending.image.items c.requires c.in-Ok.ensures.ok (subst P c.in-Ended.is c.in_ok-line.ensures)
+    image_done old c.args.image.items c.args.script.now c.in-Ok.script.parts.items c.in-Ended.output.text.items c.in-Ended.output.image.items c.requires c.in-Ok.ensures.ok (subst P c.in-Ended.is c.in_ok-line.ensures)

@@ -27,5 +27,5 @@ pub returns : goal.returns
 returns g c = λ files new text script begins is is_script.
     let P : Performed → Type 0 = λ p. IsMkfsMade files text p in
     let Q : RunOn → Type 0 = λ r. IsRunOn c.in-Done.image.items c.args.parts.items r in
-    made_done files text script c.in-Done.text.items c.in-Done.image.items c.args.parts.items c.in-Ended.ending.text.items c.in-Ended.ending.image.items begins
+    made_done files text script c.in-Done.text.items c.in-Done.image.items c.args.parts.items c.in-Ended.output.text.items c.in-Ended.output.image.items begins
     (subst P c.in-Done.is (c.in_ok-line.ensures files text is)) is_script (subst Q c.in-Ended.is c.in_ok-line-in-Done.ensures)
