@@ -1,0 +1,2 @@
+pub mod FreshJobs
+pub mod GivenBytes
