@@ -38,7 +38,7 @@ lacks_digits c (d ∷ ds) low h =
     let p = tells_digits.parts d ds h in
     (λ e. omega (arith, e, p.0.0), lacks_digits c ds low p.1)
 
-own : IsNumeralModel (AllDigits 10) (digits_value 10)
+pub own : IsNumeralModel (AllDigits 10) (digits_value 10)
 own = numerals_by_value (AllDigits 10) tells_digits
 
 -- no space and no newline stands in a number

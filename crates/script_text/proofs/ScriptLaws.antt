@@ -1,41 +1,31 @@
 -- A text is one script, or has one first bad line.
-use Rattle.std.proofs.Common.{◌≡◌, ℕ, ◌+◌, ◌<◌, Bool, get_or, List, [], ◌∷◌, ◌++◌, length, arith, sym, refl, ap, subst, ◌∙◌, append_assoc, append-nil, inl, inr}
+use Rattle.std.proofs.Common.{◌≡◌, ℕ, ◌+◌, ◌<◌, ◌≤◌, ◌^◌, Bool, get_or, List, [], ◌∷◌, ◌++◌, length, arith, sym, refl, ap, subst, ◌∙◌, append_assoc, append-nil, inl, inr}
 use Rattle.std.specs.Prelude.{codes}
+use Rattle.std.specs.Fmt.{decimal}
 use Rattle.std.proofs.lemmas.Bool.{false≢true}
 use Rattle.std.proofs.lemmas.List.{append_cancel_left}
 use Rattle.std.proofs.lemmas.Fmt.{decimal_injective}
 use Rattle.fs_model.specs.declared.op.Op.{Op}
 use Rattle.script_text.specs.declared.part.Part.{Part}
-use Rattle.script_text.specs.declared.part.Part.TheVariants.{Mount, Unmount, Now, Line}
+use Rattle.script_text.specs.declared.part.Part.TheVariants.{Mount, Unmount, Now, Workers, Line}
 use Rattle.script_text.specs.Script.{AreLinesOf, IsLineOf, MayStand, mounted_after, Leads, IsBadAfter, end_line, op_name, op_words}
 use Rattle.script_text.specs.Words.{Fixed, AreWords}
 use Rattle.script_text.proofs.OneReading.{op_once}
 use Rattle.text_lines.specs.Lines.{ended}
 use Rattle.script_text.proofs.Cutting.{cut_once}
-use Rattle.script_text.proofs.PartLines.{part_line}
+use Rattle.script_text.proofs.Lines.{number_cut}
+use Rattle.script_text.proofs.PartLines.{behind_caller, behind_name, first, first_is, letter, part_line}
 use Rattle.script_text.proofs.ScriptLines.{end_lacks}
-
--- the first byte of a part's line
-abbrev first : Part → ℕ
-first Mount = 109
-first Unmount = 117
-first (Now now) = 110
-first (Line caller op) = 49
-
-first_is : (p : Part) (line : List ℕ) → IsLineOf p line → get_or line 0 0 ≡ first p
-first_is Mount line h = ap (λ (t : List ℕ). get_or t 0 0) h.words
-first_is Unmount line h = ap (λ (t : List ℕ). get_or t 0 0) h.words
-first_is (Now now) line h = ap (λ (t : List ℕ). get_or t 0 0) (h.words.4 ∙ ap (λ (t : List ℕ). t ++ (32 ∷ h.words.1)) h.words.2)
-first_is (Line caller op) line h = ap (λ (t : List ℕ). get_or t 0 0) (h.words.4 ∙ ap (λ (t : List ℕ). t ++ (32 ∷ h.words.1)) h.words.2)
 
 -- no part's line is the last line
 no_end : (p : Part) (line : List ℕ) → IsLineOf p line → line ≡ codes "end" → ⊥
-no_end p line h e = by p (sym (first_is p line h) ∙ ap (λ (t : List ℕ). get_or t 0 0) e)
+no_end p line h e = by p (sym (first_is p line h) ∙ ap (λ (t : List ℕ). letter (get_or t 0 0)) e)
   where
     by : (q : Part) → first q ≡ 101 → ⊥
     by Mount d = omega (arith, d)
     by Unmount d = omega (arith, d)
     by (Now now) d = omega (arith, d)
+    by (Workers count) d = omega (arith, d)
     by (Line caller op) d = omega (arith, d)
 
 -- parts of one line leave the same behind them
@@ -46,19 +36,28 @@ same_after m p q line h k a b = by p q h k (sym (first_is p line a) ∙ first_is
     by Mount Mount s t e = refl
     by Mount Unmount s t e = absurd (false≢true (sym s ∙ t))
     by Mount (Now n) s t e = absurd (omega (arith, e))
+    by Mount (Workers w) s t e = absurd (omega (arith, e))
     by Mount (Line c o) s t e = absurd (false≢true (sym s ∙ t))
     by Unmount Mount s t e = absurd (false≢true (sym t ∙ s))
     by Unmount Unmount s t e = refl
     by Unmount (Now n) s t e = absurd (omega (arith, e))
+    by Unmount (Workers w) s t e = absurd (omega (arith, e))
     by Unmount (Line c o) s t e = absurd (omega (arith, e))
     by (Now n) Mount s t e = absurd (omega (arith, e))
     by (Now n) Unmount s t e = absurd (omega (arith, e))
     by (Now n) (Now l) s t e = refl
+    by (Now n) (Workers w) s t e = refl
     by (Now n) (Line c o) s t e = refl
     by (Line c o) Mount s t e = absurd (false≢true (sym t ∙ s))
     by (Line c o) Unmount s t e = absurd (omega (arith, e))
     by (Line c o) (Now n) s t e = refl
+    by (Line c o) (Workers w) s t e = refl
     by (Line c o) (Line d l) s t e = refl
+    by (Workers w) Mount s t e = absurd (omega (arith, e))
+    by (Workers w) Unmount s t e = absurd (omega (arith, e))
+    by (Workers w) (Now n) s t e = refl
+    by (Workers w) (Workers v) s t e = refl
+    by (Workers w) (Line c o) s t e = refl
 
 step_once : (m : Bool) (p q : Part) (line other x y : List ℕ) → MayStand m p → MayStand m q → IsLineOf p line → IsLineOf q other → ended line ++ x ≡ ended other ++ y
     → (mounted_after m p ≡ mounted_after m q) × (x ≡ y)
@@ -164,6 +163,10 @@ bad_once (p ∷ ps) (q ∷ qs) m t u before k l text good front x y a b lp gp ep
     let P : Bool → Type 0 = λ z. Leads z qs u in
     bad_once ps qs (mounted_after m p) t u (before + 1) k l (gp.1 ++ x) gp.1 aq.1 x y a b lp.1 gp.3 refl (omega (arith, kp)) bp (subst P (sym once.0) lq.1) aq.3 once.1 (omega (arith, kq)) bq
 
+-- one number stands behind such a word
+behind_once : (name : List ℕ) (bits m n : ℕ) (line : List ℕ) → 2 ^ bits ≤ 2 ^ 64 → line ≡ name ++ decimal m → line ≡ name ++ decimal n → m < 2 ^ bits → n < 2 ^ bits → m ≡ n
+behind_once name bits m n line few d e fm fn = decimal_injective m n (omega (arith, few, fm)) (omega (arith, few, fn)) (append_cancel_left name (decimal m) (decimal n) (sym d ∙ e))
+
 -- a line is of one part
 part_once : (m : Bool) (p q : Part) (line : List ℕ) → MayStand m p → MayStand m q → IsLineOf p line → IsLineOf q line → p ≡ q
 part_once m p q line h k a b = by p q h k a b (sym (first_is p line a) ∙ first_is q line b)
@@ -172,29 +175,34 @@ part_once m p q line h k a b = by p q h k a b (sym (first_is p line a) ∙ first
     by Mount Mount s t a b e = refl
     by Mount Unmount s t a b e = absurd (false≢true (sym s ∙ t))
     by Mount (Now n) s t a b e = absurd (omega (arith, e))
+    by Mount (Workers w) s t a b e = absurd (omega (arith, e))
     by Mount (Line c o) s t a b e = absurd (false≢true (sym s ∙ t))
     by Unmount Mount s t a b e = absurd (false≢true (sym t ∙ s))
     by Unmount Unmount s t a b e = refl
     by Unmount (Now n) s t a b e = absurd (omega (arith, e))
+    by Unmount (Workers w) s t a b e = absurd (omega (arith, e))
     by Unmount (Line c o) s t a b e = absurd (omega (arith, e))
     by (Now n) Mount s t a b e = absurd (omega (arith, e))
     by (Now n) Unmount s t a b e = absurd (omega (arith, e))
     by (Now n) (Now l) s t a b e =
-        let one : 110 ∷ 111 ∷ 119 ∷ 32 ∷ a.words.1 ≡ 110 ∷ 111 ∷ 119 ∷ 32 ∷ b.words.1 =
-        sym (a.words.4 ∙ ap (λ (t : List ℕ). t ++ (32 ∷ a.words.1)) a.words.2) ∙ (b.words.4 ∙ ap (λ (t : List ℕ). t ++ (32 ∷ b.words.1)) b.words.2) in
-        let same : a.words.1 ≡ b.words.1 = cc in
-        ap Now (decimal_injective n l a.words.3.0 b.words.3.0 (sym a.words.3.1 ∙ (same ∙ b.words.3.1)))
+        ap Now (behind_once (codes "now ") 64 n l line (omega arith) (behind_name (codes "now") 64 n line a.words) (behind_name (codes "now") 64 l line b.words) a.words.3.0 b.words.3.0)
+    by (Now n) (Workers w) s t a b e = absurd (omega (arith, e))
     by (Now n) (Line c o) s t a b e = absurd (omega (arith, e))
     by (Line c o) Mount s t a b e = absurd (false≢true (sym t ∙ s))
     by (Line c o) Unmount s t a b e = absurd (omega (arith, e))
     by (Line c o) (Now n) s t a b e = absurd (omega (arith, e))
+    by (Line c o) (Workers w) s t a b e = absurd (omega (arith, e))
     by (Line c o) (Line d l) s t a b e =
-        let one : 49 ∷ 32 ∷ a.words.1 ≡ 49 ∷ 32 ∷ b.words.1 =
-        sym (a.words.4 ∙ ap (λ (t : List ℕ). t ++ (32 ∷ a.words.1)) a.words.2) ∙ (b.words.4 ∙ ap (λ (t : List ℕ). t ++ (32 ∷ b.words.1)) b.words.2) in
-        let same : b.words.1 ≡ a.words.1 = cc in
+        let both = number_cut 32 c d a.words.1 b.words.1 (omega arith) (omega (arith, a.allowed.1)) (omega (arith, b.allowed.1)) (sym (behind_caller c o line a) ∙ behind_caller d l line b) in
         let P : List ℕ → Type 0 = λ t. AreWords (Fixed (op_name l) ∷ op_words l) t in
-        let ops = op_once o l a.words.1 a.words.3 (subst P same b.words.3) in
-        ap (λ (x : ℕ). Line x o) (a.caller ∙ sym b.caller) ∙ ap (λ (x : Op). Line d x) ops
+        let ops = op_once o l a.words.1 a.words.3 (subst P (sym both.1) b.words.3) in
+        ap (λ (x : ℕ). Line x o) both.0 ∙ ap (λ (x : Op). Line d x) ops
+    by (Workers w) Mount s t a b e = absurd (omega (arith, e))
+    by (Workers w) Unmount s t a b e = absurd (omega (arith, e))
+    by (Workers w) (Now n) s t a b e = absurd (omega (arith, e))
+    by (Workers w) (Workers v) s t a b e =
+        ap Workers (behind_once (codes "workers ") 8 w v line (omega arith) (behind_name (codes "workers") 8 w line a.words) (behind_name (codes "workers") 8 v line b.words) a.words.3.0 b.words.3.0)
+    by (Workers w) (Line c o) s t a b e = absurd (omega (arith, e))
 
 -- a text is one script, from some line on
 pub script_once : (ps qs : List Part) (m s t : Bool) (text good front : List ℕ) → Leads m ps s → AreLinesOf ps good → text ≡ good ++ end_line → Leads m qs t → AreLinesOf qs front → text ≡ front ++ end_line → ps ≡ qs

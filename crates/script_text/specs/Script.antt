@@ -5,7 +5,7 @@ use Rattle.fs_model.specs.Proper.{are_bytes}
 use Rattle.fs_model.specs.declared.op.Op.{Op}
 use Rattle.fs_model.specs.declared.op.Op.TheVariants.{Create, Mkdir, Symlink, Link, Unlink, Rmdir, Rename, OpenFile, Close, Read, Write, Truncate, Fsync, Flush, List as Listing, Stat, Readlink, Chmod}
 use Rattle.script_text.specs.declared.part.Part.{Part}
-use Rattle.script_text.specs.declared.part.Part.TheVariants.{Mount, Unmount, Now, Line}
+use Rattle.script_text.specs.declared.part.Part.TheVariants.{Mount, Unmount, Now, Workers, Line}
 use Rattle.script_text.specs.declared.fault.TextFault.{TextFault}
 use Rattle.script_text.specs.declared.fault.TextFault.TheVariants.{Memory, Line as FaultLine}
 use Rattle.text_lines.specs.Lines.{ended}
@@ -53,21 +53,27 @@ op_words (Stat path) = Path path ∷ []
 op_words (Readlink path) = Path path ∷ []
 op_words (Chmod path mode) = Path path ∷ Mode mode ∷ []
 
--- the words of a part's line; the only caller is 1
+-- the words of a part's line
 abbrev pub part_words : Part → List Word
 part_words Mount = Fixed (codes "mount") ∷ []
 part_words Unmount = Fixed (codes "unmount") ∷ []
 part_words (Now now) = Fixed (codes "now") ∷ Number 64 now ∷ []
-part_words (Line caller op) = Fixed (codes "1") ∷ Fixed (op_name op) ∷ op_words op
+part_words (Workers count) = Fixed (codes "workers") ∷ Number 8 count ∷ []
+part_words (Line caller op) = Number 8 caller ∷ Fixed (op_name op) ∷ op_words op
 
--- the caller of a part's line is 1
-abbrev pub IsCaller : Part → Type 0
-IsCaller (Line caller op) = caller ≡ 1
-IsCaller part = Unit {0}
+-- callers are numbered from 1 to 16
+abbrev pub IsCaller : ℕ → Type 0
+IsCaller caller = (1 ≤ caller) × (caller ≤ 16)
+
+-- a line's caller is one of these, and there are 8 workers at most
+abbrev pub HasAllowedNumber : Part → Type 0
+HasAllowedNumber (Line caller op) = IsCaller caller
+HasAllowedNumber (Workers count) = count ≤ 8
+HasAllowedNumber part = Unit {0}
 
 -- a line of the part, without its newline: its words, in 10,000 bytes at most
 pub record IsLineOf (part : Part) (line : List ℕ) : Type 0 where
-  pub caller : IsCaller part
+  pub allowed : HasAllowedNumber part
   pub words : AreWords (part_words part) line
   pub short : length line ≤ 10000
 
@@ -80,11 +86,12 @@ AreLinesOf (part ∷ parts) text = (line : List ℕ) × (rest : List ℕ) × IsL
 abbrev pub end_line : List ℕ
 end_line = ended (codes "end")
 
--- `mount` stands while unmounted, `unmount` and a caller's line while mounted, `now` anywhere
+-- `mount` stands while unmounted, `unmount` and a caller's line while mounted, `now` and `workers` anywhere
 abbrev pub MayStand : Bool → Part → Type 0
 MayStand mounted Mount = mounted ≡ false
 MayStand mounted Unmount = mounted ≡ true
 MayStand mounted (Now now) = Unit {0}
+MayStand mounted (Workers count) = Unit {0}
 MayStand mounted (Line caller op) = mounted ≡ true
 
 -- whether a volume is mounted behind a part
@@ -92,6 +99,7 @@ abbrev pub mounted_after : Bool → Part → Bool
 mounted_after mounted Mount = true
 mounted_after mounted Unmount = false
 mounted_after mounted (Now now) = mounted
+mounted_after mounted (Workers count) = mounted
 mounted_after mounted (Line caller op) = mounted
 
 -- each part may stand behind those before it; at the end the volume is mounted or not
@@ -139,9 +147,10 @@ given_bytes (Rename old new) = new ∷ []
 given_bytes (Write slot offs len byte) = (byte ∷ []) ∷ []
 given_bytes op = []
 
--- a part whose caller is 1, whose bytes are bytes, and whose time fits 64 bits
+-- a part whose caller is from 1 to 16 and its bytes are bytes, with a time that fits 64 bits, or with 8 workers at most
 abbrev pub IsInRange : Part → Type 0
 IsInRange Mount = Unit {0}
 IsInRange Unmount = Unit {0}
 IsInRange (Now now) = now < 2 ^ 64
-IsInRange (Line caller op) = (caller ≡ 1) × (list_all are_bytes (given_bytes op) ≡ true)
+IsInRange (Workers count) = count ≤ 8
+IsInRange (Line caller op) = IsCaller caller × (list_all are_bytes (given_bytes op) ≡ true)

@@ -9,7 +9,8 @@ ghost use Rattle.script_text.specs.ManifestLines.{HasNoVolume, IsGivenLine, IsLi
 ghost use Rattle.script_text.specs.declared.manifest.Manifest.{Manifest};
 ghost use Rattle.script_text.specs.declared.manifest_line.ManifestLine.{ManifestLine};
 
-/// The parts of a script are in range: their caller is 1, what they give to keep are bytes, and a time is below 2^64.
+/// The parts of a script are in range: callers are from 1 to 16, what they give to keep are bytes, workers are 8 at most, and
+/// a time is below 2^64.
 pub fn parts_are_in_range()
     ensures { (text : List ℕ) → (parts : List Part) → IsScript text parts → AllByRecursion IsInRange parts }
 {}

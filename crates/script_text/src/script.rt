@@ -17,13 +17,14 @@ pub struct Script {
 /// The most lines that a script has.
 pub const LINES: u64 = 100_000;
 
-/// Reads a script of one caller: lines of words with one space between them, in 100,000 lines at most, each of 10,000
-/// bytes at most before its newline. The lines are `mount`, `unmount` and `now N`; `1 OP`, with the operation a word and
-/// its arguments; and `end` as the last. N and an offset are below 2^64, a length below 2^32, a slot and a byte below 256,
-/// in decimal digits without a leading zero; a mode has one to four octal digits. In a path or a target a byte is itself,
-/// or `%` and two lower-case hex digits; a path is `/`, or components each after a slash, none of them empty. `mount`
-/// stands while nothing is mounted, `unmount` and an operation while a volume is. The fault is want of memory, or the
-/// first line that isn't in this grammar; lines are counted from 1, and a line that is missing or has no newline counts.
+/// Reads a script: lines of words with one space between them, in 100,000 lines at most, each of 10,000 bytes at most
+/// before its newline. The lines are `mount`, `unmount`, `now N` and `workers W`; `C OP`, with a caller and an operation, a
+/// word and its arguments; and `end` as the last. N and an offset are below 2^64, W is from 0 to 8, C from 1 to 16, a
+/// length below 2^32, a slot and a byte below 256, in decimal digits without a leading zero; a mode has one to four octal
+/// digits. In a path or a target a byte is itself, or `%` and two lower-case hex digits; a path is `/`, or components each
+/// after a slash, none of them empty. `mount` stands while nothing is mounted, `unmount` and an operation while a volume
+/// is, `now` and `workers` anywhere. The fault is want of memory, or the first line that isn't in this grammar; lines are
+/// counted from 1, and a line that is missing or has no newline counts.
 pub fn read_script(alloc: Global, bytes: &[u8]) -> Result<Script, TextFault>
     ensures ok { IfOk result (λ script. IsScript bytes.now script.parts.items) }
     ensures line { IfErr result (λ fault. OnLine fault (IsFirstBadLine bytes.now)) }
