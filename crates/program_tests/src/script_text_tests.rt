@@ -9,7 +9,7 @@ use ubifs_base::{Bytes, Memory};
 // the ranges and the lines that none of those has.
 const SCRIPT: &str =
     "now 7\nmount\n1 mkdir /%2e%25 0007\n1 symlink /s \n1 symlink /s %61//%20\n1 read 1 18446744073709551615 4294967295\n\
-    1 write 255 18446744073709551615 4294967295 255\nnow 18446744073709551615\nunmount\nmount\nend\n";
+    1 write 255 18446744073709551615 4294967295 255\nnow 18446744073709551615\nunmount\nmount\nworkers 8\n16 flush\nend\n";
 
 fn is_part(place: usize, part: &Part) -> bool {
     match (place, part) {
@@ -17,6 +17,14 @@ fn is_part(place: usize, part: &Part) -> bool {
         (1 | 9, Part::Mount) => true,
         (7, Part::Now { now }) => *now == u64::MAX,
         (8, Part::Unmount) => true,
+        (10, Part::Workers { count }) => *count == 8,
+        (
+            11,
+            Part::Line {
+                caller: 16,
+                op: Op::Flush,
+            },
+        ) => true,
         (_, Part::Line { caller: 1, op }) => is_operation(place, op),
         _ => false,
     }
@@ -50,7 +58,7 @@ fn are_parts(parts: &[Part]) -> bool {
             return false;
         }
     }
-    parts.len() == 10
+    parts.len() == 12
 }
 
 fn is_script_read(alloc: Global) -> Result<bool, TextFault> {
@@ -72,6 +80,9 @@ const TEXTS: &[(&str, u64)] = &[
     ("mount \n", 1),
     ("now 01\n", 1),
     ("now +1\n", 1),
+    ("workers 9\n", 1),
+    ("workers 0\nmount\n0 flush\n", 3),
+    ("workers 8\nmount\n16 flush\n17 flush\n", 4),
     ("end\nend\n", 2),
     ("mount\nend\nunmount\nend\n", 3),
 ];

@@ -3,9 +3,11 @@
 use io_edges::{KeepFault, Keeper, MemKeeper, MemSink};
 use std::alloc::Global;
 use std::collections::BTreeMap;
+use std::sync::Wait;
 use std::thread::Threads;
 use ubifs_base::{Bytes, Memory};
 use ubifs_tools::ubifs;
+use writeback::OpenGate;
 
 const MANIFEST: &[u8] = b"volume 16384 512 64 8\nend\n";
 
@@ -36,7 +38,19 @@ const MORE: &[u8] = b"mount\n1 stat /f\n1 open /f 0\n1 read 0 4095 9\nunmount\ne
 const MORE_TRACE: &[u8] =
     b"mount rw\n1 1 ok f 65 644 1 4096 0\n1 2 ok 65\n1 3 ok 1 1x61\nunmount clean\n";
 
-// A keeper that has the texts of a run as `a` and `b`, and one more script as `m`, and fails at one call.
+// Two callers beside a worker, and the lines that they get in whatever order they come.
+const AT_ONCE: &[u8] =
+    b"mount\n1 create /f 644\nworkers 1\n1 open /f 0\n1 write 0 0 4096 97\n1 read 0 0 9000\n2 open /f 0\n2 close 0\n2 flush\nunmount\nend\n";
+
+const LINES_AT_ONCE: &[&str] = &[
+    "1 2 ok 4096",
+    "1 3 ok 4096 4096x61",
+    "2 1 ok 65",
+    "2 2 ok",
+    "2 3 ok",
+];
+
+// A keeper that has the texts of a run as `a` and `b`, and two more scripts as `m` and `t`, and fails at one call.
 fn keeper(alloc: Global, fails_at: u64) -> Result<MemKeeper, Memory> {
     let mut files = BTreeMap::new(alloc);
     files.insert(
@@ -50,6 +64,10 @@ fn keeper(alloc: Global, fails_at: u64) -> Result<MemKeeper, Memory> {
     files.insert(
         String::from_str(alloc, "m")?,
         Bytes::from_slice(alloc, MORE)?,
+    )?;
+    files.insert(
+        String::from_str(alloc, "t")?,
+        Bytes::from_slice(alloc, AT_ONCE)?,
     )?;
     Ok(MemKeeper::new(alloc, files, vec![in alloc; fails_at]?))
 }
@@ -96,12 +114,12 @@ fn is_left(image: Result<Vec<u8>, KeepFault>, status: u8) -> bool {
     }
 }
 
-fn is_answered<R: Threads + Sync>(rt: &R, alloc: Global, row: &Row) -> Result<bool, Memory> {
+fn is_answered<R: Threads + Wait + Sync>(rt: &R, alloc: Global, row: &Row) -> Result<bool, Memory> {
     let (names, keeper_fails, sink_fails, status, text) = *row;
     let mut keeper = keeper(alloc, keeper_fails)?;
     let mut out = MemSink::new(alloc, vec![in alloc; sink_fails]?);
     let words = words(alloc, names)?;
-    let answer = ubifs(rt, alloc, &words, &mut keeper, &mut out);
+    let answer = ubifs(rt, alloc, &words, &mut keeper, &mut out, &OpenGate {});
     Ok(answer == status && out.text() == text && is_left(keeper.read("c"), status))
 }
 
@@ -113,14 +131,14 @@ fn each_status_has_its_line(rt: HostRuntime) {
 }
 
 // Whether the image that a run leaves is told as sound by a check.
-fn is_told_as_sound<R: Threads + Sync>(rt: &R, alloc: Global) -> Result<bool, Memory> {
+fn is_told_as_sound<R: Threads + Wait + Sync>(rt: &R, alloc: Global) -> Result<bool, Memory> {
     let mut keeper = keeper(alloc, 0)?;
     let mut trace = MemSink::new(alloc, vec![in alloc; 0]?);
     let run = words(alloc, &["run", "a", "b", "c"])?;
-    let ran = ubifs(rt, alloc, &run, &mut keeper, &mut trace);
+    let ran = ubifs(rt, alloc, &run, &mut keeper, &mut trace, &OpenGate {});
     let mut told = MemSink::new(alloc, vec![in alloc; 0]?);
     let check = words(alloc, &["check", "c"])?;
-    let answer = ubifs(rt, alloc, &check, &mut keeper, &mut told);
+    let answer = ubifs(rt, alloc, &check, &mut keeper, &mut told, &OpenGate {});
     Ok(ran == 0 && answer == 0 && told.text() == SOUND)
 }
 
@@ -130,18 +148,56 @@ fn an_image_of_a_run_is_told_as_sound(rt: HostRuntime) {
 }
 
 // Whether a run on the image that another left begins on the files of that one.
-fn goes_on<R: Threads + Sync>(rt: &R, alloc: Global) -> Result<bool, Memory> {
+fn goes_on<R: Threads + Wait + Sync>(rt: &R, alloc: Global) -> Result<bool, Memory> {
     let mut keeper = keeper(alloc, 0)?;
     let mut trace = MemSink::new(alloc, vec![in alloc; 0]?);
     let run = words(alloc, &["run", "a", "b", "c"])?;
-    let ran = ubifs(rt, alloc, &run, &mut keeper, &mut trace);
+    let ran = ubifs(rt, alloc, &run, &mut keeper, &mut trace, &OpenGate {});
     let mut told = MemSink::new(alloc, vec![in alloc; 0]?);
     let more = words(alloc, &["run", "c", "m", "d"])?;
-    let answer = ubifs(rt, alloc, &more, &mut keeper, &mut told);
+    let answer = ubifs(rt, alloc, &more, &mut keeper, &mut told, &OpenGate {});
     Ok(ran == 0 && answer == 0 && told.text() == MORE_TRACE)
 }
 
 #[test]
 fn a_run_begins_where_another_ended(rt: HostRuntime) {
     assert_eq!(rt; goes_on(&rt, rt.alloc()), Ok(true));
+}
+
+// How often a line stands in a text.
+fn times(text: &str, line: &str) -> u64 {
+    let mut times = 0;
+    for other in text.lines() {
+        if other == line && times < 10 {
+            times += 1;
+        }
+    }
+    times
+}
+
+// Whether callers at once are answered, each line once.
+fn are_answered_at_once<R: Threads + Wait + Sync>(rt: &R, alloc: Global) -> Result<bool, Memory> {
+    let mut keeper = keeper(alloc, 0)?;
+    let mut out = MemSink::new(alloc, vec![in alloc; 0]?);
+    let words = words(alloc, &["run", "a", "t", "c"])?;
+    let answer = ubifs(rt, alloc, &words, &mut keeper, &mut out, &OpenGate {});
+    let Ok(text) = str::from_utf8(out.text()) else {
+        return Ok(false);
+    };
+    for line in LINES_AT_ONCE {
+        if times(text, line) != 1 {
+            return Ok(false);
+        }
+    }
+    Ok(
+        answer == 0
+            && text.starts_with("mount rw\n1 1 ok 65\n")
+            && text.ends_with("\nunmount clean\n")
+            && is_left(keeper.read("c"), 0),
+    )
+}
+
+#[test]
+fn callers_at_once_are_answered(rt: HostRuntime) {
+    assert_eq!(rt; are_answered_at_once(&rt, rt.alloc()), Ok(true));
 }

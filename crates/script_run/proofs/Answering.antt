@@ -31,7 +31,7 @@ use Rattle.vfs_ops.specs.Events.{HasSynced, IsAnswer as IsAnswerOf, IsExactCall,
 use Rattle.vfs_plans.specs.Answers.{IsFault}
 use Rattle.vfs_ops.specs.Operations.{has_group}
 use Rattle.vfs_ops.specs.Steps.{IsAnswered, IsDone, IsExact, IsLast, IsRefusedFor, IsTurnedDown, IsUnsynced, Passage, allowed, allowed_on, asked, is_write, read_only_cause}
-use Rattle.script_run.specs.Replies.{is_memory}
+use Rattle.script_phase.specs.Phases.{is_memory}
 use Rattle.script_run.specs.Run.{HasNoRoom, IsAnswer, IsFull, Running, orphans_told, plain}
 use Rattle.script_run.specs.Sessions.{IsSteady, mounted_over}
 

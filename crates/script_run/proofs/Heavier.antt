@@ -15,7 +15,7 @@ use Rattle.fs_model.specs.Cover.{index_lebs, reserve}
 use Rattle.space_sums.specs.Spaces.{AsksNoLess, HasRoom}
 use Rattle.space_sums.proofs.Index.{index_lebs-grows}
 use Rattle.script_text.specs.declared.part.Part.{Part}
-use Rattle.script_text.specs.declared.part.Part.TheVariants.{Line, Mount, Now, Unmount}
+use Rattle.script_text.specs.declared.part.Part.TheVariants.{Line, Mount, Now, Unmount, Workers}
 use Rattle.vfs_ops.specs.Kinds.{added_by}
 use Rattle.script_run.specs.Heaviest.{heaviest_space, heaviest_weight, most_added}
 use Rattle.script_run.specs.Run.{HasGrown, HasNoRoom, IsPart, IsRun, Running, clean_space}
@@ -42,6 +42,7 @@ part_grown : (geo : RawGeometry) (before after : Running) (part : Part) (line : 
 part_grown geo before after Mount line h = same_index geo before after (ap (λ (s : Running). s.weight) h.1) (ap (λ (s : Running). s.index) h.1)
 part_grown geo before after Unmount line h = h.1.grown
 part_grown geo before after (Now now) line h = same_index geo before after (ap (λ (s : Running). s.weight) h.1) (ap (λ (s : Running). s.index) h.1)
+part_grown geo before after (Workers count) line h = same_index geo before after (ap (λ (s : Running). s.weight) h.1) (ap (λ (s : Running). s.index) h.1)
 part_grown geo before after (Line caller op) line h =
     let few = h.replied.few in
     grown_more geo _ _ (most_added (Line caller op)) before after (added_most _ _ (most_added (Line caller op)) h.reply (omega (arith, few)) (omega (arith, few))) (omega (arith, few)) h.replied.grown

@@ -1,10 +1,14 @@
 pub mod Answering
+pub mod AtOnce
 pub mod Closed
 pub mod FirstFile
 pub mod Growth
 pub mod Heavier
 pub mod LeftCover
+pub mod LegalPhase
+pub mod OneCaller
 pub mod Openings
+pub mod PhaseRuns
 pub mod ReadLines
 pub mod Running
 pub mod Storing

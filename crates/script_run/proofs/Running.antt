@@ -1,8 +1,6 @@
--- A run, line by line.
-use Rattle.std.proofs.Common.{◌≡◌, ◌⊎◌, ℕ, ◌++◌, Bool, Err, List, [], ◌∷◌, inl, inr, refl, sym, ap, subst, ◌∙◌}
-use Rattle.std.proofs.lemmas.List.{append-nil, append_assoc}
+-- The lines of a run.
+use Rattle.std.proofs.Common.{◌≡◌, ◌⊎◌, ℕ, Bool, Err, List, [], ◌∷◌, inl, inr, refl, ap, ◌∙◌}
 use Rattle.ubifs_base.specs.declared.raw_geometry.RawGeometry.{RawGeometry}
-use Rattle.std.specs.List.{AllByRecursion}
 use Rattle.fs_model.specs.declared.op.Op.{Op}
 use Rattle.fs_model.specs.declared.op.Op.TheVariants.{Flush, Fsync}
 use Rattle.fs_model.specs.declared.refusal.Refusal.{Refusal}
@@ -14,25 +12,18 @@ use Rattle.cached_files.specs.declared.kept.Kept.{Kept}
 use Rattle.cached_files.specs.Alike.{IsAlike}
 use Rattle.cached_files.specs.Present.{covered, present}
 use Rattle.script_text.specs.declared.part.Part.{Part}
-use Rattle.script_text.specs.declared.part.Part.TheVariants.{Mount, Unmount, Now, Line}
+use Rattle.script_text.specs.declared.part.Part.TheVariants.{Mount, Unmount, Now, Workers, Line}
 use Rattle.script_text.specs.Script.{IsInRange, mounted_after}
 use Rattle.script_run.specs.Replies.{IsCalled}
-use Rattle.script_run.specs.Run.{HasStored, IsAnswer, IsFull, IsPart, IsReplied, IsRun, Running, plain}
+use Rattle.script_run.specs.Run.{HasStored, IsAnswer, IsFull, IsPart, IsReplied, Running, plain}
 use Rattle.script_run.specs.Sessions.{IsBare}
-
--- one line more
-pub run_more : (geo : RawGeometry) (first last : Running) (parts : List Part) (text : List ℕ) (mid : Running) (part : Part) (line : List ℕ) → IsRun geo first parts text mid → IsPart geo mid part line last
-    → IsRun geo first (parts ++ part ∷ []) (text ++ line) last
-run_more geo first last [] text mid part line h more =
-    (line, last, [], subst (λ s. IsPart geo s part line last) h.1 more, (refl, refl), ap (λ t. t ++ line) h.0 ∙ sym (append-nil line))
-run_more geo first last (p ∷ parts) text mid part line (front, next, rest, one, others, e) more =
-    (front, next, rest ++ line, one, run_more geo next last parts rest mid part line others more, ap (λ t. t ++ line) e ∙ append_assoc front rest line)
 
 -- whether the volume is mounted then
 pub mounted_next : (geo : RawGeometry) (before after : Running) (part : Part) (text : List ℕ) → IsPart geo before part text after → after.mounted ≡ mounted_after before.mounted part
 mounted_next geo before after Mount text h = ap (λ (s : Running). s.mounted) h.1
 mounted_next geo before after Unmount text h = h.1.mounted
 mounted_next geo before after (Now now) text h = ap (λ (s : Running). s.mounted) h.1
+mounted_next geo before after (Workers count) text h = ap (λ (s : Running). s.mounted) h.1
 mounted_next geo before after (Line caller op) text h = ap (λ (s : Running). s.mounted) h.rest
 
 -- what is kept where no page is dirty, and no inode
@@ -57,39 +48,36 @@ pub bare_files : (tree stored : Tree) (kept : Kept) → tree ≡ stored → IsBa
 bare_files tree stored kept same bare = ap (λ (t : Tree). record { tree = t; handles = kept.handles }) (bare_tree tree kept bare.pages bare.inodes ∙ same) ∙ ap (λ (h : Handles). record { tree = stored; handles = h }) bare.handles
 
 -- a line of the grammar is a call that a run makes
-called : (part : Part) → IsInRange part → IsCalled part
+pub called : (part : Part) → IsInRange part → IsCalled part
 called Mount range = tt
 called Unmount range = tt
 called (Now now) range = tt
+called (Workers count) range = tt
 called (Line caller op) range = range.1
 
-pub all_called : (parts : List Part) → AllByRecursion IsInRange parts → AllByRecursion IsCalled parts
-all_called [] range = tt
-all_called (part ∷ parts) range = (called part range.0, all_called parts range.1)
-
--- What a step answers and leaves is said of the files and of what is stored. Whether the volume is mounted, and the number of the line, stand beside it.
-why_in : (geo : RawGeometry) (a b : Running) (m n : Bool) (i j caller : ℕ) (op : Op) (reply : Reply)
+-- What a step answers and leaves is said of the files and of what is stored. Whether the volume is mounted, the number of the line and the workers stand beside it.
+why_in : (geo : RawGeometry) (a b : Running) (m n : Bool) (i j w v caller : ℕ) (op : Op) (reply : Reply)
     → ((refusal : Refusal) × (plain geo a caller op ≡ Err refusal) × (reply ≡ Refused refusal)) ⊎ IsFull geo a caller op reply b
-    → ((refusal : Refusal) × (plain geo a caller op ≡ Err refusal) × (reply ≡ Refused refusal)) ⊎ IsFull geo (record a { mounted = m; number = i }) caller op reply (record b { mounted = n; number = j })
-why_in geo a b m n i j caller op reply (inl plainly) = inl plainly
-why_in geo a b m n i j caller op reply (inr full) =
+    → ((refusal : Refusal) × (plain geo a caller op ≡ Err refusal) × (reply ≡ Refused refusal)) ⊎ IsFull geo (record a { mounted = m; number = i; workers = w }) caller op reply (record b { mounted = n; number = j; workers = v })
+why_in geo a b m n i j w v caller op reply (inl plainly) = inl plainly
+why_in geo a b m n i j w v caller op reply (inr full) =
     inr (record { sides = full.sides; told = full.told; asks = full.asks; free = full.free; room = record { need_is = full.room.need_is; room_is = full.room.room_is; full = full.room.full } })
 
-answer_in : (geo : RawGeometry) (a b : Running) (m n : Bool) (i j caller : ℕ) (op : Op) (reply : Reply) → IsAnswer geo a caller op reply b → IsAnswer geo (record a { mounted = m; number = i }) caller op reply (record b { mounted = n; number = j })
-answer_in geo a b m n i j caller op reply (inl done) = inl done
-answer_in geo a b m n i j caller op reply (inr refusal) = inr (record { why = why_in geo a b m n i j caller op reply refusal.why; same = refusal.same })
+answer_in : (geo : RawGeometry) (a b : Running) (m n : Bool) (i j w v caller : ℕ) (op : Op) (reply : Reply) → IsAnswer geo a caller op reply b → IsAnswer geo (record a { mounted = m; number = i; workers = w }) caller op reply (record b { mounted = n; number = j; workers = v })
+answer_in geo a b m n i j w v caller op reply (inl done) = inl done
+answer_in geo a b m n i j w v caller op reply (inr refusal) = inr (record { why = why_in geo a b m n i j w v caller op reply refusal.why; same = refusal.same })
 
-synced_in : (a b : Running) (m n : Bool) (i j caller : ℕ) (op : Op) (reply : Reply) → HasStored a caller op reply b → HasStored (record a { mounted = m; number = i }) caller op reply (record b { mounted = n; number = j })
+synced_in : (a b : Running) (m n : Bool) (i j w v caller : ℕ) (op : Op) (reply : Reply) → HasStored a caller op reply b → HasStored (record a { mounted = m; number = i; workers = w }) caller op reply (record b { mounted = n; number = j; workers = v })
 synced_in a b m n i j caller Flush Done h = h
 synced_in a b m n i j caller (Fsync slot) Done h = h
-synced_in a b m n i j caller op reply h = tt
+synced_in a b m n i j w v caller op reply h = tt
 
-pub replied_in : (geo : RawGeometry) (a b : Running) (m n : Bool) (i j caller : ℕ) (op : Op) (reply : Reply) → IsReplied geo a caller op reply b → IsReplied geo (record a { mounted = m; number = i }) caller op reply (record b { mounted = n; number = j })
-replied_in geo a b m n i j caller op reply h = record {
-  answer = answer_in geo a b m n i j caller op reply h.answer;
+pub replied_in : (geo : RawGeometry) (a b : Running) (m n : Bool) (i j w v caller : ℕ) (op : Op) (reply : Reply) → IsReplied geo a caller op reply b → IsReplied geo (record a { mounted = m; number = i; workers = w }) caller op reply (record b { mounted = n; number = j; workers = v })
+replied_in geo a b m n i j w v caller op reply h = record {
+  answer = answer_in geo a b m n i j w v caller op reply h.answer;
   orphans = h.orphans;
   under = h.under;
-  synced = synced_in a b m n i j caller op reply h.synced;
+  synced = synced_in a b m n i j w v caller op reply h.synced;
   still = h.still;
   grown = record { weight = h.grown.weight; index = h.grown.index };
   few = h.few;

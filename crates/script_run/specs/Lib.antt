@@ -1,5 +1,6 @@
 pub mod Heaviest
 pub mod Opening
+pub mod Phases
 pub mod Played
 pub mod Readers
 pub mod Reading

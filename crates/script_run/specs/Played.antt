@@ -1,5 +1,5 @@
 -- What a whole script leaves.
-use Rattle.std.specs.Prelude.{◌≡◌, ℕ, Some, None, List}
+use Rattle.std.specs.Prelude.{◌≡◌, ℕ, Some, None, List, []}
 use Rattle.ubifs_base.specs.declared.raw_geometry.RawGeometry.{RawGeometry}
 use Rattle.ubifs_base.specs.Areas.{main_lebs}
 use Rattle.fs_model.specs.declared.refusal.Cause.{Cause}
@@ -16,12 +16,13 @@ use Rattle.script_run.specs.declared.whole.Played.TheVariants.{Written, Unchange
 use Rattle.script_run.specs.declared.whole.Run.{Run}
 use Rattle.script_run.specs.Opening.{mounted_space}
 use Rattle.script_run.specs.Reading.{IsReadRun, Reading, reading_on}
-use Rattle.script_run.specs.Run.{IsLeft, IsRun, Running, opening_on}
+use Rattle.script_run.specs.Phases.{IsRunFrom}
+use Rattle.script_run.specs.Run.{IsLeft, Running, opening_on}
 
--- The text is that of the lines, one after another, from a volume with this tree and an index of this weight on. The tree that is left is the one that is stored behind the last line, without what has no name.
+-- The text is that of the script's phases and of the lines between them, from a volume with this tree and an index of this weight on. The tree that is left is the one that is stored behind the last line, without what has no name.
 pub record IsPlayed (geo : RawGeometry) (tree : Tree) (weight : ℕ) (parts : List Part) (run : Run) : Type 0 where
   pub last : Running
-  pub lines : IsRun geo (opening_on tree weight) parts run.text.items last
+  pub lines : IsRunFrom geo (opening_on tree weight) [] parts run.text.items last
   pub left : IsLeft last
   pub named : run.tree ≡ without_nameless last.stored
 

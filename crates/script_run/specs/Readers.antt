@@ -17,7 +17,7 @@ seen_over backing kept = present (state_of backing).tree kept
 
 -- where the script is
 abbrev pub reading_of : Reader → Reading
-reading_of reader = record { files = seen_over reader.fs.backing reader.fs.kept; mounted = reader.mounted; now = reader.now; number = reader.number }
+reading_of reader = record { files = seen_over reader.fs.backing reader.fs.kept; mounted = reader.mounted; now = reader.now; numbers = reader.numbers }
 
 -- The backing is read-only with this cause, and its index weighs nothing: so no page is dirty.
 pub record IsClosed (cause : Cause) (backing : PlainBacking) (kept : Kept) : Type 0 where

@@ -1,5 +1,5 @@
 -- What a script does on a volume that may only be read: what each of its lines answers, the files that callers see, and the text that is printed.
-use Rattle.std.specs.Prelude.{◌≡◌, ◌⊎◌, ℕ, ◌+◌, Bool, true, false, Option, Some, None, Err, List, [], ◌∷◌, ◌++◌, codes}
+use Rattle.std.specs.Prelude.{◌≡◌, ◌⊎◌, ℕ, ◌+◌, Bool, true, false, Option, Some, None, Err, List, [], ◌∷◌, ◌++◌, codes, get_or, replicate, set}
 use Rattle.fs_model.specs.declared.backing_answers.Mode.TheVariants.{ReadOnly}
 use Rattle.fs_model.specs.declared.op.Op.{Op}
 use Rattle.fs_model.specs.declared.refusal.Cause.{Cause}
@@ -14,20 +14,31 @@ use Rattle.fs_model.specs.Outcome.{Outcome}
 use Rattle.cached_files.specs.Alike.{IsAlike}
 use Rattle.vfs_ops.specs.Steps.{IsDone}
 use Rattle.script_text.specs.declared.part.Part.{Part}
-use Rattle.script_text.specs.declared.part.Part.TheVariants.{Mount, Unmount, Now, Line}
+use Rattle.script_text.specs.declared.part.Part.TheVariants.{Mount, Unmount, Now, Workers, Line}
 use Rattle.script_text.specs.Reply.{mount_for_reading_line, reply_line}
 use Rattle.text_lines.specs.Lines.{ended}
 
--- where a script is: the files as callers see them, whether the volume is mounted, the time, and how many lines of the caller stand behind the last line of another kind
+-- where a script is: the files as callers see them, whether the volume is mounted, the time, and how many lines of each caller stand behind the last line of another kind, at its number
 pub record Reading : Type 0 where
   pub files : Files
   pub mounted : Bool
   pub now : ℕ
-  pub number : ℕ
+  pub numbers : List ℕ
+
+-- no caller has a line yet
+abbrev pub no_numbers : List ℕ
+no_numbers = replicate 17 0
+
+-- the number of a caller's next line, and the numbers behind it
+abbrev pub number_after : List ℕ → ℕ → ℕ
+number_after numbers caller = get_or numbers caller 0 + 1
+
+abbrev pub numbers_after : List ℕ → ℕ → List ℕ
+numbers_after numbers caller = set numbers caller (number_after numbers caller)
 
 -- a volume with this tree, which isn't mounted
 abbrev pub reading_on : Tree → Reading
-reading_on tree = record { files = record { tree = tree; handles = [] }; mounted = false; now = 0; number = 0 }
+reading_on tree = record { files = record { tree = tree; handles = [] }; mounted = false; now = 0; numbers = no_numbers }
 
 -- refused as read-only, if there is a cause
 abbrev pub unless_closed : Option Cause → Outcome → Outcome
@@ -49,19 +60,20 @@ pub record IsReadRefusal (cause : Cause) (before : Reading) (caller : ℕ) (op :
 abbrev pub IsReadReply : Cause → Reading → ℕ → Op → Reply → Files → Type 0
 IsReadReply cause before caller op reply after = IsDone (read_outcome cause before caller op) after reply ⊎ IsReadRefusal cause before caller op reply after
 
--- a caller's line: the reply to it, under the next number
+-- a caller's line: the reply to it, under the caller's next number
 pub record IsReadServed (cause : Cause) (before : Reading) (caller : ℕ) (op : Op) (text : List ℕ) (after : Reading) : Type 0 where
   pub reply : Reply
   pub replied : IsReadReply cause before caller op reply after.files
-  pub printed : text ≡ reply_line caller (before.number + 1) reply
-  pub rest : after ≡ record before { files = after.files; number = before.number + 1 }
+  pub printed : text ≡ reply_line caller (number_after before.numbers caller) reply
+  pub rest : after ≡ record before { files = after.files; numbers = numbers_after before.numbers caller }
 
 -- what one line prints, and what it leaves; after an unmount nobody has a file open
 abbrev pub IsReadPart : Cause → Reading → Part → List ℕ → Reading → Type 0
-IsReadPart cause before Mount text after = (text ≡ mount_for_reading_line cause) × (after ≡ record before { mounted = true; number = 0 })
+IsReadPart cause before Mount text after = (text ≡ mount_for_reading_line cause) × (after ≡ record before { mounted = true; numbers = no_numbers })
 IsReadPart cause before Unmount text after =
-    (text ≡ ended (codes "unmount unchanged")) × (after ≡ record before { files = record before.files { handles = [] }; mounted = false; number = 0 })
-IsReadPart cause before (Now now) text after = (text ≡ []) × (after ≡ record before { now = now; number = 0 })
+    (text ≡ ended (codes "unmount unchanged")) × (after ≡ record before { files = record before.files { handles = [] }; mounted = false; numbers = no_numbers })
+IsReadPart cause before (Now now) text after = (text ≡ []) × (after ≡ record before { now = now; numbers = no_numbers })
+IsReadPart cause before (Workers count) text after = (text ≡ []) × (after ≡ record before { numbers = no_numbers })
 IsReadPart cause before (Line caller op) text after = IsReadServed cause before caller op text after
 
 -- The lines, one after another: the text of them all, and what the last one leaves.

@@ -12,11 +12,6 @@ abbrev pub IsCalled : Part → Type 0
 IsCalled (Line caller op) = IsCall op
 IsCalled part = Unit {0}
 
--- whether there was no memory for an operation
-abbrev pub is_memory : Reply → Bool
-is_memory (Refused Enomem) = true
-is_memory reply = false
-
 -- whether there was no memory for it, or the volume failed
 abbrev pub is_fault : Reply → Bool
 is_fault (Refused Enomem) = true

@@ -23,7 +23,7 @@ use Rattle.vfs_ops.specs.Kinds.{added_by, is_question}
 use Rattle.vfs_ops.specs.Operations.{has_group, nodes_asked}
 use Rattle.vfs_ops.specs.Steps.{IsDone, allowed, asked, is_write}
 use Rattle.script_text.specs.declared.part.Part.{Part}
-use Rattle.script_text.specs.declared.part.Part.TheVariants.{Mount, Unmount, Now, Line}
+use Rattle.script_text.specs.declared.part.Part.TheVariants.{Mount, Unmount, Now, Workers, Line}
 use Rattle.script_text.specs.Reply.{reply_line}
 use Rattle.text_lines.specs.Lines.{ended}
 use Rattle.script_run.specs.Stored.{IsFileStored, IsUnder, is_early}
@@ -42,10 +42,12 @@ pub record Running : Type 0 where
   pub mounted : Bool
   pub now : ℕ
   pub number : ℕ
+  -- how many workers are at work beside the callers
+  pub workers : ℕ
 
 -- A volume with this tree, which isn't mounted, beside an index of this weight. How many LEBs the index takes isn't asked: no more than its weight asks for.
 abbrev pub opening_on : Tree → ℕ → Running
-opening_on tree weight = record { files = record { tree = tree; handles = [] }; stored = tree; weight = weight; index = 0; closed = 0; mounted = false; now = 0; number = 0 }
+opening_on tree weight = record { files = record { tree = tree; handles = [] }; stored = tree; weight = weight; index = 0; closed = 0; mounted = false; now = 0; number = 0; workers = 0 }
 
 -- a fresh volume: the root's node is all that its index has
 abbrev pub opening : Running
@@ -112,6 +114,7 @@ pub record IsUnmounted (geo : RawGeometry) (before after : Running) : Type 0 whe
   pub mounted : after.mounted ≡ false
   pub now : after.now ≡ before.now
   pub number : after.number ≡ 0
+  pub workers : after.workers ≡ before.workers
 
 -- how many nodes an operation's group asks for
 abbrev pub nodes_for : Running → ℕ → Op → ℕ
@@ -146,6 +149,7 @@ abbrev pub IsPart : RawGeometry → Running → Part → List ℕ → Running �
 IsPart geo before Mount text after = (text ≡ ended (codes "mount rw")) × (after ≡ record before { mounted = true; number = 0 })
 IsPart geo before Unmount text after = (text ≡ ended (codes "unmount clean")) × IsUnmounted geo before after
 IsPart geo before (Now now) text after = (text ≡ []) × (after ≡ record before { now = now; number = 0 })
+IsPart geo before (Workers count) text after = (text ≡ []) × (after ≡ record before { workers = count; number = 0 })
 IsPart geo before (Line caller op) text after = IsServed geo before caller op text after
 
 -- The lines, one after another: the text of them all, and what the last one leaves.

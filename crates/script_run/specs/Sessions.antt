@@ -1,16 +1,20 @@
 -- What a session of a run stands for, and what it keeps.
-use Rattle.std.specs.Prelude.{◌≡◌, ℕ, false, true, [], length}
+use Rattle.std.specs.Prelude.{◌≡◌, ℕ, ◌<◌, Bool, false, true, List, [], All, length}
 use Rattle.ubifs_base.specs.declared.raw_geometry.RawGeometry.{RawGeometry}
 use Rattle.ubifs_base.specs.RawOf.{raw_of}
 use Rattle.small_areas.specs.Orphans.{orphan_limit}
 use Rattle.fs_model.specs.declared.backing_answers.Mode.TheVariants.{ReadWrite}
 use Rattle.fs_model.specs.Backing.{BackingState}
+use Rattle.fs_laws.specs.Sound.{IsCall}
 use Rattle.cached_files.specs.declared.kept.Kept.{Kept}
 use Rattle.cached_files.specs.Calls.{full_weight}
 use Rattle.cached_files.specs.Present.{present}
 use Rattle.plain_backing.specs.declared.backing.PlainBacking.{PlainBacking}
 use Rattle.plain_backing.specs.PlainBacking.{Covers, state_of}
+use Rattle.script_phase.specs.declared.lines.CallerLine.{CallerLine}
+use Rattle.script_run.specs.Phases.{Stage}
 use Rattle.script_run.specs.Run.{Running}
+use Rattle.script_run.specs.declared.lines.Gathered.{Gathered}
 use Rattle.script_run.specs.declared.session.Session.{Session}
 
 abbrev pub state_in : Session → BackingState
@@ -27,6 +31,7 @@ running_of session = record {
   mounted = session.mounted;
   now = session.now;
   number = session.number;
+  workers = session.workers;
 }
 
 -- where a script is whose volume is mounted: over this backing, under what is kept, at this time
@@ -40,6 +45,7 @@ mounted_over backing kept now = record {
   mounted = true;
   now = now;
   number = 0;
+  workers = 0;
 }
 
 -- nothing is kept beside the backing
@@ -63,3 +69,14 @@ pub record IsSession (geo : RawGeometry) (session : Session) : Type 0 where
   pub geometry : raw_of session.geometry ≡ geo
   pub steady : IsSteady geo session.fs.backing session.fs.kept
   pub bare : session.mounted ≡ false → IsBare session.fs.kept
+
+-- a caller's line that waits: the volume is mounted, callers are numbered from 1, and its operation gives bytes
+abbrev pub IsWaiting : Bool → CallerLine → Type 0
+IsWaiting mounted line = (mounted ≡ true) × (0 < line.caller) × IsCall line.op
+
+-- a session, and the lines that wait
+abbrev pub AreReady : RawGeometry → Session → List CallerLine → Type 0
+AreReady geo session lines = IsSession geo session × All (IsWaiting session.mounted) lines
+
+abbrev pub stage_of : Gathered → Stage
+stage_of gathered = record { here = running_of gathered.session; lines = gathered.lines.items }

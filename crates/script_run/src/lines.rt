@@ -1,18 +1,23 @@
-// The lines of a script, one after another.
+// The lines of a script: phases, and the lines of another kind between them.
 
-ghost use Rattle.std.specs.Prelude.{◌≡◌, ℕ, ◌+◌, ◌≤◌, IfOk, OnOk, List, Bool, false, length};
+ghost use Rattle.std.specs.Prelude.{◌≡◌, ℕ, ◌+◌, ◌≤◌, ◌++◌, IfOk, List, [], Bool, false, length};
 ghost use Rattle.std.specs.List.{AllByRecursion};
 ghost use Rattle.ubifs_base.specs.RawOf.{raw_of};
-ghost use Rattle.script_text.specs.Script.{Leads};
-ghost use Rattle.script_run.specs.Replies.{IsCalled};
-ghost use Rattle.script_run.specs.Run.{IsRun, opening_on};
-ghost use Rattle.script_run.specs.Sessions.{IsSession, running_of};
+ghost use Rattle.script_text.specs.Script.{IsInRange, Leads, MayStand};
+ghost use Rattle.script_run.specs.Phases.{HasAdvanced, IsRunFrom, IsTurn};
+ghost use Rattle.script_run.specs.Run.{opening_on};
+ghost use Rattle.script_run.specs.Sessions.{AreReady, IsSession, running_of, stage_of, state_in};
 
 use crate::opening::Opening;
+use crate::phase::serve_phase;
 use crate::session::{Session, first_session, next};
+use script_phase::CallerLine;
 use script_text::Part;
 use std::alloc::Global;
+use std::sync::Wait;
+use std::thread::Threads;
 use ubifs_base::Memory;
+use writeback::Gate;
 
 /// What the lines printed, and the session that they left.
 #[derive(Drop)]
@@ -21,22 +26,87 @@ pub(crate) struct PlayedLines {
     pub(crate) session: Session,
 }
 
+/// A session, and the lines of the phase that has begun, which wait.
+#[derive(Drop)]
+pub(crate) struct Gathered {
+    pub(crate) session: Session,
+    pub(crate) lines: Vec<CallerLine>,
+}
+
 /// Does what the lines say, from a volume on. Want of memory is the only fault.
-pub(crate) fn play_lines(
+pub(crate) fn play_lines<R: Threads + Wait + Sync, G: Gate + Sync>(
+    rt: &R,
     alloc: Global,
     opening: Opening,
     parts: Vec<Part>,
+    gate: &G,
 ) -> Result<PlayedLines, Memory>
     requires order { (last : Bool) × Leads false parts.items last }
-    requires calls { AllByRecursion IsCalled parts.items }
+    requires range { AllByRecursion IsInRange parts.items }
     requires few { length parts.items ≤ 100000 }
-    ensures run { IfOk result (λ played. IsRun (raw_of opening.geometry) (opening_on opening.tree opening.space.weight) parts.items played.text.items (running_of played.session)) }
+    ensures run { IfOk result (λ played. IsRunFrom (raw_of opening.geometry) (opening_on opening.tree opening.space.weight) [] parts.items played.text.items (running_of played.session)) }
     ensures session { IfOk result (λ played. IsSession (raw_of opening.geometry) played.session) }
 {
-    let mut session = first_session(alloc, opening)?;
+    let session = first_session(alloc, opening)?;
     let mut text = Vec::new(alloc);
+    let mut gathered = Gathered {
+        session,
+        lines: Vec::new(alloc),
+    };
     for part in parts {
-        session = next(alloc, session, part, &mut text)?;
+        gathered = advance(rt, alloc, gathered, part, gate, &mut text)?;
     }
+    let session = serve_phase(rt, alloc, gathered.session, gathered.lines, gate, &mut text)?;
     Ok(PlayedLines { text, session })
+}
+
+// A caller's line waits. A line of another kind first ends the phase.
+fn advance<R: Threads + Wait + Sync, G: Gate + Sync>(
+    rt: &R,
+    alloc: Global,
+    gathered: Gathered,
+    part: Part,
+    gate: &G,
+    text: &mut Vec<u8>,
+) -> Result<Gathered, Memory>
+    requires ready { AreReady (state_in gathered.session).geometry gathered.session gathered.lines.items }
+    requires part { IsInRange part × MayStand gathered.session.mounted part }
+    requires few { gathered.session.number + length gathered.lines.items ≤ 100000 }
+    ensures ready { IfOk result (λ new. AreReady (state_in gathered.session).geometry new.session new.lines.items) }
+    ensures advanced { IfOk result (λ new. (more : List ℕ) × HasAdvanced (state_in gathered.session).geometry (stage_of gathered) part more (stage_of new) × (text.new.items ≡ text.old.items ++ more)) }
+    ensures few { IfOk result (λ new. new.session.number + length new.lines.items ≤ gathered.session.number + length gathered.lines.items + 1) }
+{
+    match part {
+        Part::Line { caller, op } => {
+            let Gathered { session, mut lines } = gathered;
+            lines.push(CallerLine { caller, op })?;
+            Ok(Gathered { session, lines })
+        }
+        control => turn(rt, alloc, gathered, control, gate, text),
+    }
+}
+
+// Ends the phase, and does what a line of another kind says.
+fn turn<R: Threads + Wait + Sync, G: Gate + Sync>(
+    rt: &R,
+    alloc: Global,
+    gathered: Gathered,
+    part: Part,
+    gate: &G,
+    text: &mut Vec<u8>,
+) -> Result<Gathered, Memory>
+    requires ready { AreReady (state_in gathered.session).geometry gathered.session gathered.lines.items }
+    requires part { IsInRange part × MayStand gathered.session.mounted part }
+    requires few { gathered.session.number + length gathered.lines.items ≤ 100000 }
+    ensures session { IfOk result (λ new. IsSession (state_in gathered.session).geometry new.session) }
+    ensures turn { IfOk result (λ new. (more : List ℕ) × IsTurn (state_in gathered.session).geometry (running_of gathered.session) gathered.lines.items part more (running_of new.session) × (text.new.items ≡ text.old.items ++ more)) }
+    ensures lines { IfOk result (λ new. new.lines.items ≡ []) }
+    ensures few { IfOk result (λ new. new.session.number ≤ gathered.session.number + length gathered.lines.items + 1) }
+{
+    let session = serve_phase(rt, alloc, gathered.session, gathered.lines, gate, text)?;
+    let session = next(alloc, session, part, text)?;
+    Ok(Gathered {
+        session,
+        lines: Vec::new(alloc),
+    })
 }

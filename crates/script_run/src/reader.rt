@@ -1,11 +1,11 @@
 // The session of a run on a volume that may only be read: files over a volume in memory that takes no change, and where the script is.
 
-ghost use Rattle.std.specs.Prelude.{◌≡◌, ℕ, ◌<◌, ◌≤◌, ◌+◌, ◌++◌, ◌^◌, Bool, IfOk, OnOk, false, List};
+ghost use Rattle.std.specs.Prelude.{◌≡◌, ℕ, ◌≤◌, ◌++◌, Bool, IfOk, OnOk, false, List};
 ghost use Rattle.fs_model.specs.Proper.{IsProper};
 ghost use Rattle.plain_backing.specs.Spending.{is_spent};
 ghost use Rattle.fs_model.specs.declared.backing_answers.Mode.TheVariants.{ReadOnly};
 ghost use Rattle.script_text.specs.declared.part.Part.TheVariants.{Line, Mount, Unmount};
-ghost use Rattle.script_text.specs.Script.{MayStand};
+ghost use Rattle.script_text.specs.Script.{IsInRange};
 ghost use Rattle.script_run.specs.Replies.{IsCalled, is_fault};
 ghost use Rattle.script_run.specs.Reading.{IsReadPart, IsReadReply, reading_on};
 ghost use Rattle.script_run.specs.Readers.{IsClosed, reading_of, seen_over};
@@ -19,15 +19,15 @@ use std::alloc::Global;
 use ubifs_base::{Geometry, Memory};
 use vfs_ops::{Event, Fs};
 
-/// Files over such a volume, why it may only be read, whether it is mounted, the time in seconds since 1970, and how many lines of the caller
-/// stand behind the last line of another kind.
+/// Files over such a volume, why it may only be read, whether it is mounted, the time in seconds since 1970, and how many lines of each caller
+/// stand behind the last line of another kind, at its number.
 #[derive(Drop)]
 pub(crate) struct Reader {
     pub(crate) fs: Fs<PlainBacking>,
     pub(crate) cause: Cause,
     pub(crate) mounted: bool,
     pub(crate) now: u64,
-    pub(crate) number: u64,
+    pub(crate) numbers: [u64; 17],
 }
 
 /// A session on a volume with this tree, which isn't mounted. No number of its space is asked for.
@@ -59,7 +59,7 @@ pub(crate) fn first_reader(
             cause,
             mounted: false,
             now: 0,
-            number: 0,
+            numbers: [0; 17],
         }),
         Err((fault, _)) => Err(fault),
     }
@@ -73,12 +73,10 @@ pub(crate) fn read_next(
     text: &mut Vec<u8>,
 ) -> Result<Reader, Memory>
     requires closed { IsClosed reader.cause reader.fs.backing reader.fs.kept }
-    requires call { IsCalled part }
-    requires few { reader.number < 2 ^ 32 }
+    requires range { IsInRange part }
     ensures closed { IfOk result (λ new. IsClosed reader.cause new.fs.backing new.fs.kept) }
     ensures cause { IfOk result (λ new. new.cause ≡ reader.cause) }
     ensures part { IfOk result (λ new. (line : List ℕ) × IsReadPart reader.cause (reading_of reader) part line (reading_of new) × (text.new.items ≡ text.old.items ++ line)) }
-    ensures few { IfOk result (λ new. new.number ≤ reader.number + 1) }
 {
     match part {
         Part::Mount => read_mounted(reader, text),
@@ -88,7 +86,14 @@ pub(crate) fn read_next(
             cause: reader.cause,
             mounted: reader.mounted,
             now,
-            number: 0,
+            numbers: [0; 17],
+        }),
+        Part::Workers { .. } => Ok(Reader {
+            fs: reader.fs,
+            cause: reader.cause,
+            mounted: reader.mounted,
+            now: reader.now,
+            numbers: [0; 17],
         }),
         Part::Line { caller, op } => read_served(reader, caller, op, text),
     }
@@ -100,7 +105,6 @@ fn read_mounted(reader: Reader, text: &mut Vec<u8>) -> Result<Reader, Memory>
     ensures closed { IfOk result (λ new. IsClosed reader.cause new.fs.backing new.fs.kept) }
     ensures cause { IfOk result (λ new. new.cause ≡ reader.cause) }
     ensures part { IfOk result (λ new. (line : List ℕ) × IsReadPart reader.cause (reading_of reader) Mount line (reading_of new) × (text.new.items ≡ text.old.items ++ line)) }
-    ensures few { IfOk result (λ new. new.number ≡ 0) }
 {
     write_mount_for_reading(reader.cause, text)?;
     Ok(Reader {
@@ -108,7 +112,7 @@ fn read_mounted(reader: Reader, text: &mut Vec<u8>) -> Result<Reader, Memory>
         cause: reader.cause,
         mounted: true,
         now: reader.now,
-        number: 0,
+        numbers: [0; 17],
     })
 }
 
@@ -118,7 +122,6 @@ fn read_unmounted(alloc: Global, reader: Reader, text: &mut Vec<u8>) -> Result<R
     ensures closed { IfOk result (λ new. IsClosed reader.cause new.fs.backing new.fs.kept) }
     ensures cause { IfOk result (λ new. new.cause ≡ reader.cause) }
     ensures part { IfOk result (λ new. (line : List ℕ) × IsReadPart reader.cause (reading_of reader) Unmount line (reading_of new) × (text.new.items ≡ text.old.items ++ line)) }
-    ensures few { IfOk result (λ new. new.number ≡ 0) }
 {
     clean_files_are_those_of_the_backing();
     text.extend_from_slice(b"unmount unchanged\n".as_slice())?;
@@ -129,7 +132,7 @@ fn read_unmounted(alloc: Global, reader: Reader, text: &mut Vec<u8>) -> Result<R
             cause: reader.cause,
             mounted: false,
             now: reader.now,
-            number: 0,
+            numbers: [0; 17],
         }),
         Err((fault, _)) => Err(fault),
     }
@@ -139,22 +142,25 @@ fn read_unmounted(alloc: Global, reader: Reader, text: &mut Vec<u8>) -> Result<R
 fn read_served(reader: Reader, caller: u16, op: Op, text: &mut Vec<u8>) -> Result<Reader, Memory>
     requires closed { IsClosed reader.cause reader.fs.backing reader.fs.kept }
     requires call { IsCalled (Line caller op) }
-    requires few { reader.number < 2 ^ 32 }
+    requires caller { caller ≤ 16 }
     ensures closed { IfOk result (λ new. IsClosed reader.cause new.fs.backing new.fs.kept) }
     ensures cause { IfOk result (λ new. new.cause ≡ reader.cause) }
     ensures part { IfOk result (λ new. (line : List ℕ) × IsReadPart reader.cause (reading_of reader) (Line caller op) line (reading_of new) × (text.new.items ≡ text.old.items ++ line)) }
-    ensures few { IfOk result (λ new. new.number ≡ reader.number + 1) }
 {
     let mut fs = reader.fs;
     let reply = read_replied(&mut fs, reader.cause, caller, reader.now, op)?;
-    let number = reader.number + 1;
+    let mut numbers = reader.numbers;
+    let Some(number) = numbers[usize::from(caller)].checked_add(1) else {
+        return Err(Memory);
+    };
+    numbers[usize::from(caller)] = number;
     write_reply(caller, number, &reply, text)?;
     Ok(Reader {
         fs,
         cause: reader.cause,
         mounted: reader.mounted,
         now: reader.now,
-        number,
+        numbers,
     })
 }
 
@@ -169,7 +175,7 @@ fn read_replied(
     requires closed { IsClosed cause fs.old.backing fs.old.kept }
     requires call { IsCalled (Line caller op) }
     ensures closed { OnOk result (IsClosed cause fs.new.backing fs.new.kept) }
-    ensures replied { IfOk result (λ reply. (mounted : Bool) (number : ℕ) → IsReadReply cause (record { files = seen_over fs.old.backing fs.old.kept; mounted = mounted; now = now; number = number }) caller op reply (seen_over fs.new.backing fs.new.kept)) }
+    ensures replied { IfOk result (λ reply. (mounted : Bool) (numbers : List ℕ) → IsReadReply cause (record { files = seen_over fs.old.backing fs.old.kept; mounted = mounted; now = now; numbers = numbers }) caller op reply (seen_over fs.new.backing fs.new.kept)) }
 {
     let event = Event::Call {
         caller,

@@ -1,14 +1,14 @@
 // The lines of a script on a volume that may only be read.
 
-ghost use Rattle.std.specs.Prelude.{◌≡◌, ◌≤◌, IfOk, false, length};
+ghost use Rattle.std.specs.Prelude.{◌≡◌, IfOk, false};
 ghost use Rattle.std.specs.List.{AllByRecursion};
 ghost use Rattle.fs_model.specs.Proper.{IsProper};
 ghost use Rattle.fs_model.specs.declared.backing_answers.Mode.TheVariants.{ReadOnly};
 ghost use Rattle.plain_backing.specs.Spending.{is_spent};
+ghost use Rattle.script_text.specs.Script.{IsInRange};
 ghost use Rattle.script_run.specs.Played.{IsReadText};
 ghost use Rattle.script_run.specs.Readers.{reading_of};
 ghost use Rattle.script_run.specs.Reading.{IsReadRun, reading_on};
-ghost use Rattle.script_run.specs.Replies.{IsCalled};
 
 use crate::reader::{Reader, first_reader, read_next};
 use fs_model::Cause;
@@ -34,8 +34,7 @@ pub(crate) fn read_text(
 ) -> Result<Vec<u8>, Memory>
     requires proper { IsProper tree }
     requires unspent { is_spent (ReadOnly cause) ≡ false }
-    requires calls { AllByRecursion IsCalled parts.items }
-    requires few { length parts.items ≤ 100000 }
+    requires range { AllByRecursion IsInRange parts.items }
     ensures { IfOk result (λ text. IsReadText cause tree parts.items text.items) }
 {
     let read = read_lines(alloc, geometry, tree, cause, parts)?;
@@ -52,8 +51,7 @@ fn read_lines(
 ) -> Result<LinesRead, Memory>
     requires proper { IsProper tree }
     requires unspent { is_spent (ReadOnly cause) ≡ false }
-    requires calls { AllByRecursion IsCalled parts.items }
-    requires few { length parts.items ≤ 100000 }
+    requires range { AllByRecursion IsInRange parts.items }
     ensures { IfOk result (λ read. IsReadRun cause (reading_on tree) parts.items read.text.items (reading_of read.reader)) }
 {
     let mut reader = first_reader(alloc, geometry, tree, cause)?;

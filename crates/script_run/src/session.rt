@@ -11,7 +11,7 @@ ghost use Rattle.script_text.specs.Script.{MayStand};
 ghost use Rattle.vfs_ops.specs.declared.event.Outcome.TheVariants.{Replied};
 ghost use Rattle.vfs_ops.specs.Background.{is_work};
 ghost use Rattle.vfs_ops.specs.Events.{HasSynced, IsCalled as IsCalledEvent, IsReply, grant_of};
-ghost use Rattle.script_run.specs.Replies.{IsCalled, is_memory};
+ghost use Rattle.script_run.specs.Replies.{IsCalled};
 ghost use Rattle.fs_model.specs.Files.{Tree};
 ghost use Rattle.fs_model.specs.Orphan.{without_nameless};
 ghost use Rattle.script_run.specs.Run.{HasGrown, IsPart, IsReplied, opening_on};
@@ -21,8 +21,9 @@ use crate::nameless::without_nameless;
 use crate::opening::{Opening, backing_of};
 use cached_files::{clean_files_are_those_of_the_backing, present_files_are_sound};
 use fs_laws::a_mount_keeps_trees_proper;
-use fs_model::{Backing, Op, Refusal, Reply};
+use fs_model::{Backing, Op, Reply};
 use plain_backing::PlainBacking;
+use script_phase::is_memory;
 use script_text::{Part, write_reply};
 use space_sums::more_never_lowers_the_need;
 use std::alloc::Global;
@@ -32,8 +33,8 @@ use vfs_ops::{Event, Fs, Outcome, a_plain_answer_is_no_refusal};
 /// How many clean pages are kept in memory.
 pub(crate) const CLEAN: u32 = 1024;
 
-/// Files over a volume in memory, its geometry, whether it is mounted, the time in seconds since 1970, and how many lines of the caller stand
-/// behind the last line of another kind.
+/// Files over a volume in memory, its geometry, whether it is mounted, the time in seconds since 1970, how many lines of the caller stand
+/// behind the last line of another kind, and how many workers are at work beside the callers.
 #[derive(Drop)]
 pub(crate) struct Session {
     pub(crate) fs: Fs<PlainBacking>,
@@ -41,6 +42,7 @@ pub(crate) struct Session {
     pub(crate) mounted: bool,
     pub(crate) now: u64,
     pub(crate) number: u64,
+    pub(crate) workers: u16,
 }
 
 /// A session on a volume, which isn't mounted.
@@ -61,6 +63,7 @@ pub(crate) fn first_session(alloc: Global, opening: Opening) -> Result<Session, 
             mounted: false,
             now: 0,
             number: 0,
+            workers: 0,
         }),
         Err((fault, _)) => Err(fault),
     }
@@ -90,6 +93,15 @@ pub(crate) fn next(
             mounted: session.mounted,
             now,
             number: 0,
+            workers: session.workers,
+        }),
+        Part::Workers { count } => Ok(Session {
+            fs: session.fs,
+            geometry: session.geometry,
+            mounted: session.mounted,
+            now: session.now,
+            number: 0,
+            workers: count,
         }),
         Part::Line { caller, op } => served(session, caller, op, text),
     }
@@ -109,6 +121,7 @@ fn mounted(session: Session, text: &mut Vec<u8>) -> Result<Session, Memory>
         mounted: true,
         now: session.now,
         number: 0,
+        workers: session.workers,
     })
 }
 
@@ -127,11 +140,17 @@ fn unmounted(alloc: Global, session: Session, text: &mut Vec<u8>) -> Result<Sess
         mounted: false,
         now: session.now,
         number: 0,
+        workers: session.workers,
     })
 }
 
-// Does a caller's operation, and prints the reply.
-fn served(session: Session, caller: u16, op: Op, text: &mut Vec<u8>) -> Result<Session, Memory>
+/// Does a caller's operation, and prints the reply.
+pub(crate) fn served(
+    session: Session,
+    caller: u16,
+    op: Op,
+    text: &mut Vec<u8>,
+) -> Result<Session, Memory>
     requires session { IsSession (state_in session).geometry session }
     requires call { IsCalled (Line caller op) }
     requires mounted { session.mounted ≡ true }
@@ -150,6 +169,7 @@ fn served(session: Session, caller: u16, op: Op, text: &mut Vec<u8>) -> Result<S
         mounted: session.mounted,
         now: session.now,
         number,
+        workers: session.workers,
     })
 }
 
@@ -268,14 +288,4 @@ pub(crate) fn parts_of(outcome: Outcome) -> (Reply, u64)
         unreachable!()
     };
     (reply, left)
-}
-
-// Whether an operation was refused for want of memory.
-fn is_memory(reply: &Reply) -> bool
-    ensures { result ≡ is_memory reply.now }
-{
-    match reply {
-        Reply::Refused { refusal } => *refusal == Refusal::Enomem,
-        _ => false,
-    }
 }

@@ -17,7 +17,10 @@ use plain_backing::Tree;
 use script_text::Part;
 use space_sums::{more_never_lowers_the_need, settled};
 use std::alloc::Global;
+use std::sync::Wait;
+use std::thread::Threads;
 use ubifs_base::{Geometry, Memory};
+use writeback::Gate;
 
 /// What a script printed, and the tree that it left: the one that was put, without what has no name.
 #[derive(Drop)]
@@ -34,13 +37,15 @@ pub enum Played {
 }
 
 /// Runs a script on a volume with these files, whose image has this space once it is recovered, before any commit. The volume may only be
-/// read if `settled` of its numbers gives a cause. The error is want of memory.
-pub fn play(
+/// read if `settled` of its numbers gives a cause. A worker of the script waits at the gate before each put. The error is want of memory.
+pub fn play<R: Threads + Wait + Sync, G: Gate + Sync>(
+    rt: &R,
     alloc: Global,
     geometry: Geometry,
     tree: Tree,
     space: &Space,
     parts: Vec<Part>,
+    gate: &G,
 ) -> Result<Played, Memory>
     requires proper { IsProper tree }
     requires order { (last : Bool) × Leads false parts.items last }
@@ -52,7 +57,13 @@ pub fn play(
     let space = mounted_space(&geometry, &tree, space)?;
     match settled(&geometry, &space) {
         None => {
-            let run = write_lines(alloc, writable_volume(geometry, tree, &space), parts)?;
+            let run = write_lines(
+                rt,
+                alloc,
+                writable_volume(geometry, tree, &space),
+                parts,
+                gate,
+            )?;
             Ok(Played::Written { run })
         }
         Some(cause) => {
@@ -63,7 +74,13 @@ pub fn play(
 }
 
 // Runs a script on a volume that may be written.
-fn write_lines(alloc: Global, opening: Opening, parts: Vec<Part>) -> Result<Run, Memory>
+fn write_lines<R: Threads + Wait + Sync, G: Gate + Sync>(
+    rt: &R,
+    alloc: Global,
+    opening: Opening,
+    parts: Vec<Part>,
+    gate: &G,
+) -> Result<Run, Memory>
     requires order { (last : Bool) × Leads false parts.items last }
     requires range { AllByRecursion IsInRange parts.items }
     requires few { length parts.items ≤ 100000 }
@@ -73,7 +90,7 @@ fn write_lines(alloc: Global, opening: Opening, parts: Vec<Part>) -> Result<Run,
 {
     a_mount_keeps_trees_proper();
     more_never_lowers_the_need();
-    let played = play_lines(alloc, opening, parts)?;
+    let played = play_lines(rt, alloc, opening, parts, gate)?;
     let text = played.text;
     let tree = without_nameless(alloc, played.session.fs.into_parts().into_tree())?;
     Ok(Run { text, tree })

@@ -6,6 +6,7 @@ use io_edges::{FileKeeper, OutSink};
 use std::process::ExitCode;
 use std::{env, io};
 use ubifs_tools::ubifs;
+use writeback::OpenGate;
 
 /// The status for want of memory, and for words that the host doesn't hand over.
 const OUT_OF_MEMORY: u8 = 6;
@@ -19,7 +20,8 @@ fn main(rt: HostRuntime) -> ExitCode {
         mut keeper,
         mut out,
     } = edges;
-    ExitCode::from(ubifs(&rt, rt.alloc(), &words, &mut keeper, &mut out))
+    let gate = OpenGate {};
+    ExitCode::from(ubifs(&rt, rt.alloc(), &words, &mut keeper, &mut out, &gate))
 }
 
 // What the program meets of the host: its words, the files, and standard output.

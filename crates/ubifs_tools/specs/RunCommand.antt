@@ -101,7 +101,7 @@ pub record ImageRun : Type 0 where
 abbrev pub mount_numbers : ImageRun → Space
 mount_numbers it = mounted_space it.geo it.tree it.space
 
--- The text is that of the script's lines, one after another, from the volume's tree on, beside its index. The image's bytes are those of a volume that holds what is left of the
+-- The text is that of the script's phases and of the lines between them, from the volume's tree on, beside its index. The image's bytes are those of a volume that holds what is left of the
 -- tree that was put, without what has no name.
 pub record IsRunWritten (it : ImageRun) : Type 0 where
   pub run : Run

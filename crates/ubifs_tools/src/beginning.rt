@@ -17,8 +17,10 @@ use plain_backing::Tree;
 use script_run::{Played, play};
 use script_text::Part;
 use std::alloc::Global;
+use std::sync::Wait;
 use std::thread::Threads;
 use ubifs_base::{Geometry, Memory};
+use writeback::Gate;
 
 /// What a run printed, and the image that it leaves.
 #[derive(Drop)]
@@ -35,11 +37,12 @@ pub(crate) enum RunOn {
 }
 
 /// Runs a script on the volume of an image, if that is sound.
-pub(crate) fn run_on<R: Threads + Sync>(
+pub(crate) fn run_on<R: Threads + Wait + Sync, G: Gate + Sync>(
     rt: &R,
     alloc: Global,
     start: Vec<u8>,
     parts: Vec<Part>,
+    gate: &G,
 ) -> Result<RunOn, Memory>
     requires order { (last : Bool) × Leads false parts.items last }
     requires range { AllByRecursion IsInRange parts.items }
@@ -54,7 +57,7 @@ pub(crate) fn run_on<R: Threads + Sync>(
             tree,
             space,
         } => {
-            let output = run_volume(alloc, geometry, tree, &space, parts, start)?;
+            let output = run_volume(rt, alloc, geometry, tree, &space, parts, start, gate)?;
             Ok(RunOn::Ended { output })
         }
     }
@@ -67,13 +70,15 @@ fn show_bytes(bytes: &[u8])
 
 // Runs a script on a volume of this geometry and tree, whose image has this space. It leaves the image of what it put; or this one, if the volume may
 // only be read.
-fn run_volume(
+fn run_volume<R: Threads + Wait + Sync, G: Gate + Sync>(
+    rt: &R,
     alloc: Global,
     geometry: Geometry,
     tree: Tree,
     space: &Space,
     parts: Vec<Part>,
     start: Vec<u8>,
+    gate: &G,
 ) -> Result<RunOutput, Memory>
     requires proper { IsProper tree }
     requires small { geometry.big ≡ false }
@@ -82,7 +87,7 @@ fn run_volume(
     requires few { length parts.items ≤ 100000 }
     ensures { IfOk result (λ output. (left : ATree) × IsRunOf (record { geo = raw_of geometry; start = start.items; tree = tree; space = space.now; parts = parts.items; text = output.text.items; image = output.image.items; left = left })) }
 {
-    match play(alloc, geometry, tree, space, parts)? {
+    match play(rt, alloc, geometry, tree, space, parts, gate)? {
         Played::Written { run } => {
             let image = image_bytes(alloc, &geometry, &run.tree)?;
             Ok(RunOutput {

@@ -7,9 +7,11 @@ ghost use Rattle.ubifs_tools.specs.Ended.{IsEnded, IsWrittenOut, NamesFile, Name
 use crate::perform::{Ran, perform};
 use io_edges::{KeepFault, Keeper};
 use std::alloc::Global;
+use std::sync::Wait;
 use std::thread::Threads;
 use text_lines::line_of_two;
 use ubifs_base::Memory;
+use writeback::Gate;
 
 /// How a making of an image ended: a line that says why nothing was done, or the text of what was done.
 #[derive(Drop)]
@@ -31,13 +33,14 @@ pub(crate) enum RunEnded {
 }
 
 /// Reads the manifest or the image, the script, and the files that the manifest copies, does the work, and writes the image.
-pub(crate) fn run<R: Threads + Sync, K: Keeper>(
+pub(crate) fn run<R: Threads + Wait + Sync, K: Keeper, G: Gate + Sync>(
     rt: &R,
     alloc: Global,
     manifest: &str,
     script: &str,
     image: &str,
     keeper: &mut K,
+    gate: &G,
 ) -> Result<RunEnded, Memory>
     ensures ended { IfOk result (IsEnded (K.state keeper.old) (K.state keeper.new) manifest.now script.now image.now) }
     ensures err { OnErr result (SameFiles (K.state keeper.old) (K.state keeper.new)) }
@@ -52,7 +55,7 @@ pub(crate) fn run<R: Threads + Sync, K: Keeper>(
         Err(KeepFault::Memory) => return Err(Memory),
         Err(_) => return run_unread(alloc, script),
     };
-    match perform(rt, alloc, volume, &script_text, keeper)? {
+    match perform(rt, alloc, volume, &script_text, keeper, gate)? {
         Ran::Unread { line } => Ok(RunEnded::Unread { line }),
         Ran::BadText { line } => Ok(RunEnded::BadText { line }),
         Ran::BadImage { line } => Ok(RunEnded::BadImage { line }),

@@ -19,9 +19,11 @@ use io_edges::Keeper;
 use manifest_tree::{MadeManifest, read_names};
 use script_text::{Part, TextFault, parts_are_in_range, read_script};
 use std::alloc::Global;
+use std::sync::Wait;
 use std::thread::Threads;
 use text_lines::line_of_three;
 use ubifs_base::{GeomFault, GeomField, Memory};
+use writeback::Gate;
 
 /// What became of a manifest's tree: a line that says why there is no image, or the text of what was made, and the image.
 #[derive(Drop)]
@@ -43,20 +45,21 @@ pub(crate) enum Ran {
 
 /// Reads a volume and a script, and runs the script on the volume. The volume's bytes are a manifest, if they begin as one, and else an image.
 /// A run on a manifest is one on the image that `mkfs` makes of it.
-pub(crate) fn perform<R: Threads + Sync, K: Keeper>(
+pub(crate) fn perform<R: Threads + Wait + Sync, K: Keeper, G: Gate + Sync>(
     rt: &R,
     alloc: Global,
     volume: Vec<u8>,
     script: &[u8],
     keeper: &mut K,
+    gate: &G,
 ) -> Result<Ran, Memory>
     ensures stay { FilesStay (K.state keeper.old) (K.state keeper.new) }
     ensures ran { IfOk result (IsRan (K.state keeper.old) (K.state keeper.new) (volume.items, script.now)) }
 {
     if begins_as_manifest(&volume) {
-        perform_on_manifest(rt, alloc, &volume, script, keeper)
+        perform_on_manifest(rt, alloc, &volume, script, keeper, gate)
     } else {
-        perform_on_image(rt, alloc, volume, script)
+        perform_on_image(rt, alloc, volume, script, gate)
     }
 }
 
@@ -71,12 +74,13 @@ fn begins_as_manifest(bytes: &[u8]) -> bool
 }
 
 // Reads a manifest, a script, and the files that the manifest copies, and runs the script on the image that is made of them.
-fn perform_on_manifest<R: Threads + Sync, K: Keeper>(
+fn perform_on_manifest<R: Threads + Wait + Sync, K: Keeper, G: Gate + Sync>(
     rt: &R,
     alloc: Global,
     manifest: &[u8],
     script: &[u8],
     keeper: &mut K,
+    gate: &G,
 ) -> Result<Ran, Memory>
     requires { BeginsAsManifest manifest.now }
     ensures stay { FilesStay (K.state keeper.old) (K.state keeper.new) }
@@ -99,16 +103,17 @@ fn perform_on_manifest<R: Threads + Sync, K: Keeper>(
     parts_are_in_range();
     match fill_named(alloc, named, keeper)? {
         Copied::Unread { line } => Ok(Ran::Unread { line }),
-        Copied::Made { made } => run_made(rt, alloc, &made, parts),
+        Copied::Made { made } => run_made(rt, alloc, &made, parts, gate),
     }
 }
 
 // Runs a script on the image of a manifest's tree.
-fn run_made<R: Threads + Sync>(
+fn run_made<R: Threads + Wait + Sync, G: Gate + Sync>(
     rt: &R,
     alloc: Global,
     made: &MadeManifest,
     parts: Vec<Part>,
+    gate: &G,
 ) -> Result<Ran, Memory>
     requires proper { IsProper made.now.tree }
     requires main { made.now.volume.main < 2147483648 }
@@ -121,7 +126,7 @@ fn run_made<R: Threads + Sync>(
     the_bytes_of_a_volume_hold_what_it_holds();
     match make(alloc, made)? {
         Performed::BadGeometry { line } => Ok(Ran::BadGeometry { line }),
-        Performed::Done { text: _, image } => match run_on(rt, alloc, image, parts)? {
+        Performed::Done { text: _, image } => match run_on(rt, alloc, image, parts, gate)? {
             // This isn't met: what was made is sound.
             RunOn::Unsound { line } => Ok(Ran::BadImage { line }),
             RunOn::Ended { output } => Ok(Ran::Done {
@@ -133,11 +138,12 @@ fn run_made<R: Threads + Sync>(
 }
 
 // Reads a script and an image, and runs the script on the image's volume. No file is read.
-fn perform_on_image<R: Threads + Sync>(
+fn perform_on_image<R: Threads + Wait + Sync, G: Gate + Sync>(
     rt: &R,
     alloc: Global,
     image: Vec<u8>,
     script: &[u8],
+    gate: &G,
 ) -> Result<Ran, Memory>
     requires { BeginsAsManifest image.items → ⊥ }
     ensures { (old new : KeeperState) → IfOk result (IsRan old new (image.items, script.now)) }
@@ -150,7 +156,7 @@ fn perform_on_image<R: Threads + Sync>(
         }
     };
     parts_are_in_range();
-    match run_on(rt, alloc, image, parts)? {
+    match run_on(rt, alloc, image, parts, gate)? {
         RunOn::Unsound { line } => Ok(Ran::BadImage { line }),
         RunOn::Ended { output } => Ok(Ran::Done {
             text: output.text,

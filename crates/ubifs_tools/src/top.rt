@@ -18,18 +18,22 @@ use crate::mkfs::mkfs;
 use command_words::{Command, ImageCommand, read_words};
 use io_edges::{Keeper, Sink, SinkFault};
 use std::alloc::Global;
+use std::sync::Wait;
 use std::thread::Threads;
 use ubifs_base::Memory;
+use writeback::Gate;
 
-/// Runs the command that the words say, over the keeper's files, and prints to the sink. The answer is the status: 0 the
+/// Runs the command that the words say, over the keeper's files, and prints to the sink. A script's workers wait at the gate, each
+/// between a page and its put. The answer is the status: 0 the
 /// work was done, 1 the words aren't a command, 2 a text isn't in its grammar, 3 an image isn't sound, 4 a file wasn't read
 /// or written, 5 the output failed, 6 there was no memory, 7 the manifest's geometry is out of range, or its tree has no room.
-pub fn ubifs<R: Threads + Sync, K: Keeper, O: Sink>(
+pub fn ubifs<R: Threads + Wait + Sync, K: Keeper, O: Sink, G: Gate + Sync>(
     rt: &R,
     alloc: Global,
     words: &[String],
     keeper: &mut K,
     out: &mut O,
+    gate: &G,
 ) -> u8
     ensures known { result ≤ 7 }
 
@@ -100,7 +104,7 @@ pub fn ubifs<R: Threads + Sync, K: Keeper, O: Sink>(
                     image,
                 },
             ),
-        ) => run_told(rt, alloc, volume, script, image, keeper, out),
+        ) => run_told(rt, alloc, volume, script, image, keeper, out, gate),
         Ok(Some(Command::OfImage { command, image })) => {
             image_told(rt, alloc, command, image, keeper, out)
         }
@@ -113,7 +117,7 @@ pub fn ubifs<R: Threads + Sync, K: Keeper, O: Sink>(
 }
 
 // Runs a script, and prints what became of it.
-fn run_told<R: Threads + Sync, K: Keeper, O: Sink>(
+fn run_told<R: Threads + Wait + Sync, K: Keeper, O: Sink, G: Gate + Sync>(
     rt: &R,
     alloc: Global,
     manifest: &str,
@@ -121,6 +125,7 @@ fn run_told<R: Threads + Sync, K: Keeper, O: Sink>(
     image: &str,
     keeper: &mut K,
     out: &mut O,
+    gate: &G,
 ) -> u8
     ensures known { (result ≤ 7) × (result ≢ 1) }
     ensures done { result ≡ 0 → (text : List ℕ)
@@ -144,7 +149,7 @@ fn run_told<R: Threads + Sync, K: Keeper, O: Sink>(
     ensures kept { SameFiles (K.state keeper.old) (K.state keeper.new)
         ⊎ ((text : List ℕ) × IsFinished (K.state keeper.old) (K.state keeper.new) manifest.now script.now image.now text) }
 {
-    match run(rt, alloc, manifest, script, image, keeper) {
+    match run(rt, alloc, manifest, script, image, keeper, gate) {
         Ok(RunEnded::Unread { line }) => told(out, &line, 4),
         Ok(RunEnded::BadText { line }) => told(out, &line, 2),
         Ok(RunEnded::BadImage { line }) => told(out, &line, 3),

@@ -2,14 +2,22 @@ use Rattle.std.proofs.Common.{◌≡◌, ◌++◌, ℕ, List, [], refl, sym, sub
 use Rattle.std.specs.Prelude.{IfOk}
 use Rattle.std.proofs.lemmas.List.{append-nil}
 use Rattle.script_text.specs.declared.part.Part.{Part}
+use Rattle.script_text.specs.Script.{IsInRange}
 use Rattle.script_run.specs.Readers.{reading_of}
-use Rattle.script_run.specs.Reading.{IsReadPart}
+use Rattle.script_run.specs.Reading.{IsReadPart, no_numbers}
 use Rattle.script_run.proofs.reader.read_next.Goals as goal
 
 pub returns-in-Now-clause-part : goal.returns-in-Now-clause-part
 returns-in-Now-clause-part c = (
   [],
-  subst (λ part. IsReadPart c.args.reader.cause (reading_of c.args.reader) part [] (record (reading_of c.args.reader) { now = c.in-Now.now; number = 0 })) (sym c.in-Now.is) (refl, refl),
+  subst (λ part. IsReadPart c.args.reader.cause (reading_of c.args.reader) part [] (record (reading_of c.args.reader) { now = c.in-Now.now; numbers = no_numbers })) (sym c.in-Now.is) (refl, refl),
+  sym (append-nil c.args.text.now.items),
+)
+
+pub returns-in-Workers-clause-part : goal.returns-in-Workers-clause-part
+returns-in-Workers-clause-part c = (
+  [],
+  subst (λ part. IsReadPart c.args.reader.cause (reading_of c.args.reader) part [] (record (reading_of c.args.reader) { numbers = no_numbers })) (sym c.in-Workers.is) (refl, refl),
   sym (append-nil c.args.text.now.items),
 )
 
@@ -24,6 +32,12 @@ returns-in-Unmount-clause-part c =
     let reader = c.args.reader in
     let P : Part → Type 0 = λ part. IfOk c.read_unmounted.result (λ new. (x : List ℕ) × IsReadPart reader.cause (reading_of reader) part x (reading_of new) × (c.read_unmounted.new.text.items ≡ c.args.text.now.items ++ x)) in
     subst P (sym c.in-Unmount.is) c.read_unmounted.ensures.part
+
+pub read_served-requires-clause-call : goal.read_served-requires-clause-call
+read_served-requires-clause-call c = (subst IsInRange c.in-Line.is c.requires.range).1
+
+pub read_served-requires-clause-caller : goal.read_served-requires-clause-caller
+read_served-requires-clause-caller c = (subst IsInRange c.in-Line.is c.requires.range).0.1
 
 pub returns-in-Line-clause-part : goal.returns-in-Line-clause-part
 returns-in-Line-clause-part c =

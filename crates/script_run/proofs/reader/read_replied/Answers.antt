@@ -26,7 +26,7 @@ returns-clause-closed c =
     }
 
 pub returns-clause-replied : goal.returns-clause-replied
-returns-clause-replied c = λ mounted number.
+returns-clause-replied c = λ mounted numbers.
     let old = state_of c.args.fs.now.backing in
     let new = state_of c.step-outcome.new.self.backing in
     let before = c.args.fs.now.kept in
@@ -35,7 +35,7 @@ returns-clause-replied c = λ mounted number.
     let left = c.parts_of-told.result.1 in
     let is = c.parts_of-told.ensures in
     let told = told_of old new before after _ _ c.args.caller c.args.now c.args.op c.step-outcome.result reply left is c.step-outcome.ensures.step.answered in
-    let was : Reading = record { files = seen_over c.args.fs.now.backing before; mounted = mounted; now = c.args.now; number = number } in
+    let was : Reading = record { files = seen_over c.args.fs.now.backing before; mounted = mounted; now = c.args.now; numbers = numbers } in
     answered_closed c.args.cause old new after was c.args.caller c.args.op reply _ _ c.requires.closed.mode (sym c.is_fault.ensures ∙ c.if-is_fault.false) told.0
 
 pub parts_of-told-requires : goal.parts_of-told-requires

@@ -4,7 +4,7 @@ use Rattle.fs_model.specs.Files.{Files}
 use Rattle.plain_backing.specs.PlainBacking.{state_of}
 use Rattle.text_lines.specs.Lines.{ended}
 use Rattle.script_run.specs.Readers.{seen_over}
-use Rattle.script_run.specs.Reading.{Reading}
+use Rattle.script_run.specs.Reading.{Reading, no_numbers}
 use Rattle.script_run.proofs.Closed.{none_dirty}
 use Rattle.script_run.proofs.Running.{bare_files}
 use Rattle.script_run.proofs.reader.read_unmounted.Goals as goal
@@ -29,6 +29,6 @@ returns-in-Ok-clause-part c =
     let stored = ap (λ b. (state_of b).tree) same ∙ sym clean in
     let files = bare_files (state_of c.in-Ok.fs.backing).tree (seen_over backing c.args.reader.fs.kept).tree c.in-Ok.fs.kept stored (record { pages = opened.dirty; inodes = opened.inodes; handles = opened.handles }) in (
       ended (codes "unmount unchanged"),
-      (refl, ap (λ (f : Files). let r : Reading = record { files = f; mounted = false; now = c.args.reader.now; number = 0 } in r) files),
+      (refl, ap (λ (f : Files). let r : Reading = record { files = f; mounted = false; now = c.args.reader.now; numbers = no_numbers } in r) files),
       search (rules, c.as_slice.ensures, c.in_ok-extend_from_slice.ensures.items),
     )

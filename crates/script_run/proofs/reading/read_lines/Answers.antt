@@ -1,11 +1,10 @@
-use Rattle.std.proofs.Common.{◌≡◌, ◌++◌, ◌∷◌, [], ℕ, List, length, arith, ap, sym, subst, ◌∙◌}
-use Rattle.std.proofs.lemmas.List.{length_push}
+use Rattle.std.proofs.Common.{◌++◌, ◌∷◌, [], ℕ, List, sym, subst, ◌∙◌}
 use Rattle.std.specs.List.{AllByRecursion}
 use Rattle.fs_model.specs.declared.refusal.Cause.{Cause}
 use Rattle.script_text.specs.declared.part.Part.{Part}
+use Rattle.script_text.specs.Script.{IsInRange}
 use Rattle.script_run.specs.Readers.{IsClosed, reading_of}
 use Rattle.script_run.specs.Reading.{IsReadPart, IsReadRun, reading_on}
-use Rattle.script_run.specs.Replies.{IsCalled}
 use Rattle.script_run.proofs.ReadLines.{read_more}
 use Rattle.script_run.proofs.reading.read_lines.Goals as goal
 
@@ -15,24 +14,19 @@ loop-part-preserved c =
     let was = c.loop-part.invariant in
     let before = reading_of c.loop-part.reader in
     let after = reading_of c.in_ok-reader-2.reader in
-    let rest = c.next.new.self.rest.items in
     let next = c.in-Some.ensures.steps.0 in
     let same = was.cause in
     let step = c.in_ok-reader-2.ensures.part in
     let P : Cause → Type 0 = λ cause. IsReadPart cause before c.in-Some.part step.0 after in
     let Q : Cause → Type 0 = λ cause. IsClosed cause c.in_ok-reader-2.reader.fs.backing c.in_ok-reader-2.reader.fs.kept in
-    let calls = subst (λ (parts : List Part). AllByRecursion IsCalled parts) next was.calls in
-    let longer = length_push c.loop-part.yielded c.in-Some.part in
-    let lengths : length c.loop-part.part-iterator.rest.items ≡ length (c.in-Some.part ∷ rest) = ap (λ (parts : List Part). length parts) next in
-    let low = was.few in
-    let more = c.in_ok-reader-2.ensures.few in
-    let all = was.all in
+    let range = subst (λ (parts : List Part). AllByRecursion IsInRange parts) next was.range in
     record {
       closed = subst Q same c.in_ok-reader-2.ensures.closed;
       cause = c.in_ok-reader-2.ensures.cause ∙ same;
       run = subst (λ (text : List ℕ). IsReadRun c.args.cause first (c.loop-part.yielded ++ c.in-Some.part ∷ []) text after) (sym step.2)
           (read_more c.args.cause first after c.loop-part.yielded c.loop-part.text.items before c.in-Some.part step.0 was.run (subst P same step.1));
-      calls = calls.1;
-      few = omega (arith, low, more, longer);
-      all = omega (arith, all, longer, lengths);
+      range = range.1;
     }
+
+pub read_next-requires-clause-range : goal.read_next-requires-clause-range
+read_next-requires-clause-range c = (subst (λ (parts : List Part). AllByRecursion IsInRange parts) c.in-Some.ensures.steps.0 c.loop-part.invariant.range).0

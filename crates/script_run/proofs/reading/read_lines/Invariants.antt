@@ -1,8 +1,8 @@
-use Rattle.std.proofs.Common.{◌≡◌, ◌+◌, ◌≤◌, length}
+use Rattle.std.proofs.Common.{◌≡◌}
 use Rattle.std.specs.List.{AllByRecursion}
+use Rattle.script_text.specs.Script.{IsInRange}
 use Rattle.script_run.specs.Readers.{IsClosed, reading_of}
 use Rattle.script_run.specs.Reading.{IsReadRun, reading_on}
-use Rattle.script_run.specs.Replies.{IsCalled}
 use Rattle.script_run.proofs.reading.read_lines.Given as goal
 
 abbrev pub invariant-loop-part : goal.invariant-loop-part
@@ -10,7 +10,5 @@ invariant-loop-part l = record {
   closed : IsClosed l.fn.cause l.reader.fs.backing l.reader.fs.kept;
   cause : l.reader.cause ≡ l.fn.cause;
   run : IsReadRun l.fn.cause (reading_on l.fn.tree) l.yielded l.text.items (reading_of l.reader);
-  calls : AllByRecursion IsCalled l.part-iterator.rest.items;
-  few : l.reader.number ≤ length l.yielded;
-  all : length l.yielded + length l.part-iterator.rest.items ≤ 100000;
+  range : AllByRecursion IsInRange l.part-iterator.rest.items;
 }

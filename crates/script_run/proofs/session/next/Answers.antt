@@ -10,6 +10,13 @@ use Rattle.script_run.proofs.session.next.Goals as goal
 pub returns-in-Now-clause-part : goal.returns-in-Now-clause-part
 returns-in-Now-clause-part c = ([], subst (λ part. IsPart (raw_of c.args.session.fs.backing.geo) (running_of c.args.session) part [] (record (running_of c.args.session) { now = c.in-Now.now; number = 0 })) (sym c.in-Now.is) (refl, refl), sym (append-nil c.args.text.now.items))
 
+pub returns-in-Workers-clause-part : goal.returns-in-Workers-clause-part
+returns-in-Workers-clause-part c = (
+  [],
+  subst (λ part. IsPart (raw_of c.args.session.fs.backing.geo) (running_of c.args.session) part [] (record (running_of c.args.session) { workers = c.in-Workers.count; number = 0 })) (sym c.in-Workers.is) (refl, refl),
+  sym (append-nil c.args.text.now.items),
+)
+
 pub returns-in-Mount-clause-part : goal.returns-in-Mount-clause-part
 returns-in-Mount-clause-part c =
     let session = c.args.session in

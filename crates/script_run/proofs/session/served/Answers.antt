@@ -14,7 +14,7 @@ returns-clause-part c =
       reply_line c.args.caller (session.number + 1) reply,
       record {
         reply = reply;
-        replied = replied_in (raw_of session.fs.backing.geo) was here session.mounted session.mounted session.number (session.number + 1) c.args.caller c.args.op reply c.in_ok-reply.ensures.replied;
+        replied = replied_in (raw_of session.fs.backing.geo) was here session.mounted session.mounted session.number (session.number + 1) session.workers session.workers c.args.caller c.args.op reply c.in_ok-reply.ensures.replied;
         printed = refl;
         rest = refl;
       },

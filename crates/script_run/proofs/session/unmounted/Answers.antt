@@ -34,6 +34,7 @@ returns-clause-part c =
           mounted = refl;
           now = refl;
           number = refl;
+          workers = refl;
         },
       ),
       search (rules, c.as_slice.ensures, c.in_ok-extend_from_slice.ensures.items),

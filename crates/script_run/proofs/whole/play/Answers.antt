@@ -7,11 +7,7 @@ use Rattle.script_run.specs.Opening.{mounted_space}
 use Rattle.script_run.specs.Played.{IsPlayedIn}
 use Rattle.script_run.specs.declared.whole.Played.TheVariants.{Written, Unchanged}
 use Rattle.script_run.proofs.Openings.{settled_unspent}
-use Rattle.script_run.proofs.Running.{all_called}
 use Rattle.script_run.proofs.whole.play.Goals as goal
 
-pub read_text-requires-clause-calls : goal.read_text-requires-clause-calls
-read_text-requires-clause-calls c = all_called c.args.parts.items c.requires.range
-
 pub read_text-requires-clause-unspent : goal.read_text-requires-clause-unspent
-read_text-requires-clause-unspent c = settled_unspent (raw_of c.args.geometry) c.in_ok-space.space c.in-Some.cause (sym c.settled.ensures ∙ c.in-Some.is)
+read_text-requires-clause-unspent g c = settled_unspent (raw_of c.args.geometry) c.in_ok-space.space c.in-Some.cause (sym c.settled.ensures ∙ c.in-Some.is)

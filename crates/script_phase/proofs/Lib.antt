@@ -1,0 +1,5 @@
+pub mod AfterPhase
+pub mod Called
+pub mod Found
+pub mod NewJobs
+pub mod TraceLines
