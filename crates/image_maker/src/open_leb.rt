@@ -163,9 +163,9 @@ fn append_text(alloc: Global, bytes: &mut Vec<u8>, leaf: &Change, sqnum: u64) ->
     ensures bytes { OnOk result (bytes.new.items ≡ bytes.old.items ++ leaf_text sqnum 0 (node_of leaf.now)) }
     ensures len { OnOk result (length bytes.new.items ≡ length bytes.old.items + leaf_bytes (node_of leaf.now)) }
 {
-    let start = bytes.len();
-    bytes.resize(start + text_len(leaf), 0)?;
-    write_text(alloc, leaf, sqnum, 0, bytes.split_at_mut(start).1);
+    let mut text = vec![in alloc; 0; text_len(leaf)]?;
+    write_text(alloc, leaf, sqnum, 0, &mut text);
+    bytes.extend_from_slice(&text)?;
     Ok(())
 }
 

@@ -42,13 +42,27 @@ impl From<io::Error> for ReadFault {
     }
 }
 
-// Reads a whole file, into room for as many bytes as the host says that it has, and for one more, so that its end is met there.
+// Reads a whole file. A first read asks for as many bytes as the host says that it has and for one more, and mostly gets them all; what is
+// behind them is read piece by piece.
 fn read_file<R: Files>(alloc: Global, host: &R, name: &str) -> Result<Vec<u8>, ReadFault> {
     let mut file = fs::open(host, name)?;
     let len = file.metadata()?.len() as usize;
-    let mut bytes = Vec::with_capacity(alloc, len.saturating_add(1))?;
+    let mut bytes = vec![in alloc; 0; len.saturating_add(1)]?;
+    let read = read_once(&mut file, &mut bytes)?;
+    bytes.truncate(read);
     file.read_to_end(&mut bytes)?;
     Ok(bytes)
+}
+
+// Reads once, and nothing if that is interrupted.
+fn read_once<F: Read>(file: &mut F, bytes: &mut [u8]) -> io::Result<usize> {
+    match file.read(bytes) {
+        Ok(read) => Ok(read),
+        Err(error) => match error.kind() {
+            ErrorKind::Interrupted => Ok(0),
+            _ => Err(error),
+        },
+    }
 }
 
 impl<R> FileKeeper<R> {
