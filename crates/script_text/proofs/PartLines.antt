@@ -5,7 +5,6 @@ use Rattle.std.specs.Fmt.{decimal}
 use Rattle.std.specs.List.{list_all}
 use Rattle.std.specs.Str.Parse.{AllDigits}
 use Rattle.std.proofs.lemmas.Bool.{and_from, lt-ltb}
-use Rattle.std.proofs.lemmas.Bool.Decides.{nat_tests}
 use Rattle.std.proofs.lemmas.Fmt.{decimal_nonempty, digits_decimal}
 use Rattle.std.proofs.lemmas.Str.Parse.{tells_digits}
 use Rattle.fs_model.specs.Proper.{are_bytes}
@@ -13,7 +12,7 @@ use Rattle.fs_model.specs.declared.op.Op.{Op}
 use Rattle.fs_model.specs.declared.op.Op.TheVariants.{Create, Mkdir, Symlink, Link, Unlink, Rmdir, Rename, OpenFile, Close, Read, Write, Truncate, Fsync, Flush, List as Listing, Stat, Readlink, Chmod}
 use Rattle.script_text.specs.declared.part.Part.{Part}
 use Rattle.script_text.specs.declared.part.Part.TheVariants.{Mount, Unmount, Now, Workers, Line}
-use Rattle.script_text.specs.Script.{op_name, op_words, part_words, IsCaller, IsLineOf, MayStand, IsInRange, given_bytes}
+use Rattle.script_text.specs.Script.{op_name, op_words, part_words, IsLineOf, MayStand, IsInRange, given_bytes}
 use Rattle.script_text.specs.Words.{AreWords, Word, Fixed, Number, Lacks}
 use Rattle.script_text.proofs.Cutting.{own}
 use Rattle.script_text.proofs.Lines.{number_cut}

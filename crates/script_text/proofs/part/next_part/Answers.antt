@@ -1,4 +1,4 @@
-use Rattle.std.proofs.Common.{◌≡◌, rules, arith, sym, ◌∙◌, true, false}
+use Rattle.std.proofs.Common.{◌≡◌, rules, arith, sym, ◌∙◌, false}
 use Rattle.std.proofs.lemmas.Bool.{false≢true}
 use Rattle.script_text.proofs.PartLines.{no_caller, of_caller}
 use Rattle.script_text.proofs.part.next_part.Goals as goal
@@ -16,5 +16,5 @@ pub returns-in_default-2-clause-none : goal.returns-in_default-2-clause-none
 returns-in_default-2-clause-none c =
     let none = rw c.in_default-2.is at c.in_ok-op.ensures.none in
     λ part stands h.
-        let is = of_caller part c.args.line.now c.in-Some.caller c.in-Some.words.now c.in-Some.ensures.within c.in-Some.ensures.found h in
-        none is.0 is.2
+    let is = of_caller part c.args.line.now c.in-Some.caller c.in-Some.words.now c.in-Some.ensures.within c.in-Some.ensures.found h in
+    none is.0 is.2
