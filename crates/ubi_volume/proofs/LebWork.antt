@@ -1,6 +1,7 @@
 -- A volume in memory, of which one LEB was worked on.
-use Rattle.std.proofs.Common.{◌≡◌, ◌≢◌, ◌⊎◌, inl, inr, ℕ, zero, suc, ◌-◌, ◌<◌, false, List, [], ◌∷◌, ◌++◌, length, take, drop, replicate, Option, Some, refl, ap, sym, subst, ◌∙◌, arith}
+use Rattle.std.proofs.Common.{rules, ◌≡◌, ◌≢◌, ◌⊎◌, inl, inr, ℕ, zero, suc, ◌-◌, ◌<◌, false, List, [], ◌∷◌, ◌++◌, length, take, drop, replicate, Option, Some, refl, ap, sym, subst, ◌∙◌, arith}
 use Rattle.std.specs.Prelude.{slice_get, slice_set, All}
+use Rattle.std.specs.Option.{unwrap_or}
 use Rattle.std.specs.Vec.{with_items}
 use Rattle.std.proofs.Math.ListN.{length-set}
 use Rattle.std.proofs.lemmas.Bool.{cases_lt}
@@ -9,8 +10,8 @@ use Rattle.std.proofs.lemmas.List.{get_or-set_same, get_or-set_other}
 use Rattle.std.proofs.lemmas.Option.{slice_get-get_or, slice_get_past}
 use Rattle.ubifs_base.specs.NodeLaws.{IsBytes}
 use Rattle.ubi_volume.specs.Volume.{WorksOn, Torn, IsLebBytes, filled}
-use Rattle.ubi_volume.specs.Lebs.{LebView, IsLeft, IsLeb, IsReplaced, bytes_in, written_in, pending_in}
-use Rattle.ubi_volume.specs.Effects.{final_leb}
+use Rattle.ubi_volume.specs.Lebs.{LebView, IsLeft, IsLeb, IsReplaced, bytes_in, written_in, pending_in, view_of}
+use Rattle.ubi_volume.specs.Effects.{final_leb, unmapped_leb}
 use Rattle.ubi_volume.specs.MemVolume.{state_of, state_with}
 use Rattle.ubi_volume.specs.declared.arming.Arming.{Arming}
 use Rattle.ubi_volume.specs.declared.leb.Leb.{Leb}
@@ -87,7 +88,7 @@ put_replaced size lnum written lebs leb buffer bytes inside all is long are blan
     let new : Leb = record { content = with_items leb.content buffer; written = written; before = leb.before; undo = false } in
     let Whole : List ℕ → Type 0 = IsLebBytes size in
     let Blank : List ℕ → Type 0 = λ b. drop written b ≡ replicate (size - written) 255 in
-    let one : IsLeb size new = record { content = subst Whole (sym back) (record { len = long ∙ is.content.len; bytes = are }); before = is.before; blank = subst Blank (sym back) blank } in
+    let one : IsLeb size new = record { content = subst Whole (sym back) (record { len = long ∙ is.content.len; bytes = are }); before = λ undone. absurd (search (rules, undone)); room = is.room; blank = subst Blank (sym back) blank } in
     set_replaced size lnum lebs new bytes inside all one (back ∙ same)
 
 -- what a call on a LEB may leave, by what the LEBs were
@@ -96,6 +97,30 @@ WriteFrom lnum offs n lebs c = IsLeft (slice_get lebs lnum) c ⊎ ((d : List ℕ
 
 abbrev pub UnmapFrom : ℕ → ℕ → List Leb → List ℕ → Type 0
 UnmapFrom size lnum lebs c = IsLeft (slice_get lebs lnum) c ⊎ (c ≡ filled size [])
+
+-- a LEB that was unmapped
+pub unmapped_replaced : (size lnum : ℕ) (lebs : List Leb) (old new : Leb) → lnum < length lebs → All (IsLeb size) lebs → slice_get lebs lnum ≡ Some old → IsLeb size new → new.content.items ≡ filled size []
+    → new.written ≡ 0 → pending_in (Some new) ≡ Some (unwrap_or (pending_in (Some old)) old.content.items)
+    → IsReplaced size lebs (slice_set lebs lnum new) lnum (unmapped_leb size (view_of (slice_get lebs lnum)))
+unmapped_replaced size lnum lebs old new inside all was is bytes written pending =
+    let one = set_replaced size lnum lebs new (filled size []) inside all is bytes in
+    let P : Option Leb → Type 0 = λ o. pending_in (slice_get (slice_set lebs lnum new) lnum) ≡ Some (unwrap_or (pending_in o) (bytes_in o)) in
+    record {
+      others = one.others;
+      bytes_are = one.bytes_are;
+      written_is = one.written_is ∙ written;
+      pending_is = subst P (sym was) (one.pending_is ∙ pending);
+      len = one.len;
+      sizes = one.sizes;
+    }
+
+-- what a cut leaves of it
+pub unmapped_left : (size lnum : ℕ) (lebs : List Leb) (old new : Leb) → lnum < length lebs → slice_get lebs lnum ≡ Some old
+    → ((c : List ℕ) → IsLeft (Some new) c → IsLeft (Some old) c ⊎ (c ≡ filled size [])) → (c : List ℕ) → IsLeft (slice_get (slice_set lebs lnum new) lnum) c → UnmapFrom size lnum lebs c
+unmapped_left size lnum lebs old new inside was left c here =
+    let L : Option Leb → Type 0 = λ o. IsLeft o c in
+    let M : Option Leb → Type 0 = λ o. IsLeft o c ⊎ (c ≡ filled size []) in
+    subst M (sym was) (left c (subst L (there lebs lnum new inside) here))
 
 -- a write under way into what a LEB held
 pub torn_from : (s b : List Leb) (lnum offs n : ℕ) → Torn offs n (bytes_in (slice_get s lnum)) (bytes_in (slice_get b lnum))

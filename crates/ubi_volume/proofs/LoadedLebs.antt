@@ -58,7 +58,8 @@ loaded_leb_is size unit bytes leb fits loaded =
     let long : length leb.content.items ≡ size = ap length loaded.content ∙ length-append bytes (replicate (size - length bytes) 255) ∙ rw length-replicate (omega (arith, fits)) in
     record {
       content = record { len = long; bytes = loaded.is_bytes };
-      before = loaded.before;
+      before = λ undone. absurd (grind (arith, undone, loaded.undo));
+      room = loaded.room;
       blank = loaded.written.behind ∙ ap (λ n. replicate (n - leb.written) 255) long;
     }
 

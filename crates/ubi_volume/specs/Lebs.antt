@@ -1,5 +1,5 @@
 -- The LEBs of a volume in memory.
-use Rattle.std.specs.Prelude.{◌≡◌, ◌≢◌, ◌⊎◌, IsTrue, false, ℕ, ◌-◌, ◌*◌, if◌then◌else◌, take, List, [], Option, Some, None, slice_get, length, drop, replicate, All}
+use Rattle.std.specs.Prelude.{◌≡◌, ◌≢◌, ◌⊎◌, IsTrue, false, ℕ, ◌-◌, ◌*◌, ◌≤◌, if◌then◌else◌, take, List, [], Option, Some, None, slice_get, length, drop, replicate, All, vec_capacity}
 use Rattle.ubifs_base.specs.NodeLaws.{IsBytes}
 use Rattle.ubi_volume.specs.Volume.{filled, IsLebBytes}
 use Rattle.ubi_volume.specs.Loading.{IsWrittenPart}
@@ -38,10 +38,11 @@ abbrev pub IsLeft : Option Leb → List ℕ → Type 0
 IsLeft (Some leb) c = (c ≡ leb.content.items) ⊎ (IsTrue leb.undo × (c ≡ leb.before.items))
 IsLeft None c = c ≡ []
 
--- a LEB of this size, of which what isn't written is 255
+-- a LEB of this size, of which what isn't written is 255, with room for what an unmapping leaves to be undone
 pub record IsLeb (size : ℕ) (leb : Leb) : Type 0 where
   pub content : IsLebBytes size leb.content.items
-  pub before : IsLebBytes size leb.before.items
+  pub before : IsTrue leb.undo → IsLebBytes size leb.before.items
+  pub room : size ≤ vec_capacity leb.before
   pub blank : drop leb.written leb.content.items ≡ replicate (size - leb.written) 255
 
 -- one LEB became this one, and the rest is the same
@@ -56,7 +57,7 @@ pub record IsReplaced (size : ℕ) (old new : List Leb) (n : ℕ) (leb : LebView
 -- an unwritten LEB, of which a cut leaves nothing else
 pub record IsBlankLeb (size : ℕ) (leb : Leb) : Type 0 where
   pub content : leb.content.items ≡ replicate size 255
-  pub before : IsLebBytes size leb.before.items
+  pub room : size ≤ vec_capacity leb.before
   pub written : leb.written ≡ 0
   pub undo : leb.undo ≡ false
 
@@ -64,7 +65,7 @@ pub record IsBlankLeb (size : ℕ) (leb : Leb) : Type 0 where
 pub record IsLoadedLeb (size unit : ℕ) (bytes : List ℕ) (leb : Leb) : Type 0 where
   pub content : leb.content.items ≡ filled size bytes
   pub is_bytes : IsBytes leb.content.items
-  pub before : IsLebBytes size leb.before.items
+  pub room : size ≤ vec_capacity leb.before
   pub written : IsWrittenPart unit leb.content.items leb.written
   pub undo : leb.undo ≡ false
 

@@ -34,7 +34,7 @@ bytes-bytes_in size lebs n inside all =
 -- and so has what a cut leaves of it
 one_of_two : (size : ℕ) (leb : Leb) (c : List ℕ) → IsLeb size leb → (c ≡ leb.content.items) ⊎ (IsTrue leb.undo × (c ≡ leb.before.items)) → IsLebBytes size c
 one_of_two size leb c is (inl e) = let P : List ℕ → Type 0 = IsLebBytes size in subst P (sym e) is.content
-one_of_two size leb c is (inr (undo, e)) = let P : List ℕ → Type 0 = IsLebBytes size in subst P (sym e) is.before
+one_of_two size leb c is (inr (undo, e)) = let P : List ℕ → Type 0 = IsLebBytes size in subst P (sym e) (is.before undo)
 
 pub IsLeft-bytes : (size : ℕ) (lebs : List Leb) (n : ℕ) (c : List ℕ) → n < length lebs → All (IsLeb size) lebs → IsLeft (slice_get lebs n) c → IsLebBytes size c
 IsLeft-bytes size lebs n c inside all left =

@@ -1,8 +1,9 @@
 // One logical erase block in memory.
 
-ghost use Rattle.std.specs.Prelude.{◌≡◌, ◌⊎◌, ◌+◌, ◌-◌, ◌<◌, ◌≤◌, ◌++◌, ℕ, List, [], length, drop, replicate, All, slice_get, IfOk};
+ghost use Rattle.std.specs.Prelude.{◌≡◌, ◌⊎◌, ◌+◌, ◌-◌, ◌<◌, ◌≤◌, ◌++◌, ℕ, List, [], length, drop, replicate, All, slice_get, Some, IfOk, vec_capacity};
+ghost use Rattle.std.specs.Option.{unwrap_or};
 ghost use Rattle.ubifs_base.specs.NodeLaws.{IsBytes};
-ghost use Rattle.ubi_volume.specs.Lebs.{bytes_in, written_in, view_of, IsLeft, IsLeb, IsBlankLeb, IsReplaced};
+ghost use Rattle.ubi_volume.specs.Lebs.{bytes_in, written_in, pending_in, view_of, IsLeft, IsLeb, IsBlankLeb, IsReplaced};
 ghost use Rattle.ubi_volume.specs.Effects.{final_leb, unmapped_leb};
 ghost use Rattle.ubi_volume.specs.Volume.{put, filled, image_of, Torn};
 
@@ -10,7 +11,8 @@ use std::alloc::Global;
 use std::mem::swap;
 use ubifs_base::Memory;
 
-// The bytes, how many of them aren't open for writing, and what was there before an unmapping that can be undone.
+// The bytes, how many of them aren't open for writing, and what was there before an unmapping that can be undone: until one
+// can, only the room for that counts.
 #[derive(Drop)]
 pub(crate) struct Leb {
     pub(crate) content: Vec<u8>,
@@ -19,14 +21,25 @@ pub(crate) struct Leb {
     pub(crate) undo: bool,
 }
 
+// The bytes, and erased bytes behind them.
+pub(crate) fn filled_bytes(alloc: Global, size: usize, bytes: &[u8]) -> Result<Vec<u8>, Memory>
+    requires { length bytes.now ≤ size }
+    ensures { IfOk result (λ content. content.items ≡ filled size bytes.now) }
+{
+    let mut content = Vec::with_capacity(alloc, size)?;
+    content.extend_from_slice(bytes)?;
+    content.resize(size, 0xff)?;
+    Ok(content)
+}
+
 // An unwritten LEB.
-pub(crate) fn blank_leb(alloc: Global, size: u32) -> Result<Leb, Memory>
+fn blank_leb(alloc: Global, size: u32) -> Result<Leb, Memory>
     ensures { IfOk result (IsBlankLeb size) }
 {
     Ok(Leb {
-        content: vec![in alloc; 0xff; size as usize]?,
+        content: filled_bytes(alloc, size as usize, &[])?,
         written: 0,
-        before: vec![in alloc; 0xff; size as usize]?,
+        before: Vec::with_capacity(alloc, size as usize)?,
         undo: false,
     })
 }
@@ -54,8 +67,8 @@ pub(crate) fn all_bytes(alloc: Global, size: usize, lebs: &[Leb]) -> Result<Vec<
     Ok(bytes)
 }
 
-// The bytes, and erased bytes behind them.
-pub(crate) fn fill_with(buffer: &mut [u8], bytes: &[u8])
+// The bytes, and erased bytes behind them, in place of what is there.
+fn fill_with(buffer: &mut [u8], bytes: &[u8])
     requires { length bytes.now ≤ length buffer.old }
     ensures filled { buffer.new ≡ filled (length buffer.old) bytes.now }
     ensures bytes { IsBytes buffer.new }
@@ -98,6 +111,15 @@ pub(crate) fn change_leb(lebs: &mut [Leb], size: u32, lnum: usize, bytes: &[u8])
     leb.undo = false;
 }
 
+// So many erased bytes, in room that is there.
+fn erase(content: &mut Vec<u8>, size: usize)
+    requires { size ≤ vec_capacity content.old }
+    ensures { content.new.items ≡ filled size [] }
+{
+    content.clear();
+    let _ = content.resize(size, 0xff);
+}
+
 // Erases a LEB, and keeps what was there for a cut.
 pub(crate) fn unmap_leb(lebs: &mut [Leb], size: u32, lnum: usize)
     requires lnum { lnum < length lebs.old }
@@ -105,11 +127,22 @@ pub(crate) fn unmap_leb(lebs: &mut [Leb], size: u32, lnum: usize)
     ensures changed { IsReplaced size lebs.old lebs.new lnum (unmapped_leb size (view_of (slice_get lebs.old lnum))) }
     ensures left { (c : List ℕ) → IsLeft (slice_get lebs.new lnum) c → IsLeft (slice_get lebs.old lnum) c ⊎ (c ≡ filled size []) }
 {
-    let leb = &mut lebs[lnum];
+    erase_leb(&mut lebs[lnum], size);
+}
+
+// The same of one.
+fn erase_leb(leb: &mut Leb, size: u32)
+    requires { IsLeb size leb.old }
+    ensures leb { IsLeb size leb.new }
+    ensures bytes { leb.new.content.items ≡ filled size [] }
+    ensures written { leb.new.written ≡ 0 }
+    ensures pending { pending_in (Some leb.new) ≡ Some (unwrap_or (pending_in (Some leb.old)) leb.old.content.items) }
+    ensures left { (c : List ℕ) → IsLeft (Some leb.new) c → IsLeft (Some leb.old) c ⊎ (c ≡ filled size []) }
+{
     if !leb.undo {
         swap(&mut leb.content, &mut leb.before);
     }
-    fill_with(&mut leb.content, &[]);
+    erase(&mut leb.content, size as usize);
     leb.written = 0;
     leb.undo = true;
 }
