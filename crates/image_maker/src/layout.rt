@@ -113,7 +113,7 @@ fn lay_blocks(
 {
     let mut rest = tree.blocks_of(ino);
     'laying: while let Some((key, bytes)) = rest.next() {
-        let leaf = block_leaf(key, bytes)?;
+        let leaf = block_leaf(alloc, key, bytes)?;
         open_leb.lay(alloc, geometry, volume, &leaf)?;
     }
     Ok(())

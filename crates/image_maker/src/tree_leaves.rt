@@ -17,6 +17,7 @@ use change_nodes::node_len;
 use fs_model::{Change, Entry, Inode, Kind};
 use index_tree::Leaf;
 use op_plans::{dir_links, dir_size};
+use std::alloc::Global;
 use ubifs_base::{Bytes, Key, Memory, Name, r5};
 
 // The change that makes an inode's node, in which these entries are.
@@ -78,7 +79,7 @@ fn few_links(entries: &[Entry]) -> u32
 }
 
 // The change that makes a block's node, whose key is its inode and number.
-pub(crate) fn block_leaf(key: (u32, u32), bytes: &Bytes) -> Result<Change, Memory>
+pub(crate) fn block_leaf(alloc: Global, key: (u32, u32), bytes: &Bytes) -> Result<Change, Memory>
     ensures mode { IfOk result (λ leaf. HasPlainMode leaf) }
     ensures node { IfOk result (λ leaf. node_of leaf ≡ block_leaf (key, bytes.now)) }
 {
@@ -86,7 +87,7 @@ pub(crate) fn block_leaf(key: (u32, u32), bytes: &Bytes) -> Result<Change, Memor
     Ok(Change::SetBlock {
         ino,
         block,
-        bytes: bytes.clone()?,
+        bytes: Bytes::from_slice(alloc, bytes.as_slice())?,
     })
 }
 

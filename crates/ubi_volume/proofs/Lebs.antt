@@ -1,32 +1,13 @@
 -- One LEB, of which some bytes are replaced.
-use Rattle.std.proofs.Common.{◌≡◌, ℕ, ◌+◌, ◌-◌, ◌<◌, ◌≤◌, inl, inr, List, length, drop, replicate, get_or, refl, subst, ap, sym, ◌∙◌, arith}
+use Rattle.std.proofs.Common.{◌≡◌, ℕ, ◌+◌, ◌-◌, ◌≤◌, List, length, drop, replicate, subst, ap, sym, ◌∙◌, arith}
 use Rattle.std.proofs.Math.Seq.{drop-append_seam}
-use Rattle.std.proofs.lemmas.Bool.{cases_lt}
-use Rattle.std.proofs.lemmas.List.{drop-drop, drop-replicate, get_or-append_right, get_or-replicate, get_or_append_left, get_or_past, length-replicate}
-use Rattle.ubifs_base.specs.NodeLaws.{IsBytes}
+use Rattle.std.proofs.lemmas.List.{drop-drop, drop-replicate}
 use Rattle.ubi_volume.specs.Volume.{put, filled, Torn}
 use Rattle.ubi_volume.specs.TornLaws.{Torn-put}
 
 -- behind bytes that fill a LEB it is 255
 pub drop-filled : (size : ℕ) (bytes : List ℕ) → drop (length bytes) (filled size bytes) ≡ replicate (size - length bytes) 255
 drop-filled size bytes = drop-append_seam bytes (replicate (size - length bytes) 255)
-
-erased_byte : (n i : ℕ) → get_or (replicate n 255) i 0 < 256
-erased_byte n i =
-    let P : ℕ → Type 0 = λ b. b < 256 in
-    elim (cases_lt i n) [
-      | inl inside ↦ subst P (sym (get_or-replicate n i 255 0 inside)) (omega arith)
-      | inr past ↦ let count : length {A = ℕ} (replicate n 255) ≡ n = length-replicate {A = ℕ} n 255 in subst P (sym (get_or_past (replicate n 255) i 0 (omega (arith, past, count)))) (omega arith)
-    ]
-
--- bytes and erased bytes behind them are bytes
-pub filled-bytes : (size : ℕ) (bytes : List ℕ) → IsBytes bytes → IsBytes (filled size bytes)
-filled-bytes size bytes are i =
-    let P : ℕ → Type 0 = λ b. b < 256 in
-    elim (cases_lt i (length bytes)) [
-      | inl inside ↦ subst P (sym (get_or_append_left bytes (replicate (size - length bytes) 255) 0 i inside)) (are i)
-      | inr past ↦ subst P (sym (get_or-append_right bytes (replicate (size - length bytes) 255) (length bytes) i 0 refl past)) (erased_byte (size - length bytes) (i - length bytes))
-    ]
 
 -- further behind the written part it is 255 too
 drop-more : (written k size : ℕ) (old : List ℕ) → drop written old ≡ replicate (size - written) 255 → drop (written + k) old ≡ replicate (size - (written + k)) 255

@@ -21,23 +21,12 @@ pub(crate) struct Leb {
     pub(crate) undo: bool,
 }
 
-// The bytes, and erased bytes behind them.
-pub(crate) fn filled_bytes(alloc: Global, size: usize, bytes: &[u8]) -> Result<Vec<u8>, Memory>
-    requires { length bytes.now ≤ size }
-    ensures { IfOk result (λ content. content.items ≡ filled size bytes.now) }
-{
-    let mut content = Vec::with_capacity(alloc, size)?;
-    content.extend_from_slice(bytes)?;
-    content.resize(size, 0xff)?;
-    Ok(content)
-}
-
 // An unwritten LEB.
-fn blank_leb(alloc: Global, size: u32) -> Result<Leb, Memory>
+pub(crate) fn blank_leb(alloc: Global, size: u32) -> Result<Leb, Memory>
     ensures { IfOk result (IsBlankLeb size) }
 {
     Ok(Leb {
-        content: filled_bytes(alloc, size as usize, &[])?,
+        content: vec![in alloc; 0xff; size as usize]?,
         written: 0,
         before: Vec::with_capacity(alloc, size as usize)?,
         undo: false,
@@ -67,8 +56,8 @@ pub(crate) fn all_bytes(alloc: Global, size: usize, lebs: &[Leb]) -> Result<Vec<
     Ok(bytes)
 }
 
-// The bytes, and erased bytes behind them, in place of what is there.
-fn fill_with(buffer: &mut [u8], bytes: &[u8])
+// The bytes, and erased bytes behind them.
+pub(crate) fn fill_with(buffer: &mut [u8], bytes: &[u8])
     requires { length bytes.now ≤ length buffer.old }
     ensures filled { buffer.new ≡ filled (length buffer.old) bytes.now }
     ensures bytes { IsBytes buffer.new }
@@ -111,15 +100,6 @@ pub(crate) fn change_leb(lebs: &mut [Leb], size: u32, lnum: usize, bytes: &[u8])
     leb.undo = false;
 }
 
-// So many erased bytes, in room that is there.
-fn erase(content: &mut Vec<u8>, size: usize)
-    requires { size ≤ vec_capacity content.old }
-    ensures { content.new.items ≡ filled size [] }
-{
-    content.clear();
-    let _ = content.resize(size, 0xff);
-}
-
 // Erases a LEB, and keeps what was there for a cut.
 pub(crate) fn unmap_leb(lebs: &mut [Leb], size: u32, lnum: usize)
     requires lnum { lnum < length lebs.old }
@@ -140,11 +120,27 @@ fn erase_leb(leb: &mut Leb, size: u32)
     ensures left { (c : List ℕ) → IsLeft (Some leb.new) c → IsLeft (Some leb.old) c ⊎ (c ≡ filled size []) }
 {
     if !leb.undo {
-        swap(&mut leb.content, &mut leb.before);
+        keep(&mut leb.content, &mut leb.before);
     }
-    erase(&mut leb.content, size as usize);
+    fill_with(&mut leb.content, &[]);
     leb.written = 0;
     leb.undo = true;
+}
+
+// Keeps bytes for a cut. They change places with those that were kept before, if there were any, and else are copied into room
+// that is there.
+fn keep(content: &mut Vec<u8>, before: &mut Vec<u8>)
+    requires { length content.old.items ≤ vec_capacity before.old }
+    ensures kept { before.new.items ≡ content.old.items }
+    ensures len { length content.new.items ≡ length content.old.items }
+    ensures room { length content.old.items ≤ vec_capacity before.new }
+{
+    if before.len() == content.len() {
+        swap(content, before);
+        return;
+    }
+    before.clear();
+    let _ = before.extend_from_slice(content.as_slice());
 }
 
 // Makes the unmapping of a LEB final.

@@ -6,7 +6,7 @@ ghost use Rattle.ubi_volume.specs.Loading.{IsErased, IsWrittenPart};
 ghost use Rattle.ubi_volume.specs.Shape.{IsShape};
 
 use crate::VolShape;
-use crate::leb::{Leb, filled_bytes};
+use crate::leb::{Leb, blank_leb, fill_with};
 use std::alloc::Global;
 use ubifs_base::Memory;
 
@@ -50,14 +50,10 @@ fn loaded_leb(alloc: Global, size: u32, unit: u32, bytes: &[u8]) -> Result<Leb, 
     requires room { length bytes.now ≤ size }
     ensures { IfOk result (IsLoadedLeb size unit bytes.now) }
 {
-    let content = filled_bytes(alloc, size as usize, bytes)?;
-    let written = written_len(unit, &content);
-    Ok(Leb {
-        content,
-        written,
-        before: Vec::with_capacity(alloc, size as usize)?,
-        undo: false,
-    })
+    let mut leb = blank_leb(alloc, size)?;
+    fill_with(&mut leb.content, bytes);
+    leb.written = written_len(unit, &leb.content);
+    Ok(leb)
 }
 
 // The LEBs of a volume that holds the bytes.
