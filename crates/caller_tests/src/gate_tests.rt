@@ -1,4 +1,4 @@
-// A worker waits at its gate, outside the lock, while a caller is answered.
+// Two workers wait at their gate, outside the lock, while a caller is answered.
 
 ghost use Rattle.std.specs.Prelude.{◌≡◌, length};
 ghost use Rattle.fs_laws.specs.Sound.{IsCall};
@@ -44,8 +44,8 @@ fn is_dirty<J: Site, R: Wait>(rt: &R, live: &Live<PlainBacking, StopKey, J>) -> 
     }
 }
 
-// A caller makes pages dirty, waits until the worker came to the gate with one, reads, opens the gate, and waits until no page is
-// dirty. It answers whether the read was answered while the gate was shut and a page was dirty, and all came in turn.
+// A caller makes pages dirty, waits until both workers stand at the gate, reads, opens the gate, and waits until no page is
+// dirty. It answers whether the read was answered while both were held and a page was dirty, and all came in turn.
 fn call_beside<J: Site, R: Wait>(
     rt: &R,
     live: &Live<PlainBacking, StopKey, J>,
@@ -71,7 +71,7 @@ fn call_beside<J: Site, R: Wait>(
     came && answered && dirty && clean
 }
 
-// A worker, and a caller beside it. It answers the number of the worker's puts, and whether all came in turn.
+// Two workers, and a caller beside them. It answers whether all came in turn.
 fn worked_beside<J: Site + Send + Sync, R: Threads + Wait + Sync>(
     rt: &R,
     alloc: Global,
@@ -82,7 +82,7 @@ fn worked_beside<J: Site + Send + Sync, R: Threads + Wait + Sync>(
     job: Job,
     read: Op,
     keys: Vec<StopKey>,
-) -> (u64, bool)
+) -> bool
     requires word { (word ≡ J.word) × (pool ≡ J.pool) }
     requires ledger { IsNewLedger J.word J.pool J.start.callers ledger }
     requires start { files_state fs ≡ J.start.files }
@@ -95,16 +95,22 @@ fn worked_beside<J: Site + Send + Sync, R: Threads + Wait + Sync>(
     let gate = HeldGate::new();
     let (puts, told) = join(
         rt,
-        || -> u64 { worker(rt, &live, 1, &gate).0 },
+        || -> (u64, u64) {
+            join(
+                rt,
+                || -> u64 { worker(rt, &live, 1, &gate).0 },
+                || -> u64 { worker(rt, &live, 2, &gate).0 },
+            )
+        },
         || -> bool
             requires { MayRun J.word J.pool job × IsCall read }
         { call_beside(rt, &live, &gate, job, read, keys) },
     );
-    (puts, told && gate.is_passed())
+    puts.0 > 0 && puts.1 > 0 && told && gate.is_passed()
 }
 
 // The same on a fresh volume, for a caller whose write makes two pages dirty.
-fn worked_on_fresh<R: Threads + Wait + Sync>(rt: &R, alloc: Global) -> Result<(u64, bool), Memory> {
+fn worked_on_fresh<R: Threads + Wait + Sync>(rt: &R, alloc: Global) -> Result<bool, Memory> {
     let fs = fresh_files(alloc)?;
     let NewTrace {
         word,
@@ -118,12 +124,13 @@ fn worked_on_fresh<R: Threads + Wait + Sync>(rt: &R, alloc: Global) -> Result<(u
     };
     let mut keys = Vec::new(alloc);
     keys.push(StopKey {})?;
+    keys.push(StopKey {})?;
     let read = op_of(alloc, b'a', b'r')?;
     Ok(worked_beside::<Brand, R>(rt, alloc, fs, word, pool, ledger, job, read, keys))
 }
 
-// The caller's two pages are put, none of them before the caller has opened the gate.
+// No page is put before the caller has opened the gate, at which both workers stand at once.
 #[test]
-fn a_worker_waits_at_its_gate_without_the_lock(rt: HostRuntime) {
-    assert_eq!(rt; worked_on_fresh(&rt, rt.alloc()), Ok((2, true)));
+fn two_workers_wait_at_their_gate_without_the_lock(rt: HostRuntime) {
+    assert_eq!(rt; worked_on_fresh(&rt, rt.alloc()), Ok(true));
 }

@@ -20,7 +20,7 @@ fn waited_for(count: &AtomicU64, far: u64) -> bool {
     false
 }
 
-// A gate that holds the first put until it is opened.
+// A gate that holds each worker's first put until it is opened.
 #[derive(Drop)]
 pub(crate) struct HeldGate {
     came: AtomicU64,
@@ -37,27 +37,27 @@ impl HeldGate {
         }
     }
 
-    // Waits until the worker has come with its first put, and answers whether it has.
+    // Waits until two workers have come, each with its first put, and answers whether they have.
     pub(crate) fn is_met(&self) -> bool {
-        waited_for(&self.came, 1)
+        waited_for(&self.came, 2)
     }
 
     pub(crate) fn open(&self) {
         self.open.store(1, SeqCst);
     }
 
-    // Whether the worker was held, and went on once the gate was opened.
+    // Whether two workers were held, and went on once the gate was opened.
     pub(crate) fn is_passed(&self) -> bool {
-        self.passed.load(SeqCst) == 1
+        self.passed.load(SeqCst) == 2
     }
 }
 
 impl Gate for HeldGate {
     fn wait_before_put<R: Wait>(&self, _rt: &R, _worker: u16, ticket: u64) {
         if ticket == 1 {
-            self.came.store(1, SeqCst);
+            self.came.fetch_add(1, SeqCst);
             if waited_for(&self.open, 1) {
-                self.passed.store(1, SeqCst);
+                self.passed.fetch_add(1, SeqCst);
             }
         }
     }
