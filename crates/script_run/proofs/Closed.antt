@@ -1,7 +1,6 @@
 -- What a step over a backing that may only be read answers and leaves.
-use Rattle.std.proofs.Common.{◌≡◌, ◌⊎◌, ℕ, ◌+◌, ◌*◌, ◌≤◌, true, false, Option, Some, None, Err, List, [], ◌∷◌, inl, inr, length, refl, sym, ap, subst, ◌∙◌, arith}
-use Rattle.std.specs.Prelude.{if◌then◌else◌, max}
-use Rattle.std.proofs.lemmas.Bool.{false≢true}
+use Rattle.std.proofs.Common.{◌≡◌, ℕ, ◌+◌, ◌*◌, ◌≤◌, false, Option, Some, None, Err, List, [], ◌∷◌, inl, inr, length, refl, sym, ap, subst, ◌∙◌, arith}
+use Rattle.std.specs.Prelude.{max}
 use Rattle.fs_model.specs.declared.backing_answers.Mode.{Mode}
 use Rattle.fs_model.specs.declared.backing_answers.Mode.TheVariants.{ReadWrite, ReadOnly}
 use Rattle.fs_model.specs.declared.op.Op.{Op}
@@ -9,24 +8,24 @@ use Rattle.fs_model.specs.declared.op.Op.TheVariants.{Create, Mkdir, Symlink, Li
 use Rattle.fs_model.specs.declared.refusal.Cause.{Cause}
 use Rattle.fs_model.specs.declared.refusal.NoSpace.{NoSpace}
 use Rattle.fs_model.specs.declared.refusal.Refusal.{Refusal}
-use Rattle.fs_model.specs.declared.refusal.Refusal.TheVariants.{Enospc, Erofs, Eio, Enomem}
+use Rattle.fs_model.specs.declared.refusal.Refusal.TheVariants.{Erofs, Eio, Enomem}
 use Rattle.fs_model.specs.declared.reply.Reply.{Reply}
 use Rattle.fs_model.specs.declared.reply.Reply.TheVariants.{Refused}
 use Rattle.fs_model.specs.declared.space.Need.{Need}
 use Rattle.fs_model.specs.Backing.{BackingState, Goes, ModeGoes}
-use Rattle.fs_model.specs.Files.{Files, Tree}
+use Rattle.fs_model.specs.Files.{Files}
 use Rattle.fs_model.specs.Legal.{pages_in, read_only_cause}
 use Rattle.fs_model.specs.Operation.{outcome_of}
 use Rattle.fs_model.specs.Outcome.{Outcome}
 use Rattle.cached_files.specs.declared.kept.Kept.{Kept}
 use Rattle.cached_files.specs.Calls.{full_weight}
-use Rattle.cached_files.specs.Present.{IsKept, present}
+use Rattle.cached_files.specs.Present.{present}
 use Rattle.vfs_ops.specs.declared.event.Event.TheVariants.{Call}
 use Rattle.vfs_ops.specs.declared.event.Outcome.TheVariants.{Replied}
 use Rattle.vfs_ops.specs.Events.{IsWeighedCall}
 use Rattle.vfs_ops.specs.Kinds.{added_by}
 use Rattle.vfs_ops.specs.Operations.{is_of_names, nodes_asked}
-use Rattle.vfs_ops.specs.Steps.{IsAnswered, IsDone, IsRefusal, IsRefusedFor, IsTurnedDown, IsUnsynced, Passage, allowed, allowed_on, asked}
+use Rattle.vfs_ops.specs.Steps.{IsAnswered, IsDone, IsRefusedFor, IsTurnedDown, IsUnsynced, Passage, allowed_on, asked}
 use Rattle.vfs_ops.proofs.Truncating.{no_nodes}
 use Rattle.vfs_plans.specs.Answers.{IsFault}
 use Rattle.vfs_plans.specs.Operations.{is_truncate}

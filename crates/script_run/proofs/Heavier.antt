@@ -1,23 +1,20 @@
 -- How heavy the index is behind some lines, at most, and what has room then.
-use Rattle.std.proofs.Common.{◌≡◌, ℕ, ◌+◌, ◌*◌, ◌≤◌, max, List, [], ◌∷◌, refl, sym, ap, subst, ◌∙◌, arith}
+use Rattle.std.proofs.Common.{◌≡◌, ℕ, ◌+◌, ◌≤◌, List, [], ◌∷◌, sym, ap, subst, arith}
 use Rattle.std.specs.Prelude.{sum_by}
 use Rattle.std.proofs.lemmas.List.Sums.{sum_by-cons}
 use Rattle.ubifs_base.specs.declared.raw_geometry.RawGeometry.{RawGeometry}
-use Rattle.fs_model.specs.declared.op.Op.{Op}
 use Rattle.fs_model.specs.declared.refusal.NoSpace.{NoSpace}
-use Rattle.fs_model.specs.declared.refusal.Refusal.{Refusal}
 use Rattle.fs_model.specs.declared.refusal.Refusal.TheVariants.{Eio}
 use Rattle.fs_model.specs.declared.reply.Reply.{Reply}
 use Rattle.fs_model.specs.declared.reply.Reply.TheVariants.{Refused}
 use Rattle.fs_model.specs.declared.space.Need.{Need}
 use Rattle.fs_model.specs.declared.space.Space.{Space}
-use Rattle.fs_model.specs.Cover.{index_lebs, reserve}
 use Rattle.space_sums.specs.Spaces.{AsksNoLess, HasRoom}
 use Rattle.space_sums.proofs.Index.{index_lebs-grows}
 use Rattle.script_text.specs.declared.part.Part.{Part}
 use Rattle.script_text.specs.declared.part.Part.TheVariants.{Line, Mount, Now, Unmount, Workers}
 use Rattle.vfs_ops.specs.Kinds.{added_by}
-use Rattle.script_run.specs.Heaviest.{heaviest_space, heaviest_weight, most_added}
+use Rattle.script_run.specs.Heaviest.{heaviest_space, most_added}
 use Rattle.script_run.specs.Run.{HasGrown, HasNoRoom, IsPart, IsRun, Running, clean_space}
 
 -- the index is as it was

@@ -9,7 +9,7 @@ use Rattle.script_text.specs.declared.part.Part.{Part}
 use Rattle.script_text.specs.declared.part.Part.TheVariants.{Mount, Unmount, Now, Workers, Line}
 use Rattle.script_phase.specs.declared.lines.CallerLine.{CallerLine}
 use Rattle.script_run.specs.Phases.{AreServed, IsOfOne, IsPhase, IsPhaseOf, IsRunFrom, IsTurn, is_alone}
-use Rattle.script_run.specs.Run.{IsPart, IsRun, IsServed, Running}
+use Rattle.script_run.specs.Run.{IsRun, IsServed, Running}
 use Rattle.script_run.proofs.PhaseRuns.{served_rest}
 
 -- all lines are of this caller

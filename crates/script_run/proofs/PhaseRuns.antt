@@ -1,12 +1,13 @@
 -- A run over phases, line by line.
-use Rattle.std.proofs.Common.{◌≡◌, ℕ, ◌<◌, ◌++◌, Bool, true, false, List, [], ◌∷◌, length, refl, sym, ap, subst, ◌∙◌, arith}
+use Rattle.std.proofs.Common.{◌≡◌, ℕ, ◌<◌, ◌++◌, Bool, true, false, IfOk, Result, Ok, Err, List, [], ◌∷◌, length, refl, sym, ap, subst, ◌∙◌, arith}
 use Rattle.std.proofs.lemmas.Bool.{false≢true}
 use Rattle.ubifs_base.specs.declared.raw_geometry.RawGeometry.{RawGeometry}
+use Rattle.fs_model.specs.declared.op.Op.{Op}
 use Rattle.script_text.specs.declared.part.Part.{Part}
 use Rattle.script_text.specs.declared.part.Part.TheVariants.{Mount, Unmount, Now, Workers, Line}
 use Rattle.script_text.specs.Script.{mounted_after}
 use Rattle.script_phase.specs.declared.lines.CallerLine.{CallerLine}
-use Rattle.script_run.specs.Phases.{AreServed, HasAdvanced, IsAtOnce, IsPhase, IsPhaseOf, IsRunFrom, IsTurn, Stage, is_alone}
+use Rattle.script_run.specs.Phases.{AreServed, HasAdvanced, IsPhase, IsPhaseOf, IsRunFrom, IsTurn, Stage, is_alone}
 use Rattle.script_run.specs.Run.{Running}
 use Rattle.script_run.proofs.Running.{mounted_next}
 
@@ -57,16 +58,20 @@ pub served_ends : (geo : RawGeometry) (here : Running) (lines : List CallerLine)
 served_ends geo here [] none = (refl, refl)
 served_ends geo here (line ∷ lines) none = absurd (omega (arith, none))
 
--- as a phase, if its lines are served so
-pub phase_of : (alone : Bool) (geo : RawGeometry) (before after : Running) (lines : List CallerLine) (text : List ℕ) → alone ≡ true → AreServed geo before lines text after → IsPhaseOf alone geo before lines text after
-phase_of true geo before after lines text is h = h
-phase_of false geo before after lines text is h = absurd (false≢true is)
-
-pub phase_of_many : (alone : Bool) (geo : RawGeometry) (before after : Running) (lines : List CallerLine) (text : List ℕ) → alone ≡ false → IsAtOnce geo before lines text after → IsPhaseOf alone geo before lines text after
-phase_of_many true geo before after lines text is h = absurd (false≢true (sym is))
-phase_of_many false geo before after lines text is h = h
-
 -- no lines are alone
 pub some_lines : (workers : ℕ) (lines : List CallerLine) → is_alone workers lines ≡ false → 0 < length lines
 some_lines workers [] is = absurd (false≢true (sym is))
 some_lines workers (line ∷ lines) is = omega arith
+
+-- what holds of the value, by two facts of it
+pub ok_both : {T E : Type 0} (r : Result T E) (P Q S : T → Type 0) → ((x : T) → P x → Q x → S x) → IfOk r P → IfOk r Q → IfOk r S
+ok_both (Ok x) P Q S both p q = both x p q
+ok_both (Err e) P Q S both p q = p
+
+-- a line of another kind ends the phase
+pub control_advances : (geo : RawGeometry) (old new : Stage) (part : Part) (text : List ℕ) → ((caller : ℕ) (op : Op) → part ≡ Line caller op → ⊥) → IsTurn geo old.here old.lines part text new.here → new.lines ≡ [] → HasAdvanced geo old part text new
+control_advances geo old new Mount text other turn none = (turn, none)
+control_advances geo old new Unmount text other turn none = (turn, none)
+control_advances geo old new (Now now) text other turn none = (turn, none)
+control_advances geo old new (Workers count) text other turn none = (turn, none)
+control_advances geo old new (Line caller op) text other turn none = absurd (other caller op refl)

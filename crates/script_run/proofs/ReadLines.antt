@@ -1,5 +1,5 @@
 -- A run on a volume that may only be read, line by line.
-use Rattle.std.proofs.Common.{◌≡◌, ℕ, ◌++◌, List, [], ◌∷◌, refl, sym, ap, subst, ◌∙◌}
+use Rattle.std.proofs.Common.{ℕ, ◌++◌, List, [], ◌∷◌, refl, sym, ap, subst, ◌∙◌}
 use Rattle.std.proofs.lemmas.List.{append-nil, append_assoc}
 use Rattle.fs_model.specs.declared.refusal.Cause.{Cause}
 use Rattle.script_text.specs.declared.part.Part.{Part}

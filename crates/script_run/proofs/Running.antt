@@ -1,5 +1,5 @@
 -- The lines of a run.
-use Rattle.std.proofs.Common.{◌≡◌, ◌⊎◌, ℕ, Bool, Err, List, [], ◌∷◌, inl, inr, refl, ap, ◌∙◌}
+use Rattle.std.proofs.Common.{◌≡◌, ◌⊎◌, ℕ, Bool, Err, List, [], inl, inr, refl, ap, ◌∙◌}
 use Rattle.ubifs_base.specs.declared.raw_geometry.RawGeometry.{RawGeometry}
 use Rattle.fs_model.specs.declared.op.Op.{Op}
 use Rattle.fs_model.specs.declared.op.Op.TheVariants.{Flush, Fsync}
@@ -68,8 +68,8 @@ answer_in geo a b m n i j w v caller op reply (inl done) = inl done
 answer_in geo a b m n i j w v caller op reply (inr refusal) = inr (record { why = why_in geo a b m n i j w v caller op reply refusal.why; same = refusal.same })
 
 synced_in : (a b : Running) (m n : Bool) (i j w v caller : ℕ) (op : Op) (reply : Reply) → HasStored a caller op reply b → HasStored (record a { mounted = m; number = i; workers = w }) caller op reply (record b { mounted = n; number = j; workers = v })
-synced_in a b m n i j caller Flush Done h = h
-synced_in a b m n i j caller (Fsync slot) Done h = h
+synced_in a b m n i j w v caller Flush Done h = h
+synced_in a b m n i j w v caller (Fsync slot) Done h = h
 synced_in a b m n i j w v caller op reply h = tt
 
 pub replied_in : (geo : RawGeometry) (a b : Running) (m n : Bool) (i j w v caller : ℕ) (op : Op) (reply : Reply) → IsReplied geo a caller op reply b → IsReplied geo (record a { mounted = m; number = i; workers = w }) caller op reply (record b { mounted = n; number = j; workers = v })

@@ -1,5 +1,5 @@
 -- What is stored under the files, from what a step says of what is kept.
-use Rattle.std.proofs.Common.{◌≡◌, ◌⊎◌, ℕ, Bool, true, false, Option, Some, None, Ok, Err, List, [], ◌∷◌, refl, sym, ap, ◌∙◌, inl, inr, cond}
+use Rattle.std.proofs.Common.{◌≡◌, ◌⊎◌, ℕ, Bool, true, false, Option, Some, None, Ok, Err, [], ◌∷◌, refl, sym, ap, ◌∙◌, inl, inr, cond}
 use Rattle.std.specs.Prelude.{◌==◌, ◌&&◌, fold, not, unwrap_or}
 use Rattle.std.specs.BTreeMap.{is_at}
 use Rattle.std.specs.Map.{lookup}
@@ -15,7 +15,6 @@ use Rattle.fs_model.specs.declared.refusal.Refusal.TheVariants.{Enfile}
 use Rattle.fs_model.specs.declared.refusal.Table.TheVariants.{Orphans}
 use Rattle.fs_model.specs.declared.reply.Reply.{Reply}
 use Rattle.fs_model.specs.declared.reply.Reply.TheVariants.{Done, Refused}
-use Rattle.fs_model.specs.Backing.{BackingState}
 use Rattle.fs_model.specs.Files.{Blocks, Files, Tree, block_at, inode_at, pair_cmp}
 use Rattle.fs_model.specs.Operation.{outcome_of}
 use Rattle.fs_model.specs.Orphan.{leaves_orphan, within_orphans}

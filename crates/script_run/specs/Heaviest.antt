@@ -1,5 +1,5 @@
 -- How heavy the index may be behind the lines of a script, at most.
-use Rattle.std.specs.Prelude.{◌≡◌, ℕ, ◌+◌, ◌*◌, max, List, [], ◌∷◌, codes, sum_by}
+use Rattle.std.specs.Prelude.{ℕ, ◌+◌, ◌*◌, max, List, [], ◌∷◌, codes, sum_by}
 use Rattle.ubifs_base.specs.declared.raw_geometry.RawGeometry.{RawGeometry}
 use Rattle.ubifs_base.specs.Areas.{main_lebs}
 use Rattle.ubifs_base.specs.Geometry.{plain_geometry}

@@ -7,7 +7,7 @@ use Rattle.script_text.specs.declared.part.Part.{Part}
 use Rattle.script_text.specs.Script.{IsInRange, Leads}
 use Rattle.script_run.specs.Phases.{HasAdvanced, IsPhase, IsRunFrom}
 use Rattle.script_run.specs.Run.{opening_on}
-use Rattle.script_run.specs.Sessions.{AreReady, IsSession, running_of, stage_of}
+use Rattle.script_run.specs.Sessions.{AreReady, running_of, stage_of}
 use Rattle.script_run.proofs.PhaseRuns.{advance_mounts, advanced, run_ends}
 use Rattle.script_run.proofs.lines.play_lines.Goals as goal
 

@@ -1,4 +1,4 @@
-use Rattle.std.proofs.Common.{ℕ, Bool, sym, ◌∙◌}
+use Rattle.std.proofs.Common.{sym, ◌∙◌}
 use Rattle.plain_backing.specs.PlainBacking.{state_of}
 use Rattle.vfs_ops.specs.Steps.{Passage}
 use Rattle.script_run.specs.Reading.{Reading}

@@ -1,7 +1,6 @@
 use Rattle.std.proofs.Common.{◌+◌, ap, arith, length, refl, sym, ◌∙◌}
 use Rattle.std.specs.Prelude.{if◌then◌else◌}
 use Rattle.ubifs_base.specs.RawOf.{raw_of}
-use Rattle.cached_files.specs.Present.{present}
 use Rattle.fs_model.specs.Backing.{next_orphans}
 use Rattle.fs_model.specs.Orphan.{leaves_orphan}
 use Rattle.plain_backing.specs.PlainBacking.{state_of}

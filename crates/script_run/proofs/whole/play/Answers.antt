@@ -1,11 +1,5 @@
-use Rattle.std.proofs.Common.{◌≡◌, Option, Some, None, ap, sym, subst, ◌∙◌}
+use Rattle.std.proofs.Common.{sym, ◌∙◌}
 use Rattle.ubifs_base.specs.RawOf.{raw_of}
-use Rattle.fs_model.specs.declared.refusal.Cause.{Cause}
-use Rattle.fs_model.specs.declared.space.Space.{Space}
-use Rattle.fs_model.specs.Settled.{settled}
-use Rattle.script_run.specs.Opening.{mounted_space}
-use Rattle.script_run.specs.Played.{IsPlayedIn}
-use Rattle.script_run.specs.declared.whole.Played.TheVariants.{Written, Unchanged}
 use Rattle.script_run.proofs.Openings.{settled_unspent}
 use Rattle.script_run.proofs.whole.play.Goals as goal
 
