@@ -5,7 +5,6 @@ use Rattle.std.proofs.lemmas.Bool.{false≢true}
 use Rattle.std.proofs.lemmas.Bool.Decides.{nat_tests}
 use Rattle.std.proofs.lemmas.List.Elements.{All-cons, All-head, All-nil, All-tail}
 use Rattle.std.proofs.lemmas.List.Sums.{length-filter}
-use Rattle.fs_model.specs.declared.op.Op.{Op}
 use Rattle.fs_model.specs.declared.trace.TraceLine.{TraceLine}
 use Rattle.trace_word.specs.Knowledge.{lines_of}
 use Rattle.traced_files.specs.States.{PassState}
@@ -132,7 +131,7 @@ from_first (x ∷ xs) callers most all =
     let P : CallerLine → Type 0 = λ line. 0 < line.caller in
     All-cons (λ (line : CallerLine). IsFrom callers line.caller) x xs (All-head P x xs all, omega (arith, most)) (from_first xs callers (omega (arith, most)) (All-tail P x xs all))
 
-weaken : {X : Type 0} (P Q : X → Type 0) → ((x : X) → P x → Q x) → (xs : List X) → All P xs → All Q xs
+pub weaken : {X : Type 0} (P Q : X → Type 0) → ((x : X) → P x → Q x) → (xs : List X) → All P xs → All Q xs
 weaken P Q so [] all = All-nil Q
 weaken P Q so (x ∷ xs) all = All-cons Q x xs (so x (All-head P x xs all)) (weaken P Q so xs (All-tail P x xs all))
 
@@ -161,3 +160,8 @@ found_of trace now lines jobs numbered all last positive told =
       time = all_own (IsAt now) trace (λ caller. (served caller).1);
       memory = weaken (IsToldOf callers) (λ (line : TraceLine). is_memory line.reply ≡ false) (λ line is. is.2) trace told;
     }
+
+-- the greatest number of some callers
+pub some_caller : (lines : List CallerLine) → 0 < length lines → All IsPositive lines → 0 < last_caller lines
+some_caller [] some all = absurd (omega (arith, some))
+some_caller (x ∷ xs) some all = let one = All-head IsPositive x xs all in omega (arith, one)

@@ -1,4 +1,4 @@
-use Rattle.std.proofs.Common.{◌≡◌, ◌++◌, map, take, drop}
+use Rattle.std.proofs.Common.{◌≡◌, ◌++◌, map, drop}
 use Rattle.script_phase.proofs.NewJobs.{count_of}
 use Rattle.script_phase.proofs.jobs.counts_of.Given as goal
 

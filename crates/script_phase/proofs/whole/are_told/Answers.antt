@@ -1,4 +1,4 @@
-use Rattle.std.proofs.Common.{rules, arith}
+use Rattle.std.proofs.Common.{rules}
 use Rattle.script_phase.proofs.TraceLines.{IsToldOf, all_from}
 use Rattle.script_phase.proofs.whole.are_told.Goals as goal
 
