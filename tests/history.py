@@ -322,7 +322,10 @@ class Judge:
 
     def fault(self, script, text):
         """The number of the first line of a script that isn't answered so, and what is wrong; or None."""
-        printed = iter(text.splitlines())
+        *lines, rest = text.split("\n")
+        if rest:
+            return len(script), f"'{rest}' is no whole line"
+        printed = iter(lines)
         workers, phase = 0, []
         for at, line in enumerate(script + [("now", 0)]):
             if line[0] not in CONTROLS:
