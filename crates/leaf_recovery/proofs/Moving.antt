@@ -1,5 +1,5 @@
 -- Leaves that stand at copies, told by the LEBs that stay.
-use Rattle.std.proofs.Common.{◌≡◌, ℕ, Bool, true, false, cond, not, ◌&&◌, ◌||◌, List, [], ◌∷◌, map, refl, ap, ◌∙◌}
+use Rattle.std.proofs.Common.{◌≡◌, ℕ, Bool, true, false, cond, not, ◌&&◌, ◌||◌, List, [], ◌∷◌, length, map, refl, ap, ◌∙◌, arith}
 use Rattle.std.specs.Prelude.{◌==◌, is_some}
 use Rattle.std.specs.BTreeMap.{is_at}
 use Rattle.std.specs.List.{list_any}
@@ -47,3 +47,19 @@ moved_is references copies kept stays h = by kept
     by : (xs : List RecoveredLeaf) → map (moved_unless references copies stays) xs ≡ map (moved_told references copies kept) xs
     by [] = refl
     by (x ∷ xs) = ap (λ z. z ∷ map (moved_unless references copies stays) xs) (one_is references copies kept stays h x) ∙ ap (λ z. moved_told references copies kept x ∷ z) (by xs)
+
+stays_there : (references : List RefNode) (kept : List RecoveredLeaf) (x : RecoveredLeaf) → x ≡ moved_told references [] kept x
+stays_there references kept x = by (not (is_named_told references x.leaf.lnum) && is_copied_told [] kept x.leaf.lnum)
+  where
+    by : (b : Bool) → x ≡ cond b x x
+    by true = refl
+    by false = refl
+
+-- without copies none moves
+pub none_moved : (references : List RefNode) (copies : List JournalNode) (kept : List RecoveredLeaf) → length copies ≡ 0 → kept ≡ all_moved_told references copies kept
+none_moved references [] kept e = by kept
+  where
+    by : (xs : List RecoveredLeaf) → xs ≡ map (moved_told references [] kept) xs
+    by [] = refl
+    by (x ∷ xs) = ap (λ z. z ∷ xs) (stays_there references kept x) ∙ ap (λ z. moved_told references [] kept x ∷ z) (by xs)
+none_moved references (c ∷ copies) kept e = absurd (omega (arith, e))

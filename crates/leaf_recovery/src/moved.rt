@@ -18,7 +18,7 @@ use std::alloc::Global;
 use std::collections::BTreeMap;
 use ubifs_base::Memory;
 
-// Moves leaves to their copies, by LEB: where the log doesn't name it, and each leaf has one.
+// Moves leaves to their copies, by LEB: where the log doesn't name it, and each leaf has one. Without copies none moves.
 pub(crate) fn move_leaves(
     alloc: Global,
     references: &[RefNode],
@@ -27,6 +27,9 @@ pub(crate) fn move_leaves(
 ) -> Result<Vec<RecoveredLeaf>, Memory>
     ensures { IfOk result (λ moved. moved.items ≡ all_moved_told references.now copies.now kept.items) }
 {
+    if copies.is_empty() {
+        return Ok(kept);
+    }
     let stays = staying(alloc, copies, kept.as_slice())?;
     let moved = move_others(alloc, references, copies, &stays, kept)?;
     Ok(moved)

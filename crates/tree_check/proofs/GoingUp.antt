@@ -9,7 +9,7 @@ use Rattle.ubifs_base.specs.R5.{r5_of}
 use Rattle.fs_model.specs.Path.{is_same_name}
 use Rattle.image_check.specs.declared.wrong_value.WrongValue.{WrongValue}
 use Rattle.tree_check.specs.Facts.{Facts, is_misplaced}
-use Rattle.tree_check.specs.KeyOrder.{IsAheadOf, ShowNothingTwice, shown_rank}
+use Rattle.tree_check.specs.KeyOrder.{DoKeysGoUp, IsAheadOf, ShowNothingTwice, shown_rank}
 use Rattle.tree_check.specs.Places.{wrong_alone, wrong_if, wrongs_behind}
 use Rattle.tree_check.specs.Seen.{same_told}
 use Rattle.tree_check.specs.declared.shown_leaf.Shown.{Shown}
@@ -50,20 +50,11 @@ same_rank (Deletion d n) b h t = absurd (omega arith)
 same_rank (Truncation q m) b h t = absurd (omega arith)
 same_rank Nothing b h t = absurd (omega arith)
 
--- each of these leaves is ahead of those behind it
-abbrev pub DoKeysGoUp : List ShownLeaf → Type 0
-DoKeysGoUp [] = ⊤
-DoKeysGoUp (x ∷ leaves) = IsAheadOf x.shown leaves × DoKeysGoUp leaves
-
 -- what is ahead of others has a place in the order
 has_place : (s : Shown) (leaves : List ShownLeaf) → IsAheadOf s leaves → 0 < shown_rank s
 has_place s [] a = a
 has_place s (y ∷ leaves) (inl a) = a.0
 has_place s (y ∷ leaves) (inr a) = has_place s leaves a.2
-
-pub none_left : (leaves : List ShownLeaf) → length leaves ≡ 0 → DoKeysGoUp leaves
-none_left [] h = tt
-none_left (x ∷ leaves) h = absurd (omega (arith, h))
 
 through : (a b c : ℕ) → a < b → b < c → a < c
 through a b c h k = omega arith
@@ -101,6 +92,33 @@ none_behind s (y ∷ leaves) (inr a) g = none_and (same_told s y.shown) (list_an
 pub nothing_twice : (leaves : List ShownLeaf) → DoKeysGoUp leaves → ShowNothingTwice leaves
 nothing_twice [] g = tt
 nothing_twice (x ∷ leaves) g = (none_behind x.shown leaves g.0 g.1, nothing_twice leaves g.1)
+
+-- ---- from one leaf to the next
+-- what is at a lesser place is ahead
+pub is_ahead : (s : Shown) (next : ShownLeaf) (left rest : List ShownLeaf) (there : ℕ) → left ≡ next ∷ rest → 0 < shown_rank s → shown_rank s < there → there ≡ shown_rank next.shown → IsAheadOf s left
+is_ahead s next left rest there e p l h =
+    let P : List ShownLeaf → Type 0 = λ ls. IsAheadOf s ls in
+    let on : shown_rank s < shown_rank next.shown = subst (λ (n : ℕ). shown_rank s < n) h l in
+    subst P (sym e) (inl (p, on))
+
+place_behind : (s : Shown) (next : ShownLeaf) (rest : List ShownLeaf) → 0 < shown_rank s → IsAheadOf s (next ∷ rest) → 0 < shown_rank next.shown
+place_behind s next rest p (inl a) = let l = a.1 in omega (arith, p, l)
+place_behind s next rest p (inr a) = subst (λ (n : ℕ). 0 < n) a.0 p
+
+-- one of some leaves is ahead of those behind it, of which the first is the next
+pub record IsFollowed (first : ShownLeaf) (behind : List ShownLeaf) (last : ShownLeaf) (left : List ShownLeaf) : Type 0 where
+  pub on : DoKeysGoUp (last ∷ left) → DoKeysGoUp (first ∷ behind)
+  pub place : 0 < shown_rank last.shown
+
+pub followed_on : (first last next : ShownLeaf) (behind left rest : List ShownLeaf) → left ≡ next ∷ rest → IsAheadOf last.shown left → IsFollowed first behind last left → IsFollowed first behind next rest
+followed_on first last next behind left rest e a h =
+    let P : List ShownLeaf → Type 0 = λ ls. IsAheadOf last.shown ls in
+    let Q : List ShownLeaf → Type 0 = λ ls. DoKeysGoUp ls in
+    record { on = λ g. h.on (a, subst Q (sym e) g); place = place_behind last.shown next rest h.place (subst P e a) }
+
+pub followed_all : (first last : ShownLeaf) (behind left : List ShownLeaf) → length left ≡ 0 → IsFollowed first behind last left → DoKeysGoUp (first ∷ behind)
+followed_all first last behind [] e h = h.on (h.place, tt)
+followed_all first last behind (x ∷ left) e h = absurd (omega (arith, e))
 
 -- ---- what is wrong with them
 -- none of these leaves is shown by some others

@@ -1,6 +1,9 @@
 mod Backwards
+mod DirsReached
 mod Firsts
 mod GoingUp
+mod InOrder
+mod KindsInOrder
 mod Levels
 mod LinkFirst
 mod PlaceFirst

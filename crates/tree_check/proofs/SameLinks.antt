@@ -125,7 +125,7 @@ any_weighed p (x ∷ xs) = by (p x) (any_weighed p xs) ∙ ap is_some_of (sym (s
 any_same : (p : Link → Bool) (xs ys : List Link) → IsPermutation xs ys → list_any p xs ≡ list_any p ys
 any_same p xs ys s = any_weighed p xs ∙ ap is_some_of (sym (sum_by-IsPermutation (weight p) xs ys s)) ∙ sym (any_weighed p ys)
 
-any_filtered : (p q : Link → Bool) (xs : List Link) → list_any p (filter q xs) ≡ list_any (λ x. q x && p x) xs
+pub any_filtered : (p q : Link → Bool) (xs : List Link) → list_any p (filter q xs) ≡ list_any (λ x. q x && p x) xs
 any_filtered p q [] = refl
 any_filtered p q (x ∷ xs) = by (q x) (any_filtered p q xs)
   where

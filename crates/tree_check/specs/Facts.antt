@@ -1,8 +1,6 @@
 -- What the tree that leaves show says of inode numbers, and what is out of its place by it.
 use Rattle.std.specs.Prelude.{◌≡◌, ℕ, ◌==◌, ◌&&◌, ◌||◌, not, Bool, false, List, Option}
-use Rattle.std.specs.BTreeMap.{get}
 use Rattle.std.specs.Option.{option_map_or}
-use Rattle.std.specs.Ordering.{nat_cmp}
 use Rattle.fs_model.specs.Path.{is_dir}
 use Rattle.fs_model.specs.Proper.{same_kind}
 use Rattle.fs_model.specs.declared.inode.Kind.{Kind}
@@ -11,10 +9,9 @@ use Rattle.tree_check.specs.declared.facts.TreeFacts.{TreeFacts}
 use Rattle.tree_check.specs.declared.shown_leaf.Shown.{Shown}
 use Rattle.tree_check.specs.declared.shown_leaf.Shown.TheVariants.{Inode, Entry}
 use Rattle.tree_check.specs.declared.shown_leaf.ShownLeaf.{ShownLeaf}
-use Rattle.tree_check.specs.Kinds.{inodes_shown, kind_shown}
-use Rattle.tree_check.specs.LinkFindings.{count_at}
+use Rattle.tree_check.specs.Kinds.{inodes_shown, kind_at, kind_shown}
 use Rattle.tree_check.specs.Links.{count_to, links_shown}
-use Rattle.tree_check.specs.Reach.{has, reaches}
+use Rattle.tree_check.specs.Reach.{has, is_reached, reaches}
 
 -- the kind of each inode, how many entries name each, and which are reached from the root
 pub record Facts : Type 0 where
@@ -23,7 +20,11 @@ pub record Facts : Type 0 where
   pub reached : ℕ → Bool
 
 abbrev pub facts_in : TreeFacts → Facts
-facts_in facts = record { kind = get nat_cmp facts.kinds; names = count_at facts.names; reached = has facts.reached }
+facts_in facts = record {
+  kind = kind_at facts.kinds.inodes.items;
+  names = count_to facts.names.links.items;
+  reached = is_reached facts.names.links.items (has facts.dirs);
+}
 
 -- they are those of the tree that leaves show
 pub record AreFactsOf (leaves : List ShownLeaf) (facts : Facts) : Type 0 where

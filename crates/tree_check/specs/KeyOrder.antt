@@ -23,6 +23,11 @@ IsAheadOf shown (y ∷ leaves) =
     ((0 < shown_rank shown) × (shown_rank shown < shown_rank y.shown))
     ⊎ ((shown_rank shown ≡ shown_rank y.shown) × IsFalse (same_told shown y.shown) × IsAheadOf shown leaves)
 
+-- each of these leaves is ahead of those behind it
+abbrev pub DoKeysGoUp : List ShownLeaf → Type 0
+DoKeysGoUp [] = ⊤
+DoKeysGoUp (x ∷ leaves) = IsAheadOf x.shown leaves × DoKeysGoUp leaves
+
 -- none of these leaves shows what one before it shows
 abbrev pub ShowNothingTwice : List ShownLeaf → Type 0
 ShowNothingTwice [] = ⊤

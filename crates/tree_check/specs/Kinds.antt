@@ -1,8 +1,9 @@
 -- The kinds of the inodes that leaves show.
-use Rattle.std.specs.Prelude.{ℕ, ◌+◌, List, [], ◌∷◌, Option, Some, None, cond}
+use Rattle.std.specs.Prelude.{ℕ, ◌+◌, ◌==◌, List, [], ◌∷◌, ◌++◌, Option, Some, None, cond, if◌then◌else◌}
 use Rattle.std.specs.BTreeMap.{is_at}
 use Rattle.std.specs.Ordering.{nat_cmp}
 use Rattle.fs_model.specs.declared.inode.Kind.{Kind}
+use Rattle.tree_check.specs.declared.inode_kind.InodeKind.{InodeKind}
 use Rattle.tree_check.specs.declared.shown_leaf.Shown.{Shown}
 use Rattle.tree_check.specs.declared.shown_leaf.Shown.TheVariants.{Inode}
 use Rattle.tree_check.specs.declared.shown_leaf.ShownLeaf.{ShownLeaf}
@@ -30,3 +31,27 @@ inode_count shown = 0
 abbrev pub inodes_shown : List ShownLeaf → ℕ
 inodes_shown [] = 0
 inodes_shown (x ∷ leaves) = inode_count x.shown + inodes_shown leaves
+
+-- the inode that a leaf shows with its kind, if it shows one
+abbrev pub inode_kind : Shown → List InodeKind
+inode_kind (Inode ino kind links) = record { ino = ino; kind = kind } ∷ []
+inode_kind shown = []
+
+-- the inodes that leaves show, leaf by leaf
+abbrev pub inode_kinds : List ShownLeaf → List InodeKind
+inode_kinds [] = []
+inode_kinds (x ∷ leaves) = inode_kind x.shown ++ inode_kinds leaves
+
+-- the kind of the first of some inodes that has this number
+abbrev pub kind_at : List InodeKind → ℕ → Option Kind
+kind_at [] q = None
+kind_at (inode ∷ inodes) q = cond (is_at (nat_cmp inode.ino) q) (Some inode.kind) (kind_at inodes q)
+
+-- the kind of an inode, if it has this number
+abbrev pub kind_if : InodeKind → ℕ → Option Kind
+kind_if inode q = if inode.ino == q then Some inode.kind else None
+
+-- the kind of the first of some inodes, if it has this number
+abbrev pub first_kind : List InodeKind → ℕ → Option Kind
+first_kind [] q = None
+first_kind (inode ∷ inodes) q = kind_if inode q

@@ -1,7 +1,5 @@
 -- Which leaf shows an inode with other links than names.
-use Rattle.std.specs.Prelude.{ℕ, ◌==◌, ◌&&◌, ◌||◌, nat_lt, Bool, List, Option, Some, None, fold, if◌then◌else◌, unwrap_or}
-use Rattle.std.specs.BTreeMap.{BTreeMap, get}
-use Rattle.std.specs.Ordering.{nat_cmp}
+use Rattle.std.specs.Prelude.{ℕ, ◌==◌, ◌&&◌, ◌||◌, nat_lt, Bool, List, Option, Some, None, fold, if◌then◌else◌}
 use Rattle.fs_model.specs.Path.{is_dir}
 use Rattle.fs_model.specs.declared.inode.Kind.{Kind}
 use Rattle.image_check.specs.WrongValues.{sooner_of}
@@ -9,10 +7,6 @@ use Rattle.image_check.specs.declared.wrong_value.WrongValue.{WrongValue}
 use Rattle.tree_check.specs.declared.shown_leaf.Shown.{Shown}
 use Rattle.tree_check.specs.declared.shown_leaf.Shown.TheVariants.{Inode}
 use Rattle.tree_check.specs.declared.shown_leaf.ShownLeaf.{ShownLeaf}
-
--- the number at a key of a map, and 0 where none is
-abbrev pub count_at : BTreeMap ℕ ℕ → ℕ → ℕ
-count_at counts q = unwrap_or (get nat_cmp counts q) 0
 
 -- whether an inode of this kind with so many names has the right number of links
 abbrev pub are_right : Kind → ℕ → ℕ → Bool

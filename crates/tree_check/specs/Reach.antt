@@ -1,6 +1,6 @@
 -- What is reached from the root.
-use Rattle.std.specs.Prelude.{ℕ, zero, suc, ◌==◌, ◌||◌, Bool, List, [], ◌∷◌, ◌++◌, cond, filter, map, is_some, Option, Some, None}
-use Rattle.std.specs.List.{list_any}
+use Rattle.std.specs.Prelude.{◌≡◌, ℕ, zero, suc, ◌==◌, ◌||◌, Bool, true, List, [], ◌∷◌, ◌++◌, cond, filter, map, is_some, Option, Some, None}
+use Rattle.std.specs.List.{AllByRecursion, list_any}
 use Rattle.std.specs.BTreeMap.{BTreeMap, get, is_at}
 use Rattle.std.specs.Ordering.{nat_cmp}
 use Rattle.std.specs.declared.alloc.Global.{Global}
@@ -23,6 +23,14 @@ inodes_below links d = map (λ link. link.ino) (filter (λ link. link.dir == d) 
 abbrev pub reaches : List Link → ℕ → ℕ → Bool
 reaches links zero q = q == 1
 reaches links (suc steps) q = (q == 1) || list_any (λ link. reaches links steps link.dir) (filter (λ link. link.ino == q) links)
+
+-- whether this is the root, or one of some directories leads to it
+abbrev pub is_reached : List Link → (ℕ → Bool) → ℕ → Bool
+is_reached links dirs q = (q == 1) || list_any (λ link. dirs link.dir) (filter (λ link. link.ino == q) links)
+
+-- the directory of each of these links is among some numbers
+abbrev pub AreDirsAmong : List ℕ → List Link → Type 0
+AreDirsAmong dirs links = AllByRecursion (λ link. mem link.dir dirs ≡ true) links
 
 -- inodes by directory
 abbrev pub Children : Type 0

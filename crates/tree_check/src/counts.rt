@@ -1,22 +1,42 @@
-// How many entries name an inode.
+// Which entries lead to an inode, and how many.
 
-ghost use Rattle.std.specs.Prelude.{◌≡◌, ℕ, IfOk, unwrap_or};
-ghost use Rattle.std.specs.BTreeMap.{get};
-ghost use Rattle.std.specs.Ordering.{nat_cmp};
+ghost use Rattle.std.specs.Prelude.{◌≡◌, ◌==◌, filter};
+ghost use Rattle.std.specs.List.Sorted.{IsNonDecreasingBy, IsPermutation};
 ghost use Rattle.tree_check.specs.Links.{count_to};
 
 use crate::link::Link;
-use std::alloc::Global;
-use std::collections::BTreeMap;
-use ubifs_base::Memory;
+use crate::links_by_inode::LinksByInode;
 
-/// The number of links that lead to each inode; none has none.
-pub(crate) fn counts_of(alloc: Global, links: &[Link]) -> Result<BTreeMap<u32, u64>, Memory>
-    ensures { IfOk result (λ counts. (q : ℕ) → unwrap_or (get nat_cmp counts q) 0 ≡ count_to links.now q) }
+/// Links in order of the inode that they lead to. Takes no memory.
+pub(crate) fn links_by_inode(links: Vec<Link>) -> LinksByInode
+    ensures { IsPermutation links.items result.links.items }
 {
-    let mut counts = BTreeMap::new(alloc);
-    for link in links {
-        *counts.entry(link.ino)?.or_insert(0) += 1;
-    }
-    Ok(counts)
+    let mut links = links;
+    links.sort_unstable_by_key(|link| link.ino);
+    in_order(links)
+}
+
+// Links whose inode numbers don't fall.
+fn in_order(links: Vec<Link>) -> LinksByInode
+    requires { IsNonDecreasingBy (λ link. link.ino) links.items }
+    ensures { result.links.items ≡ links.items }
+{
+    LinksByInode { links }
+}
+
+/// The links that lead to an inode.
+pub(crate) fn links_to(links: &LinksByInode, ino: u32) -> &[Link]
+    ensures { result.now ≡ filter (λ link. link.ino == ino) links.now.links.items }
+{
+    let all = links.links.as_slice();
+    let (_, from) = all.split_at(all.partition_point(|link| link.ino < ino));
+    let (to, _) = from.split_at(from.partition_point(|link| link.ino <= ino));
+    to
+}
+
+/// How many they are.
+pub(crate) fn count_to(links: &LinksByInode, ino: u32) -> u64
+    ensures { result ≡ count_to links.now.links.items ino }
+{
+    links_to(links, ino).len() as u64
 }

@@ -1,49 +1,51 @@
 // What the tree that leaves show says of inode numbers.
 
-ghost use Rattle.std.specs.Prelude.{◌≡◌, IfOk};
+ghost use Rattle.std.specs.Prelude.{◌≡◌, IfOk, IsTrue};
 ghost use Rattle.tree_check.specs.Facts.{AreFactsOf, facts_in, is_kind, is_misplaced, is_misplaced_inode};
+ghost use Rattle.tree_check.specs.KeyOrder.{ShowNothingTwice};
 
-use crate::counts::counts_of;
-use crate::kinds::{count_inodes, is_dir, is_same_kind, kinds_of};
+use crate::counts::{count_to, links_by_inode};
+use crate::kinds::{count_inodes, is_dir, is_same_kind, kind_at, kinds_of};
+use crate::kinds_by_inode::KindsByInode;
 use crate::link::ROOT;
 use crate::links::links_of;
-use crate::map_reads::{count_at, is_in};
-use crate::reach::reached_in;
+use crate::links_by_inode::LinksByInode;
+use crate::reach::{dirs_reached, is_reached};
 use crate::shown_leaf::{Shown, ShownLeaf};
 use fs_model::Kind;
 use std::alloc::Global;
 use std::collections::BTreeMap;
 use ubifs_base::Memory;
 
-/// The kind of each inode, how many entries name each, and which are reached from the root.
+/// The kind of each inode, what entries lead to, and which directories are reached from the root in one step less than count.
 #[derive(Drop)]
 pub(crate) struct TreeFacts {
-    pub(crate) kinds: BTreeMap<u32, Kind>,
-    pub(crate) names: BTreeMap<u32, u64>,
-    pub(crate) reached: BTreeMap<u32, bool>,
+    pub(crate) kinds: KindsByInode,
+    pub(crate) names: LinksByInode,
+    pub(crate) dirs: BTreeMap<u32, bool>,
 }
 
 /// What leaves show of the tree. From the root as many steps count as leaves show inodes.
-pub(crate) fn facts_of(alloc: Global, leaves: &[ShownLeaf]) -> Result<TreeFacts, Memory>
+pub(crate) fn facts_of(
+    alloc: Global,
+    leaves: &[ShownLeaf],
+    go_up: bool,
+) -> Result<TreeFacts, Memory>
+    requires { IsTrue go_up → ShowNothingTwice leaves.now }
     ensures { IfOk result (λ facts. AreFactsOf leaves.now (facts_in facts)) }
 {
-    let links = links_of(alloc, leaves)?;
+    let names = links_by_inode(links_of(alloc, leaves, go_up)?);
     let kinds = kinds_of(alloc, leaves)?;
-    let names = counts_of(alloc, links.as_slice())?;
-    let reached = reached_in(alloc, links.as_slice(), count_inodes(leaves))?;
-    Ok(TreeFacts {
-        kinds,
-        names,
-        reached,
-    })
+    let dirs = dirs_reached(alloc, names.links.as_slice(), count_inodes(leaves))?;
+    Ok(TreeFacts { kinds, names, dirs })
 }
 
 /// Whether an inode is there and of this kind.
 pub(crate) fn is_kind(facts: &TreeFacts, ino: u32, kind: Kind) -> bool
     ensures { result ≡ is_kind (facts_in facts.now) ino kind }
 {
-    match facts.kinds.get(&ino) {
-        Some(found) => is_same_kind(*found, kind),
+    match kind_at(&facts.kinds, ino) {
+        Some(found) => is_same_kind(found, kind),
         None => false,
     }
 }
@@ -68,6 +70,6 @@ fn is_misplaced_inode(facts: &TreeFacts, ino: u32, kind: Kind) -> bool
 {
     let placed = !is_dir(kind)
         || ino == ROOT
-        || count_at(&facts.names, ino) == 1 && is_in(&facts.reached, ino);
+        || count_to(&facts.names, ino) == 1 && is_reached(&facts.names, &facts.dirs, ino);
     !placed || ino == ROOT && !is_kind(facts, ROOT, Kind::Dir)
 }

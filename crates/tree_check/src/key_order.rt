@@ -1,8 +1,8 @@
 // The order of what leaves show.
 
-ghost use Rattle.std.specs.Prelude.{◌≡◌, ℕ, IsFalse, IsTrue};
+ghost use Rattle.std.specs.Prelude.{◌≡◌, ◌<◌, ◌∷◌, ℕ, IsFalse, IsTrue};
 ghost use Rattle.fs_model.specs.Path.{is_same_name};
-ghost use Rattle.tree_check.specs.KeyOrder.{ShowNothingTwice, IsAheadOf, shown_rank};
+ghost use Rattle.tree_check.specs.KeyOrder.{DoKeysGoUp, ShowNothingTwice, IsAheadOf, shown_rank};
 ghost use Rattle.tree_check.specs.Seen.{same_name, same_told};
 
 use crate::shown_leaf::{Shown, ShownLeaf};
@@ -21,24 +21,39 @@ const MOST_EQUAL: u32 = 16;
 pub(crate) fn keys_go_up(leaves: &[ShownLeaf]) -> bool
     ensures { IsTrue result → ShowNothingTwice leaves.now }
 {
-    let mut left = leaves;
-    'going: while let Some((leaf, rest)) = left.split_first() {
-        if !is_ahead_of(&leaf.shown, rest) {
+    match leaves.split_first() {
+        Some((first, behind)) => do_follow(first, behind),
+        None => true,
+    }
+}
+
+// The same of a leaf and of those behind it. The place of each is computed once if they go up.
+fn do_follow(first: &ShownLeaf, behind: &[ShownLeaf]) -> bool
+    ensures { IsTrue result → DoKeysGoUp (first.now ∷ behind.now) }
+{
+    let mut last = first;
+    let mut place = shown_rank(&first.shown);
+    if place == 0 {
+        return false;
+    }
+    let mut left = behind;
+    'going: while let Some((next, rest)) = left.split_first() {
+        let there = shown_rank(&next.shown);
+        if there <= place && !is_ahead_of(&last.shown, place, left) {
             return false;
         }
+        last = next;
+        place = there;
         left = rest;
     }
     true
 }
 
-// Whether what stands behind something has greater keys, up to the first that has one, and else is another name.
-fn is_ahead_of(shown: &Shown, behind: &[ShownLeaf]) -> bool
+// Whether what stands behind something at a place in the order has greater keys, up to the first that has one, and else is another name.
+fn is_ahead_of(shown: &Shown, place: u128, behind: &[ShownLeaf]) -> bool
+    requires { (place ≡ shown_rank shown.now) × (0 < place) }
     ensures { IsTrue result → IsAheadOf shown.now behind.now }
 {
-    let place = shown_rank(shown);
-    if place == 0 {
-        return false;
-    }
     let mut passed = 0u32;
     let mut left = behind;
     'passing: while let Some((next, rest)) = left.split_first() {

@@ -1,10 +1,10 @@
 // The entries that leaves show.
 
-ghost use Rattle.std.specs.Prelude.{◌≡◌, ◌++◌, IfOk, OnOk};
+ghost use Rattle.std.specs.Prelude.{◌≡◌, ◌++◌, IfOk, IsTrue, OnOk};
 ghost use Rattle.std.specs.List.Sorted.{IsPermutation};
+ghost use Rattle.tree_check.specs.KeyOrder.{ShowNothingTwice};
 ghost use Rattle.tree_check.specs.Links.{entries_shown, entry_link, entry_links, links_shown, with_link};
 
-use crate::key_order::keys_go_up;
 use crate::link::Link;
 use crate::shown_leaf::{Shown, ShownLeaf};
 use fs_model::OrderedName;
@@ -12,12 +12,17 @@ use std::alloc::Global;
 use std::collections::BTreeMap;
 use ubifs_base::{Memory, Name};
 
-/// What the entries of leaves lead to, in some order. Of leaves that show one name the first counts. Where leaves go up, no map is made
-/// and no name is copied.
-pub(crate) fn links_of(alloc: Global, leaves: &[ShownLeaf]) -> Result<Vec<Link>, Memory>
+/// What the entries of leaves lead to, in some order. Of leaves that show one name the first counts. Where it is known that none shows
+/// what one before it shows, no map is made and no name is copied.
+pub(crate) fn links_of(
+    alloc: Global,
+    leaves: &[ShownLeaf],
+    go_up: bool,
+) -> Result<Vec<Link>, Memory>
+    requires { IsTrue go_up → ShowNothingTwice leaves.now }
     ensures { IfOk result (λ links. IsPermutation links.items (links_shown leaves.now)) }
 {
-    if keys_go_up(leaves) {
+    if go_up {
         let links = entry_links(alloc, leaves)?;
         return Ok(links);
     }

@@ -1,10 +1,11 @@
 // What is out of its place in the tree.
 
-ghost use Rattle.std.specs.Prelude.{◌≡◌, ℕ, ◌||◌, [], List, IfOk, OnOk, map};
+ghost use Rattle.std.specs.Prelude.{◌≡◌, ℕ, ◌||◌, [], List, IfOk, IsTrue, OnOk, map};
 ghost use Rattle.leaf_map.specs.Kept.{Kept};
 ghost use Rattle.leaf_map.specs.Shown.{tree_of};
 ghost use Rattle.image_check.specs.WrongValues.{IsFirstOf};
 ghost use Rattle.tree_check.specs.Facts.{facts_in, is_misplaced};
+ghost use Rattle.tree_check.specs.KeyOrder.{ShowNothingTwice};
 ghost use Rattle.tree_check.specs.LinkFindings.{soonest_of};
 ghost use Rattle.tree_check.specs.Places.{IsOutOfPlaceAt, number_shown, misplaced_at, wrong_alone, wrong_if, wrong_root, wrongs_behind};
 ghost use Rattle.tree_check.specs.Seen.{is_seen, same_told};
@@ -13,6 +14,7 @@ ghost use Rattle.tree_check.specs.declared.shown_leaf.Shown.{Shown as AShown};
 
 use crate::facts::{TreeFacts, facts_of, is_misplaced};
 use crate::key_order::keys_go_up;
+use crate::kinds::kind_at;
 use crate::link::ROOT;
 use crate::seen_leaves::{SeenLeaves, nothing_seen, see};
 use crate::shown_leaf::{Shown, ShownLeaf};
@@ -24,8 +26,8 @@ use ubifs_base::Memory;
 /// one before it; inode 1, which is no directory; a directory that isn't the root, and has not one name or isn't reached from the root;
 /// a name that stands in no directory, or leads to no inode of its kind, or to the root. There the inode number is wanted to which a name leads, or else the one in the
 /// leaf's key, and 0 is found. Without inode 1 it is wanted at `root`, the LEB and offset of the root of the index. None if all is in its place.
-/// Takes memory for maps with an entry an inode. Where what leaves show doesn't go up, or more than 16 names behind one have its directory
-/// and hash, it takes memory for maps with an entry a leaf besides, and copies names twice.
+/// Takes memory for an inode number a name and an inode, and for maps with an entry a directory. Where what leaves show doesn't go up, or more than 16
+/// names behind one have its directory and hash, it takes memory for maps with an entry a leaf besides, and copies names twice.
 pub fn first_out_of_place(
     alloc: Global,
     leaves: &[ShownLeaf],
@@ -33,9 +35,10 @@ pub fn first_out_of_place(
 ) -> Result<Option<WrongValue>, Memory>
     ensures { IfOk result (λ found. (kept : List Kept) (highest : ℕ) → AreShownBy kept leaves.now → IsFirstOf (IsOutOfPlaceAt kept (tree_of kept highest) root) found) }
 {
-    let facts = facts_of(alloc, leaves)?;
+    let go_up = keys_go_up(leaves);
+    let facts = facts_of(alloc, leaves, go_up)?;
     let missing = missing_root(&facts, root);
-    let first = first_misplaced(alloc, &facts, leaves, missing)?;
+    let first = first_misplaced(alloc, &facts, leaves, go_up, missing)?;
     Ok(first)
 }
 
@@ -43,7 +46,7 @@ pub fn first_out_of_place(
 fn missing_root(facts: &TreeFacts, root: (u32, u32)) -> Option<WrongValue>
     ensures { result ≡ wrong_root ((facts_in facts.now).kind 1) root }
 {
-    match facts.kinds.get(&ROOT) {
+    match kind_at(&facts.kinds, ROOT) {
         Some(_) => None,
         None => Some(WrongValue {
             lnum: root.0,
@@ -59,11 +62,13 @@ fn first_misplaced(
     alloc: Global,
     facts: &TreeFacts,
     leaves: &[ShownLeaf],
+    go_up: bool,
     found: Option<WrongValue>,
 ) -> Result<Option<WrongValue>, Memory>
+    requires { IsTrue go_up → ShowNothingTwice leaves.now }
     ensures { IfOk result (λ first. first ≡ soonest_of found (wrongs_behind (facts_in facts.now) [] leaves.now)) }
 {
-    if keys_go_up(leaves) {
+    if go_up {
         return Ok(first_alone(facts, leaves, found));
     }
     let first = first_behind(alloc, facts, leaves, found)?;

@@ -5,10 +5,10 @@ use Rattle.tree_check.specs.declared.link.Link.{Link}
 use Rattle.tree_check.proofs.SameLinks.{same_links}
 use Rattle.tree_check.proofs.links.links_of.Goals as goal
 
-pub returns-then-keys_go_up : goal.returns-then-keys_go_up
-returns-then-keys_go_up c =
+pub returns-then-go_up : goal.returns-then-go_up
+returns-then-go_up c =
     let P : List Link → Type 0 = λ ls. IsPermutation ls (links_shown c.args.leaves.now) in
-    subst P (sym c.in_ok-links.ensures) (same_links c.args.leaves.now (c.keys_go_up.ensures c.if-keys_go_up.true))
+    subst P (sym c.in_ok-links.ensures) (same_links c.args.leaves.now (c.requires c.if-go_up.true))
 
 pub returns : goal.returns
 returns c =
