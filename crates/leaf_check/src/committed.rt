@@ -28,6 +28,9 @@ use ubifs_base::Memory;
 // Nodes of so many bytes are looked at side by side.
 const BATCH_BYTES: usize = 4 << 20;
 
+// And so many at most: each has room of its own, which the next batch uses again.
+const BATCH_LEAVES: usize = 1 << 13;
+
 /// What is told of the intact leaf node that stands at the place of each of these leaves with its length, if one does, whatever node that
 /// is (`ubifs_tnc_read_node` of Linux fs/ubifs); and leaves of them whose place has their own node. Nothing is asked of the leaves: outside
 /// the volume stands none, and none is longer than 4,256 bytes, of which no more are read for a leaf. The leaves are read one after
@@ -60,7 +63,8 @@ pub fn read_committed<R: Threads + Sync, V: Volume>(
     }))
 }
 
-// How many of some leaves are read before what was read is looked at: one at least, and no more once their nodes have enough bytes.
+// How many of some leaves are read before what was read is looked at: one at least, and no more once they are enough, or their nodes have
+// enough bytes.
 fn batch_of(leaves: &[Leaf]) -> usize
     ensures most { result ≤ length leaves.now }
     ensures least { 0 < length leaves.now → 0 < result }
@@ -70,7 +74,7 @@ fn batch_of(leaves: &[Leaf]) -> usize
     for leaf in leaves {
         count += 1;
         bytes += leaf.len.min(MOST_BYTES) as usize;
-        if bytes >= BATCH_BYTES {
+        if bytes >= BATCH_BYTES || count >= BATCH_LEAVES {
             return count;
         }
     }
