@@ -13,11 +13,11 @@ returns-in-Unsound g c =
     subst Q c.deref-2.ensures.value (subst P c.in-Unsound.is c.in_ok-line.ensures)
 
 pub run_volume-requires-clause-proper : goal.run_volume-requires-clause-proper
-run_volume-requires-clause-proper g c =
+run_volume-requires-clause-proper g c κs within =
     let P : ImageFiles → Type 0 = λ files. AreImageFiles c.deref-2.result.now files in (subst P c.in-Sound.is c.in_ok-line.ensures).files.proper
 
 pub run_volume-requires-clause-small : goal.run_volume-requires-clause-small
-run_volume-requires-clause-small g c =
+run_volume-requires-clause-small g c κs within =
     let P : ImageFiles → Type 0 = λ files. AreImageFiles c.deref-2.result.now files in
     small_files c.deref-2.result.now (raw_of c.in-Sound.geometry) c.in-Sound.tree (subst P c.in-Sound.is c.in_ok-line.ensures).files
 

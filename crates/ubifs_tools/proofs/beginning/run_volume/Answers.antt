@@ -7,22 +7,22 @@ use Rattle.ubifs_tools.proofs.Performing.{unchanged_run, written_run}
 use Rattle.ubifs_tools.proofs.beginning.run_volume.Goals as goal
 
 pub image_bytes-requires-clause-proper : goal.image_bytes-requires-clause-proper
-image_bytes-requires-clause-proper c =
+image_bytes-requires-clause-proper g c =
     let P : Played → Type 0 = λ p. CanBeImaged (raw_of c.args.geometry) p in (subst P c.in-Written.is c.in_ok-run.ensures.imaged).0
 
 pub image_bytes-requires-clause-covered : goal.image_bytes-requires-clause-covered
-image_bytes-requires-clause-covered c =
+image_bytes-requires-clause-covered g c =
     let P : Played → Type 0 = λ p. CanBeImaged (raw_of c.args.geometry) p in
     covered_tree (raw_of c.args.geometry) c.in-Written.run'.tree (subst P c.in-Written.is c.in_ok-run.ensures.imaged).1
 
 pub returns-in_ok-image-in-Written : goal.returns-in_ok-image-in-Written
-returns-in_ok-image-in-Written c =
+returns-in_ok-image-in-Written g c =
     let geo = raw_of c.args.geometry in
     let P : Played → Type 0 = λ p. IsPlayedOn geo c.args.tree c.args.space.now c.args.parts.items p in
     written_run geo c.args.start.items c.args.tree c.args.space.now c.args.parts.items c.in-Written.run' c.in_ok-image-in-Written.image.items (subst P c.in-Written.is c.in_ok-run.ensures.played) c.in_ok-image-in-Written.ensures
 
 pub returns-in-Unchanged : goal.returns-in-Unchanged
-returns-in-Unchanged c =
+returns-in-Unchanged g c =
     let geo = raw_of c.args.geometry in
     let P : Played → Type 0 = λ p. IsPlayedOn geo c.args.tree c.args.space.now c.args.parts.items p in
     let played = subst P c.in-Unchanged.is c.in_ok-run.ensures.played in
