@@ -117,7 +117,7 @@ fn worked_on_fresh<R: Threads + Wait + Sync>(rt: &R, alloc: Global) -> Result<bo
         pool,
         ledger,
         passes,
-    } = open(alloc, 1)?;
+    } = open(alloc, 1, 1)?;
     let mut jobs = jobs_of(alloc, passes, b"cow")?;
     let Some(job) = jobs.pop() else {
         return Err(Memory);

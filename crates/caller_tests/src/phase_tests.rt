@@ -53,7 +53,7 @@ fn are_answered<R: Threads + Wait + Sync>(rt: &R, alloc: Global) -> Result<bool,
         pool,
         ledger,
         passes,
-    } = open(alloc, 3)?;
+    } = open(alloc, 3, 3)?;
     let jobs = jobs_of(alloc, passes, b"cowrwrwrax")?;
     let closed = left_by_phase::<Brand, R>(rt, alloc, fs, word, pool, ledger, jobs)?;
     let trace = closed.trace.as_slice();

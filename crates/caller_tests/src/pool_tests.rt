@@ -64,7 +64,7 @@ fn left_between<R: Wait>(
         pool,
         ledger,
         mut passes,
-    } = open(alloc, callers)?;
+    } = open(alloc, callers, callers)?;
     let Some(pass) = passes.pop() else {
         return Err(Memory);
     };

@@ -15,7 +15,7 @@ use Rattle.plain_backing.specs.Spending.{is_spent}
 use Rattle.vfs_ops.specs.FilesState.{FilesState}
 use Rattle.traced_files.specs.History.{IsHistory, IsModeAfter, IsSureSince, Leads, Rise, first_place, opening_of}
 use Rattle.script_phase.specs.declared.lines.CallerLine.{CallerLine}
-use Rattle.script_phase.specs.Phases.{IsOneTrace, IsUnfailing, last_caller}
+use Rattle.script_phase.specs.Phases.{IsOneTrace, IsUnfailing, callers_in}
 use Rattle.script_phase.proofs.Found.{IsFound}
 
 -- files over a plain backing
@@ -76,16 +76,18 @@ none_told b (c ∷ cs) h = absurd (no_rise b c cs h)
 
 -- a phase's trace, from its history
 pub trace_of : (old new : PlainBacking) (before after : Kept) (noted refused : List NoSpace) (now : ℕ) (lines : List CallerLine) (trace : List TraceLine)
-    → IsUnfailing old before → IsUnfailing new after → IsHistory (opened_over old before noted (last_caller lines)) noted trace (over new after refused)
-    → IsFound now lines trace → IsOneTrace (opened_over old before noted (last_caller lines)) now lines trace (over new after refused)
+    → IsUnfailing old before → IsUnfailing new after → IsHistory (opened_over old before noted (callers_in lines)) noted trace (over new after refused)
+    → IsFound now lines trace → IsOneTrace (opened_over old before noted (callers_in lines)) now lines trace (over new after refused)
 trace_of old new before after noted refused now lines trace was is h found = record {
   own = found.own;
   time = found.time;
   last = h.last;
-  legal = open_lines (opened_over old before noted (last_caller lines)) (state_of new).mode trace h.last was.mode is.mode h.leads;
+  answered = open_lines (opened_over old before noted (callers_in lines)) (state_of new).mode trace h.last was.mode is.mode h.leads;
+  asked = h.asked;
   memory = found.memory;
   faultless = none_told (state_of old).faults (flat_map count_in trace) (subst (Rise (state_of old).faults (flat_map count_in trace)) is.faults h.counts);
   same = h.same;
+  flushed = h.flushed is.mode;
   weight = h.weight is.mode;
   orphans = h.orphans;
 }

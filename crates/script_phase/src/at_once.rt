@@ -9,10 +9,10 @@ ghost use Rattle.traced_files.specs.History.{opening_of, present_of};
 ghost use Rattle.traced_files.specs.Start.{IsNewLedger};
 ghost use Rattle.vfs_ops.specs.Fs.{files_state};
 ghost use Rattle.writeback.specs.Runs.{HasLines, MayRun};
-ghost use Rattle.script_phase.specs.Phases.{IsLaidAlike, IsOneTrace, IsUnfailing, last_caller};
+ghost use Rattle.script_phase.specs.Phases.{HasSameLimits, IsOneTrace, IsUnfailing, callers_in};
 
 use crate::jobs::{counts_of, jobs_of};
-use crate::lines::{CallerLine, last_caller};
+use crate::lines::{CallerLine, callers_in, last_caller};
 use crate::whole::is_whole;
 use credit_pool::Pool;
 use live_fs::{Closed, Live};
@@ -27,8 +27,8 @@ use ubifs_base::Memory;
 use vfs_ops::Fs;
 use writeback::{Gate, Job, StopKey, close_after_phase};
 
-/// Serves the lines of all callers at once, at this time in seconds since 1970, beside so many workers. The error is want of memory, also if
-/// it was found by one line alone.
+/// Serves the lines of all callers at once, at this time in seconds since 1970, beside so many workers. Callers are few: there is a thread
+/// for each number up to the greatest. The error is want of memory, also if it was found by one line alone; the files are lost then.
 pub fn serve_at_once<G: Gate + Sync, R: Threads + Wait + Sync>(
     rt: &R,
     alloc: Global,
@@ -42,17 +42,18 @@ pub fn serve_at_once<G: Gate + Sync, R: Threads + Wait + Sync>(
     requires some { 0 < length lines.items }
     requires lines { All (λ line. (0 < line.caller) × IsCall line.op) lines.items }
     ensures unfailing { IfOk result (λ closed. IsUnfailing closed.fs.backing closed.fs.kept) }
-    ensures layout { IfOk result (λ closed. IsLaidAlike fs.backing closed.fs.backing) }
-    ensures trace { IfOk result (λ closed. IsOneTrace (opening_of (files_state fs) (outlook_of fs.backing) (last_caller lines.items)) now lines.items closed.trace.items (files_state closed.fs)) }
-    ensures legal { IfOk result (λ closed. IsLegal (opening_of (files_state fs) (outlook_of fs.backing) (last_caller lines.items)) closed.trace.items (present_of fs.refused.items (files_state closed.fs) (outlook_of closed.fs.backing))) }
+    ensures layout { IfOk result (λ closed. HasSameLimits fs.backing closed.fs.backing) }
+    ensures trace { IfOk result (λ closed. IsOneTrace (opening_of (files_state fs) (outlook_of fs.backing) (callers_in lines.items)) now lines.items closed.trace.items (files_state closed.fs)) }
+    ensures legal { IfOk result (λ closed. IsLegal (opening_of (files_state fs) (outlook_of fs.backing) (callers_in lines.items)) closed.trace.items (present_of fs.refused.items (files_state closed.fs) (outlook_of closed.fs.backing))) }
 {
-    let callers = last_caller(lines.as_slice());
+    let last = last_caller(lines.as_slice());
+    let callers = callers_in(lines.as_slice());
     let NewTrace {
         word,
         pool,
         ledger,
         passes,
-    } = open(alloc, callers)?;
+    } = open(alloc, last, callers)?;
     let jobs = jobs_of(alloc, passes, now, lines)?;
     let counts = counts_of(alloc, &jobs)?;
     let closed = ran::<Brand, G, R>(rt, alloc, fs, word, pool, ledger, jobs, workers, gate)?;

@@ -1,7 +1,8 @@
 // The lines of callers.
 
-ghost use Rattle.std.specs.Prelude.{◌≡◌, ◌≢◌, ℕ, IfOk};
-ghost use Rattle.script_phase.specs.Phases.{last_caller, ops_by};
+ghost use Rattle.std.specs.Prelude.{◌≡◌, ◌≢◌, ◌==◌, ℕ, IfOk};
+ghost use Rattle.std.specs.List.{list_any};
+ghost use Rattle.script_phase.specs.Phases.{callers_in, last_caller, ops_by};
 
 use fs_model::Op;
 use std::alloc::Global;
@@ -25,6 +26,26 @@ pub fn last_caller(lines: &[CallerLine]) -> u16
         }
     }
     last
+}
+
+// Whether a caller has a line.
+fn has_line(lines: &[CallerLine], caller: u16) -> bool
+    ensures { result ≡ list_any (λ line. line.caller == caller) lines.now }
+{
+    lines.iter().any(|line| line.caller == caller)
+}
+
+/// How many callers have a line.
+pub(crate) fn callers_in(lines: &[CallerLine]) -> u16
+    ensures { result ≡ callers_in lines.now }
+{
+    let mut count = 0;
+    for index in 0..last_caller(lines) {
+        if has_line(lines, index + 1) {
+            count += 1;
+        }
+    }
+    count
 }
 
 // The operations of one caller, and the lines of the others.

@@ -12,7 +12,7 @@ use Rattle.fs_model.specs.declared.space.Need.{Need}
 use Rattle.fs_model.specs.declared.trace.TraceLine.{TraceLine}
 use Rattle.fs_model.specs.Backing.{next_orphans}
 use Rattle.fs_model.specs.Cover.{index_lebs}
-use Rattle.fs_model.specs.Files.{Files}
+use Rattle.fs_model.specs.Files.{Files, Tree}
 use Rattle.fs_model.specs.Legal.{AreLines, AreSides, IsPlain, IsRefusal, IsRefused, Opening, Place, behind, least_room, most_asked, most_needed, most_weight}
 use Rattle.fs_model.specs.Orphan.{nameless}
 use Rattle.small_areas.specs.Orphans.{orphan_limit}
@@ -25,8 +25,8 @@ use Rattle.plain_backing.specs.PlainBacking.{outlook_of, state_of}
 use Rattle.vfs_ops.specs.FilesState.{FilesState}
 use Rattle.traced_files.specs.History.{first_place, opening_of}
 use Rattle.script_phase.specs.declared.lines.CallerLine.{CallerLine}
-use Rattle.script_phase.specs.Phases.{IsLaidAlike, IsOneTrace, IsUnfailing, last_caller}
-use Rattle.script_run.specs.Phases.{IsAtOnce, opened_on, text_of}
+use Rattle.script_phase.specs.Phases.{HasSameLimits, IsOneTrace, IsUnfailing, callers_in}
+use Rattle.script_run.specs.Phases.{AreServedTogether, opened_on, trace_text}
 use Rattle.script_run.specs.Run.{Running, orphans_told}
 use Rattle.script_run.specs.Sessions.{IsSteady, IsWaiting}
 
@@ -41,7 +41,7 @@ opened_over backing kept refused callers = opening_of (over backing kept refused
 pub unfailing_of : (geo : RawGeometry) (backing : PlainBacking) (kept : Kept) → IsSteady geo backing kept → IsUnfailing backing kept
 unfailing_of geo backing kept steady = record { mode = steady.mode; faults = steady.faults; sure = (steady.strike, steady.covers); credits = steady.credits }
 
-pub steady_of : (geo : RawGeometry) (old new : PlainBacking) (before after : Kept) → IsSteady geo old before → IsLaidAlike old new → IsUnfailing new after → IsSteady geo new after
+pub steady_of : (geo : RawGeometry) (old new : PlainBacking) (before after : Kept) → IsSteady geo old before → HasSameLimits old new → IsUnfailing new after → IsSteady geo new after
 steady_of geo old new before after was laid is = record {
   geometry = laid.0 ∙ was.geometry;
   mode = is.mode;
@@ -119,11 +119,11 @@ much_as old before noted mounted now number workers callers steady none = record
 
 -- a phase of many callers, from its trace
 pub at_once_of : (old new : PlainBacking) (before after : Kept) (noted refused : List NoSpace) (mounted : Bool) (now number workers : ℕ) (lines : List CallerLine) (trace : List TraceLine)
-    → IsSteady (state_of old).geometry old before → IsSteady (state_of old).geometry new after → HasSameNameless old before → HasSameNameless new after → IsKept (state_of new).tree after
-    → IsOneTrace (opened_over old before noted (last_caller lines)) now lines trace (over new after refused)
-    → IsAtOnce (state_of old).geometry (running_over old before mounted now number workers) lines (text_of trace) (running_over new after mounted now 0 workers)
-at_once_of old new before after noted refused mounted now number workers lines trace was is none_before none_after fits h =
-    let callers = last_caller lines in
+    → IsSteady (state_of old).geometry old before → IsSteady (state_of old).geometry new after → HasSameNameless old before → HasSameNameless new after → IsKept (state_of new).tree after → ((tree : Tree) (kept : Kept) → IsKept tree kept → kept.pages.dirty ≡ [] → (present tree kept).tree ≡ tree)
+    → IsOneTrace (opened_over old before noted (callers_in lines)) now lines trace (over new after refused)
+    → AreServedTogether (state_of old).geometry (running_over old before mounted now number workers) lines (trace_text trace) (running_over new after mounted now 0 workers)
+at_once_of old new before after noted refused mounted now number workers lines trace was is none_before none_after fits clean h =
+    let callers = callers_in lines in
     let a = opened_over old before noted callers in
     let geo = (state_of old).geometry in
     let b = opened_on geo callers (running_over old before mounted now number workers) in
@@ -133,12 +133,14 @@ at_once_of old new before after noted refused mounted now number workers lines t
       own = h.own;
       time = h.time;
       last = h.last;
-      legal = lines_as a b much ReadWrite (first_place a) trace h.last h.legal;
+      answered = lines_as a b much ReadWrite (first_place a) trace h.last h.answered;
+      asked = h.asked;
       memory = h.memory;
       faultless = h.faultless;
       printed = refl;
       same = h.same;
       under = record { kept = after; fits = fits; seen = refl };
+      flushed = λ behind. sym (clean (state_of new).tree after fits (h.flushed behind));
       weight = subst (λ (w : ℕ). full_weight (state_of new) after ≤ w) (much.weight trace) h.weight.weight;
       index = subst (λ (w : ℕ). (state_of new).space.index ≤ max (state_of old).space.index (2 * index_lebs geo w)) (much.weight trace) h.weight.index;
       orphans = subst (λ (room : ℕ). room ≤ (orphan_limit geo.leb_size - orphans_told (running_over new after mounted now 0 workers)) + h.last.orphans) much.orphan_room

@@ -8,7 +8,7 @@ use Rattle.ubifs_base.specs.declared.raw_geometry.RawGeometry.{RawGeometry}
 use Rattle.script_text.specs.declared.part.Part.{Part}
 use Rattle.script_text.specs.declared.part.Part.TheVariants.{Mount, Unmount, Now, Workers, Line}
 use Rattle.script_phase.specs.declared.lines.CallerLine.{CallerLine}
-use Rattle.script_run.specs.Phases.{AreServed, IsOfOne, IsPhase, IsPhaseOf, IsRunFrom, IsTurn, is_alone}
+use Rattle.script_run.specs.Phases.{AreServed, IsOfOne, IsPhase, IsPhaseOf, ArePhases, IsTurn, is_alone}
 use Rattle.script_run.specs.Run.{IsRun, IsServed, Running}
 use Rattle.script_run.proofs.PhaseRuns.{served_rest}
 
@@ -111,7 +111,7 @@ still_none : (geo : RawGeometry) (one : ℕ) (before next : Running) (lines : Li
 still_none geo one before next lines part front none of turn same = same ∙ ((served_rest geo before turn.middle lines turn.first (served_alone geo one before turn.middle lines turn.first none of turn.phase)).1 ∙ none)
 
 pub run_behind : (geo : RawGeometry) (one : ℕ) (before after : Running) (lines : List CallerLine) (parts : List Part) (text : List ℕ) → before.workers ≡ 0 → AreOf one lines → AllByRecursion (IsOfOne one) parts
-    → IsRunFrom geo before lines parts text after → IsRunBehind geo before lines parts text after
+    → ArePhases geo before lines parts text after → IsRunBehind geo before lines parts text after
 run_behind geo one before after lines [] text none of all h = record {
   middle = after;
   first = text;
@@ -137,7 +137,7 @@ run_behind geo one before after lines (Workers count ∷ parts) text none of all
     (run_behind geo one next after [] parts rest (ap (λ (s : Running). s.workers) turn.control.1 ∙ all.0) tt all.1 more) e
 
 -- a script of one caller beside no worker is a run of its lines
-pub run_of_one : (geo : RawGeometry) (one : ℕ) (first last : Running) (parts : List Part) (text : List ℕ) → first.workers ≡ 0 → AllByRecursion (IsOfOne one) parts → IsRunFrom geo first [] parts text last → IsRun geo first parts text last
+pub run_of_one : (geo : RawGeometry) (one : ℕ) (first last : Running) (parts : List Part) (text : List ℕ) → first.workers ≡ 0 → AllByRecursion (IsOfOne one) parts → ArePhases geo first [] parts text last → IsRun geo first parts text last
 run_of_one geo one first last parts text none all h =
     let b = run_behind geo one first last [] parts text none tt all h in
     subst (λ (t : List ℕ). IsRun geo first parts t last) (sym (b.printed ∙ ap (λ (t : List ℕ). t ++ b.rest) b.served.0))

@@ -7,20 +7,20 @@ use Rattle.script_text.specs.declared.part.Part.{Part}
 use Rattle.script_text.specs.declared.part.Part.TheVariants.{Mount, Unmount, Now, Workers, Line}
 use Rattle.script_text.specs.Script.{mounted_after}
 use Rattle.script_phase.specs.declared.lines.CallerLine.{CallerLine}
-use Rattle.script_run.specs.Phases.{AreServed, HasAdvanced, IsPhase, IsPhaseOf, IsRunFrom, IsTurn, Stage, is_alone}
+use Rattle.script_run.specs.Phases.{AreServed, HasAdvanced, IsPhase, IsPhaseOf, ArePhases, IsTurn, ScriptPlace, is_alone}
 use Rattle.script_run.specs.Run.{Running}
 use Rattle.script_run.proofs.Running.{mounted_next}
 
 -- one line more in front of a run
-turned : (geo : RawGeometry) (old new : Stage) (part : Part) (parts : List Part) (line text : List ℕ) (after : Running) → IsTurn geo old.here old.lines part line new.here → new.lines ≡ [] → IsRunFrom geo new.here new.lines parts text after
-    → (front : List ℕ) × (next : Running) × (rest : List ℕ) × IsTurn geo old.here old.lines part front next × IsRunFrom geo next [] parts rest after × (line ++ text ≡ front ++ rest)
-turned geo old new part parts line text after turn none run = (line, new.here, text, turn, subst (λ (ls : List CallerLine). IsRunFrom geo new.here ls parts text after) none run, refl)
+turned : (geo : RawGeometry) (old new : ScriptPlace) (part : Part) (parts : List Part) (line text : List ℕ) (after : Running) → IsTurn geo old.here old.lines part line new.here → new.lines ≡ [] → ArePhases geo new.here new.lines parts text after
+    → (front : List ℕ) × (next : Running) × (rest : List ℕ) × IsTurn geo old.here old.lines part front next × ArePhases geo next [] parts rest after × (line ++ text ≡ front ++ rest)
+turned geo old new part parts line text after turn none run = (line, new.here, text, turn, subst (λ (ls : List CallerLine). ArePhases geo new.here ls parts text after) none run, refl)
 
-pub advanced : (geo : RawGeometry) (old new : Stage) (part : Part) (parts : List Part) (line text : List ℕ) (after : Running) → HasAdvanced geo old part line new → IsRunFrom geo new.here new.lines parts text after
-    → IsRunFrom geo old.here old.lines (part ∷ parts) (line ++ text) after
+pub advanced : (geo : RawGeometry) (old new : ScriptPlace) (part : Part) (parts : List Part) (line text : List ℕ) (after : Running) → HasAdvanced geo old part line new → ArePhases geo new.here new.lines parts text after
+    → ArePhases geo old.here old.lines (part ∷ parts) (line ++ text) after
 advanced geo old new (Line caller op) parts line text after h run =
     let x : CallerLine = record { caller = caller; op = op } in
-    subst (λ (t : List ℕ). IsRunFrom geo old.here (old.lines ++ x ∷ []) parts (t ++ text) after) (sym h.0) (subst (λ (s : Stage). IsRunFrom geo s.here s.lines parts text after) h.1 run)
+    subst (λ (t : List ℕ). ArePhases geo old.here (old.lines ++ x ∷ []) parts (t ++ text) after) (sym h.0) (subst (λ (s : ScriptPlace). ArePhases geo s.here s.lines parts text after) h.1 run)
 advanced geo old new Mount parts line text after h run = turned geo old new Mount parts line text after h.0 h.1 run
 advanced geo old new Unmount parts line text after h run = turned geo old new Unmount parts line text after h.0 h.1 run
 advanced geo old new (Now now) parts line text after h run = turned geo old new (Now now) parts line text after h.0 h.1 run
@@ -42,15 +42,15 @@ turn_mounts geo before after lines part text h =
     mounted_next geo h.middle after part h.line h.control ∙ ap (λ (m : Bool). mounted_after m part) (phase_rest geo before h.middle (is_alone before.workers lines) lines h.first h.phase).0
 
 -- whether the volume is mounted then
-pub advance_mounts : (geo : RawGeometry) (old new : Stage) (part : Part) (text : List ℕ) → HasAdvanced geo old part text new → new.here.mounted ≡ mounted_after old.here.mounted part
-advance_mounts geo old new (Line caller op) text h = ap (λ (s : Stage). s.here.mounted) h.1
+pub advance_mounts : (geo : RawGeometry) (old new : ScriptPlace) (part : Part) (text : List ℕ) → HasAdvanced geo old part text new → new.here.mounted ≡ mounted_after old.here.mounted part
+advance_mounts geo old new (Line caller op) text h = ap (λ (s : ScriptPlace). s.here.mounted) h.1
 advance_mounts geo old new Mount text h = turn_mounts geo old.here new.here old.lines Mount text h.0
 advance_mounts geo old new Unmount text h = turn_mounts geo old.here new.here old.lines Unmount text h.0
 advance_mounts geo old new (Now now) text h = turn_mounts geo old.here new.here old.lines (Now now) text h.0
 advance_mounts geo old new (Workers count) text h = turn_mounts geo old.here new.here old.lines (Workers count) text h.0
 
 -- where nothing is left of a script, its last phase is
-pub run_ends : (geo : RawGeometry) (here after : Running) (lines : List CallerLine) (parts : List Part) (text : List ℕ) → length parts ≡ 0 → IsPhase geo here lines text after → IsRunFrom geo here lines parts text after
+pub run_ends : (geo : RawGeometry) (here after : Running) (lines : List CallerLine) (parts : List Part) (text : List ℕ) → length parts ≡ 0 → IsPhase geo here lines text after → ArePhases geo here lines parts text after
 run_ends geo here after lines [] text none phase = phase
 run_ends geo here after lines (part ∷ parts) text none phase = absurd (omega (arith, none))
 
@@ -69,7 +69,7 @@ ok_both (Ok x) P Q S both p q = both x p q
 ok_both (Err e) P Q S both p q = p
 
 -- a line of another kind ends the phase
-pub control_advances : (geo : RawGeometry) (old new : Stage) (part : Part) (text : List ℕ) → ((caller : ℕ) (op : Op) → part ≡ Line caller op → ⊥) → IsTurn geo old.here old.lines part text new.here → new.lines ≡ [] → HasAdvanced geo old part text new
+pub control_advances : (geo : RawGeometry) (old new : ScriptPlace) (part : Part) (text : List ℕ) → ((caller : ℕ) (op : Op) → part ≡ Line caller op → ⊥) → IsTurn geo old.here old.lines part text new.here → new.lines ≡ [] → HasAdvanced geo old part text new
 control_advances geo old new Mount text other turn none = (turn, none)
 control_advances geo old new Unmount text other turn none = (turn, none)
 control_advances geo old new (Now now) text other turn none = (turn, none)

@@ -8,11 +8,12 @@ use Rattle.fs_model.specs.declared.trace.TraceLine.{TraceLine}
 use Rattle.fs_model.specs.Cover.{index_lebs}
 use Rattle.fs_model.specs.Legal.{AreLines, Opening, Place, Present, count_in, most_weight, sides_in}
 use Rattle.cached_files.specs.Alike.{IsAlike}
+use Rattle.traced_files.specs.History.{IsAsked, is_flushed}
 use Rattle.script_text.specs.declared.part.Part.{Part}
 use Rattle.script_text.specs.declared.part.Part.TheVariants.{Line, Workers}
 use Rattle.script_text.specs.Reply.{reply_line}
 use Rattle.script_phase.specs.declared.lines.CallerLine.{CallerLine}
-use Rattle.script_phase.specs.Phases.{is_memory, last_caller, ops_by, traced_by}
+use Rattle.script_phase.specs.Phases.{callers_in, is_memory, ops_by, traced_by}
 use Rattle.script_run.specs.Run.{IsPart, IsServed, Running, clean_space, orphans_told}
 use Rattle.script_run.specs.Stored.{IsUnder}
 
@@ -40,27 +41,30 @@ abbrev pub place_at : Running → Place
 place_at here = record { before = []; files = here.files; orphans = 0 }
 
 -- what a trace prints: its lines, in its order, each with its caller's number
-abbrev pub text_of : List TraceLine → List ℕ
-text_of trace = flat_map (λ line. reply_line line.caller line.number line.reply) trace
+abbrev pub trace_text : List TraceLine → List ℕ
+trace_text trace = flat_map (λ line. reply_line line.caller line.number line.reply) trace
 
 -- Callers were at work at once. Their lines are one trace.
-pub record IsAtOnce (geo : RawGeometry) (before : Running) (lines : List CallerLine) (text : List ℕ) (after : Running) : Type 0 where
+pub record AreServedTogether (geo : RawGeometry) (before : Running) (lines : List CallerLine) (text : List ℕ) (after : Running) : Type 0 where
   pub trace : List TraceLine
   -- Each caller's lines stand in it, each once and in order, and no others; they have the phase's time.
   pub own : (caller : ℕ) → traced_by caller trace ≡ ops_by caller lines
   pub time : All (λ line. line.now ≡ before.now) trace
-  -- Each is numbered by its caller, and answered as the plain operation answers on the files that the line before it left; or it is refused for want of room, or since the next list of orphans is full. None was refused for want of memory, or by a fault of the volume.
+  -- Each is numbered by its caller, and answered as the plain operation answers on the files that the line before it left; or it is refused: for want of room if it may ask for room, or since the next list of orphans is full. None was refused for want of memory, or by a fault of the volume.
   pub last : Place
-  pub legal : AreLines (opened_on geo (last_caller lines) before) ReadWrite (place_at before) trace last
+  pub answered : AreLines (opened_on geo (callers_in lines) before) ReadWrite (place_at before) trace last
+  pub asked : All IsAsked trace
   pub memory : All (λ line. is_memory line.reply ≡ false) trace
   pub faultless : flat_map count_in trace ≡ []
-  pub printed : text ≡ text_of trace
+  pub printed : text ≡ trace_text trace
   -- Callers see the files behind the last line, but for zeros at the ends of blocks. What is stored is under them.
   pub same : IsAlike last.files after.files
   pub under : IsUnder after.stored after.files
+  -- Behind a flush that was done that is stored which they see, as long as nothing but questions is asked.
+  pub flushed : is_flushed trace ≡ true → after.stored ≡ after.files.tree
   -- The index weighs no more than the lines may add, and takes no more LEBs than that asks for. The next list of orphans has as much room as the lines left of it.
-  pub weight : after.weight ≤ most_weight (opened_on geo (last_caller lines) before) trace
-  pub index : after.index ≤ max before.index (2 * index_lebs geo (most_weight (opened_on geo (last_caller lines) before) trace))
+  pub weight : after.weight ≤ most_weight (opened_on geo (callers_in lines) before) trace
+  pub index : after.index ≤ max before.index (2 * index_lebs geo (most_weight (opened_on geo (callers_in lines) before) trace))
   pub orphans : orphan_limit geo.leb_size - orphans_told before ≤ (orphan_limit geo.leb_size - orphans_told after) + last.orphans
   pub rest : after ≡ record before { files = after.files; stored = after.stored; weight = after.weight; index = after.index; closed = after.closed; number = 0 }
 
@@ -78,7 +82,7 @@ is_alone workers (line ∷ lines) = (workers == 0) && list_all (λ other. other.
 -- A phase: one caller's lines after one another if it is alone, and else one trace.
 abbrev pub IsPhaseOf : Bool → RawGeometry → Running → List CallerLine → List ℕ → Running → Type 0
 IsPhaseOf true geo before lines text after = AreServed geo before lines text after
-IsPhaseOf false geo before lines text after = IsAtOnce geo before lines text after
+IsPhaseOf false geo before lines text after = AreServedTogether geo before lines text after
 
 abbrev pub IsPhase : RawGeometry → Running → List CallerLine → List ℕ → Running → Type 0
 IsPhase geo before lines text after = IsPhaseOf (is_alone before.workers lines) geo before lines text after
@@ -93,21 +97,21 @@ pub record IsTurn (geo : RawGeometry) (before : Running) (lines : List CallerLin
   pub printed : text ≡ first ++ line
 
 -- where a script is, and the lines of the phase that has begun, which wait
-pub record Stage : Type 0 where
+pub record ScriptPlace : Type 0 where
   pub here : Running
   pub lines : List CallerLine
 
 -- one more line of a script: a caller's line waits, and one of another kind ends the phase
-abbrev pub HasAdvanced : RawGeometry → Stage → Part → List ℕ → Stage → Type 0
+abbrev pub HasAdvanced : RawGeometry → ScriptPlace → Part → List ℕ → ScriptPlace → Type 0
 HasAdvanced geo old (Line caller op) text new = (text ≡ []) × (new ≡ record { here = old.here; lines = old.lines ++ (record { caller = caller; op = op }) ∷ [] })
 HasAdvanced geo old part text new = IsTurn geo old.here old.lines part text new.here × (new.lines ≡ [])
 
 -- A script, from the lines on of a phase that has begun: each phase, and the line of another kind behind it.
-abbrev pub IsRunFrom : RawGeometry → Running → List CallerLine → List Part → List ℕ → Running → Type 0
-IsRunFrom geo before lines [] text after = IsPhase geo before lines text after
-IsRunFrom geo before lines (Line caller op ∷ parts) text after = IsRunFrom geo before (lines ++ (record { caller = caller; op = op }) ∷ []) parts text after
-IsRunFrom geo before lines (part ∷ parts) text after =
-    (front : List ℕ) × (next : Running) × (rest : List ℕ) × IsTurn geo before lines part front next × IsRunFrom geo next [] parts rest after × (text ≡ front ++ rest)
+abbrev pub ArePhases : RawGeometry → Running → List CallerLine → List Part → List ℕ → Running → Type 0
+ArePhases geo before lines [] text after = IsPhase geo before lines text after
+ArePhases geo before lines (Line caller op ∷ parts) text after = ArePhases geo before (lines ++ (record { caller = caller; op = op }) ∷ []) parts text after
+ArePhases geo before lines (part ∷ parts) text after =
+    (front : List ℕ) × (next : Running) × (rest : List ℕ) × IsTurn geo before lines part front next × ArePhases geo next [] parts rest after × (text ≡ front ++ rest)
 
 -- a line of this caller, or of another kind that asks for no worker
 abbrev pub IsOfOne : ℕ → Part → Type 0

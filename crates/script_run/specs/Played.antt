@@ -16,13 +16,13 @@ use Rattle.script_run.specs.declared.whole.Played.TheVariants.{Written, Unchange
 use Rattle.script_run.specs.declared.whole.Run.{Run}
 use Rattle.script_run.specs.Opening.{mounted_space}
 use Rattle.script_run.specs.Reading.{IsReadRun, Reading, reading_on}
-use Rattle.script_run.specs.Phases.{IsRunFrom}
+use Rattle.script_run.specs.Phases.{ArePhases}
 use Rattle.script_run.specs.Run.{IsLeft, Running, opening_on}
 
 -- The text is that of the script's phases and of the lines between them, from a volume with this tree and an index of this weight on. The tree that is left is the one that is stored behind the last line, without what has no name.
 pub record IsPlayed (geo : RawGeometry) (tree : Tree) (weight : ℕ) (parts : List Part) (run : Run) : Type 0 where
   pub last : Running
-  pub lines : IsRunFrom geo (opening_on tree weight) [] parts run.text.items last
+  pub lines : ArePhases geo (opening_on tree weight) [] parts run.text.items last
   pub left : IsLeft last
   pub named : run.tree ≡ without_nameless last.stored
 

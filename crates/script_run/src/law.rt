@@ -1,6 +1,6 @@
 // Laws of runs: when a line is refused for want of room, what a phase is, and what one caller alone does.
 
-ghost use Rattle.std.specs.Prelude.{◌≡◌, ℕ, ◌≤◌, ◌++◌, max, List, [], codes};
+ghost use Rattle.std.specs.Prelude.{◌≡◌, ℕ, ◌≤◌, ◌++◌, max, List, [], ◌∷◌, codes};
 ghost use Rattle.std.specs.List.{AllByRecursion};
 ghost use Rattle.ubifs_base.specs.declared.raw_geometry.RawGeometry.{RawGeometry as Raw};
 ghost use Rattle.fs_model.specs.declared.refusal.NoSpace.{NoSpace};
@@ -9,12 +9,13 @@ ghost use Rattle.fs_model.specs.declared.space.Need.{Need};
 ghost use Rattle.fs_model.specs.Legal.{IsLegal};
 ghost use Rattle.space_sums.specs.Spaces.{HasRoom};
 ghost use Rattle.script_text.specs.declared.part.Part.{Part};
+ghost use Rattle.script_text.specs.declared.part.Part.TheVariants.{Workers};
 ghost use Rattle.script_text.specs.Reply.{reply_line};
 ghost use Rattle.script_phase.specs.declared.lines.CallerLine.{CallerLine};
-ghost use Rattle.script_phase.specs.Phases.{last_caller};
+ghost use Rattle.script_phase.specs.Phases.{callers_in};
 ghost use Rattle.text_lines.specs.Lines.{ended};
 ghost use Rattle.script_run.specs.Heaviest.{heaviest_space, heaviest_weight, one_create, worked_geometry};
-ghost use Rattle.script_run.specs.Phases.{IsAtOnce, IsOfOne, IsRunFrom, left_by, opened_on};
+ghost use Rattle.script_run.specs.Phases.{ArePhases, AreServedTogether, IsOfOne, left_by, opened_on};
 ghost use Rattle.script_run.specs.Run.{HasNoRoom, IsRun, Running, opening};
 
 use space_sums::more_never_lowers_the_need;
@@ -34,12 +35,17 @@ pub fn a_first_file_is_made()
     ensures { (text : List ℕ) (last : Running) → IsRun worked_geometry opening one_create text last → text ≡ ended (codes "mount rw") ++ reply_line 1 1 (Ino 65) }
 {}
 
+/// So it is beside a worker, whose pages may be put at any moment.
+pub fn a_first_file_is_made_beside_a_worker()
+    ensures { (text : List ℕ) (last : Running) → ArePhases worked_geometry opening [] (Workers 1 ∷ one_create) text last → text ≡ ended (codes "mount rw") ++ reply_line 1 1 (Ino 65) }
+{}
+
 /// The trace of callers who were at work at once is legal, from what their phase opened on to what it left.
 pub fn a_phase_is_legal()
-    ensures { (geo : Raw) (before after : Running) (lines : List CallerLine) (text : List ℕ) → (phase : IsAtOnce geo before lines text after) → IsLegal (opened_on geo (last_caller lines) before) phase.trace (left_by geo before phase.trace after) }
+    ensures { (geo : Raw) (before after : Running) (lines : List CallerLine) (text : List ℕ) → (phase : AreServedTogether geo before lines text after) → IsLegal (opened_on geo (callers_in lines) before) phase.trace (left_by geo before phase.trace after) }
 {}
 
 /// A script of one caller beside no worker is a run of its lines, one after another.
 pub fn a_script_of_one_caller_is_a_run()
-    ensures { (geo : Raw) (one : ℕ) (first last : Running) (parts : List Part) (text : List ℕ) → first.workers ≡ 0 → AllByRecursion (IsOfOne one) parts → IsRunFrom geo first [] parts text last → IsRun geo first parts text last }
+    ensures { (geo : Raw) (one : ℕ) (first last : Running) (parts : List Part) (text : List ℕ) → first.workers ≡ 0 → AllByRecursion (IsOfOne one) parts → ArePhases geo first [] parts text last → IsRun geo first parts text last }
 {}

@@ -2,11 +2,11 @@
 
 ghost use Rattle.std.specs.Prelude.{◌≡◌, ◌==◌, ◌<◌, ◌≤◌, ◌+◌, ◌++◌, All, IfOk, OnOk, List, ℕ, length};
 ghost use Rattle.std.specs.List.{list_all};
-ghost use Rattle.script_run.specs.Phases.{AreServed, IsAtOnce, IsPhase, is_alone, text_of};
+ghost use Rattle.script_run.specs.Phases.{AreServed, AreServedTogether, IsPhase, is_alone, trace_text};
 ghost use Rattle.script_run.specs.Sessions.{IsSession, IsWaiting, running_of, state_in};
 
 use crate::session::{Session, served};
-use cached_files::present_files_are_sound;
+use cached_files::{clean_files_are_those_of_the_backing, present_files_are_sound};
 use fs_model::TraceLine;
 use live_fs::Closed;
 use script_phase::{CallerLine, serve_at_once};
@@ -93,11 +93,12 @@ fn serve_all<R: Threads + Wait + Sync, G: Gate + Sync>(
     requires some { 0 < length lines.items }
     requires lines { All (IsWaiting session.mounted) lines.items }
     ensures session { IfOk result (λ new. IsSession (state_in session).geometry new) }
-    ensures phase { IfOk result (λ new. (more : List ℕ) × IsAtOnce (state_in session).geometry (running_of session) lines.items more (running_of new) × (text.new.items ≡ text.old.items ++ more)) }
+    ensures phase { IfOk result (λ new. (more : List ℕ) × AreServedTogether (state_in session).geometry (running_of session) lines.items more (running_of new) × (text.new.items ≡ text.old.items ++ more)) }
     ensures mounted { IfOk result (λ new. new.mounted ≡ session.mounted) }
     ensures few { IfOk result (λ new. new.number ≤ session.number + length lines.items) }
 {
     present_files_are_sound();
+    clean_files_are_those_of_the_backing();
     let Session {
         fs,
         geometry,
@@ -120,7 +121,7 @@ fn serve_all<R: Threads + Wait + Sync, G: Gate + Sync>(
 
 // Appends what a trace prints: each of its lines, in its order.
 fn write_trace(trace: &[TraceLine], text: &mut Vec<u8>) -> Result<(), Memory>
-    ensures { OnOk result (text.new.items ≡ text.old.items ++ text_of trace.now) }
+    ensures { OnOk result (text.new.items ≡ text.old.items ++ trace_text trace.now) }
 {
     for line in trace {
         write_reply(line.caller, line.number, &line.reply, text)?;

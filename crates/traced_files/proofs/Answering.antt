@@ -1,12 +1,14 @@
 -- What a step answered, answered from the place of a history in which callers can't tell the files from the present ones.
 use Rattle.std.proofs.Common.{◌≡◌, ◌≢◌, ◌⊎◌, inl, inr, ℕ, ◌≤◌, Bool, true, false, cond, ◌&&◌, List, [], ◌∷◌, Ok, Err, Some, None, refl, sym, ap, subst, ◌∙◌, arith}
 use Rattle.std.specs.Prelude.{◌==◌}
+use Rattle.std.proofs.lemmas.Bool.{false≢true}
 use Rattle.fs_model.specs.declared.backing_answers.Mode.{Mode}
 use Rattle.fs_model.specs.declared.backing_answers.Mode.TheVariants.{ReadWrite, ReadOnly}
 use Rattle.fs_model.specs.declared.op.Op.{Op}
-use Rattle.fs_model.specs.declared.op.Op.TheVariants.{OpenFile, Close, Read, Fsync, Flush, List as ListDir, Stat, Readlink}
+use Rattle.fs_model.specs.declared.op.Op.TheVariants.{OpenFile, Close, Read, Write, Fsync, Flush, List as ListDir, Stat, Readlink}
 use Rattle.fs_model.specs.declared.refusal.Cause.{Cause}
-use Rattle.fs_model.specs.declared.refusal.Cause.TheVariants.{Faulted, Spent}
+use Rattle.fs_model.specs.declared.refusal.Cause.TheVariants.{Faulted, Spent, Tight}
+use Rattle.fs_model.specs.declared.refusal.Scarce.TheVariants.{Space}
 use Rattle.fs_model.specs.declared.refusal.Refusal.{Refusal}
 use Rattle.fs_model.specs.declared.refusal.Refusal.TheVariants.{Enospc, Erofs, Eio, Enomem, Enfile}
 use Rattle.fs_model.specs.declared.refusal.Table.TheVariants.{Orphans}
@@ -24,9 +26,10 @@ use Rattle.cached_files.specs.declared.kept.Kept.{Kept}
 use Rattle.cached_files.specs.Alike.{IsAlike}
 use Rattle.cached_files.specs.Calls.{IsWithoutRoom}
 use Rattle.vfs_plans.specs.Answers.{IsFault}
-use Rattle.vfs_ops.specs.Operations.{is_of_names}
+use Rattle.vfs_ops.specs.Operations.{has_group, is_of_names}
 use Rattle.vfs_ops.specs.Replies.{IsAlikeOutcome}
-use Rattle.vfs_ops.specs.Steps.{IsTurnedDown, IsUnsynced, allowed, no_space_in}
+use Rattle.vfs_ops.specs.Steps.{IsTurnedDown, IsUnsynced, allowed, is_write, no_space_in}
+use Rattle.traced_files.specs.History.{IsAsked}
 
 -- an outcome that was let through is the plain one
 within_done : (room limit : ℕ) (files : Files) (o : Outcome) (x : Reply × Files) → within_orphans room limit files o ≡ Ok x → o ≡ Ok x
@@ -156,6 +159,27 @@ downed old new kept need op refusal goes h = of_room old new kept need op refusa
 -- how a reply counts: it tells no count of faults, or one that rose in this call
 abbrev pub IsCounted : ℕ → ℕ → List ℕ → Type 0
 IsCounted old new counts = (counts ≡ []) ⊎ ((count : ℕ) × (counts ≡ count ∷ []) × Rose old count × (count ≤ new))
+
+-- whether a reply is want of room
+abbrev pub tells_room : Reply → Bool
+tells_room (Refused (Enospc sides)) = true
+tells_room reply = false
+
+pub asked_none : (line : TraceLine) → tells_room line.reply ≡ false → IsAsked line
+asked_none line e sides told = absurd (false≢true (sym e ∙ ap tells_room told))
+
+-- what changes something and is no sync writes, or has a group
+pub asked_by : (op : Op) → IsChanging op → (is_write op ≡ true) ⊎ (has_group op ≡ true)
+asked_by (OpenFile path slot) changing = let f = changing (Faulted 0) in absurd cc
+asked_by (Close slot) changing = let f = changing (Faulted 0) in absurd cc
+asked_by (Read slot offs len) changing = let f = changing (Faulted 0) in absurd cc
+asked_by (ListDir path) changing = let f = changing (Faulted 0) in absurd cc
+asked_by (Stat path) changing = let f = changing (Faulted 0) in absurd cc
+asked_by (Readlink path) changing = let f = changing (Faulted 0) in absurd cc
+asked_by (Fsync slot) changing = let f = changing (Tight Space 0 0) in absurd cc
+asked_by Flush changing = let f = changing (Tight Space 0 0) in absurd cc
+asked_by (Write slot offs len byte) changing = inl refl
+asked_by op changing = inr refl
 
 -- whether a reply tells a count of faults
 abbrev pub tells_count : Reply → Bool

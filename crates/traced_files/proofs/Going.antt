@@ -46,8 +46,8 @@ use Rattle.vfs_ops.specs.Replies.{holds_bytes, is_refusal}
 use Rattle.vfs_ops.specs.Writing.{BuffersReply}
 use Rattle.vfs_ops.specs.Steps.{IsAnswered, IsDone, IsLast, IsReady, IsRefusal, IsRefusedFor, IsTurnedDown, allowed_on, asked, no_space_in}
 use Rattle.traced_files.specs.Laws.{AreLaws}
-use Rattle.traced_files.specs.History.{IsWithinWeight}
-use Rattle.traced_files.proofs.Answering.{IsChanging, IsCounted, IsDoneAlike, IsDowned, IsOverfull, alike_done, alike_refused, allowed_done, allowed_refused, counts_none, counts_one, downed, open_of, sides_told, tells_count}
+use Rattle.traced_files.specs.History.{IsAsked, IsWithinWeight}
+use Rattle.traced_files.proofs.Answering.{IsChanging, IsCounted, IsDoneAlike, IsDowned, IsOverfull, alike_done, alike_refused, allowed_done, allowed_refused, asked_by, asked_none, counts_none, counts_one, downed, open_of, sides_told, tells_count, tells_room}
 use Rattle.traced_files.proofs.Lines.{IsLine}
 use Rattle.traced_files.proofs.Sides.{IsFull, are_sides, whole_most}
 
@@ -89,6 +89,7 @@ pub record WasEntered (opening : Opening) (place : Place) (s : Stepped) : Type 0
   pub same : IsAlike after (present_in s.new)
   pub sound : IsSound after
   pub refused : s.new.refused ≡ s.old.refused ++ sides_in s.line
+  pub asked : IsAsked s.line
   pub counts : IsCounted s.old.backing.faults s.new.backing.faults (count_in s.line)
 
 -- how many inodes have no name
@@ -110,6 +111,14 @@ no_count reply e = refl
 no_count_early : (refusal : Refusal) → is_late refusal ≡ false → tells_count (Refused refusal) ≡ false
 no_count_early (Eio count) e = absurd cc
 no_count_early refusal e = refl
+
+no_room : (reply : Reply) → is_refusal reply ≡ false → tells_room reply ≡ false
+no_room (Refused refusal) e = absurd cc
+no_room reply e = refl
+
+no_room_early : (refusal : Refusal) → is_late refusal ≡ false → tells_room (Refused refusal) ≡ false
+no_room_early (Enospc space) e = absurd cc
+no_room_early refusal e = refl
 
 -- where callers can't tell a place's files from the present ones, and its line has the next number
 pub record IsReached (opening : Opening) (place : Place) (s : Stepped) : Type 0 where
@@ -140,12 +149,14 @@ entered_done opening place s laws h r closed done kept =
       same = alike_then here.after seen (present_in s.new) here.same done.2;
       sound = subst (λ (o : Outcome). IsSound (files_in f o)) here.done (laws.sound f c n op r.sound h.moment h.call).sound;
       refused = kept ∙ sym (append-nil s.old.refused) ∙ ap (λ (x : List NoSpace). s.old.refused ++ x) (sym (sides_told s.line ∙ no_sides s.line.reply no));
+      asked = asked_none s.line (no_room s.line.reply no);
       counts = inl (counts_none s.line (no_count s.line.reply no));
     }
 
 -- why a line is refused, and what it counts
 pub record IsTold (opening : Opening) (place : Place) (s : Stepped) : Type 0 where
   pub one : IsLine opening s.old.backing.mode place s.line place.files ⊎ IsLine opening s.new.backing.mode place s.line place.files
+  pub asked : IsAsked s.line
   pub counts : IsCounted s.old.backing.faults s.new.backing.faults (count_in s.line)
 
 told_as : (opening : Opening) (place : Place) (s : Stepped) (mode : Mode) (refusal : Refusal) → s.line.number ≡ next_number place.before s.line.caller → s.line.reply ≡ Refused refusal → IsLegalRefusal opening place mode s.line refusal → IsLine opening mode place s.line place.files
@@ -164,6 +175,7 @@ told_plain opening place s refusal laws h r closed told there =
     let early = laws.early f c n op refusal here in
     record {
       one = inl (record { number = r.number; answer = inl (record { done = closed; told = told ∙ sym (ap reply_in here); left = sym (ap (files_in f) here) }) });
+      asked = asked_none s.line (ap tells_room told ∙ no_room_early refusal early);
       counts = inl (counts_none s.line (ap tells_count told ∙ no_count_early refusal early));
     }
 
@@ -182,6 +194,7 @@ told_overfull opening place s refusal laws h r told full =
     let refusal_is : s.line.reply ≡ Refused (Enfile Orphans s.old.backing.orphan_limit) = told ∙ ap Refused full.told in
     record {
       one = inl (told_as opening place s s.old.backing.mode (Enfile Orphans s.old.backing.orphan_limit) r.number refusal_is (((full.found.0, here.after), here.done), orphan, omega (arith, r.orphans, full.none), r.limit));
+      asked = asked_none s.line (ap tells_room refusal_is);
       counts = inl (counts_none s.line (ap tells_count refusal_is));
     }
 
@@ -297,6 +310,7 @@ told_full opening place s sides laws h r closed told noted same done why =
     } in
     record {
       one = inl (told_as opening place s s.old.backing.mode (Enospc sides) r.number told (((done.0.0, here.after), here.done), are_sides opening place s.line sides s.new.backing need full));
+      asked = λ other is. asked_by op why.0;
       counts = inl (counts_none s.line (ap tells_count told));
     }
 
@@ -307,14 +321,17 @@ told_down : (opening : Opening) (place : Place) (s : Stepped) (refusal : Refusal
 told_down opening place s (Enospc sides) laws h r closed told noted same last why = told_full opening place s sides laws h r closed told noted same last why
 told_down opening place s (Erofs cause) laws h r closed told noted same last why = record {
   one = inr (told_as opening place s s.new.backing.mode (Erofs cause) r.number told (ap (λ (m : Mode). read_only_cause m s.line.op) why.0 ∙ why.1));
+  asked = asked_none s.line (ap tells_room told);
   counts = inl (counts_none s.line (ap tells_count told));
 }
 told_down opening place s (Eio count) laws h r closed told noted same last why = record {
   one = inr (told_as opening place s s.new.backing.mode (Eio count) r.number told why.2);
+  asked = asked_none s.line (ap tells_room told);
   counts = inr (count, counts_one s.line count told, subst (λ (x : ℕ). Rose s.old.backing.faults x) (sym why.1) why.0, omega (arith, why.1));
 }
 told_down opening place s Enomem laws h r closed told noted same last why = record {
   one = inl (told_as opening place s s.old.backing.mode Enomem r.number told tt);
+  asked = asked_none s.line (ap tells_room told);
   counts = inl (counts_none s.line (ap tells_count told));
 }
 told_down opening place s refusal laws h r closed told noted same last why = absurd why
@@ -329,6 +346,7 @@ entered_refused opening place s laws h r refused noted =
       same = alike_then place.files (present_in s.old) (present_in s.new) r.same refused.same;
       sound = r.sound;
       refused = noted ∙ ap (λ (x : List NoSpace). s.old.refused ++ x) (sym (sides_told s.line));
+      asked = told.asked;
       counts = told.counts;
     }
   where
@@ -346,6 +364,7 @@ entered_refused opening place s laws h r refused noted =
     by None closed why = open_told closed why
     by (Some cause) closed why = record {
       one = inl (told_as opening place s s.old.backing.mode (Erofs cause) r.number (refused.told ∙ ap Refused why) closed);
+      asked = asked_none s.line (ap tells_room (refused.told ∙ ap Refused why));
       counts = inl (counts_none s.line (ap tells_count (refused.told ∙ ap Refused why)));
     }
 
@@ -376,6 +395,7 @@ entered_short opening place s laws h r bytes = by h.step.answered.0
           same = alike_then place.files (present_in s.old) (present_in s.new) r.same same;
           sound = r.sound;
           refused = done.2 ∙ sym (append-nil s.old.refused) ∙ ap (λ (x : List NoSpace). s.old.refused ++ x) (sym (sides_told (record s.line { reply = Refused Enomem })));
+          asked = asked_none (record s.line { reply = Refused Enomem }) refl;
           counts = inl (counts_none (record s.line { reply = Refused Enomem }) refl);
         }
     by (inr refused) = let told = refused.0.told in absurd cc

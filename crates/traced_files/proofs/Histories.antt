@@ -1,10 +1,11 @@
 -- A history goes on: by a caller's call, with a line more, and by work between them, without one.
-use Rattle.std.proofs.Common.{◌≡◌, inl, inr, ℕ, ◌+◌, ◌*◌, ◌≤◌, Bool, List, [], ◌∷◌, ◌++◌, length, refl, sym, ap, subst, ◌∙◌, append_assoc, arith}
+use Rattle.std.proofs.Common.{◌≡◌, ◌⊎◌, inl, inr, true, ℕ, ◌+◌, ◌*◌, ◌≤◌, Bool, List, [], ◌∷◌, ◌++◌, length, refl, sym, ap, subst, ◌∙◌, append_assoc, arith}
 use Rattle.std.specs.Prelude.{max, if◌then◌else◌}
 use Rattle.std.specs.List.{flat_map}
 use Rattle.std.proofs.lemmas.Grind.{flat_map-append}
 use Rattle.std.proofs.lemmas.List.{append-nil}
 use Rattle.std.proofs.lemmas.List.Concat.{flat_map-cons}
+use Rattle.std.proofs.lemmas.List.Elements.{All-push}
 use Rattle.std.proofs.lemmas.List.Sums.{sum_by-append, sum_by-cons}
 use Rattle.ubifs_base.specs.declared.raw_geometry.RawGeometry.{RawGeometry}
 use Rattle.fs_model.specs.declared.backing_answers.Mode.TheVariants.{ReadWrite}
@@ -26,10 +27,11 @@ use Rattle.vfs_ops.specs.Background.{IsBackgroundStep, added_in}
 use Rattle.vfs_ops.specs.Operations.{nodes_asked}
 use Rattle.vfs_ops.specs.FilesState.{FilesState, present_in}
 use Rattle.traced_files.specs.Laws.{AreLaws}
-use Rattle.traced_files.specs.History.{IsHistory, IsWithinWeight, Rise}
+use Rattle.traced_files.specs.History.{IsAsked, IsHistory, IsWithinWeight, Rise, is_flushed}
 use Rattle.traced_files.specs.Replies.{IsToldAs}
 use Rattle.traced_files.proofs.Answering.{IsCounted}
 use Rattle.traced_files.proofs.Counts.{mode_after, mode_turns, rise_later, rise_on}
+use Rattle.traced_files.proofs.Flushing.{flushed_on, line_flushes, work_flushes}
 use Rattle.traced_files.proofs.Going.{IsMadeCall, IsReached, Stepped, WasEntered, alike_then, entered, entered_short, orphan_same, with_reply}
 use Rattle.traced_files.proofs.Lines.{before_last, leads_on, leads_stay}
 use Rattle.traced_files.proofs.Sides.{lebs_mono}
@@ -98,8 +100,8 @@ within_told opening lines s reply within =
 
 -- a call goes on with a history, and leaves a line more that tells this reply
 call_goes_with : (opening : Opening) (noted : List NoSpace) (lines : List TraceLine) (s : Stepped) (reply : Reply) → AreLaws → IsMadeCall opening s → (history : IsHistory opening noted lines s.old) → WasEntered opening history.last (with_reply s reply)
-    → IsHistory opening noted (lines ++ (record s.line { reply = reply }) ∷ []) s.new
-call_goes_with opening noted lines s reply laws h history entry =
+    → (reply ≡ s.line.reply) ⊎ (reply ≡ Refused Enomem) → IsHistory opening noted (lines ++ (record s.line { reply = reply }) ∷ []) s.new
+call_goes_with opening noted lines s reply laws h history entry says =
     let last : Place = history.last in
     let goes = h.step.goes in
     let faults = goes.faults in
@@ -112,6 +114,7 @@ call_goes_with opening noted lines s reply laws h history entry =
       sound = entry.sound;
       mode = mode_after opening s.old.backing s.new.backing history.mode goes.mode was faults;
       refused = entry.refused ∙ ap (λ (x : List NoSpace). x ++ sides_in line) history.refused ∙ append_assoc noted (flat_map sides_in lines) (sides_in line) ∙ ap (λ (x : List NoSpace). noted ++ x) (sym (told_on sides_in lines line));
+      asked = All-push IsAsked lines line history.asked entry.asked;
       counts = counted entry.counts;
       faults = omega (arith, was, faults);
       geometry = goes.geometry ∙ history.geometry;
@@ -119,8 +122,15 @@ call_goes_with opening noted lines s reply laws h history entry =
       limit = goes.orphan_limit ∙ history.limit;
       orphans = roomy orphan h.step.orphans goes.orphan_limit history.orphans;
       weight = λ is. within_told opening lines s reply (within_on opening noted lines s laws h history (history.weight (open_before s.old.backing s.new.backing goes.mode is)));
+      flushed = flushes;
     }
   where
+    flushes : s.new.backing.mode ≡ ReadWrite → is_flushed (lines ++ (record s.line { reply = reply }) ∷ []) ≡ true → s.new.kept.pages.dirty ≡ []
+    flushes is behind =
+        let was : s.old.backing.mode ≡ ReadWrite = open_before s.old.backing s.new.backing h.step.goes.mode is in
+        line_flushes (record { old = s.old.backing; new = s.new.backing; before = s.old.kept; after = s.new.kept }) s.old.backing.mode s.line.caller s.line.now s.grant s.line.op s.line.reply reply s.left (is_flushed lines) was h.step.written h.step.exact says
+        (history.flushed was) (sym (flushed_on false lines (record s.line { reply = reply })) ∙ behind)
+
     line : TraceLine
     line = record s.line { reply = reply }
 
@@ -147,8 +157,8 @@ call_goes_on opening noted lines s told laws h history number says = by says
     reached = reached_by opening noted lines s laws h history number
 
     by : IsToldAs s.line.reply told → IsHistory opening noted (lines ++ (record s.line { reply = told }) ∷ []) s.new
-    by (inl same) = subst (λ (r : Reply). IsHistory opening noted (lines ++ (record s.line { reply = r }) ∷ []) s.new) (sym same) (call_goes_with opening noted lines s s.line.reply laws h history (entered opening history.last s laws h reached))
-    by (inr short) = subst (λ (r : Reply). IsHistory opening noted (lines ++ (record s.line { reply = r }) ∷ []) s.new) (sym short.1) (call_goes_with opening noted lines s (Refused Enomem) laws h history (entered_short opening history.last s laws h reached short.0))
+    by (inl same) = subst (λ (r : Reply). IsHistory opening noted (lines ++ (record s.line { reply = r }) ∷ []) s.new) (sym same) (call_goes_with opening noted lines s s.line.reply laws h history (entered opening history.last s laws h reached) (inl refl))
+    by (inr short) = subst (λ (r : Reply). IsHistory opening noted (lines ++ (record s.line { reply = r }) ∷ []) s.new) (sym short.1) (call_goes_with opening noted lines s (Refused Enomem) laws h history (entered_short opening history.last s laws h reached short.0) (inr refl))
 
 -- what a put of the background adds, and how far the index may grow with it
 put_index : (old new : FilesState) (event : Event) (outcome : Outcome) → IsBackgroundStep old new event outcome → new.backing.mode ≡ ReadWrite → new.backing.space.index ≤ max old.backing.space.index (2 * index_lebs old.backing.geometry (full_weight old.backing old.kept))
@@ -197,6 +207,7 @@ background_goes_on opening noted lines old new event outcome h main history =
       sound = history.sound;
       mode = mode_after opening old.backing new.backing history.mode h.goes.mode was faults;
       refused = h.refused ∙ history.refused;
+      asked = history.asked;
       counts = rise_later opening.faults (flat_map count_in lines) old.backing.faults new.backing.faults history.counts faults;
       faults = omega (arith, was, faults);
       geometry = h.goes.geometry ∙ history.geometry;
@@ -204,6 +215,7 @@ background_goes_on opening noted lines old new event outcome h main history =
       limit = limit ∙ history.limit;
       orphans = omega (arith, few, limit, room);
       weight = heavy;
+      flushed = λ is behind. work_flushes old new event outcome h.made (history.flushed (open_before old.backing new.backing h.goes.mode is) behind);
     }
   where
     heavy : new.backing.mode ≡ ReadWrite → IsWithinWeight opening lines new.backing new.kept

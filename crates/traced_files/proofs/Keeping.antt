@@ -72,6 +72,7 @@ history_credits opening noted lines old new only h = subst (λ (x : FilesState).
   sound = h.sound;
   mode = h.mode;
   refused = h.refused;
+  asked = h.asked;
   counts = h.counts;
   faults = h.faults;
   geometry = h.geometry;
@@ -79,6 +80,7 @@ history_credits opening noted lines old new only h = subst (λ (x : FilesState).
   limit = h.limit;
   orphans = h.orphans;
   weight = λ writes. let w = h.weight writes in record { weight = w.weight; index = w.index };
+  flushed = h.flushed;
 })
 
 -- A call was served, its line was told, and the recorder knows it.
@@ -93,8 +95,8 @@ pub record WasMade (word : TableId) (callers held : ℕ) (trace : List TraceLine
   pub seen : recorder.known.seen ≡ trace ++ (record line { reply = told }) ∷ []
 
 pub traced_on : (word : TableId) (start : Start) (held : ℕ) (first last : FilesState) (line : TraceLine) (told : Reply) (before after : Outlook) (recorder new : RecorderState) (trace : List TraceLine) → AreLaws → IsTraced word start first before recorder trace
-    → WasMade word start.callers held trace first last line told new → SureGoes before after first.backing last.backing → new.passes ≡ recorder.passes → IsTraced word start last after new (trace ++ (record line { reply = told }) ∷ [])
-traced_on word start held first last line told before after recorder new trace laws h made sure passes =
+    → WasMade word start.callers held trace first last line told new → SureGoes before after first.backing last.backing → IsTraced word start last after new (trace ++ (record line { reply = told }) ∷ [])
+traced_on word start held first last line told before after recorder new trace laws h made sure =
     let w = made.served in
     let s : Stepped = record { old = w.between; new = last; line = line; grant = w.grant; left = w.left } in
     let paid = w.covered in
@@ -113,7 +115,6 @@ traced_on word start held first last line told before after recorder new trace l
     } in
     record {
       of_word = made.of_word;
-      passes = passes ∙ h.passes;
       seen = made.seen;
       history = call_goes_on (opened_at start) start.files.refused trace s told laws call (history_credits (opened_at start) start.files.refused trace first w.between w.only h.history) made.number made.says;
       sure = sure_on start first.backing last.backing before after h.sure sure;
@@ -124,7 +125,6 @@ pub traced_beside : (word : TableId) (start : Start) (old new : FilesState) (eve
     → SureGoes before after old.backing new.backing → AreStates old new → IsTraced word start new after recorder trace
 traced_beside word start old new event outcome before after recorder trace h step sure states = record {
   of_word = h.of_word;
-  passes = h.passes;
   seen = h.seen;
   history = background_goes_on (opened_at start) start.files.refused trace old new event outcome step (main_same old new states step.goes.geometry) h.history;
   sure = sure_on start old.backing new.backing before after h.sure sure;
@@ -141,10 +141,9 @@ traced_between word start old new event outcome before after recorder trace h ki
 
 -- files with no line yet
 pub traced_first : (word : TableId) (start : Start) (now : FilesState) (outlook : Outlook) (recorder : RecorderState) → now ≡ start.files → IsSound (present_in now) → (start.outlook.sure → outlook.sure)
-    → (recorder.word ≡ word) × (recorder.known.seen ≡ []) × (recorder.passes ≡ start.callers) → IsTraced word start now outlook recorder []
+    → (recorder.word ≡ word) × (recorder.known.seen ≡ []) → IsTraced word start now outlook recorder []
 traced_first word start now outlook recorder is sound sure made = record {
   of_word = made.0;
-  passes = made.2;
   seen = made.1;
   history = subst (λ (x : FilesState). IsHistoryFrom start [] x) (sym is) (history_opens start.files start.outlook start.callers (subst (λ (x : FilesState). IsSound (present_in x)) is sound));
   sure = λ first. inr (sure first, ap (λ (x : FilesState). x.backing.faults) is);

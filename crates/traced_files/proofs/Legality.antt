@@ -2,7 +2,9 @@
 use Rattle.std.proofs.Common.{◌≡◌, inl, inr, ℕ, ◌<◌, List, [], ◌∷◌, ◌++◌, length, refl, sym, ap, ◌∙◌, arith}
 use Rattle.std.specs.Prelude.{drop}
 use Rattle.std.specs.List.{flat_map}
+use Rattle.std.proofs.lemmas.Bool.{false≢true}
 use Rattle.std.proofs.lemmas.List.{append-nil}
+use Rattle.std.proofs.lemmas.List.Elements.{All-nil}
 use Rattle.ubifs_base.specs.Faults.{Rose}
 use Rattle.fs_model.specs.declared.refusal.NoSpace.{NoSpace}
 use Rattle.fs_model.specs.declared.trace.TraceLine.{TraceLine}
@@ -13,7 +15,7 @@ use Rattle.fs_model.specs.Same.{IsSame}
 use Rattle.fs_laws.specs.Sound.{IsSound}
 use Rattle.cached_files.specs.Alike.{IsAlike}
 use Rattle.vfs_ops.specs.FilesState.{FilesState, present_in}
-use Rattle.traced_files.specs.History.{IsHistory, IsModeAfter, IsSureSince, first_place, opening_of, present_of}
+use Rattle.traced_files.specs.History.{IsAsked, IsHistory, IsModeAfter, IsSureSince, first_place, opening_of, present_of}
 use Rattle.traced_files.proofs.Counts.{rise_ascends, rise_bounds}
 
 drop_all : {A : Type 0} (xs ys : List A) → drop (length xs) (xs ++ ys) ≡ ys
@@ -60,6 +62,7 @@ history_opens state outlook callers sound = record {
   sound = sound;
   mode = inl refl;
   refused = sym (append-nil state.refused);
+  asked = All-nil IsAsked;
   counts = omega arith;
   faults = omega arith;
   geometry = refl;
@@ -67,4 +70,5 @@ history_opens state outlook callers sound = record {
   limit = refl;
   orphans = omega arith;
   weight = λ is. record { weight = omega arith; index = omega arith };
+  flushed = λ is behind. absurd (false≢true behind);
 }

@@ -1,6 +1,7 @@
 pub mod Answering
 pub mod Counts
 pub mod Entering
+pub mod Flushing
 pub mod Going
 pub mod Histories
 pub mod Keeping

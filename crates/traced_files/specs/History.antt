@@ -1,10 +1,15 @@
 -- What the lines of many callers come to, with the work between them: from how files over a backing were to how they are.
-use Rattle.std.specs.Prelude.{◌≡◌, ◌⊎◌, ℕ, ◌+◌, ◌*◌, ◌^◌, ◌≤◌, max, List, [], ◌∷◌, ◌++◌, drop, length}
+use Rattle.std.specs.Prelude.{◌≡◌, ◌⊎◌, ℕ, ◌+◌, ◌*◌, ◌^◌, ◌≤◌, ◌&&◌, max, Bool, true, false, List, [], ◌∷◌, ◌++◌, All, drop, length}
 use Rattle.std.specs.List.{flat_map}
 use Rattle.fs_model.specs.declared.backing_answers.Mode.{Mode}
 use Rattle.fs_model.specs.declared.backing_answers.Mode.TheVariants.{ReadWrite, ReadOnly}
 use Rattle.fs_model.specs.declared.refusal.Cause.TheVariants.{Faulted, Spent}
 use Rattle.fs_model.specs.declared.refusal.NoSpace.{NoSpace}
+use Rattle.fs_model.specs.declared.refusal.Refusal.TheVariants.{Enospc}
+use Rattle.fs_model.specs.declared.op.Op.{Op}
+use Rattle.fs_model.specs.declared.op.Op.TheVariants.{Flush}
+use Rattle.fs_model.specs.declared.reply.Reply.{Reply}
+use Rattle.fs_model.specs.declared.reply.Reply.TheVariants.{Done, Refused}
 use Rattle.fs_model.specs.declared.trace.TraceLine.{TraceLine}
 use Rattle.fs_model.specs.Backing.{BackingState, Outlook, Rose, orphan_room}
 use Rattle.fs_model.specs.Cover.{index_lebs}
@@ -14,6 +19,9 @@ use Rattle.cached_files.specs.declared.kept.Kept.{Kept}
 use Rattle.cached_files.specs.Alike.{IsAlike}
 use Rattle.cached_files.specs.Calls.{full_weight}
 use Rattle.vfs_ops.specs.FilesState.{FilesState, present_in}
+use Rattle.vfs_ops.specs.Kinds.{is_question}
+use Rattle.vfs_ops.specs.Operations.{has_group}
+use Rattle.vfs_ops.specs.Steps.{is_write}
 
 -- how files over a backing are, when the lines of so many callers begin
 abbrev pub opening_of : FilesState → Outlook → ℕ → Opening
@@ -66,6 +74,24 @@ pub record Leads (opening : Opening) (mode : Mode) (lines : List TraceLine) (las
   pub opened : AreLines opening opening.mode (first_place opening) first middle
   pub closed : AreLines opening mode middle rest last
 
+-- Want of room refuses nothing but a write, or an operation with a group of changes.
+abbrev pub IsAsked : TraceLine → Type 0
+IsAsked line = (sides : NoSpace) → line.reply ≡ Refused (Enospc sides) → (is_write line.op ≡ true) ⊎ (has_group line.op ≡ true)
+
+-- whether all is written back behind a line: it is a flush that was done, or a question where all was written back before it
+abbrev pub flushed_by : Bool → Op → Reply → Bool
+flushed_by flushed Flush Done = true
+flushed_by flushed op reply = flushed && is_question op
+
+-- whether all is written back behind these lines
+abbrev pub flushed_from : Bool → List TraceLine → Bool
+flushed_from flushed [] = flushed
+flushed_from flushed (line ∷ lines) = flushed_from (flushed_by flushed line.op line.reply) lines
+
+-- Nothing but questions stands behind a flush that was done.
+abbrev pub is_flushed : List TraceLine → Bool
+is_flushed lines = flushed_from false lines
+
 -- what the index weighs, dirty pages included, and how many LEBs it takes, at most
 pub record IsWithinWeight (opening : Opening) (lines : List TraceLine) (state : BackingState) (kept : Kept) : Type 0 where
   pub weight : full_weight state kept ≤ most_weight opening lines
@@ -81,6 +107,7 @@ pub record IsHistory (opening : Opening) (noted : List NoSpace) (lines : List Tr
   -- The mode changes once at most; the sides of refusals are those that are noted since, and the counts of faults rise.
   pub mode : IsModeAfter opening now.backing.mode now.backing.faults
   pub refused : now.refused ≡ noted ++ flat_map sides_in lines
+  pub asked : All IsAsked lines
   pub counts : Rise opening.faults (flat_map count_in lines) now.backing.faults
   pub faults : opening.faults ≤ now.backing.faults
   -- The layout stays, the next list of orphans has as much room as the lines left of it, and the index weighs no more than they may add.
@@ -89,6 +116,8 @@ pub record IsHistory (opening : Opening) (noted : List NoSpace) (lines : List Tr
   pub limit : now.backing.orphan_limit ≡ opening.orphan_limit
   pub orphans : opening.orphan_room ≤ orphan_room now.backing + last.orphans
   pub weight : now.backing.mode ≡ ReadWrite → IsWithinWeight opening lines now.backing now.kept
+  -- Behind a flush that was done no page is dirty, as long as nothing but questions is asked.
+  pub flushed : now.backing.mode ≡ ReadWrite → is_flushed lines ≡ true → now.kept.pages.dirty ≡ []
 
 -- a volume that was sure met no fault, or takes no more writing
 abbrev pub IsSureSince : Opening → ℕ → Outlook → Type 0

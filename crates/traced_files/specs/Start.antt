@@ -12,7 +12,7 @@ use Rattle.traced_files.specs.declared.passes.Ledger.{Ledger}
 use Rattle.std.specs.Prelude.{List}
 use Rattle.traced_files.specs.History.{IsHistory, opening_of}
 
--- the files over their backing, what was expected of its volume, and how many callers there are
+-- the files over their backing, what was expected of its volume, and how many callers are at work
 pub record Start : Type 1 where
   pub files : FilesState
   pub outlook : Outlook
@@ -50,8 +50,8 @@ no_start = record {
   callers = 0;
 }
 
--- What stays with the files knows an empty trace and an empty pool, and has made the passes of so many callers.
+-- What stays with the files knows an empty trace and an empty pool, from which so many callers may draw.
 abbrev pub IsNewLedger : TableId → TableId → ℕ → Ledger → Type 0
 IsNewLedger word pool callers k =
-    (k.recorder.word ≡ word) × (k.recorder.known.seen ≡ []) × (k.recorder.passes ≡ callers)
+    (k.recorder.word ≡ word) × (k.recorder.known.seen ≡ [])
     × (k.master ≡ record { pool = pool; issued = 0; held = 0; out = [] }) × (k.callers ≡ callers)

@@ -12,7 +12,7 @@ use std::alloc::Global;
 use trace_word::{Recorder, TraceWord};
 use ubifs_base::Memory;
 
-/// What stays with the files: the recorder of a trace, the master of a pool, and how many callers there are.
+/// What stays with the files: the recorder of a trace, the master of a pool, and how many callers may draw from it.
 #[derive(Drop)]
 pub struct Ledger {
     pub recorder: Recorder,
@@ -29,17 +29,17 @@ pub struct NewTrace {
     pub passes: Vec<Pass>,
 }
 
-/// An empty trace and an empty pool, with the passes of the callers 1 to `callers`, in order.
-pub fn open(alloc: Global, callers: u16) -> Result<NewTrace, Memory>
+/// An empty trace and an empty pool, with the passes of the callers 1 to `last`, in order. No more than `callers` of them draw at once.
+pub fn open(alloc: Global, last: u16, callers: u16) -> Result<NewTrace, Memory>
     ensures ledger { IfOk result (λ made. IsNewLedger made.word made.pool callers made.ledger) }
-    ensures passes { IfOk result (λ made. made.passes.items ≡ fresh_passes made.word made.pool callers) }
+    ensures passes { IfOk result (λ made. made.passes.items ≡ fresh_passes made.word made.pool last) }
 {
-    let Ok(mut passes) = Vec::with_capacity(alloc, callers as usize) else {
+    let Ok(mut passes) = Vec::with_capacity(alloc, last as usize) else {
         return Err(Memory);
     };
     let (word, mut recorder) = TraceWord::new(alloc)?;
     let (pool, master) = Pool::new(alloc)?;
-    make_passes(&word, &pool, &mut recorder, &mut passes, callers);
+    make_passes(&word, &pool, &mut recorder, &mut passes, last);
     Ok(NewTrace {
         word,
         pool,
@@ -68,21 +68,21 @@ fn next_pass(word: &TraceWord, pool: &Pool, recorder: &mut Recorder, caller: u16
     }
 }
 
-// The passes of all callers.
+// The passes of the callers 1 to `last`.
 fn make_passes(
     word: &TraceWord,
     pool: &Pool,
     recorder: &mut Recorder,
     passes: &mut Vec<Pass>,
-    callers: u16,
+    last: u16,
 )
     requires word { recorder.old.word ≡ word.now }
     requires none { (recorder.old.passes ≡ 0) × (passes.old.items ≡ []) }
-    requires room { callers ≤ vec_capacity passes.old }
-    ensures recorder { (recorder.new.word ≡ word.now) × (recorder.new.known.seen ≡ recorder.old.known.seen) × (recorder.new.passes ≡ callers) }
-    ensures passes { passes.new.items ≡ fresh_passes word.now pool.now callers }
+    requires room { last ≤ vec_capacity passes.old }
+    ensures recorder { (recorder.new.word ≡ word.now) × (recorder.new.known.seen ≡ recorder.old.known.seen) × (recorder.new.passes ≡ last) }
+    ensures passes { passes.new.items ≡ fresh_passes word.now pool.now last }
 {
-    for caller in 0..callers {
+    for caller in 0..last {
         passes.push_reserved(next_pass(word, pool, recorder, caller + 1));
     }
 }

@@ -4,7 +4,7 @@ use Rattle.std.proofs.lemmas.List.Elements.{All-nil, All-push}
 use Rattle.script_text.specs.declared.part.Part.{Part}
 use Rattle.script_text.specs.Script.{IsInRange, MayStand}
 use Rattle.script_phase.specs.declared.lines.CallerLine.{CallerLine}
-use Rattle.script_run.specs.Phases.{HasAdvanced, IsTurn, Stage}
+use Rattle.script_run.specs.Phases.{HasAdvanced, IsTurn, ScriptPlace}
 use Rattle.script_run.specs.Sessions.{AreReady, IsSession, IsWaiting, running_of, stage_of, state_in}
 use Rattle.script_run.specs.declared.lines.Gathered.{Gathered}
 use Rattle.script_run.proofs.PhaseRuns.{control_advances, ok_both}
@@ -25,10 +25,10 @@ pub returns-in_ok-push-in-Line-clause-advanced : goal.returns-in_ok-push-in-Line
 returns-in_ok-push-in-Line-clause-advanced g c =
     let old = stage_of c.args.gathered in
     let line : CallerLine = record { caller = c.in-Line.caller; op = c.in-Line.op } in
-    let new : Stage = record { here = running_of c.args.gathered.session; lines = c.push.new.self.items } in
+    let new : ScriptPlace = record { here = running_of c.args.gathered.session; lines = c.push.new.self.items } in
     let P : Part → Type 0 = λ part. HasAdvanced (state_in c.args.gathered.session).geometry old part [] new in (
       [],
-      subst P (sym c.in-Line.is) (refl, ap (λ (ls : List CallerLine). let s : Stage = record { here = running_of c.args.gathered.session; lines = ls } in s) c.in_ok-push-in-Line.ensures.items),
+      subst P (sym c.in-Line.is) (refl, ap (λ (ls : List CallerLine). let s : ScriptPlace = record { here = running_of c.args.gathered.session; lines = ls } in s) c.in_ok-push-in-Line.ensures.items),
       sym (append-nil c.args.text.now.items),
     )
 

@@ -5,7 +5,7 @@ use Rattle.ubifs_base.specs.declared.raw_geometry.RawGeometry.{RawGeometry}
 use Rattle.ubifs_base.specs.RawOf.{raw_of}
 use Rattle.script_text.specs.declared.part.Part.{Part}
 use Rattle.script_text.specs.Script.{IsInRange, Leads}
-use Rattle.script_run.specs.Phases.{HasAdvanced, IsPhase, IsRunFrom}
+use Rattle.script_run.specs.Phases.{HasAdvanced, IsPhase, ArePhases}
 use Rattle.script_run.specs.Run.{opening_on}
 use Rattle.script_run.specs.Sessions.{AreReady, running_of, stage_of}
 use Rattle.script_run.proofs.PhaseRuns.{advance_mounts, advanced, run_ends}
@@ -43,8 +43,8 @@ loop-part-preserved g c =
       run = λ more last run.
           let text : c.advance.new.text.items ++ more ≡ c.loop-part.text.items ++ (step.0 ++ more) = ap (λ (t : List ℕ). t ++ more) step.2 ∙ append_assoc c.loop-part.text.items step.0 more in
           let behind = advanced geo old new part rest step.0 more last one run in
-          subst (λ (t : List ℕ). IsRunFrom geo first [] c.args.parts.items t last) (sym text)
-          (was.run (step.0 ++ more) last (subst (λ (parts : List Part). IsRunFrom geo old.here old.lines parts (step.0 ++ more) last) (sym next) behind));
+          subst (λ (t : List ℕ). ArePhases geo first [] c.args.parts.items t last) (sym text)
+          (was.run (step.0 ++ more) last (subst (λ (parts : List Part). ArePhases geo old.here old.lines parts (step.0 ++ more) last) (sym next) behind));
       order = (was.order.0, subst (λ (b : Bool). Leads b rest was.order.0) (sym (advance_mounts geo old new part step.0 one)) order.1);
       range = range.1;
       few = omega (arith, few, more_few, lengths);
@@ -61,5 +61,5 @@ returns-clause-run g c =
     let same = was.ready.0.steady.geometry in
     let phase = c.in_ok-session-2.ensures.phase in
     let one = subst (λ (g : RawGeometry). IsPhase g old.here old.lines phase.0 new) same phase.1 in
-    subst (λ (t : List ℕ). IsRunFrom geo first [] c.args.parts.items t new) (sym phase.2)
+    subst (λ (t : List ℕ). ArePhases geo first [] c.args.parts.items t new) (sym phase.2)
     (was.run phase.0 new (run_ends geo old.here new old.lines c.loop-part.part-iterator.rest.items phase.0 (omega (arith, none)) one))

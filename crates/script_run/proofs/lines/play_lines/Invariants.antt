@@ -2,7 +2,7 @@ use Rattle.std.proofs.Common.{ℕ, ◌+◌, ◌≤◌, ◌++◌, Bool, List, [],
 use Rattle.std.specs.List.{AllByRecursion}
 use Rattle.ubifs_base.specs.RawOf.{raw_of}
 use Rattle.script_text.specs.Script.{IsInRange, Leads}
-use Rattle.script_run.specs.Phases.{IsRunFrom}
+use Rattle.script_run.specs.Phases.{ArePhases}
 use Rattle.script_run.specs.Run.{Running, opening_on}
 use Rattle.script_run.specs.Sessions.{AreReady, running_of}
 use Rattle.script_run.proofs.lines.play_lines.Given as goal
@@ -11,8 +11,8 @@ use Rattle.script_run.proofs.lines.play_lines.Given as goal
 abbrev pub invariant-loop-part : goal.invariant-loop-part
 invariant-loop-part g l = record {
   ready : AreReady (raw_of l.fn.opening.geometry) l.gathered.session l.gathered.lines.items;
-  run : (more : List ℕ) (last : Running) → IsRunFrom (raw_of l.fn.opening.geometry) (running_of l.gathered.session) l.gathered.lines.items l.part-iterator.rest.items more last
-      → IsRunFrom (raw_of l.fn.opening.geometry) (opening_on l.fn.opening.tree l.fn.opening.space.weight) [] l.fn.parts.items (l.text.items ++ more) last;
+  run : (more : List ℕ) (last : Running) → ArePhases (raw_of l.fn.opening.geometry) (running_of l.gathered.session) l.gathered.lines.items l.part-iterator.rest.items more last
+      → ArePhases (raw_of l.fn.opening.geometry) (opening_on l.fn.opening.tree l.fn.opening.space.weight) [] l.fn.parts.items (l.text.items ++ more) last;
   order : (last : Bool) × Leads l.gathered.session.mounted l.part-iterator.rest.items last;
   range : AllByRecursion IsInRange l.part-iterator.rest.items;
   few : l.gathered.session.number + length l.gathered.lines.items + length l.part-iterator.rest.items ≤ 100000;

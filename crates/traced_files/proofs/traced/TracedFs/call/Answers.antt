@@ -79,7 +79,6 @@ traced g c =
       seen = known g c;
     } in
     traced_on g.J.Site.word g.J.Site.start c.args.stock.held old new (line_of g c c.args.op c.call-op.result.1) c.twice-reply.result.0 (g.B.Backing.outlook c.self.inside.credited.fs.backing) (g.B.Backing.outlook c.call-op.new.self.fs.backing) c.self.inside.recorder c.enter.new.recorder (before g c) c.laws.ensures c.self.invariant.0 made c.call-op.ensures.sure
-    (c.enter.ensures.recorder.1 ∙ c.meet.ensures.recorder.2)
 
 pub invariant_of-self-2 : goal.invariant_of-self-2
 invariant_of-self-2 g c = (
