@@ -88,6 +88,7 @@ trace_of old new before after noted refused now lines trace was is h found = rec
   faultless = none_told (state_of old).faults (flat_map count_in trace) (subst (Rise (state_of old).faults (flat_map count_in trace)) is.faults h.counts);
   same = h.same;
   flushed = h.flushed is.mode;
+  grown = h.grown is.mode;
   weight = h.weight is.mode;
   orphans = h.orphans;
 }

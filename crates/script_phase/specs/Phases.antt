@@ -11,10 +11,11 @@ use Rattle.fs_model.specs.Backing.{orphan_room}
 use Rattle.fs_model.specs.Legal.{AreLines, Opening, Place, count_in}
 use Rattle.cached_files.specs.declared.kept.Kept.{Kept}
 use Rattle.cached_files.specs.Alike.{IsAlike}
+use Rattle.cached_files.specs.Calls.{full_weight}
 use Rattle.plain_backing.specs.declared.backing.PlainBacking.{PlainBacking}
 use Rattle.plain_backing.specs.PlainBacking.{outlook_of, state_of}
 use Rattle.vfs_ops.specs.FilesState.{FilesState, present_in}
-use Rattle.traced_files.specs.History.{IsAsked, IsWithinWeight, first_place, is_flushed}
+use Rattle.traced_files.specs.History.{IsAsked, IsWithinWeight, first_place, grown_weight, is_flushed}
 use Rattle.traced_files.specs.States.{PassState}
 use Rattle.writeback.specs.Runs.{lines_by}
 use Rattle.script_phase.specs.declared.lines.CallerLine.{CallerLine}
@@ -77,6 +78,7 @@ pub record IsOneTrace (opening : Opening) (now : ℕ) (lines : List CallerLine) 
   pub same : IsAlike last.files (present_in after)
   -- Behind a flush that was done no page is dirty, as long as nothing but questions is asked.
   pub flushed : is_flushed trace ≡ true → after.kept.pages.dirty ≡ []
-  -- The index weighs no more than the lines may add, and takes no more LEBs than that asks for. The next list of orphans has as much room as the lines left of it.
+  -- The index weighs no more than the lines may add: what neither writes nor has a group adds nothing. It takes no more LEBs than five nodes for each line ask for. The next list of orphans has as much room as the lines left of it.
+  pub grown : full_weight after.backing after.kept ≤ grown_weight opening trace
   pub weight : IsWithinWeight opening trace after.backing after.kept
   pub orphans : opening.orphan_room ≤ orphan_room after.backing + last.orphans

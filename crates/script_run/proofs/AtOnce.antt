@@ -141,7 +141,7 @@ at_once_of old new before after noted refused mounted now number workers lines t
       same = h.same;
       under = record { kept = after; fits = fits; seen = refl };
       flushed = λ behind. sym (clean (state_of new).tree after fits (h.flushed behind));
-      weight = subst (λ (w : ℕ). full_weight (state_of new) after ≤ w) (much.weight trace) h.weight.weight;
+      weight = let grown = h.grown in omega (arith, grown);
       index = subst (λ (w : ℕ). (state_of new).space.index ≤ max (state_of old).space.index (2 * index_lebs geo w)) (much.weight trace) h.weight.index;
       orphans = subst (λ (room : ℕ). room ≤ (orphan_limit geo.leb_size - orphans_told (running_over new after mounted now 0 workers)) + h.last.orphans) much.orphan_room
           (subst (λ (room : ℕ). a.orphan_room ≤ room + h.last.orphans)

@@ -8,7 +8,7 @@ use Rattle.fs_model.specs.declared.trace.TraceLine.{TraceLine}
 use Rattle.fs_model.specs.Cover.{index_lebs}
 use Rattle.fs_model.specs.Legal.{AreLines, Opening, Place, Present, count_in, most_weight, sides_in}
 use Rattle.cached_files.specs.Alike.{IsAlike}
-use Rattle.traced_files.specs.History.{IsAsked, is_flushed}
+use Rattle.traced_files.specs.History.{IsAsked, grown_weight, is_flushed}
 use Rattle.script_text.specs.declared.part.Part.{Part}
 use Rattle.script_text.specs.declared.part.Part.TheVariants.{Line, Workers}
 use Rattle.script_text.specs.Reply.{reply_line}
@@ -62,8 +62,8 @@ pub record AreServedTogether (geo : RawGeometry) (before : Running) (lines : Lis
   pub under : IsUnder after.stored after.files
   -- Behind a flush that was done that is stored which they see, as long as nothing but questions is asked.
   pub flushed : is_flushed trace ≡ true → after.stored ≡ after.files.tree
-  -- The index weighs no more than the lines may add, and takes no more LEBs than that asks for. The next list of orphans has as much room as the lines left of it.
-  pub weight : after.weight ≤ most_weight (opened_on geo (callers_in lines) before) trace
+  -- The index weighs no more than the lines may add: what neither writes nor has a group adds nothing. It takes no more LEBs than five nodes for each line ask for. The next list of orphans has as much room as the lines left of it.
+  pub weight : after.weight ≤ grown_weight (opened_on geo (callers_in lines) before) trace
   pub index : after.index ≤ max before.index (2 * index_lebs geo (most_weight (opened_on geo (callers_in lines) before) trace))
   pub orphans : orphan_limit geo.leb_size - orphans_told before ≤ (orphan_limit geo.leb_size - orphans_told after) + last.orphans
   pub rest : after ≡ record before { files = after.files; stored = after.stored; weight = after.weight; index = after.index; closed = after.closed; number = 0 }

@@ -2,6 +2,7 @@
 use Rattle.std.proofs.Common.{◌≡◌, ◌⊎◌, inl, inr, true, ℕ, ◌+◌, ◌*◌, ◌≤◌, Bool, List, [], ◌∷◌, ◌++◌, length, refl, sym, ap, subst, ◌∙◌, append_assoc, arith}
 use Rattle.std.specs.Prelude.{max, if◌then◌else◌}
 use Rattle.std.specs.List.{flat_map}
+use Rattle.std.proofs.lemmas.Bool.{false≢true}
 use Rattle.std.proofs.lemmas.Grind.{flat_map-append}
 use Rattle.std.proofs.lemmas.List.{append-nil}
 use Rattle.std.proofs.lemmas.List.Concat.{flat_map-cons}
@@ -26,6 +27,7 @@ use Rattle.vfs_ops.specs.declared.event.Outcome.TheVariants.{PutDone, Stale, Fau
 use Rattle.vfs_ops.specs.Background.{IsBackgroundStep, added_in}
 use Rattle.vfs_ops.specs.Operations.{nodes_asked}
 use Rattle.vfs_ops.specs.FilesState.{FilesState, present_in}
+use Rattle.vfs_ops.specs.Replies.{holds_bytes}
 use Rattle.traced_files.specs.Laws.{AreLaws}
 use Rattle.traced_files.specs.History.{IsAsked, IsHistory, IsWithinWeight, Rise, is_flushed}
 use Rattle.traced_files.specs.Replies.{IsToldAs}
@@ -35,6 +37,7 @@ use Rattle.traced_files.proofs.Flushing.{flushed_on, line_flushes, work_flushes}
 use Rattle.traced_files.proofs.Going.{IsMadeCall, IsReached, Stepped, WasEntered, alike_then, entered, entered_short, orphan_same, with_reply}
 use Rattle.traced_files.proofs.Lines.{before_last, leads_on, leads_stay}
 use Rattle.traced_files.proofs.Sides.{lebs_mono}
+use Rattle.traced_files.proofs.Weighing.{IsUnfailed, call_grows, grown_on, unfailed}
 
 -- the lines may add as much more as one line does
 most_on : (opening : Opening) (lines : List TraceLine) (line : TraceLine) → most_weight opening (lines ++ line ∷ []) ≡ most_weight opening lines + (5 + 2 * pages_in line.op)
@@ -100,8 +103,8 @@ within_told opening lines s reply within =
 
 -- a call goes on with a history, and leaves a line more that tells this reply
 call_goes_with : (opening : Opening) (noted : List NoSpace) (lines : List TraceLine) (s : Stepped) (reply : Reply) → AreLaws → IsMadeCall opening s → (history : IsHistory opening noted lines s.old) → WasEntered opening history.last (with_reply s reply)
-    → (reply ≡ s.line.reply) ⊎ (reply ≡ Refused Enomem) → IsHistory opening noted (lines ++ (record s.line { reply = reply }) ∷ []) s.new
-call_goes_with opening noted lines s reply laws h history entry says =
+    → (reply ≡ s.line.reply) ⊎ (reply ≡ Refused Enomem) → (s.new.backing.mode ≡ ReadWrite → IsUnfailed s.line.reply) → IsHistory opening noted (lines ++ (record s.line { reply = reply }) ∷ []) s.new
+call_goes_with opening noted lines s reply laws h history entry says whole =
     let last : Place = history.last in
     let goes = h.step.goes in
     let faults = goes.faults in
@@ -122,6 +125,11 @@ call_goes_with opening noted lines s reply laws h history entry says =
       limit = goes.orphan_limit ∙ history.limit;
       orphans = roomy orphan h.step.orphans goes.orphan_limit history.orphans;
       weight = λ is. within_told opening lines s reply (within_on opening noted lines s laws h history (history.weight (open_before s.old.backing s.new.backing goes.mode is)));
+      grown = λ is.
+          let more = grown_on opening lines line in
+          let grows = call_grows opening s laws h (whole is) in
+          let was = history.grown (open_before s.old.backing s.new.backing goes.mode is) in
+          omega (arith, more, grows, was);
       flushed = flushes;
     }
   where
@@ -156,9 +164,12 @@ call_goes_on opening noted lines s told laws h history number says = by says
     reached : IsReached opening history.last s
     reached = reached_by opening noted lines s laws h history number
 
+    first : WasEntered opening history.last s
+    first = entered opening history.last s laws h reached
+
     by : IsToldAs s.line.reply told → IsHistory opening noted (lines ++ (record s.line { reply = told }) ∷ []) s.new
-    by (inl same) = subst (λ (r : Reply). IsHistory opening noted (lines ++ (record s.line { reply = r }) ∷ []) s.new) (sym same) (call_goes_with opening noted lines s s.line.reply laws h history (entered opening history.last s laws h reached) (inl refl))
-    by (inr short) = subst (λ (r : Reply). IsHistory opening noted (lines ++ (record s.line { reply = r }) ∷ []) s.new) (sym short.1) (call_goes_with opening noted lines s (Refused Enomem) laws h history (entered_short opening history.last s laws h reached short.0) (inr refl))
+    by (inl same) = subst (λ (r : Reply). IsHistory opening noted (lines ++ (record s.line { reply = r }) ∷ []) s.new) (sym same) (call_goes_with opening noted lines s s.line.reply laws h history first (inl refl) (λ is. unfailed opening history.last s laws history.sound first (open_before s.old.backing s.new.backing h.step.goes.mode is) is))
+    by (inr short) = subst (λ (r : Reply). IsHistory opening noted (lines ++ (record s.line { reply = r }) ∷ []) s.new) (sym short.1) (call_goes_with opening noted lines s (Refused Enomem) laws h history (entered_short opening history.last s laws h reached short.0) (inr refl) (λ is count fault. false≢true (ap holds_bytes (sym fault) ∙ short.0)))
 
 -- what a put of the background adds, and how far the index may grow with it
 put_index : (old new : FilesState) (event : Event) (outcome : Outcome) → IsBackgroundStep old new event outcome → new.backing.mode ≡ ReadWrite → new.backing.space.index ≤ max old.backing.space.index (2 * index_lebs old.backing.geometry (full_weight old.backing old.kept))
@@ -215,6 +226,11 @@ background_goes_on opening noted lines old new event outcome h main history =
       limit = limit ∙ history.limit;
       orphans = omega (arith, few, limit, room);
       weight = heavy;
+      grown = λ is.
+          let was = history.grown (open_before old.backing new.backing h.goes.mode is) in
+          let grows = h.weighed in
+          let none = added_none old new event outcome h is in
+          omega (arith, was, grows, none);
       flushed = λ is behind. work_flushes old new event outcome h.made (history.flushed (open_before old.backing new.backing h.goes.mode is) behind);
     }
   where

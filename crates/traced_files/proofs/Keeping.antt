@@ -80,6 +80,7 @@ history_credits opening noted lines old new only h = subst (λ (x : FilesState).
   limit = h.limit;
   orphans = h.orphans;
   weight = λ writes. let w = h.weight writes in record { weight = w.weight; index = w.index };
+  grown = h.grown;
   flushed = h.flushed;
 })
 

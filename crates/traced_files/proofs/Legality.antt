@@ -70,5 +70,6 @@ history_opens state outlook callers sound = record {
   limit = refl;
   orphans = omega arith;
   weight = λ is. record { weight = omega arith; index = omega arith };
+  grown = λ is. omega arith;
   flushed = λ is behind. absurd (false≢true behind);
 }

@@ -10,3 +10,4 @@ pub mod Lines
 pub mod Passing
 pub mod Plain
 pub mod Sides
+pub mod Weighing

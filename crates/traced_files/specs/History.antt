@@ -1,5 +1,5 @@
 -- What the lines of many callers come to, with the work between them: from how files over a backing were to how they are.
-use Rattle.std.specs.Prelude.{◌≡◌, ◌⊎◌, ℕ, ◌+◌, ◌*◌, ◌^◌, ◌≤◌, ◌&&◌, max, Bool, true, false, List, [], ◌∷◌, ◌++◌, All, drop, length}
+use Rattle.std.specs.Prelude.{◌≡◌, ◌⊎◌, ℕ, ◌+◌, ◌*◌, ◌^◌, ◌≤◌, ◌&&◌, ◌||◌, max, if◌then◌else◌, Bool, true, false, List, [], ◌∷◌, ◌++◌, All, drop, length, sum_by}
 use Rattle.std.specs.List.{flat_map}
 use Rattle.fs_model.specs.declared.backing_answers.Mode.{Mode}
 use Rattle.fs_model.specs.declared.backing_answers.Mode.TheVariants.{ReadWrite, ReadOnly}
@@ -13,7 +13,7 @@ use Rattle.fs_model.specs.declared.reply.Reply.TheVariants.{Done, Refused}
 use Rattle.fs_model.specs.declared.trace.TraceLine.{TraceLine}
 use Rattle.fs_model.specs.Backing.{BackingState, Outlook, Rose, orphan_room}
 use Rattle.fs_model.specs.Cover.{index_lebs}
-use Rattle.fs_model.specs.Legal.{AreLines, Opening, Place, Present, count_in, most_weight, sides_in}
+use Rattle.fs_model.specs.Legal.{AreLines, Opening, Place, Present, count_in, most_weight, pages_in, sides_in}
 use Rattle.fs_laws.specs.Sound.{IsSound}
 use Rattle.cached_files.specs.declared.kept.Kept.{Kept}
 use Rattle.cached_files.specs.Alike.{IsAlike}
@@ -78,6 +78,14 @@ pub record Leads (opening : Opening) (mode : Mode) (lines : List TraceLine) (las
 abbrev pub IsAsked : TraceLine → Type 0
 IsAsked line = (sides : NoSpace) → line.reply ≡ Refused (Enospc sides) → (is_write line.op ≡ true) ⊎ (has_group line.op ≡ true)
 
+-- how much heavier the index gets by an operation at most: by five nodes and two for each page that it touches, if it writes or has a group, and else by none
+abbrev pub grown_by : Op → ℕ
+grown_by op = if is_write op || has_group op then 5 + 2 * pages_in op else 0
+
+-- what the index weighs at most behind these lines, dirty pages included
+abbrev pub grown_weight : Opening → List TraceLine → ℕ
+grown_weight opening lines = opening.space.weight + 2 * opening.dirty + sum_by (λ line. grown_by line.op) lines
+
 -- whether all is written back behind a line: it is a flush that was done, or a question where all was written back before it
 abbrev pub flushed_by : Bool → Op → Reply → Bool
 flushed_by flushed Flush Done = true
@@ -116,6 +124,7 @@ pub record IsHistory (opening : Opening) (noted : List NoSpace) (lines : List Tr
   pub limit : now.backing.orphan_limit ≡ opening.orphan_limit
   pub orphans : opening.orphan_room ≤ orphan_room now.backing + last.orphans
   pub weight : now.backing.mode ≡ ReadWrite → IsWithinWeight opening lines now.backing now.kept
+  pub grown : now.backing.mode ≡ ReadWrite → full_weight now.backing now.kept ≤ grown_weight opening lines
   -- Behind a flush that was done no page is dirty, as long as nothing but questions is asked.
   pub flushed : now.backing.mode ≡ ReadWrite → is_flushed lines ≡ true → now.kept.pages.dirty ≡ []
 
