@@ -162,14 +162,13 @@ piece_is xs from count = elim (cases_lt from (length xs)) [
     rest n m (inr past) = zeros_past xs (from + n) m past
 
 -- that is what is appended
-pub piece_pushed : (out mid bytes new : List ℕ) (from count start end len have : ℕ) → mid ≡ out ++ take (end - start) (drop start bytes) → start ≡ min from (length bytes) → end ≡ min (from + count) (length bytes) → have ≡ length mid → len ≡ have
-    → new ≡ take (len + (count - (end - start))) mid ++ replicate (len + (count - (end - start)) - have) 0 → new ≡ out ++ piece_of bytes from count
-piece_pushed out mid bytes new from count start end len have pushed first last all same is =
+pub piece_pushed : (out mid bytes new : List ℕ) (from count start end : ℕ) → mid ≡ out ++ take (end - start) (drop start bytes) → start ≡ min from (length bytes) → end ≡ min (from + count) (length bytes)
+    → new ≡ mid ++ replicate (count - (end - start)) 0 → new ≡ out ++ piece_of bytes from count
+piece_pushed out mid bytes new from count start end pushed first last is =
     let more = count - (end - start) in
-    let zeros : len + more - have ≡ more = omega (arith, same) in
     let parts : ℕ → ℕ → List ℕ = λ s e. out ++ (take (e - s) (drop s bytes) ++ replicate (count - (e - s)) 0) in
-    is ∙ ap (λ xs. xs ++ replicate (len + more - have) 0) (take_all (len + more) mid (omega (arith, all, same))) ∙ ap (λ n. mid ++ replicate n 0) zeros ∙ ap (λ xs. xs ++ replicate more 0) pushed
-    ∙ append_assoc out (take (end - start) (drop start bytes)) (replicate more 0) ∙ ap (λ s. parts s end) first ∙ ap (λ e. parts (min from (length bytes)) e) last ∙ ap (λ xs. out ++ xs) (piece_is bytes from count)
+    is ∙ ap (λ xs. xs ++ replicate more 0) pushed ∙ append_assoc out (take (end - start) (drop start bytes)) (replicate more 0)
+    ∙ ap (λ s. parts s end) first ∙ ap (λ e. parts (min from (length bytes)) e) last ∙ ap (λ xs. out ++ xs) (piece_is bytes from count)
 
 -- a part of a page is what is read there
 pub page_part : (blocks : Blocks) (ino place count : ℕ) → place % 4096 + count ≤ 4096 → piece_of (block_at blocks ino (place / 4096)) (place % 4096) count ≡ bytes_from blocks ino place count

@@ -1,9 +1,8 @@
 // Room is asked for, and made.
 
 ghost use Rattle.std.specs.Prelude.{◌≡◌, ◌⊎◌, ◌+◌, ◌*◌, ◌≤◌, [], length, Some, Ok, OnOk, OnErr, IfErr};
-ghost use Rattle.fs_model.specs.Backing.{Goes, HasCause, IsModest, KeepsFiles, granted};
+ghost use Rattle.fs_model.specs.Backing.{Goes, HasCause, IsModest, granted};
 ghost use Rattle.fs_model.specs.Cover.{needed, room_for};
-ghost use Rattle.fs_model.specs.Journal.{Leaves};
 ghost use Rattle.cached_files.specs.Alike.{IsAlike};
 ghost use Rattle.cached_files.specs.Calls.{GrowsBy, HasCommitted, HasMadeRoom, IsCoveredAtLast, IsCoveredBy, IsWithoutRoom, SureGoes, TellsMode, WasCovered, added_or_failed, added_or_refused};
 ghost use Rattle.cached_files.specs.Cuts.{PutsSeen};
@@ -15,7 +14,7 @@ use crate::put::write_back;
 use fs_model::{Backing, Need, Refusal, StoreFault};
 use std::alloc::Global;
 
-/// Admits a need. Where it isn't covered as the backing is, all dirty pages are put, synced and committed, and it is tested
+/// Admits a need. Where it isn't covered as the backing is, all dirty pages are put and committed, and it is tested
 /// again. What is answered is what the last test says: the need is granted where it holds, and `Enospc` comes where the
 /// second one fails, with its two sides. Other refusals are faults of the backing. After a refusal some pages may have
 /// been put.
@@ -89,7 +88,7 @@ fn admit_again<B: Backing>(
     }
 }
 
-/// Puts all dirty pages, syncs, and commits.
+/// Puts all dirty pages, and commits. The start of the commit brings them to the medium, so nothing is synced before.
 pub fn make_room<B: Backing>(
     alloc: Global,
     backing: &mut B,
@@ -114,18 +113,5 @@ pub fn make_room<B: Backing>(
     ensures sure { SureGoes (B.outlook backing.old) (B.outlook backing.new) (B.state backing.old) (B.state backing.new) }
 {
     write_back(alloc, backing, kept)?;
-    sync_all(backing)?;
     commit(backing)
-}
-
-// Syncs; the files stay.
-fn sync_all<B: Backing>(backing: &mut B) -> Result<(), StoreFault>
-    ensures files { KeepsFiles (B.state backing.old) (B.state backing.new) }
-    ensures cut { Leaves (B.state backing.old).journal (B.state backing.new).journal [] }
-    ensures goes { Goes 0 (B.state backing.old) (B.state backing.new) }
-    ensures cause { HasCause (B.state backing.old) (B.state backing.new) result }
-    ensures mode { TellsMode (B.state backing.new) result }
-    ensures sure { SureGoes (B.outlook backing.old) (B.outlook backing.new) (B.state backing.old) (B.state backing.new) }
-{
-    backing.sync()
 }

@@ -1,6 +1,6 @@
 // Dirty pages as they are written back.
 
-ghost use Rattle.std.specs.Prelude.{◌≡◌, ◌≢◌, ◌==◌, true, false, Some, IfOk, max};
+ghost use Rattle.std.specs.Prelude.{◌≡◌, ◌≢◌, ◌≤◌, ◌==◌, true, false, Some, IfOk, max};
 ghost use Rattle.std.specs.List.{list_all};
 ghost use Rattle.std.specs.Option.{option_map};
 ghost use Rattle.cached_files.specs.PagePut.{page_at};
@@ -42,7 +42,8 @@ pub fn has_bytes(kept: &Kept, ino: u32, block: u32, bytes: &Bytes) -> bool
 
 // How many bytes of a page stand before its file's end.
 fn bytes_before_end(size: u64, block: u32) -> usize
-    ensures { result ≡ bytes_before_end size block }
+    ensures bytes { result ≡ bytes_before_end size block }
+    ensures page { result ≤ 4096 }
 {
     let start = 4096 * (block as u64);
     size.saturating_sub(start).min(4096) as usize

@@ -8,6 +8,7 @@
 
 mod admission;
 mod commits;
+mod copies;
 mod dirty_inodes;
 mod encoded;
 mod groups;

@@ -12,6 +12,7 @@ ghost use Rattle.cached_files.specs.Cuts.{PutsSeen};
 ghost use Rattle.cached_files.specs.PagePut.{IsPutOrKept, page_at};
 ghost use Rattle.cached_files.specs.Present.{IsKept, dirty_of_others, has_dirty, present, page_of, filled};
 
+use crate::copies::push_copies;
 use crate::kept::Kept;
 use fs_laws::a_page_keeps_trees_proper;
 use fs_model::{Backing, PageNode, StoreFault};
@@ -173,15 +174,16 @@ fn page_node(alloc: Global, kept: &Kept, ticket: &Ticket) -> Result<PageNode, Me
     })
 }
 
-// Bytes with zeros up to this length.
+// Bytes with zeros up to this length, which ends in a page.
 pub(crate) fn filled(alloc: Global, bytes: &Bytes, len: usize) -> Result<Bytes, Memory>
+    requires { len ≤ 4096 }
     ensures { IfOk result (λ new. new ≡ filled bytes.now len) }
 {
     let old = bytes.as_slice();
     let mut new = Vec::with_capacity(alloc, len.max(old.len()))?;
     new.extend_from_slice(old)?;
     if old.len() < len {
-        new.resize(len, 0)?;
+        push_copies(&mut new, 0, len - old.len())?;
     }
     Ok(Bytes::from_vec(new))
 }

@@ -1,6 +1,6 @@
 // Files are read: what is kept of them, and else what the backing has.
 
-ghost use Rattle.std.specs.Prelude.{◌≡◌, ◌+◌, ◌^◌, ◌<◌, ◌≤◌, ◌%◌, ◌++◌, [], Some, is_some, IfOk, OnOk, OnErr, length};
+ghost use Rattle.std.specs.Prelude.{◌≡◌, ◌+◌, ◌^◌, ◌<◌, ◌≤◌, ◌%◌, ◌++◌, max, [], Some, is_some, IfOk, OnOk, OnErr, length};
 ghost use Rattle.std.specs.List.{IsDistinct};
 ghost use Rattle.std.specs.Map.{keys_of};
 ghost use Rattle.std.specs.Option.{option_map_or};
@@ -11,6 +11,7 @@ ghost use Rattle.page_cache.specs.Pages.{bytes_at, is_page, with_clean, with_use
 ghost use Rattle.cached_files.specs.Calls.{SureGoes};
 ghost use Rattle.cached_files.specs.Present.{IsKept, IsSameButClean, filled, present};
 
+use crate::copies::push_copies;
 use crate::kept::Kept;
 use fs_model::{BLOCK_SIZE, Backing, Inode, StoreFault};
 use std::alloc::{AllocError, Global};
@@ -62,16 +63,17 @@ pub fn size<B: Backing>(
     match kept.inodes.get(ino) {
         Some(_) => Ok(inode.size),
         None => {
-            let end = blocks_end(backing, ino)?;
-            Ok(inode.size.max(end))
+            let size = end_past(backing, ino, inode.size)?;
+            Ok(size)
         }
     }
 }
 
-// Where the last block of an inode ends in the backing.
-fn blocks_end<B: Backing>(backing: &mut B, ino: u32) -> Result<u64, StoreFault>
+// Where the last block of an inode ends in the backing, or this size, whichever is greater. The block isn't read if it can't end
+// past that size.
+fn end_past<B: Backing>(backing: &mut B, ino: u32, size: u64) -> Result<u64, StoreFault>
     requires { IsProper (B.state backing.old).tree }
-    ensures end { IfOk result (λ end. end ≡ blocks_end (B.state backing.old).tree.blocks ino) }
+    ensures end { IfOk result (λ end. end ≡ max size (blocks_end (B.state backing.old).tree.blocks ino)) }
     ensures reads { Reads (B.state backing.old) (B.state backing.new) }
     ensures goes { Goes 0 (B.state backing.old) (B.state backing.new) }
     ensures cause { HasCause (B.state backing.old) (B.state backing.new) result }
@@ -80,11 +82,15 @@ fn blocks_end<B: Backing>(backing: &mut B, ino: u32) -> Result<u64, StoreFault>
 {
     match backing.last_block(ino)? {
         Some(block) => {
+            let start = BLOCK_SIZE * block as u64;
+            if start + BLOCK_SIZE <= size {
+                return Ok(size);
+            }
             let mut page = [0; 4096];
             let stored = backing.read_block(ino, block, &mut page)?;
-            Ok(BLOCK_SIZE * block as u64 + stored as u64)
+            Ok(size.max(start + stored as u64))
         }
-        None => Ok(0),
+        None => Ok(size),
     }
 }
 
@@ -281,7 +287,6 @@ fn push_piece(bytes: &[u8], from: usize, count: usize, out: &mut Vec<u8>) -> Res
     let start = from.min(bytes.len());
     let end = (from + count).min(bytes.len());
     out.extend_from_slice(&bytes[start..end])?;
-    let len = out.len() + (count - (end - start));
-    out.resize(len, 0)?;
+    push_copies(out, 0, count - (end - start))?;
     Ok(())
 }

@@ -6,6 +6,7 @@ ghost use Rattle.fs_model.specs.Files.{overlaid, page_written, pages_of};
 ghost use Rattle.cached_files.specs.Calls.{SureGoes};
 ghost use Rattle.cached_files.specs.Present.{IsKept, present};
 
+use crate::copies::push_copies;
 use crate::kept::Kept;
 use crate::reads::read_page;
 use fs_model::{BLOCK_SIZE, Backing, StoreFault};
@@ -75,8 +76,9 @@ fn written_page<B: Backing>(
     let start = BLOCK_SIZE * page as u64;
     let from = offs.saturating_sub(start) as usize;
     let to = (offs + n as u64 - start).min(BLOCK_SIZE) as usize;
-    if to - from == 4096 {
-        let whole = overlay(alloc, &[], from, to, byte)?;
+    let count = to - from;
+    if count == 4096 {
+        let whole = vec![in alloc; byte; count]?;
         return Ok(Bytes::from_vec(whole));
     }
     let mut old = [0; 4096];
@@ -99,8 +101,8 @@ fn overlay(
 {
     let mut new = Vec::with_capacity(alloc, old.len().max(to))?;
     new.extend_from_slice(&old[..from.min(old.len())])?;
-    new.resize(from, 0)?;
-    new.resize(to, byte)?;
+    push_copies(&mut new, 0, from.saturating_sub(old.len()))?;
+    push_copies(&mut new, byte, to - from)?;
     if to < old.len() {
         new.extend_from_slice(&old[to..])?;
     }

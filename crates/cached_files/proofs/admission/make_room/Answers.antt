@@ -1,4 +1,4 @@
-use Rattle.std.proofs.Common.{◌+◌, ◌*◌, ◌∙◌, arith, length, rules}
+use Rattle.std.proofs.Common.{◌+◌, ◌*◌, arith, length, rules}
 use Rattle.cached_files.proofs.Cutting.{nothing_then}
 use Rattle.cached_files.proofs.Growing.{none_put}
 use Rattle.cached_files.proofs.MakingRoom.{on_ok, all_put}
@@ -9,10 +9,9 @@ pub returns-clause-goes : goal.returns-clause-goes
 returns-clause-goes g c =
     let old = g.B.Backing.state c.args.backing.now in
     let put = g.B.Backing.state c.write_back.new.backing in
-    let synced = g.B.Backing.state c.sync_all.new.backing in
     let new = g.B.Backing.state c.commit.new.backing in
     let n = 2 * length c.args.kept.now.pages.dirty in
-    Goes-within (n + 0 + 0) n old new (omega arith) (Goes-then (n + 0) 0 old synced new (Goes-then n 0 old put synced c.write_back.ensures.goes c.sync_all.ensures.goes) c.commit.ensures.goes)
+    Goes-within (n + 0) n old new (omega arith) (Goes-then n 0 old put new c.write_back.ensures.goes c.commit.ensures.goes)
 
 pub returns-clause-room : goal.returns-clause-room
 returns-clause-room g c =
@@ -21,42 +20,16 @@ returns-clause-room g c =
     let new = g.B.Backing.state c.commit.new.backing in
     on_ok c.commit.result (λ done.
     all_put old put new c.args.kept.now c.write_back.new.kept done c.write_back.ensures.same c.in_ok-write_back.ensures.pages c.in_ok-write_back.ensures.inodes
-    (c.commit.ensures.files.tree ∙ c.sync_all.ensures.files.tree) (c.commit.ensures.files.credits ∙ c.sync_all.ensures.files.credits) c.write_back.ensures.issued
+    c.commit.ensures.files.tree c.commit.ensures.files.credits c.write_back.ensures.issued
     (g.met.B.Backing.used c.commit.new.backing) (g.met.B.Backing.main c.commit.new.backing) (returns-clause-goes g c)) c.commit.ensures.done
 
 pub returns-clause-closed : goal.returns-clause-closed
-returns-clause-closed g c =
-    let put = c.write_back.ensures.closed in
-    let synced = c.sync_all.ensures.files.closed in
-    let done = c.commit.ensures.files.closed in
-    omega (arith, put, synced, done)
-
-pub returns-in_err-sync_all-clause-grows : goal.returns-in_err-sync_all-clause-grows
-returns-in_err-sync_all-clause-grows g c =
-    let f = none_put 2 (g.B.Backing.state c.args.backing.now) (g.B.Backing.state c.write_back.new.backing) (g.B.Backing.state c.sync_all.new.backing) c.args.kept.now c.write_back.new.kept c.in_ok-write_back.ensures.grows c.sync_all.ensures.goes in
-    search (rules, f)
+returns-clause-closed g c = let put = c.write_back.ensures.closed in let done = c.commit.ensures.files.closed in omega (arith, put, done)
 
 pub returns-clause-grows : goal.returns-clause-grows
 returns-clause-grows g c =
-    let put = g.B.Backing.state c.write_back.new.backing in
-    let synced = g.B.Backing.state c.sync_all.new.backing in
-    let new = g.B.Backing.state c.commit.new.backing in
-    none_put _ (g.B.Backing.state c.args.backing.now) put new c.args.kept.now c.write_back.new.kept c.in_ok-write_back.ensures.grows (Goes-then 0 0 put synced new c.sync_all.ensures.goes c.commit.ensures.goes)
-
-pub returns-in_err-sync_all-clause-cut : goal.returns-in_err-sync_all-clause-cut
-returns-in_err-sync_all-clause-cut g c =
-    nothing_then (g.B.Backing.state c.args.backing.now) (g.B.Backing.state c.write_back.new.backing) (g.B.Backing.state c.sync_all.new.backing) c.args.kept.now c.write_back.ensures.cut c.sync_all.ensures.cut
+    none_put _ (g.B.Backing.state c.args.backing.now) (g.B.Backing.state c.write_back.new.backing) (g.B.Backing.state c.commit.new.backing) c.args.kept.now c.write_back.new.kept c.in_ok-write_back.ensures.grows c.commit.ensures.goes
 
 pub returns-clause-cut : goal.returns-clause-cut
 returns-clause-cut g c =
-    let old = g.B.Backing.state c.args.backing.now in
-    let put = g.B.Backing.state c.write_back.new.backing in
-    let synced = g.B.Backing.state c.sync_all.new.backing in
-    nothing_then old synced (g.B.Backing.state c.commit.new.backing) c.args.kept.now (nothing_then old put synced c.args.kept.now c.write_back.ensures.cut c.sync_all.ensures.cut) c.commit.ensures.cut
-
-pub returns-in_err-sync_all-clause-goes : goal.returns-in_err-sync_all-clause-goes
-returns-in_err-sync_all-clause-goes g c =
-    let old = g.B.Backing.state c.args.backing.now in
-    let synced = g.B.Backing.state c.sync_all.new.backing in
-    let n = 2 * length c.args.kept.now.pages.dirty in
-    Goes-within (n + 0) n old synced (omega arith) (Goes-then n 0 old (g.B.Backing.state c.write_back.new.backing) synced c.write_back.ensures.goes c.sync_all.ensures.goes)
+    nothing_then (g.B.Backing.state c.args.backing.now) (g.B.Backing.state c.write_back.new.backing) (g.B.Backing.state c.commit.new.backing) c.args.kept.now c.write_back.ensures.cut c.commit.ensures.cut
