@@ -32,7 +32,7 @@ use vfs_plans::inode;
 /// Writes so many copies of a byte into an open file of a caller, from a place on, at this moment (pwrite(2)). `grant` is
 /// how many credits the caller brings, which the backing covers beside those of dirty pages; the number that is answered
 /// is what is left of them. A page that wasn't dirty takes a credit, and where the caller's are too few the rest is asked
-/// for. Where the rest isn't covered as the backing is, all dirty pages are put, synced and committed, and what the write
+/// for. Where the rest isn't covered as the backing is, all dirty pages are put, a commit ends, and what the write
 /// lacks then is asked for once more. The pages that are written are only dirty, and nothing of them is put. A refusal is
 /// the definition's, or tells that there is no room for the credits, or that the backing failed; the files are then as they
 /// were, and the caller has its credits still.
@@ -129,10 +129,10 @@ fn write_some<B: Backing>(
     ensures sure { SureGoes (B.outlook backing.old) (B.outlook backing.new) (B.state backing.old) (B.state backing.new) }
 {
     written_files_stay_alike();
-    let have = cover(alloc, backing, kept, ino, grant, offs, len)?;
-    let taken = newly(kept, ino, offs, len);
+    let touched = newly(kept, ino, offs, len);
+    let have = cover(alloc, backing, kept, ino, grant, offs, len, touched)?;
     match write_covered(alloc, backing, kept, ino, now, offs, len, byte) {
-        Ok(()) => Ok(have - taken),
+        Ok(()) => Ok(grant.saturating_sub(touched)),
         Err(refusal) => {
             backing.give_back(have - grant);
             Err(refusal)
@@ -140,7 +140,7 @@ fn write_some<B: Backing>(
     }
 }
 
-// Covers what a write lacks, and answers how many credits it has then.
+// Covers what a write lacks, which newly touches so many pages, and answers how many credits it has then.
 fn cover<B: Backing>(
     alloc: Global,
     backing: &mut B,
@@ -149,9 +149,11 @@ fn cover<B: Backing>(
     grant: u64,
     offs: u64,
     len: u32,
+    touched: u64,
 ) -> Result<u64, Refusal>
     requires kept { IsKept (B.state backing.old).tree kept.old }
     requires paid { length kept.old.pages.dirty + grant ≤ (B.state backing.old).space.credits }
+    requires touched { touched ≡ newly_dirty kept.old.pages.dirty ino offs len }
     requires some { 0 < len }
     requires few { len ≤ 65536 }
     requires range { offs + len ≤ 2 ^ 41 }
@@ -171,7 +173,7 @@ fn cover<B: Backing>(
     ensures goes { Goes (2 * length kept.old.pages.dirty) (B.state backing.old) (B.state backing.new) }
     ensures sure { SureGoes (B.outlook backing.old) (B.outlook backing.new) (B.state backing.old) (B.state backing.new) }
 {
-    let lacking = newly(kept, ino, offs, len).saturating_sub(grant);
+    let lacking = touched.saturating_sub(grant);
     if lacking == 0 {
         return Ok(grant);
     }

@@ -1,3 +1,4 @@
+pub mod FewLinks
 pub mod Plans
 pub mod Sizes
 pub mod Walking

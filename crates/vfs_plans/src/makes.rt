@@ -11,7 +11,7 @@ use crate::faults::or_memory;
 use crate::lookups::{entries, entry, inode};
 use crate::place::Place;
 use crate::walks::place_of;
-use cached_files::Kept;
+use cached_files::{Kept, present_files_are_sound};
 use fs_model::{Backing, Group, Inode, Kind, Refusal, Reply, Table};
 use op_plans::{
     Parent, dir_links, has_long_name, is_bad_mode, is_bad_target, is_linked_out, is_name_path,
@@ -119,13 +119,15 @@ pub fn made<B: Backing>(
     Ok((Reply::Ino { ino: highest + 1 }, group))
 }
 
-/// Whether a directory comes into one that has no link left for it.
+/// Whether a directory comes into one that has no link left for it. Each directory has one name, so none has more links
+/// than there are inode numbers, and its entries are listed only where these could be enough.
 pub(crate) fn is_full<B: Backing>(
     backing: &mut B,
     kept: &Kept,
     dir: u32,
     kind: Kind,
 ) -> Result<bool, Refusal>
+    requires kept { IsKept (B.state backing.old).tree kept.now }
     ensures found { IfOk result (λ full. full ≡ (is_dir kind && is_linked_out (dir_links (present (B.state backing.old).tree kept.now).tree dir))) }
     ensures refused { IfErr result (IsFault (B.state backing.old) (B.state backing.new)) }
     ensures looks { Looks (B.outlook backing.old) (B.outlook backing.new) (B.state backing.old) (B.state backing.new) }
@@ -133,6 +135,11 @@ pub(crate) fn is_full<B: Backing>(
     match kind {
         Kind::Dir => {}
         _ => return Ok(false),
+    }
+    present_files_are_sound();
+    let highest = backing.highest();
+    if highest < 64997 {
+        return Ok(false);
     }
     let entries = entries(backing, kept, dir)?;
     Ok(is_linked_out(dir_links(&entries)))

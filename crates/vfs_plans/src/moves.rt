@@ -2,9 +2,7 @@
 
 ghost use Rattle.std.specs.Prelude.{◌≡◌, Some, None, Ok, IfOk, IfErr};
 ghost use Rattle.std.specs.Option.{option_to_list};
-ghost use Rattle.fs_model.specs.declared.refusal.Refusal.TheVariants.{Enomem};
-ghost use Rattle.fs_model.specs.Path.{components};
-ghost use Rattle.fs_model.specs.Rename.{comes_linked_out, is_under, moved, moving, renamed};
+ghost use Rattle.fs_model.specs.Rename.{comes_linked_out, moved, moving, renamed};
 ghost use Rattle.cached_files.specs.Present.{present, IsKept};
 ghost use Rattle.vfs_plans.specs.Answers.{IsFault, IsRefused, Looks};
 
@@ -13,7 +11,7 @@ use crate::kinds::is_dir;
 use crate::lookups::{entry, inode, is_filled};
 use crate::makes::is_full;
 use crate::place::Place;
-use crate::walks::{place_of, walked};
+use crate::walks::{placed, walk};
 use cached_files::Kept;
 use fs_model::{Backing, Change, Entry, Group, Refusal, Reply};
 use op_plans::{Parent, components, has_long_name, is_name_path, is_under, losing, moving};
@@ -40,24 +38,17 @@ pub fn renamed<B: Backing>(
     if has_long_name(old) || has_long_name(new) {
         return Err(Refusal::Enametoolong);
     }
-    let from = walked(alloc, backing, kept, old)?;
-    let place = place_of(alloc, backing, kept, new)?;
-    if lies_under(alloc, old, new)? {
+    let old_names = or_memory(components(alloc, old))?;
+    let new_names = or_memory(components(alloc, new))?;
+    let under = is_under(&old_names, &new_names);
+    let from = walk(alloc, backing, kept, &old_names)?;
+    let place = placed(alloc, backing, kept, new_names)?;
+    if under {
         return Err(Refusal::Einval);
     }
     let over = entry(backing, kept, place.parent.ino, &place.name)?;
     let plan = moved(alloc, backing, kept, now, from, place, over)?;
     Ok(plan)
-}
-
-// Whether the second path lies under the first.
-fn lies_under(alloc: Global, old: &Name, new: &Name) -> Result<bool, Refusal>
-    ensures found { IfOk result (λ under. under ≡ is_under (components old.now) (components new.now)) }
-    ensures memory { IfErr result (λ refusal. refusal ≡ Enomem) }
-{
-    let old = or_memory(components(alloc, old))?;
-    let new = or_memory(components(alloc, new))?;
-    Ok(is_under(&old, &new))
 }
 
 // The group that moves an entry to a place, over what stands there.
@@ -146,6 +137,7 @@ fn comes_linked_out<B: Backing>(
     from: &Entry,
     dir: u32,
 ) -> Result<bool, Refusal>
+    requires kept { IsKept (B.state backing.old).tree kept.now }
     ensures found { IfOk result (λ full. full ≡ comes_linked_out (present (B.state backing.old).tree kept.now) from.now dir) }
     ensures refused { IfErr result (IsFault (B.state backing.old) (B.state backing.new)) }
     ensures looks { Looks (B.outlook backing.old) (B.outlook backing.new) (B.state backing.old) (B.state backing.new) }

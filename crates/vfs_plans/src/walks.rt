@@ -1,7 +1,7 @@
 // Paths are walked.
 
 ghost use Rattle.std.specs.Prelude.{◌≡◌, ◌⊎◌, Ok, Err, IfOk, IfErr};
-ghost use Rattle.fs_model.specs.Path.{child, components, last_of, only_dir, parent_of, reached, root_entry, walked};
+ghost use Rattle.fs_model.specs.Path.{child, components, front_of, last_of, only_dir, parent_of, reached, root_entry, walked};
 ghost use Rattle.cached_files.specs.Present.{present};
 ghost use Rattle.vfs_plans.specs.Answers.{IsRefused, Looks};
 
@@ -78,7 +78,22 @@ pub(crate) fn place_of<B: Backing>(
     ensures refused { IfErr result (IsRefused (B.state backing.old) (B.state backing.new) (parent_of (present (B.state backing.old).tree kept.now).tree path.now)) }
     ensures looks { Looks (B.outlook backing.old) (B.outlook backing.new) (B.state backing.old) (B.state backing.new) }
 {
-    let mut names = or_memory(components(alloc, path))?;
+    let names = or_memory(components(alloc, path))?;
+    placed(alloc, backing, kept, names)
+}
+
+/// The place to which components lead: the directory in which the last one stands, and that one.
+pub(crate) fn placed<B: Backing>(
+    alloc: Global,
+    backing: &mut B,
+    kept: &Kept,
+    mut names: Vec<Name>,
+) -> Result<Place, Refusal>
+    ensures found { IfOk result (λ place. only_dir (reached (present (B.state backing.old).tree kept.now).tree (Ok root_entry) (front_of names.items)) ≡ Ok place.parent) }
+    ensures last { IfOk result (λ place. place.name ≡ last_of names.items) }
+    ensures refused { IfErr result (IsRefused (B.state backing.old) (B.state backing.new) (only_dir (reached (present (B.state backing.old).tree kept.now).tree (Ok root_entry) (front_of names.items)))) }
+    ensures looks { Looks (B.outlook backing.old) (B.outlook backing.new) (B.state backing.old) (B.state backing.new) }
+{
     let name = pop_last(&mut names).unwrap_or(Name::from_vec(Vec::new(alloc)));
     let parent = parent_of(alloc, backing, kept, &names)?;
     Ok(Place { parent, name })

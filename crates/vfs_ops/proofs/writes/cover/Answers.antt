@@ -11,18 +11,18 @@ use Rattle.vfs_ops.proofs.writes.cover.Goals as goal
 
 pub admit-requires-clause-modest : goal.admit-requires-clause-modest
 admit-requires-clause-modest g c =
-    modest_need c.args.kept.now.pages.dirty c.args.ino c.args.offs c.args.len c.args.grant c.newly.result c.saturating_sub-lacking.result c.credits_need.result c.requires.few c.newly.ensures c.saturating_sub-lacking.ensures c.credits_need.ensures
+    modest_need c.args.kept.now.pages.dirty c.args.ino c.args.offs c.args.len c.args.grant c.args.touched c.saturating_sub-lacking.result c.credits_need.result c.requires.few c.requires.touched c.saturating_sub-lacking.ensures c.credits_need.ensures
 
 pub returns-then-lacking-eq0-clause-admitted : goal.returns-then-lacking-eq0-clause-admitted
 returns-then-lacking-eq0-clause-admitted g c =
     let none = c.if-lacking-eq0.true in
     let less = c.saturating_sub-lacking.ensures in
-    let counted = c.newly.ensures in
+    let counted = c.requires.touched in
     inl (omega (arith, none, less, counted))
 
 pub returns-in-Ok-clause-admitted : goal.returns-in-Ok-clause-admitted
 returns-in-Ok-clause-admitted g c =
-    let asks = c.credits_need.ensures ∙ ap (λ n. credits_need n) (c.saturating_sub-lacking.ensures ∙ ap (λ n. n - c.args.grant) c.newly.ensures) in
+    let asks = c.credits_need.ensures ∙ ap (λ n. credits_need n) (c.saturating_sub-lacking.ensures ∙ ap (λ n. n - c.args.grant) c.requires.touched) in
     inr (inl (subst (λ need. HasGroupRoom (g.B.Backing.state c.args.backing.now) need) asks (c.in-Ok.ensures.covered.0 refl)))
 
 pub returns-in-Err-clause-admitted : goal.returns-in-Err-clause-admitted

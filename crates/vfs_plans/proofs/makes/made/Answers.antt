@@ -1,9 +1,12 @@
 use Rattle.std.proofs.Common.{◌≡◌, rules, sym, ap, subst, ◌∙◌}
-use Rattle.cached_files.specs.Present.{present}
+use Rattle.cached_files.specs.Present.{IsKept, present}
 use Rattle.fs_model.specs.Files.{inode_at}
 use Rattle.vfs_plans.proofs.Walking.{looks_on}
 use Rattle.vfs_plans.proofs.Plans.{made_is, tree_on}
 use Rattle.vfs_plans.proofs.makes.made.Goals as goal
+
+pub is_full-requires : goal.is_full-requires
+is_full-requires g c = record { kept = subst (λ t. IsKept t c.args.kept.now) (sym (tree_on (looks_on c.place_of.ensures.looks c.entry.ensures.looks))) c.requires.kept }
 
 pub returns-in_err-entry-clause-looks : goal.returns-in_err-entry-clause-looks
 returns-in_err-entry-clause-looks g c = looks_on c.place_of.ensures.looks c.entry.ensures.looks
