@@ -12,7 +12,6 @@ use Rattle.fs_model.specs.declared.refusal.Refusal.TheVariants.{Enomem}
 use Rattle.fs_model.specs.declared.trace.TraceLine.{TraceLine}
 use Rattle.fs_model.specs.Backing.{BackingState}
 use Rattle.cached_files.specs.declared.kept.Kept.{Kept}
-use Rattle.page_cache.specs.Pages.{is_page}
 use Rattle.vfs_ops.specs.declared.event.Event.{Event}
 use Rattle.vfs_ops.specs.declared.event.Event.TheVariants.{Call, Pick, Put}
 use Rattle.vfs_ops.specs.declared.event.Outcome.{Outcome}
@@ -59,11 +58,15 @@ line_flushes p ReadWrite caller now grant op reply told left before is synced ex
     by Flush Done flush is_done h = done flush is_done
     by o r op_is told_is h = asked (ap (λ (x : Op). before && is_question x) op_is ∙ h)
 
+no_entries : {K V : Type 0} (p : K → Bool) (entries : List (K × V)) → entries ≡ [] → remove_entry p entries ≡ []
+no_entries p [] none = refl
+no_entries p (e ∷ es) none = absurd cc
+
 -- work between lines makes no page dirty
 pub work_flushes : (old new : FilesState) (event : Event) (outcome : Outcome) → IsMade old new event outcome → old.kept.pages.dirty ≡ [] → new.kept.pages.dirty ≡ []
 work_flushes old new Pick outcome made none = ap (λ (x : FilesState). x.kept.pages.dirty) made.1 ∙ none
 work_flushes old new (Put shown) PutDone made none =
-    ap (λ (k : Kept). k.pages.dirty) made.clean ∙ ap (remove_entry (is_page (shown.ino, shown.block))) none
+    ap (λ (k : Kept). k.pages.dirty) made.clean ∙ no_entries _ old.kept.pages.dirty none
 work_flushes old new (Put shown) (Stale kept now) made none = ap (λ (k : Kept). k.pages.dirty) made.pages ∙ none
 work_flushes old new (Put shown) (Fault why) made none = ap (λ (k : Kept). k.pages.dirty) made.pages ∙ none
 work_flushes old new (Put shown) outcome made none = absurd made

@@ -199,15 +199,15 @@ told_overfull opening place s refusal laws h r told full =
     }
 
 -- what an operation asks for, with credits for a write's pages beside its grant
-abbrev IsAsked : ℕ → Op → Need → Need → Type 0
-IsAsked grant op need plain = (need.bytes ≡ plain.bytes) × (need.nodes ≡ plain.nodes) × (need.class ≡ plain.class) × (grant ≤ pages_in op → need.credits + grant ≤ pages_in op)
+abbrev AsksAs : ℕ → Op → Need → Need → Type 0
+AsksAs grant op need plain = (need.bytes ≡ plain.bytes) × (need.nodes ≡ plain.nodes) × (need.class ≡ plain.class) × (grant ≤ pages_in op → need.credits + grant ≤ pages_in op)
 
 cut_credits : (group : List Change) → (truncation_need group).credits ≡ 0
 cut_credits [] = refl
 cut_credits (set ∷ []) = refl
 cut_credits (set ∷ cut ∷ rest) = refl
 
-asked_is : (files : Files) (caller now grant : ℕ) (op : Op) → IsAsked grant op (asked files caller now grant op) (need_of files caller now op)
+asked_is : (files : Files) (caller now grant : ℕ) (op : Op) → AsksAs grant op (asked files caller now grant op) (need_of files caller now op)
 asked_is files caller now grant (Write slot offs len byte) = (refl, refl, refl, λ le. omega (arith, le))
 asked_is files caller now grant (Truncate slot size) = let none = cut_credits (group_of files caller now (Truncate slot size)) in (refl, refl, refl, λ le. omega (arith, le, none))
 asked_is files caller now grant op = (refl, refl, refl, λ le. omega (arith, le))

@@ -53,9 +53,9 @@ abbrev pub IsUnfailed : Reply → Type 0
 IsUnfailed reply = (count : ℕ) → reply ≡ Refused (Eio count) → ⊥
 
 none_added : (done failed : ℕ) (reply : Reply) → done ≡ 0 → IsUnfailed reply → added_by done failed reply ≡ 0
-none_added done failed (Refused (Eio count)) none no = absurd (no count refl)
-none_added done failed (Refused refusal) none no = refl
-none_added done failed reply none no = none
+none_added done failed (Refused (Eio count)) none whole = absurd (whole count refl)
+none_added done failed (Refused refusal) none whole = refl
+none_added done failed reply none whole = none
 
 -- a line that tells of a fault of the volume is answered by a store that is read-only
 line_failed : (opening : Opening) (mode : Mode) (place : Place) (line : TraceLine) (after : Files) → AreLaws → IsSound place.files → IsPlain place mode line after ⊎ IsRefused opening place mode line after → mode ≡ ReadWrite → IsUnfailed line.reply
@@ -63,9 +63,9 @@ line_failed opening mode place line after laws sound (inl plain) is count told =
   where
     by : (o : Outcome) → outcome_of place.files line.caller line.now line.op ≡ o → ⊥
     by (Ok (reply, left)) e =
-        let no = laws.told place.files line.caller line.now line.op reply left sound e in
+        let plainly = laws.told place.files line.caller line.now line.op reply left sound e in
         let same : reply ≡ Refused (Eio count) = sym (plain.told ∙ ap reply_in e) ∙ told in
-        false≢true (sym no ∙ ap is_refusal same)
+        false≢true (sym plainly ∙ ap is_refusal same)
     by (Err refusal) e =
         let early = laws.early place.files line.caller line.now line.op refusal e in
         let same : Refused refusal ≡ Refused (Eio count) = sym (plain.told ∙ ap reply_in e) ∙ told in
@@ -86,7 +86,7 @@ unfailed opening place s laws sound entry was is = by entry.one
 
 -- a call makes the index no heavier than its operation may
 pub call_grows : (opening : Opening) (s : Stepped) → AreLaws → IsMadeCall opening s → IsUnfailed s.line.reply → full_weight s.new.backing s.new.kept ≤ full_weight s.old.backing s.old.kept + grown_by s.line.op
-call_grows opening s laws h no = by (is_write s.line.op || has_group s.line.op) refl
+call_grows opening s laws h whole = by (is_write s.line.op || has_group s.line.op) refl
   where
     by : (b : Bool) → (is_write s.line.op || has_group s.line.op) ≡ b → full_weight s.new.backing s.new.kept ≤ full_weight s.old.backing s.old.kept + grown_by s.line.op
     by true e =
@@ -98,6 +98,6 @@ call_grows opening s laws h no = by (is_write s.line.op || has_group s.line.op) 
         let asked = none.0 in
         let touched = none.1 in
         let done : 2 * pages_in s.line.op + nodes_asked (present_in s.old) s.line.caller s.line.now s.line.op ≡ 0 = omega (arith, asked, touched) in
-        let added = none_added (2 * pages_in s.line.op + nodes_asked (present_in s.old) s.line.caller s.line.now s.line.op) (max 2 (nodes_asked (present_in s.old) s.line.caller s.line.now s.line.op)) s.line.reply done no in
+        let added = none_added (2 * pages_in s.line.op + nodes_asked (present_in s.old) s.line.caller s.line.now s.line.op) (max 2 (nodes_asked (present_in s.old) s.line.caller s.line.now s.line.op)) s.line.reply done whole in
         let weighed = h.step.weighed in
         omega (arith, weighed, added)
