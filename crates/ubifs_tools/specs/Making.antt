@@ -26,7 +26,7 @@ use Rattle.ubifs_tools.specs.declared.mkfs.Copied.TheVariants as copied
 use Rattle.ubifs_tools.specs.declared.mkfs.Filled.{Filled}
 use Rattle.ubifs_tools.specs.declared.mkfs.Filled.TheVariants as filled
 use Rattle.ubifs_tools.specs.declared.mkfs.MadeVolume.{MadeVolume}
-use Rattle.ubifs_tools.specs.declared.mkfs.MadeVolume.TheVariants as volume
+use Rattle.ubifs_tools.specs.declared.mkfs.MadeVolume.TheVariants as on_volume
 use Rattle.ubifs_tools.specs.declared.perform.Performed.{Performed}
 use Rattle.ubifs_tools.specs.declared.perform.Performed.TheVariants as performed
 
@@ -70,13 +70,13 @@ pub record HasNoImage (files : KeeperState) (text line : List ℕ) : Type 0 wher
 
 -- An image of a tree was made, and the line tells how many LEBs it has; or admission refuses the tree.
 abbrev pub IsImageMade : RawGeometry → Tree → MadeVolume → Type 0
-IsImageMade geo tree (volume.BadGeometry line) = IsTooFull geo tree line.items
-IsImageMade geo tree (volume.Done told made) = IsAdmitted geo tree × IsToldImage geo tree told.items (volume_image made)
+IsImageMade geo tree (on_volume.BadGeometry line) = IsTooFull geo tree line.items
+IsImageMade geo tree (on_volume.Done told made) = IsAdmitted geo tree × IsToldImage geo tree told.items (volume_image made)
 
 -- An image of a tree was made on a volume with no LEB to spare, and the line tells how many LEBs it has; or that volume has a field out of range.
 abbrev pub IsPackedMade : RawGeometry → Tree → MadeVolume → Type 0
-IsPackedMade geo tree (volume.BadGeometry line) = IsOutOfRange (packed_geometry geo tree) line.items
-IsPackedMade geo tree (volume.Done told made) = IsToldImage (packed_geometry geo tree) tree told.items (volume_image made)
+IsPackedMade geo tree (on_volume.BadGeometry line) = IsOutOfRange (packed_geometry geo tree) line.items
+IsPackedMade geo tree (on_volume.Done told made) = IsToldImage (packed_geometry geo tree) tree told.items (volume_image made)
 
 -- The text is a manifest whose files were read, and an image of its tree was made. If it doesn't say `packed`, it has 24 main LEBs at least, and admission takes the tree.
 pub record IsMadeOf (files : KeeperState) (text told image : List ℕ) : Type 0 where
@@ -105,8 +105,8 @@ IsMkfsMade files text (performed.Done told image) = IsMadeOf files text told.ite
 
 -- the same of the volume that holds the image
 abbrev pub IsVolumeMade : KeeperState → List ℕ → MadeVolume → Type 0
-IsVolumeMade files text (volume.BadGeometry line) = HasNoImage files text line.items
-IsVolumeMade files text (volume.Done told made) = IsMadeOf files text told.items (volume_image made)
+IsVolumeMade files text (on_volume.BadGeometry line) = HasNoImage files text line.items
+IsVolumeMade files text (on_volume.Done told made) = IsMadeOf files text told.items (volume_image made)
 
 -- the image was written, and this is told; or the keeper failed, and the line names the image
 abbrev pub IsWrittenAs : KeeperState → KeeperState → List ℕ → List ℕ → List ℕ → Ended → Type 0
