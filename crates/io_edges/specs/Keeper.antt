@@ -1,5 +1,5 @@
 -- What a keeper's calls promise. Files are a function from the bytes of a name to the bytes of a file, where there is one.
-use Rattle.std.specs.Prelude.{◌≡◌, ◌≤◌, ℕ, Bool, List, Option, Some, Result, Ok, Err}
+use Rattle.std.specs.Prelude.{◌≡◌, ℕ, Bool, List, Option, Some, Result, Ok, Err}
 use Rattle.std.specs.Str.{bytes_eq}
 use Rattle.std.specs.Map.{update}
 use Rattle.ubifs_base.specs.Faults.{IsCause}

@@ -2,8 +2,10 @@
 
 ghost use Rattle.std.specs.Prelude.{◌≡◌, Some, None, IsTrue, IfOk, OnOk, OnErr, IsErrOf};
 ghost use Rattle.io_edges.specs.Keeper.{KeeperState, SameFiles, SetsFile, IsCounted};
+ghost use Rattle.io_edges.specs.Pieces.{bytes_in};
 ghost use Rattle.io_edges.specs.declared.keeper.KeepFault.TheVariants.{Memory};
 
+use crate::Pieces;
 use std::alloc::{AllocError, AllocFailed};
 use thiserror::Error;
 
@@ -52,6 +54,14 @@ pub trait Keeper {
     /// Makes a file, or replaces one as a whole.
     fn write(&mut self, name: &str, bytes: &[u8]) -> Result<(), KeepFault>
         ensures written { OnOk result (IsTrue (state self.old).tells → SetsFile (state self.old) name.now bytes.now (state self.new)) }
+        ensures unwritten { OnErr result (SameFiles (state self.old) (state self.new)) }
+        ensures never_missing { ¬ (IsErrOf result KeepFault.Missing) }
+        ensures telling { (state self.new).tells ≡ (state self.old).tells }
+        ensures counted { IsCounted (state self.old).faults (state self.new).faults result };
+
+    /// Makes a file of all bytes that are given piece by piece, or replaces one as a whole.
+    fn write_pieces<P: Pieces>(&mut self, name: &str, pieces: &mut P) -> Result<(), KeepFault>
+        ensures written { OnOk result (IsTrue (state self.old).tells → SetsFile (state self.old) name.now (bytes_in (P.pieces pieces.old)) (state self.new)) }
         ensures unwritten { OnErr result (SameFiles (state self.old) (state self.new)) }
         ensures never_missing { ¬ (IsErrOf result KeepFault.Missing) }
         ensures telling { (state self.new).tells ≡ (state self.old).tells }

@@ -1,10 +1,13 @@
 // Files in memory.
 
+ghost use Rattle.std.specs.Prelude.{◌≡◌, IfOk};
+ghost use Rattle.io_edges.specs.Pieces.{bytes_in};
+
 use crate::schedule::Schedule;
-use crate::{KeepFault, Keeper};
+use crate::{KeepFault, Keeper, Pieces};
 use std::alloc::Global;
 use std::collections::BTreeMap;
-use ubifs_base::Bytes;
+use ubifs_base::{Bytes, Memory};
 
 /// Files in memory, and the numbers of the calls that fail.
 #[derive(Drop)]
@@ -38,6 +41,7 @@ impl Keeper for MemKeeper {
     ghost use Rattle.io_edges.specs.Counts.{TakesCall};
     ghost use Rattle.io_edges.specs.Keeper.{IsFailed, IsCounted, SameFiles, SetsFile};
     ghost use Rattle.io_edges.specs.MemKeeper.{content_of, calls_of, state_of};
+    ghost use Rattle.io_edges.specs.Pieces.{bytes_in};
 
     ghost state = { state_of };
 
@@ -73,7 +77,39 @@ impl Keeper for MemKeeper {
         Ok(())
     }
 
+    fn write_pieces<P: Pieces>(&mut self, name: &str, pieces: &mut P) -> Result<(), KeepFault>
+        ensures written { OnOk result (SetsFile (state_of self.old) name.now (bytes_in (P.pieces pieces.old)) (state_of self.new)) }
+        ensures unwritten { OnErr result (SameFiles (state_of self.old) (state_of self.new)) }
+        ensures never_missing { ¬ (IsErrOf result KeepFault.Missing) }
+        ensures counted { IsCounted (calls_of self.old).failed (calls_of self.new).failed result }
+        ensures listed { TakesCall (calls_of self.old) (calls_of self.new) (IsFailed result) }
+    {
+        if let Some(count) = self.calls.next_call() {
+            return Err(KeepFault::Failed { count });
+        }
+        let file = String::from_str(self.alloc, name)?;
+        let Ok(bytes) = gathered(self.alloc, pieces) else {
+            return Err(KeepFault::Memory);
+        };
+        self.files.insert(file, Bytes::from_vec(bytes))?;
+        Ok(())
+    }
+
     fn faults(&self) -> u64 {
         self.calls.failed()
     }
+}
+
+// All bytes that are given piece by piece.
+fn gathered<P: Pieces>(alloc: Global, pieces: &mut P) -> Result<Vec<u8>, Memory>
+    ensures { IfOk result (λ bytes. bytes.items ≡ bytes_in (P.pieces pieces.old)) }
+{
+    let mut piece = vec![in alloc; 0; pieces.size() as usize]?;
+    let mut bytes = Vec::new(alloc);
+    let count = pieces.count();
+    for number in 0..count {
+        pieces.read(number, &mut piece)?;
+        bytes.extend_from_slice(&piece)?;
+    }
+    Ok(bytes)
 }

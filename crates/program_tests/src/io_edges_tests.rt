@@ -6,7 +6,9 @@ ghost use Rattle.std.specs.Map.{update};
 ghost use Rattle.ubifs_base.specs.Faults.{Rose};
 ghost use Rattle.io_edges.specs.declared.keeper.KeepFault.TheVariants.{Missing};
 
-use io_edges::{FileKeeper, KeepFault, Keeper, MemKeeper, MemSink, OutSink, Sink, SinkFault};
+use io_edges::{
+    FileKeeper, KeepFault, Keeper, MemKeeper, MemSink, OutSink, Pieces, Sink, SinkFault,
+};
 use std::alloc::Global;
 use std::collections::BTreeMap;
 use std::path::PathBuf;
@@ -48,6 +50,37 @@ fn is_written_and_read_back<K: Keeper>(keeper: &mut K, name: &str) -> Result<boo
     Ok(bytes.as_slice() == b"whole".as_slice() && keeper.faults() == 0)
 }
 
+// Three pieces, each of two bytes, which are its number.
+#[derive(Drop)]
+struct Steps {}
+
+impl Pieces for Steps {
+    ghost use Rattle.std.specs.Prelude.{replicate};
+
+    ghost pieces = { λ _. record { count = 3; size = 2; piece = λ k. replicate 2 k } };
+
+    fn count(&self) -> u32 {
+        3
+    }
+
+    fn size(&self) -> u32 {
+        2
+    }
+
+    fn read(&mut self, number: u32, out: &mut [u8]) -> Result<(), Memory> {
+        out.fill(number as u8);
+        Ok(())
+    }
+}
+
+// Whether a file that is written piece by piece over a longer one has these bytes alone, and no call fails.
+fn is_written_in_pieces<K: Keeper>(keeper: &mut K, name: &str) -> Result<bool, KeepFault> {
+    keeper.write(name, b"longer than all pieces")?;
+    keeper.write_pieces(name, &mut Steps {})?;
+    let bytes = keeper.read(name)?;
+    Ok(bytes.as_slice() == b"\0\0\x01\x01\x02\x02".as_slice() && keeper.faults() == 0)
+}
+
 // The name of a file in a folder.
 fn name_in(alloc: Global, mut folder: PathBuf) -> Result<String, Fail> {
     folder.push("ubifs-io-edges-test")?;
@@ -62,12 +95,11 @@ fn host_file_is_written_and_read_back(rt: HostRuntime) -> Result<(), Fail> {
     let name = name_in(rt.alloc(), env::temp_dir(&rt)?)?;
     let mut keeper = FileKeeper::new(rt.alloc(), rt.clone()?);
     let written = is_written_and_read_back(&mut keeper, &name);
+    let pieces = is_written_in_pieces(&mut keeper, &name);
     fs::remove_file(&rt, &name)?;
     let missing = keeper.read(&name).err();
-    assert_eq!(rt;
-        (written, missing, keeper.faults()),
-        (Ok(true), Some(KeepFault::Failed { count: 1 }), 1)
-    );
+    assert_eq!(rt; (written, pieces), (Ok(true), Ok(true)));
+    assert_eq!(rt; (missing, keeper.faults()), (Some(KeepFault::Failed { count: 1 }), 1));
     Ok(())
 }
 
@@ -116,4 +148,17 @@ fn is_published(alloc: Global) -> Result<bool, Memory> {
 #[test]
 fn memory_is_published(rt: HostRuntime) {
     assert_eq!(rt; is_published(rt.alloc()), Ok(true));
+}
+
+// The same of a keeper in memory, whose fourth call fails.
+fn takes_pieces(alloc: Global) -> Result<bool, Memory> {
+    let mut keeper = one_file(alloc)?;
+    let written = is_written_in_pieces(&mut keeper, "a");
+    let failed = keeper.write_pieces("a", &mut Steps {}).err();
+    Ok(written == Ok(true) && failed == Some(KeepFault::Failed { count: 1 }))
+}
+
+#[test]
+fn memory_takes_pieces(rt: HostRuntime) {
+    assert_eq!(rt; takes_pieces(rt.alloc()), Ok(true));
 }

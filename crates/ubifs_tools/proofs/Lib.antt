@@ -5,3 +5,4 @@ pub mod Making
 pub mod Performing
 pub mod Readings
 pub mod Sequel
+pub mod MadeImages

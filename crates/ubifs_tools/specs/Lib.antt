@@ -6,3 +6,4 @@ pub mod Performed
 pub mod Copies
 pub mod Making
 pub mod RunCommand
+pub mod Pieces

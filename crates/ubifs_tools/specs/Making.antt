@@ -17,6 +17,7 @@ use Rattle.image_report.specs.Lebs.{AreLebsOf}
 use Rattle.whole_image.specs.Made.{IsMadeImage, packed_geometry}
 use Rattle.io_edges.specs.Keeper.{KeeperState, SameFiles, SetsFile}
 use Rattle.ubifs_tools.specs.Copies.{CopiesFile, IsFilledManifest, IsUnfilled}
+use Rattle.ubifs_tools.specs.Pieces.{volume_image}
 use Rattle.ubifs_tools.specs.Command.{IsMissing, Told, bad_line, field_name, file_line, geometry_of, no_identifier}
 use Rattle.ubifs_tools.specs.declared.command.Ended.{Ended}
 use Rattle.ubifs_tools.specs.declared.command.Ended.TheVariants.{Unread, BadText, BadGeometry, Done}
@@ -24,6 +25,8 @@ use Rattle.ubifs_tools.specs.declared.mkfs.Copied.{Copied}
 use Rattle.ubifs_tools.specs.declared.mkfs.Copied.TheVariants as copied
 use Rattle.ubifs_tools.specs.declared.mkfs.Filled.{Filled}
 use Rattle.ubifs_tools.specs.declared.mkfs.Filled.TheVariants as filled
+use Rattle.ubifs_tools.specs.declared.mkfs.MadeVolume.{MadeVolume}
+use Rattle.ubifs_tools.specs.declared.mkfs.MadeVolume.TheVariants as on_volume
 use Rattle.ubifs_tools.specs.declared.perform.Performed.{Performed}
 use Rattle.ubifs_tools.specs.declared.perform.Performed.TheVariants as performed
 
@@ -66,14 +69,14 @@ pub record HasNoImage (files : KeeperState) (text line : List ℕ) : Type 0 wher
       ⊎ (IsGeometry (geometry_of volume) × (volume.packed ≡ false) × (24 ≤ volume.main) × IsTooFull (geometry_of volume) tree line)
 
 -- An image of a tree was made, and the line tells how many LEBs it has; or admission refuses the tree.
-abbrev pub IsImageMade : RawGeometry → Tree → Performed → Type 0
-IsImageMade geo tree (performed.BadGeometry line) = IsTooFull geo tree line.items
-IsImageMade geo tree (performed.Done told image) = IsAdmitted geo tree × IsToldImage geo tree told.items image.items
+abbrev pub IsImageMade : RawGeometry → Tree → MadeVolume → Type 0
+IsImageMade geo tree (on_volume.BadGeometry line) = IsTooFull geo tree line.items
+IsImageMade geo tree (on_volume.Done told made) = IsAdmitted geo tree × IsToldImage geo tree told.items (volume_image made)
 
 -- An image of a tree was made on a volume with no LEB to spare, and the line tells how many LEBs it has; or that volume has a field out of range.
-abbrev pub IsPackedMade : RawGeometry → Tree → Performed → Type 0
-IsPackedMade geo tree (performed.BadGeometry line) = IsOutOfRange (packed_geometry geo tree) line.items
-IsPackedMade geo tree (performed.Done told image) = IsToldImage (packed_geometry geo tree) tree told.items image.items
+abbrev pub IsPackedMade : RawGeometry → Tree → MadeVolume → Type 0
+IsPackedMade geo tree (on_volume.BadGeometry line) = IsOutOfRange (packed_geometry geo tree) line.items
+IsPackedMade geo tree (on_volume.Done told made) = IsToldImage (packed_geometry geo tree) tree told.items (volume_image made)
 
 -- The text is a manifest whose files were read, and an image of its tree was made. If it doesn't say `packed`, it has 24 main LEBs at least, and admission takes the tree.
 pub record IsMadeOf (files : KeeperState) (text told image : List ℕ) : Type 0 where
@@ -99,6 +102,18 @@ IsCopiedAs old new text (copied.Made made) = IsFilledManifest old text made.volu
 abbrev pub IsMkfsMade : KeeperState → List ℕ → Performed → Type 0
 IsMkfsMade files text (performed.BadGeometry line) = HasNoImage files text line.items
 IsMkfsMade files text (performed.Done told image) = IsMadeOf files text told.items image.items
+
+-- the same of the volume that holds the image
+abbrev pub IsVolumeMade : KeeperState → List ℕ → MadeVolume → Type 0
+IsVolumeMade files text (on_volume.BadGeometry line) = HasNoImage files text line.items
+IsVolumeMade files text (on_volume.Done told made) = IsMadeOf files text told.items (volume_image made)
+
+-- the image was written, and this is told; or the keeper failed, and the line names the image
+abbrev pub IsWrittenAs : KeeperState → KeeperState → List ℕ → List ℕ → List ℕ → Ended → Type 0
+IsWrittenAs old new image bytes told (Done text) = (text.items ≡ told) × (IsTrue old.tells → SetsFile old image bytes new) × (new.tells ≡ old.tells)
+IsWrittenAs old new image bytes told (Unread line) = Rose old.faults new.faults × (line.items ≡ file_line image) × SameFiles old new
+IsWrittenAs old new image bytes told (BadText line) = ⊥
+IsWrittenAs old new image bytes told (BadGeometry line) = ⊥
 
 -- the work was done, over this text and with this image, which the keeper has now
 pub record IsMkfsFinished (old new : KeeperState) (manifest image : List ℕ) (told : List ℕ) : Type 0 where

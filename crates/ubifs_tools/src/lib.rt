@@ -10,6 +10,7 @@ mod laws;
 mod mkfs;
 mod perform;
 mod top;
+mod volume_pieces;
 
 pub use crate::laws::{a_run_begins_on_what_mkfs_made, a_run_begins_where_another_ended};
 pub use crate::top::ubifs;

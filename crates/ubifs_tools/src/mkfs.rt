@@ -9,19 +9,21 @@ ghost use Rattle.manifest_tree.specs.CopiedFiles.{IsNamedManifest};
 ghost use Rattle.io_edges.specs.Keeper.{KeeperState, SameFiles};
 ghost use Rattle.tree_space.specs.Laid.{IsAdmitted};
 ghost use Rattle.ubifs_tools.specs.Copies.{FilesStay, IsFilledManifest};
-ghost use Rattle.ubifs_tools.specs.Making.{IsCopiedAs, IsFilledAs, IsImageMade, IsMkfsMade, IsMkfsEnded, IsPackedMade};
+ghost use Rattle.ubifs_tools.specs.Making.{IsCopiedAs, IsFilledAs, IsImageMade, IsMkfsMade, IsMkfsEnded, IsPackedMade, IsVolumeMade, IsWrittenAs};
+ghost use Rattle.ubifs_tools.specs.Pieces.{volume_image};
 
 use crate::command::{Ended, unread};
 use crate::copies::{Copies, read_copies};
 use crate::image::blank_volume;
 use crate::perform::{Performed, bad_geometry_line, bad_text_line, small_line};
+use crate::volume_pieces::VolumePieces;
 use io_edges::{KeepFault, Keeper};
 use manifest_tree::{MadeManifest, NamedManifest, fill_copied, read_names};
 use plain_backing::Tree;
 use std::alloc::Global;
 use text_lines::{line_of_three, line_of_two};
 use tree_space::tree_room;
-use ubi_volume::save_image;
+use ubi_volume::{MemVolume, save_image};
 use ubifs_base::{Geometry, Memory, RawGeometry};
 use whole_image::{MakeFault, an_admitted_tree_fits, make_image, make_packed, packed_geometry};
 
@@ -38,6 +40,13 @@ pub(crate) enum Filled {
 pub(crate) enum Copied {
     Unread { line: Vec<u8> },
     Made { made: MadeManifest },
+}
+
+/// What became of a manifest's tree: a line that says why there is no image, or the text of what was made, and the volume that holds it.
+#[derive(Drop)]
+pub(crate) enum MadeVolume {
+    BadGeometry { line: Vec<u8> },
+    Done { text: Vec<u8>, volume: MemVolume },
 }
 
 /// Reads the manifest and the files that it copies, makes the image of its tree, and writes it.
@@ -60,13 +69,28 @@ pub(crate) fn mkfs<K: Keeper>(
         Filled::BadText { line } => return Ok(Ended::BadText { line }),
         Filled::Made { made } => made,
     };
-    match make(alloc, &made)? {
-        Performed::BadGeometry { line } => Ok(Ended::BadGeometry { line }),
-        Performed::Done { text, image: bytes } => match keeper.write(image, &bytes) {
-            Ok(()) => Ok(Ended::Done { text }),
-            Err(KeepFault::Memory) => Err(Memory),
-            Err(_) => unread(alloc, image),
-        },
+    match make_volume(alloc, &made)? {
+        MadeVolume::BadGeometry { line } => Ok(Ended::BadGeometry { line }),
+        MadeVolume::Done { text, volume } => write_volume(alloc, image, volume, text, keeper),
+    }
+}
+
+// Writes the image of a volume, of which this is told.
+fn write_volume<K: Keeper>(
+    alloc: Global,
+    image: &str,
+    volume: MemVolume,
+    text: Vec<u8>,
+    keeper: &mut K,
+) -> Result<Ended, Memory>
+    ensures written { IfOk result (IsWrittenAs (K.state keeper.old) (K.state keeper.new) image.now (volume_image volume) text.items) }
+    ensures err { OnErr result (SameFiles (K.state keeper.old) (K.state keeper.new)) }
+{
+    let mut lebs = VolumePieces::new(volume);
+    match keeper.write_pieces(image, &mut lebs) {
+        Ok(()) => Ok(Ended::Done { text }),
+        Err(KeepFault::Memory) => Err(Memory),
+        Err(_) => unread(alloc, image),
     }
 }
 
@@ -117,13 +141,28 @@ pub(crate) fn make(alloc: Global, made: &MadeManifest) -> Result<Performed, Memo
     requires range { made.now.volume.main < 2147483648 }
     ensures { (files : KeeperState) → (text : List ℕ) → IsFilledManifest files text made.now.volume made.now.tree → IfOk result (IsMkfsMade files text) }
 {
+    match make_volume(alloc, made)? {
+        MadeVolume::BadGeometry { line } => Ok(Performed::BadGeometry { line }),
+        MadeVolume::Done { text, volume } => {
+            let image = save_image(alloc, &volume)?;
+            Ok(Performed::Done { text, image })
+        }
+    }
+}
+
+// Makes the volume that holds the image of a manifest's tree.
+fn make_volume(alloc: Global, made: &MadeManifest) -> Result<MadeVolume, Memory>
+    requires proper { IsProper made.now.tree }
+    requires range { made.now.volume.main < 2147483648 }
+    ensures { (files : KeeperState) → (text : List ℕ) → IsFilledManifest files text made.now.volume made.now.tree → IfOk result (IsVolumeMade files text) }
+{
     let volume = made.volume;
     let raw = RawGeometry::plain(volume.leb_size, volume.min_io, volume.main, volume.fanout);
     let geometry = match Geometry::new(&raw) {
         Ok(geometry) => geometry,
         Err(fault) => {
             let line = bad_geometry_line(alloc, fault)?;
-            return Ok(Performed::BadGeometry { line });
+            return Ok(MadeVolume::BadGeometry { line });
         }
     };
     if volume.packed {
@@ -131,13 +170,13 @@ pub(crate) fn make(alloc: Global, made: &MadeManifest) -> Result<Performed, Memo
     }
     if volume.main < 24 {
         let line = small_line(alloc, volume.main)?;
-        return Ok(Performed::BadGeometry { line });
+        return Ok(MadeVolume::BadGeometry { line });
     }
     admitted_image(alloc, &geometry, &made.tree)
 }
 
 // The image of a tree, or the line for one that admission refuses.
-fn admitted_image(alloc: Global, geometry: &Geometry, tree: &Tree) -> Result<Performed, Memory>
+fn admitted_image(alloc: Global, geometry: &Geometry, tree: &Tree) -> Result<MadeVolume, Memory>
     requires proper { IsProper tree.now }
     requires small { geometry.now.big ≡ false }
     ensures { IfOk result (IsImageMade (raw_of geometry.now) tree.now) }
@@ -145,13 +184,13 @@ fn admitted_image(alloc: Global, geometry: &Geometry, tree: &Tree) -> Result<Per
     let room = tree_room(alloc, geometry, tree)?;
     if room.need > room.limit {
         let line = full_line(alloc, room.need, room.limit)?;
-        return Ok(Performed::BadGeometry { line });
+        return Ok(MadeVolume::BadGeometry { line });
     }
     image_of_tree(alloc, geometry, tree)
 }
 
 // The image of a tree that has room. The identifier is zeros.
-fn image_of_tree(alloc: Global, geometry: &Geometry, tree: &Tree) -> Result<Performed, Memory>
+fn image_of_tree(alloc: Global, geometry: &Geometry, tree: &Tree) -> Result<MadeVolume, Memory>
     requires proper { IsProper tree.now }
     requires small { geometry.now.big ≡ false }
     requires admitted { IsAdmitted (raw_of geometry.now) tree.now }
@@ -161,9 +200,8 @@ fn image_of_tree(alloc: Global, geometry: &Geometry, tree: &Tree) -> Result<Perf
     let mut volume = blank_volume(alloc, geometry)?;
     match make_image(alloc, &mut volume, geometry, tree, &[0; 16]) {
         Ok(()) => {
-            let image = save_image(alloc, &volume)?;
             let text = made_line(alloc, geometry.leb_cnt)?;
-            Ok(Performed::Done { text, image })
+            Ok(MadeVolume::Done { text, volume })
         }
         Err(MakeFault::Full { .. }) => unreachable!(),
         Err(MakeFault::Crowded { .. }) => unreachable!(),
@@ -173,7 +211,7 @@ fn image_of_tree(alloc: Global, geometry: &Geometry, tree: &Tree) -> Result<Perf
 
 // The image of a tree on a volume like this one with no LEB to spare, or the line for one that would have too many. Nothing else is tested. The
 // identifier is zeros.
-fn packed_image(alloc: Global, geometry: &Geometry, tree: &Tree) -> Result<Performed, Memory>
+fn packed_image(alloc: Global, geometry: &Geometry, tree: &Tree) -> Result<MadeVolume, Memory>
     requires proper { IsProper tree.now }
     requires small { geometry.now.big ≡ false }
     ensures { IfOk result (IsPackedMade (raw_of geometry.now) tree.now) }
@@ -183,15 +221,14 @@ fn packed_image(alloc: Global, geometry: &Geometry, tree: &Tree) -> Result<Perfo
         Ok(geometry) => geometry,
         Err(fault) => {
             let line = bad_geometry_line(alloc, fault)?;
-            return Ok(Performed::BadGeometry { line });
+            return Ok(MadeVolume::BadGeometry { line });
         }
     };
     let mut volume = blank_volume(alloc, &geometry)?;
     match make_packed(alloc, &mut volume, &geometry, tree, &[0; 16]) {
         Ok(()) => {
-            let image = save_image(alloc, &volume)?;
             let text = made_line(alloc, geometry.leb_cnt)?;
-            Ok(Performed::Done { text, image })
+            Ok(MadeVolume::Done { text, volume })
         }
         Err(_fault) => Err(Memory),
     }

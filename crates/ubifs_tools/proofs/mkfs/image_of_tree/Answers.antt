@@ -36,7 +36,7 @@ returns-in-Ok c =
         holds = (state_of volume).holds;
         made = c.in-Ok.ensures.made;
         lebs = lebs_of volume (raw_of c.args.geometry.now) size count;
-        image_is = c.in_ok-image-in-Ok.ensures ∙ ap (λ n. image_of (state_of volume).holds n) count;
+        image_is = ap (λ n. image_of (state_of volume).holds n) count;
         told_is = c.in_ok-text-in-Ok.ensures;
       },
     )
