@@ -1,16 +1,19 @@
-"""Judges the text of a run of callers at once. Callers' lines between two control lines are a phase; its lines may come in any order, but
-for each caller's, and whatever order they came in, each reply must be the one that the model (tests/model.py) gives to the lines in that order.
+"""Judges the text of a run of callers at once. Callers' lines between two control lines are a phase, whose replies may come in any order but for
+each caller's. The model (tests/model.py) does the lines in the order of the text, and must give each reply.
 
 What the model doesn't know of is want of room, so a call that asks for room may be answered `E6 NEED ROOM` where the model does it. It isn't done
-then, and both numbers must be possible:
+then, and both numbers must be possible. NEED is above ROOM, and at most the sum of
 
-- NEED is above ROOM, and at most the bytes of all inodes, names and whole blocks (4,144 bytes each) then, 4,304 for each page that the call
-  touches and each of 17 credits that every other caller with a line in the phase may hold, and the bytes that the call's nodes take.
-- ROOM is at least what is left of the main area beside a reserve and the greatest index that the lines so far can have led to. A fresh index weighs
-  1. A call that is done adds the nodes that it puts and two for each page that it touches, and a refusal adds none. The index that stands may take
-  twice the LEBs that its weight and five nodes more ask for.
+- the bytes of all inodes, names and whole blocks then, a block having 4,144,
+- 4,304 for each page that the call touches, and for each of 17 credits that every other caller with a line in the phase may hold,
+- the bytes that the call's nodes take.
 
-A phase of one caller beside no worker has one order, the script's, and there no other caller holds credits.
+ROOM is at least what is left of the main area beside a reserve and the greatest index that the lines so far can have led to:
+
+- An index takes three times the LEBs that its weight asks for. The one that stands may take twice those that five nodes more asked for.
+- It weighs 1 at first. A call that is done adds the nodes that it puts, and two for each page that it touches. A refusal adds none.
+
+A phase of one caller has one order, the script's, and there no other caller holds credits.
 
 Nor does the model know which numbers a commit told of. So `E14 orphans LIMIT` may come to a call that takes the last name of an open file, where as
 many calls did so before.
