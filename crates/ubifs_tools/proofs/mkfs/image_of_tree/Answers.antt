@@ -26,8 +26,8 @@ unreachable-requires-in-Err-Crowded c =
     let P : MakeFault → Type 0 = λ f. IsRefused geo c.args.tree.now f in
     c.an_admitted_tree_fits.ensures.crowded geo c.args.tree.now fault.field-0-0 fault.field-0-1 c.args.geometry.now.in_range c.requires.proper c.requires.admitted (subst P fault.field-0-is fault.ensures.refused)
 
-pub returns-in-Ok : goal.returns-in-Ok
-returns-in-Ok c =
+pub returns-in_ok-text-in-Ok : goal.returns-in_ok-text-in-Ok
+returns-in_ok-text-in-Ok c =
     let volume = c.make_image.new.volume in
     let size = c.in-Ok.ensures.shape.leb_size ∙ c.in_ok-volume.ensures.leb_size in
     let count = c.in-Ok.ensures.shape.leb_cnt ∙ c.in_ok-volume.ensures.leb_cnt in (

@@ -9,8 +9,8 @@ use Rattle.ubifs_tools.proofs.MadeImages.{made_out}
 use Rattle.ubifs_tools.proofs.Readings.{made_before, no_image_before, stay_all}
 use Rattle.ubifs_tools.proofs.mkfs.mkfs.Goals as goal
 
-pub make-requires-clause-range : goal.make-requires-clause-range
-make-requires-clause-range g c =
+pub make_volume-requires-clause-range : goal.make_volume-requires-clause-range
+make_volume-requires-clause-range g c =
     let P : Filled → Type 0 = λ f. IsFilledAs (g.K.Keeper.state c.read.new.self) (g.K.Keeper.state c.fill_manifest.new.keeper) c.deref.result.now f in
     (subst P c.in-Made.is c.in_ok-line.ensures.filled).0.is.is.listed.range.2
 

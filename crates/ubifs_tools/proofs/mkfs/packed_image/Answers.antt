@@ -21,8 +21,8 @@ pub make_packed-requires-clause-lebs : goal.make_packed-requires-clause-lebs
 make_packed-requires-clause-lebs c =
     packed_has (raw_of c.args.geometry.now) (raw_of c.in-Ok.geometry) c.args.tree.now (c.in-Ok.ensures.fields ∙ c.in_ok-raw.ensures)
 
-pub returns-in-Ok-make_packed : goal.returns-in-Ok-make_packed
-returns-in-Ok-make_packed c =
+pub returns-in_ok-text-in-Ok-make_packed : goal.returns-in_ok-text-in-Ok-make_packed
+returns-in_ok-text-in-Ok-make_packed c =
     told_packed (raw_of c.args.geometry.now) (raw_of c.in-Ok.geometry) c.args.tree.now c.in_ok-text-in-Ok-make_packed.text.items (volume_image c.make_packed.new.volume) (c.in-Ok.ensures.fields ∙ c.in_ok-raw.ensures) (record {
       holds = (state_of c.make_packed.new.volume).holds;
       made = c.in-Ok-make_packed.ensures.made;
