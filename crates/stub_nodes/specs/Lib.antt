@@ -1,0 +1,2 @@
+pub mod StubView
+pub mod StubLaws
