@@ -1,2 +1,3 @@
 pub mod StubView
 pub mod StubLaws
+pub mod StubRows

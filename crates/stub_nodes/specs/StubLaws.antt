@@ -17,12 +17,12 @@ use Rattle.stub_nodes.specs.declared.node.StubNode.{StubNode}
 use Rattle.stub_nodes.specs.declared.seen.MediumSeen.{MediumSeen}
 use Rattle.told_value.specs.declared.told.Told.{Told}
 
-get_first : (xs ys : List NodeView) (i : ℕ) → i < length xs → slice_get (xs ++ ys) i ≡ slice_get xs i
+pub get_first : {T : Type 0} (xs ys : List T) (i : ℕ) → i < length xs → slice_get (xs ++ ys) i ≡ slice_get xs i
 get_first [] ys i h = absurd (omega (arith, h))
 get_first (x ∷ xs) ys zero h = refl
 get_first (x ∷ xs) ys (suc i) h = get_first xs ys i (omega (arith, h))
 
-get_seam : (xs : List NodeView) (v : NodeView) → slice_get (xs ++ v ∷ []) (length xs) ≡ Some v
+pub get_seam : {T : Type 0} (xs : List T) (v : T) → slice_get (xs ++ v ∷ []) (length xs) ≡ Some v
 get_seam [] v = refl
 get_seam (x ∷ xs) v = get_seam xs v
 
@@ -118,7 +118,7 @@ leaf_child lebs levels nodes links made branch x rest none same is =
     ∙ ap (λ (n : ℕ). row_before (stub_views nodes) links (child_before lebs n branch rest)) (sym none)
 
 -- where a branch leads, as the place of a node
-abbrev place_by : Branch → NodePlace
+abbrev pub place_by : Branch → NodePlace
 place_by branch = record { lnum = branch.lnum; offs = branch.offs; len = branch.len }
 
 child_shown : (lebs : List (List ℕ)) (levels level : ℕ) (place : Option NodePlace) (beyond : Option (Told MediumSeen)) (told : Told MediumSeen) (loaded : KeyedRow) (branch : Branch) (rest : KeyedRow) → 0 < levels → level ≡ levels - 1

@@ -16,6 +16,11 @@ use Rattle.stub_nodes.specs.declared.seen.MediumSeen.{MediumSeen}
 abbrev pub contents_told : List (List ℕ) → ℕ → List ℕ
 contents_told lebs k = unwrap_or (slice_get lebs k) []
 
+-- what the first n LEBs hold, one after another
+abbrev pub lebs_held : (ℕ → List ℕ) → ℕ → List (List ℕ)
+lebs_held contents zero = []
+lebs_held contents (suc n) = lebs_held contents n ++ contents n ∷ []
+
 -- a branch to a place
 abbrev pub branch_at_place : NodePlace → Branch
 branch_at_place place = record { lnum = place.lnum; offs = place.offs; len = place.len; key = Ino 0 }
