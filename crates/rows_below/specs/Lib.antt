@@ -1,0 +1,3 @@
+pub mod NodeSaid
+pub mod RowBelow
+pub mod RowBelowLaws

@@ -1,0 +1,3 @@
+pub mod StubView
+pub mod StubLaws
+pub mod StubRows
