@@ -57,7 +57,7 @@ given_of (x ∷ xs) ys k (inr h) = elim (given_of xs ys k h) [
   | inr other ↦ inr other
 ]
 
-all_given : (P : ℕ → Type 0) (xs : List ℕ) → All P xs → (k : ℕ) → IsGiven xs k → P k
+pub all_given : (P : ℕ → Type 0) (xs : List ℕ) → All P xs → (k : ℕ) → IsGiven xs k → P k
 all_given P [] all k given = absurd given
 all_given P (x ∷ xs) all k (inl e) = subst P (sym e) (All-head P x xs all)
 all_given P (x ∷ xs) all k (inr h) = all_given P xs (All-tail P x xs all) k h
@@ -305,8 +305,12 @@ WorksBeside-step old new lnum lebs apart works =
 settled_beside : (old new : VolumeState) (lebs : List ℕ) → WorksBeside old new lebs → AreSettledLebs old lebs → AreSettledLebs new lebs
 settled_beside old new lebs works settled k given = Only-same old new k (settled k given) (works.same k given)
 
+-- nodes that stand within some LEBs still do where these hold what they held
+pub within_moved : (old new : ℕ → List ℕ) (lebs : List ℕ) (row : KeyedRow) → ((k : ℕ) → IsGiven lebs k → new k ≡ old k) → AreWithinLebs old lebs row → AreWithinLebs new lebs row
+within_moved old new lebs row same h = row_moved old new (IsWithinLebs lebs) (IsWithinLebs lebs) row (λ s n g given. (same s.lnum given, given)) h
+
 within_beside : (old new : VolumeState) (lebs : List ℕ) (row : KeyedRow) → WorksBeside old new lebs → AreWithinLebs old.holds lebs row → AreWithinLebs new.holds lebs row
-within_beside old new lebs row works h = row_moved old.holds new.holds (IsWithinLebs lebs) (IsWithinLebs lebs) row (λ s n g given. ((works.same s.lnum given).holds, given)) h
+within_beside old new lebs row works h = within_moved old.holds new.holds lebs row (λ k given. (works.same k given).holds) h
 
 -- nodes that stand within these LEBs, and outside of others, in what the LEBs held before
 outside_before : (old new : VolumeState) (lebs others : List ℕ) (row : KeyedRow) → WorksBeside old new lebs → AreWithinLebs old.holds lebs row → AreOutside new.holds others row → AreOutside old.holds others row

@@ -2,7 +2,7 @@
 use Rattle.std.proofs.Common.{◌≡◌, ℕ, ◌+◌, ◌<◌, ◌≤◌, ◌++◌, List, [], ◌∷◌, ap, sym, ◌∙◌, subst, arith, inl, inr}
 use Rattle.std.specs.Prelude.{Option, Some, Result, Ok}
 use Rattle.std.proofs.lemmas.List.Elements.{All-weaker}
-use Rattle.commit_steps.specs.UnderWayLaws.{given_front, given_of}
+use Rattle.commit_steps.specs.UnderWayLaws.{all_given, given_front, given_of}
 use Rattle.index_commit.specs.Answers.{IsIndexNotFailed}
 use Rattle.index_commit.specs.Lebs.{AreApart, IsGiven}
 use Rattle.index_commit.specs.declared.index_at.IndexAt.{IndexAt}
@@ -16,7 +16,7 @@ use Rattle.mounted_index.specs.Changed.{AreChangesMade}
 use Rattle.mounted_index.specs.Committed.{IsCommit, IsRootOn}
 use Rattle.mounted_index.specs.Running.{IsCommitEnded, IsCommitRunning}
 use Rattle.mounted_index.specs.Shown.{KeepsShown, Shows, StandsIn}
-use Rattle.mounted_index.specs.ShownLaws.{StandsIn-beside, all_given}
+use Rattle.mounted_index.specs.ShownLaws.{StandsIn-beside}
 use Rattle.mounted_index.specs.declared.mounted.MountedIndex.{MountedIndex}
 use Rattle.ubi_volume.specs.Geometry.{IsGeometryOf}
 use Rattle.ubi_volume.specs.MemVolume.{IsBlank}

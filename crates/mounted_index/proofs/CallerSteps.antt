@@ -3,7 +3,7 @@ use Rattle.std.proofs.Common.{◌≡◌, ℕ, ◌+◌, ◌-◌, ◌*◌, ◌<◌
 use Rattle.std.specs.Prelude.{All, OnOk, Ok, Err, Result}
 use Rattle.std.proofs.Math.Nat.{mul-suc}
 use Rattle.std.proofs.lemmas.List.Elements.{All-weaker}
-use Rattle.commit_steps.specs.UnderWayLaws.{given_all, given_behind, given_front, given_of}
+use Rattle.commit_steps.specs.UnderWayLaws.{all_given, given_all, given_behind, given_front, given_of}
 use Rattle.index_commit.specs.Lebs.{AreApart, AreGivable, IsGiven}
 use Rattle.index_commit.specs.declared.index_fault.IndexFault.{IndexFault}
 use Rattle.ubi_volume.specs.Geometry.{IsGeometryOf}
@@ -11,7 +11,6 @@ use Rattle.ubi_volume.specs.Volume.{SameShape, VolumeState}
 use Rattle.ubifs_base.specs.RawOf.{raw_of}
 use Rattle.ubifs_base.specs.declared.geometry.Geometry.{Geometry}
 use Rattle.ubifs_base.specs.declared.raw_geometry.RawGeometry.{RawGeometry}
-use Rattle.mounted_index.specs.ShownLaws.{all_given}
 
 pub on_ok_more : {T : Type 0} {P Q : Type 0} (r : Result T IndexFault) → (P → Q) → OnOk r P → OnOk r Q
 on_ok_more (Ok x) f p = f p

@@ -3,3 +3,4 @@ pub mod Standing
 pub mod Committed
 pub mod Running
 pub mod CallerSteps
+pub mod Sizes

@@ -1,19 +1,21 @@
 -- A commit in steps, from call to call.
 use Rattle.std.proofs.Common.{◌≡◌, ℕ, ◌-◌, ◌<◌, true, List, [], ◌∷◌, ◌++◌, length, refl, ap, sym, ◌∙◌, subst, arith, inl, inr}
-use Rattle.std.specs.Prelude.{Option, None, Some, All, IfOk, Result, Ok, Err, option_map, slice_get}
+use Rattle.std.specs.Prelude.{◌&&◌, Bool, Option, None, Some, All, IfOk, Result, Ok, Err, option_map, slice_get}
 use Rattle.std.proofs.lemmas.List.Elements.{All-weaker}
 use Rattle.ubifs_base.specs.declared.geometry.Geometry.{Geometry}
 use Rattle.ubifs_base.specs.declared.raw_geometry.RawGeometry.{RawGeometry}
 use Rattle.index_media.specs.KeyedKeys.{AreKeysBounded, key_before}
 use Rattle.index_media.specs.KeyedRow.{KeyedRow, no_more, leaf_in, node_in, all_clean}
-use Rattle.index_media.specs.PlacedRow.{PlacedRow, lebs_of}
+use Rattle.index_media.specs.PlacedRow.{PlacedRow, Stretch, branches_of, lebs_of}
 use Rattle.index_media.specs.InsertionSound.{AreKeys}
 use Rattle.index_tree.specs.Order.{key_rank, leaf_rank}
+use Rattle.media_sys.specs.Index.{in_order, may_follow}
 use Rattle.media_sys.specs.declared.branch.Branch.{Branch}
+use Rattle.ubifs_base.specs.declared.key.Key.{Key}
 use Rattle.node_cache.specs.Kept.{AreKept}
 use Rattle.node_cache.specs.Loaded.{IsIndexOn}
 use Rattle.node_cache.specs.declared.cache.NodeCache.{NodeCache}
-use Rattle.node_table.specs.Clean.{is_clean_row, placed_of}
+use Rattle.node_table.specs.Clean.{is_clean_row, node_branch, placed_of}
 use Rattle.node_table.specs.NodeView.{tree_at}
 use Rattle.node_table.specs.Placing.{KeepsPlaces}
 use Rattle.node_table.specs.Staging.{IsSoundRoot}
@@ -26,6 +28,7 @@ use Rattle.index_cache.specs.declared.paged.PagedIndex.{PagedIndex}
 use Rattle.index_commit.specs.Answers.{IsIndexNotFailed, IsNotFull, OnMemory}
 use Rattle.index_commit.specs.LebTexts.{IsLebLeft, IsLebOf, IsNextLeb, index_bytes, nodes_written}
 use Rattle.index_commit.specs.Lebs.{AreApart, IsGiven}
+use Rattle.index_commit.specs.Ordered.{AreKeysInOrder}
 use Rattle.index_commit.specs.Rooms.{Room}
 use Rattle.index_commit.specs.Standing.{AreOutside}
 use Rattle.index_commit.specs.Written.{AreStanding, IsIndexTaken, IsRootOf, IsUntouched, WorksInLebs}
@@ -33,7 +36,7 @@ use Rattle.index_commit.specs.declared.index_at.WrittenLeb.{WrittenLeb}
 use Rattle.index_commit.specs.declared.index_fault.IndexFault.{IndexFault}
 use Rattle.index_commit.specs.declared.index_fault.IndexFault.TheVariants.{Memory, Full, EqualKeys, Volume}
 use Rattle.commit_steps.specs.UnderWay.{AreSettledLebs, AreWithinLebs, IsCommitUnderWay}
-use Rattle.commit_steps.specs.UnderWayLaws.{WorksBeside-keeps, clean_lebs, commit_begun, commit_beside, commit_ended, commit_step, given_behind, given_front, given_of, index_changed, outside_of, within_of}
+use Rattle.commit_steps.specs.UnderWayLaws.{WorksBeside-keeps, all_given, clean_lebs, commit_begun, commit_beside, commit_ended, commit_step, given_behind, given_front, given_of, index_changed, outside_of, within_of}
 use Rattle.ubi_volume.specs.FrameLaws.{IsSameLeb-none}
 use Rattle.ubi_volume.specs.Volume.{VolumeState, Keeps, Leaves, Only, SameShape}
 use Rattle.ubi_volume.specs.VolumeLaws.{Leaves-none}
@@ -41,11 +44,11 @@ use Rattle.mounted_index.specs.Committed.{HasNodesFrom, IsRootOn}
 use Rattle.mounted_index.specs.Running.{IsAfterStep, IsCommitEnded, IsCommitOfNodes, IsCommitRunning, IsCommitStep, IsStepWritten, dirty_left}
 use Rattle.mounted_index.specs.RunningLaws.{StandsIn-running}
 use Rattle.mounted_index.specs.Shown.{KeepsOutside, KeepsShown, Shows, ShowsStaged, StandsIn, are_on_medium}
-use Rattle.mounted_index.specs.ShownLaws.{LoadedNodesStand, StandsIn-taken, all_given, all_is_clean, placed_again}
+use Rattle.mounted_index.specs.ShownLaws.{LoadedNodesStand, StandsIn-taken, all_is_clean, placed_again}
 use Rattle.mounted_index.specs.declared.mounted.IndexNodes.{IndexNodes}
 use Rattle.mounted_index.specs.declared.mounted.IndexNodes.TheVariants.{OnMedium, InMemory}
 use Rattle.mounted_index.specs.declared.mounted.MountedIndex.{MountedIndex}
-use Rattle.mounted_index.proofs.Committed.{if_ok_done, nodes_count, nodes_let_go, none_works, root_on, stands_after, stands_more}
+use Rattle.mounted_index.proofs.Committed.{if_ok_done, kept_shown, nodes_count, nodes_let_go, none_works, root_on, stands_after, stands_more}
 use Rattle.mounted_index.proofs.Shown.{nodes_as, staged_as}
 
 -- an index with these nodes
@@ -208,10 +211,17 @@ step_running both geo a b lnum i j kept given begun self row index final cache (
 step_running both geo a b lnum i j kept given begun self row index final cache (Err EqualKeys) is shape there leb shown h apart = tt
 step_running both geo a b lnum i j kept given begun self row index final cache (Err (Volume count)) is shape there leb shown h apart = tt
 
+memory_more : (P Q : Type 0) (r : Result WrittenLeb IndexFault) → OnMemory P r → (P → Q) → OnMemory Q r
+memory_more P Q (Ok x) h f = tt
+memory_more P Q (Err Memory) h f = f h
+memory_more P Q (Err (Full need given)) h f = tt
+memory_more P Q (Err EqualKeys) h f = tt
+memory_more P Q (Err (Volume count)) h f = tt
+
 pub stepped : {room : ℕ → Room} → ((first second third : KeyedRow) → KeepsPlaces first second → KeepsPlaces second third → KeepsPlaces first third) → (geo : RawGeometry) (a b : VolumeState) (lnum i j : ℕ) (kept given : List ℕ) (begun : KeyedRow)
     (self : MountedIndex) (row : KeyedRow) (index final : PagedIndex) (cache : NodeCache) (result : Result WrittenLeb IndexFault) → self.nodes ≡ InMemory index → SameShape a b → lnum < a.leb_cnt
     → IsLebTaken geo a b lnum i j index final room result → AreKept b.holds cache → IsCommitRunning a kept given begun self row → (IsGiven (given ++ kept) lnum → ⊥)
-    → IsCommitStep a b lnum kept given begun (with_nodes self (InMemory final) cache) row result
+    → IsCommitStep a b lnum kept given begun self (with_nodes self (InMemory final) cache) row result
 stepped both geo a b lnum i j kept given begun self row index final cache result is shape there leb clear h apart =
     let own = nodes_as a self.geometry.fanout row self.nodes (InMemory index) is h.shown.nodes in
     let run = run_as a kept given begun row self.nodes (InMemory index) is h.nodes in
@@ -222,6 +232,8 @@ stepped both geo a b lnum i j kept given begun self row index final cache result
       places = subst K (sym own.0) leb.taken.kept.tree;
       shown = shown;
       running = step_running both geo a b lnum i j kept given begun self row index final cache result is shape there leb shown h apart;
+      same = memory_more (IsUntouched a b index final i j) (KeepsShown a b self (with_nodes self (InMemory final) cache)) result leb.same
+          (λ u. kept_shown a b self cache index final is clear (ap (λ (x : PagedIndex). x.table.nodes.items) u.index, ap (λ (x : PagedIndex). x.root) u.index) (ap fanout_of u.index));
       stands = λ fine.
           let standing = (leb.standing fine).0 in
           let S : Option Root → Type 0 = λ r. StandsIn b ((lnum ∷ []) ++ (given ++ kept)) (tree_at final.table.nodes.items r) in
@@ -231,7 +243,7 @@ stepped both geo a b lnum i j kept given begun self row index final cache result
 
 -- memory was wanting before the step
 pub step_refused : ((row : KeyedRow) → KeepsPlaces row row) → (a : VolumeState) (lnum : ℕ) (kept given : List ℕ) (begun : KeyedRow) (self : MountedIndex) (row : KeyedRow) (index : PagedIndex) (cache : NodeCache) → self.nodes ≡ InMemory index
-    → lnum < a.leb_cnt → AreKept a.holds cache → IsCommitRunning a kept given begun self row → IsCommitStep a a lnum kept given begun (with_nodes self (InMemory index) cache) row (Err Memory)
+    → lnum < a.leb_cnt → AreKept a.holds cache → IsCommitRunning a kept given begun self row → IsCommitStep a a lnum kept given begun self (with_nodes self (InMemory index) cache) row (Err Memory)
 step_refused none a lnum kept given begun self row index cache is there clear h =
     let own = nodes_as a self.geometry.fanout row self.nodes (InMemory index) is h.shown.nodes in
     let run = run_as a kept given begun row self.nodes (InMemory index) is h.nodes in
@@ -241,6 +253,7 @@ step_refused none a lnum kept given begun self row index cache is there clear h 
       places = none row;
       shown = shown;
       running = (record { shown = shown; there = h.there; nodes = run }, refl);
+      same = kept_shown a a self cache index index is clear (refl, refl) refl;
       stands = λ fine. stands_more a (given ++ kept) (lnum ∷ []) row (there, (λ given. given), tt) (StandsIn-running a kept given begun self row h);
     }
 
@@ -276,6 +289,27 @@ step_next geo lnum n index final result done = if_ok_done (λ (x : WrittenLeb). 
 pub step_some : (geo : RawGeometry) (lnum i j : ℕ) (index final : PagedIndex) (result : Result WrittenLeb IndexFault) → IfOk result (λ done. IsStepDone geo lnum (j - i) index final done) → IfOk result (λ done. i < j)
 step_some geo lnum i j index final result done =
     if_ok_done (λ (x : WrittenLeb). IsStepDone geo lnum (j - i) index final x) (λ (x : WrittenLeb). i < j) result (λ fine x h. let some = h.0.some in omega (arith, some)) done
+
+-- ---- keys in order, whatever the places
+branch_key : (key : Key) (o : Option Stretch) → (node_branch key o).key ≡ key
+branch_key key None = refl
+branch_key key (Some s) = refl
+
+order_as : (before : Option Key) (row now : KeyedRow) → KeepsPlaces row now → in_order before (branches_of (placed_of now)) ≡ in_order before (branches_of (placed_of row))
+order_as before no_more now h = ap (λ (r : KeyedRow). in_order before (branches_of (placed_of r))) h
+order_as before (leaf_in x rest) now h =
+    ap (λ (r : KeyedRow). in_order before (branches_of (placed_of r))) h.1 ∙ ap (λ b. may_follow before x.key && b) (order_as (Some x.key) rest h.0 h.2)
+order_as before (node_in key old children rest) now h =
+    let from : Option Stretch → KeyedRow → Bool = λ place others. in_order before (node_branch key place ∷ branches_of (placed_of others)) in
+    let same : (place : Option Stretch) (others : KeyedRow) → from place others ≡ (may_follow before key && in_order (Some key) (branches_of (placed_of others))) =
+    λ place others. ap (λ (k : Key). may_follow before k && in_order (Some k) (branches_of (placed_of others))) (branch_key key place) in
+    ap (λ (r : KeyedRow). in_order before (branches_of (placed_of r))) h.3 ∙ same h.0 h.2 ∙ ap (λ b. may_follow before key && b) (order_as (Some key) rest h.2 h.6) ∙ sym (same old rest)
+
+pub order_kept : (row now : KeyedRow) → KeepsPlaces row now → AreKeysInOrder row → AreKeysInOrder now
+order_kept no_more now h order = subst AreKeysInOrder (sym h) tt
+order_kept (leaf_in x rest) now h order = subst AreKeysInOrder (sym h.1) (order_kept rest h.0 h.2 order)
+order_kept (node_in key old children rest) now h order =
+    subst AreKeysInOrder (sym h.3) (order_as None children h.1 h.5 ∙ order.0, order_kept children h.1 h.5 order.1, order_kept rest h.2 h.6 order.2)
 
 -- what is frozen is what the commit began on, with places
 pub frozen_places : (a : VolumeState) (kept given : List ℕ) (begun : KeyedRow) (self : MountedIndex) (row : KeyedRow) (index : PagedIndex) → self.nodes ≡ InMemory index → IsCommitRunning a kept given begun self row → KeepsPlaces begun (frozen_of index)
@@ -399,6 +433,11 @@ none_dirty (n ∷ numbers) e = absurd cc
 
 pub none_first : (found : Option DirtyNode) (numbers : List ℕ) → option_map (λ (d : DirtyNode). d.node) found ≡ slice_get numbers 0 → found ≡ None → numbers ≡ []
 none_first found numbers first is = none_dirty numbers (sym first ∙ ap (option_map (λ (d : DirtyNode). d.node)) is)
+
+pub some_first : (found : Option DirtyNode) (numbers : List ℕ) (node : DirtyNode) → option_map (λ (d : DirtyNode). d.node) found ≡ slice_get numbers 0 → found ≡ Some node → numbers ≡ [] → ⊥
+some_first found numbers node first is none =
+    let there : Some node.node ≡ slice_get {X = ℕ} [] 0 = sym (ap (option_map (λ (d : DirtyNode). d.node)) is) ∙ first ∙ ap (λ (l : List ℕ). slice_get l 0) none in
+    absurd cc
 
 pub dirty_there : (nodes : IndexNodes) (index : PagedIndex) → nodes ≡ InMemory index → dirty_left nodes ≡ [] → dirty_of index ≡ []
 dirty_there nodes index is none = let P : IndexNodes → Type 0 = λ n. dirty_left n ≡ [] in subst P is none

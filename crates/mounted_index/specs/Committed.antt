@@ -15,8 +15,8 @@ use Rattle.index_commit.specs.Written.{AreLebsSettled, IsHeadIn}
 use Rattle.index_commit.specs.declared.index_at.IndexAt.{IndexAt}
 use Rattle.index_commit.specs.declared.index_fault.IndexFault.{IndexFault}
 use Rattle.index_commit.specs.declared.index_fault.IndexFault.TheVariants.{Memory, Full, EqualKeys, Volume}
-use Rattle.index_media.specs.KeyedRow.{KeyedRow, no_more, all_clean, bare}
-use Rattle.index_media.specs.PlacedRow.{PlacedRow}
+use Rattle.index_media.specs.KeyedRow.{KeyedRow, no_more, leaf_in, node_in, all_clean, bare}
+use Rattle.index_media.specs.PlacedRow.{PlacedRow, Stretch}
 use Rattle.index_tree.specs.Distinct.{AreDistinct}
 use Rattle.index_tree.specs.Shape.{contents}
 use Rattle.media_sys.specs.Index.{Index}
@@ -63,6 +63,17 @@ HasNodesFrom fanout (Some root) nodes = nodes ≡ OnMedium root
 abbrev pub nodes_to_write : IndexNodes → ℕ
 nodes_to_write (OnMedium root) = 0
 nodes_to_write (InMemory index) = length (dirty_below index.table.nodes.items index.root)
+
+-- a node that has no place counts as a dirty one
+abbrev pub dirty_one : Option Stretch → ℕ
+dirty_one None = 1
+dirty_one (Some place) = 0
+
+-- how many nodes of a row are dirty
+abbrev pub dirty_nodes_in : KeyedRow → ℕ
+dirty_nodes_in no_more = 0
+dirty_nodes_in (leaf_in x rest) = dirty_nodes_in rest
+dirty_nodes_in (node_in key place children rest) = dirty_one place + dirty_nodes_in children + dirty_nodes_in rest
 
 -- it holds where a commit wants memory, or LEBs
 abbrev pub OnWant : {T : Type 0} → Type 0 → Result T IndexFault → Type 0

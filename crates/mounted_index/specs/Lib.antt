@@ -4,3 +4,5 @@ pub mod ShownLaws
 pub mod Committed
 pub mod Running
 pub mod RunningLaws
+pub mod DirtyLaws
+pub mod Sizes

@@ -2,7 +2,7 @@
 use Rattle.std.specs.Prelude.{◌≡◌, ◌<◌, ◌+◌, ◌++◌, ℕ, All, List, [], ◌∷◌, Option, None, Result, Ok, Err, IfOk, length, slice_get, ⊤}
 use Rattle.commit_steps.specs.UnderWay.{AreSettledLebs, AreWithinLebs, IsCommitUnderWay}
 use Rattle.index_cache.specs.Paged.{dirty_of, frozen_of}
-use Rattle.index_commit.specs.Answers.{IsIndexNotFailed}
+use Rattle.index_commit.specs.Answers.{IsIndexNotFailed, OnMemory}
 use Rattle.index_commit.specs.LebTexts.{IsLebLeft, IsLebOf, index_bytes}
 use Rattle.index_commit.specs.Lebs.{IsGiven}
 use Rattle.index_commit.specs.Written.{WorksInLebs}
@@ -22,7 +22,7 @@ use Rattle.node_table.specs.Placing.{KeepsPlaces}
 use Rattle.ubi_volume.specs.Volume.{VolumeState, Leaves}
 use Rattle.ubifs_base.specs.declared.raw_geometry.RawGeometry.{RawGeometry}
 use Rattle.mounted_index.specs.Committed.{IsRootOn}
-use Rattle.mounted_index.specs.Shown.{Shows, StandsIn}
+use Rattle.mounted_index.specs.Shown.{KeepsShown, Shows, StandsIn}
 use Rattle.mounted_index.specs.declared.mounted.IndexNodes.{IndexNodes}
 use Rattle.mounted_index.specs.declared.mounted.IndexNodes.TheVariants.{OnMedium, InMemory}
 use Rattle.mounted_index.specs.declared.mounted.MountedIndex.{MountedIndex}
@@ -58,12 +58,14 @@ IsAfterStep done same (Err EqualKeys) = ⊤
 IsAfterStep done same (Err (Volume count)) = ⊤
 
 -- A step of a commit that runs. The index shows the row that it showed, with places for nodes that were dirty. After Ok the commit runs on, and
--- was given the LEB too; if memory is wanting, all is as it was. Unless the volume failed, clean nodes stand in the LEB and in those of before
-pub record IsCommitStep (old new : VolumeState) (lnum : ℕ) (kept given : List ℕ) (begun : KeyedRow) (after : MountedIndex) (row : KeyedRow) (result : Result WrittenLeb IndexFault) : Type 0 where
+-- was given the LEB too. If memory is wanting, what is shown or staged is as it was. Unless the volume failed, clean nodes stand in the LEB and
+-- in those of before
+pub record IsCommitStep (old new : VolumeState) (lnum : ℕ) (kept given : List ℕ) (begun : KeyedRow) (before after : MountedIndex) (row : KeyedRow) (result : Result WrittenLeb IndexFault) : Type 0 where
   pub now : KeyedRow
   pub places : KeepsPlaces row now
   pub shown : Shows new after now
   pub running : IsAfterStep (IsCommitRunning new kept (lnum ∷ given) begun after now) (IsCommitRunning new kept given begun after now × (now ≡ row)) result
+  pub same : OnMemory (KeepsShown old new before after) result
   pub stands : IsIndexNotFailed result → StandsIn new (lnum ∷ (given ++ kept)) now
 
 -- Nodes were written to this LEB, with the sequence numbers behind the first: it holds them alone, or it is as it was. A cut leaves of it what

@@ -1,14 +1,14 @@
 -- While a commit in steps runs: where the index stands, and work beside its LEBs.
 use Rattle.std.proofs.Common.{◌≡◌, ℕ, ◌<◌, ◌++◌, List, sym, subst}
 use Rattle.commit_steps.specs.UnderWay.{AreSettledLebs, AreWithinLebs, WorksBeside}
-use Rattle.commit_steps.specs.UnderWayLaws.{DependsOnItsLebs, WorksBeside-keeps, commit_beside}
+use Rattle.commit_steps.specs.UnderWayLaws.{DependsOnItsLebs, WorksBeside-keeps, commit_beside, within_moved}
 use Rattle.index_commit.specs.Lebs.{IsGiven}
 use Rattle.index_media.specs.KeyedRow.{KeyedRow}
 use Rattle.ubi_volume.specs.FrameLaws.{Only-same}
 use Rattle.ubi_volume.specs.Volume.{VolumeState, Keeps, SameShape}
 use Rattle.mounted_index.specs.Running.{IsCommitOfNodes, IsCommitRunning, KeepsRunning}
 use Rattle.mounted_index.specs.Shown.{IsRowOfNodes, IsTakenUp, KeepsShown, Shows, StandsIn}
-use Rattle.mounted_index.specs.ShownLaws.{IsTakenUp-beside, within_moved}
+use Rattle.mounted_index.specs.ShownLaws.{IsTakenUp-beside}
 use Rattle.mounted_index.specs.declared.mounted.IndexNodes.{IndexNodes}
 use Rattle.mounted_index.specs.declared.mounted.IndexNodes.TheVariants.{OnMedium, InMemory}
 use Rattle.mounted_index.specs.declared.mounted.MountedIndex.{MountedIndex}

@@ -165,8 +165,11 @@ pub struct CommitBesidePut {
     pub found: Option<Leaf>,
 }
 
-/// Commits an index in steps, to LEBs in which no node of it stands. Behind the first step it puts a leaf, and looks the leaf's key up. It answers
-/// the root of the index as it was before the leaf came, and the first leaf of that key, of the leaves of before and the one that came.
+/// Commits an index in steps, to LEBs in which no node of it stands. Behind the first step it puts a leaf, and looks the leaf's key up. It
+/// answers the root of the index as it was before the leaf came, and what it found. Where keys are in order, that is the first leaf of that
+/// key, of the leaves of before and the one that came.
+///
+/// `Full` comes if nodes are left behind the last LEB. It says that one LEB more is needed; it may be several.
 pub fn commit_beside_put<V: Volume>(
     alloc: Global,
     volume: &mut V,
@@ -189,7 +192,11 @@ pub fn commit_beside_put<V: Volume>(
     index.begin_commit(volume);
     let found = put_between_steps(alloc, volume, index, first, rest, leaf, sqnum)?;
     if index.has_nodes_left() {
-        return Err(IndexFault::Full { need: 1, given: 0 });
+        let given = (rest.len() as u64).saturating_add(1);
+        return Err(IndexFault::Full {
+            need: given.saturating_add(1),
+            given,
+        });
     }
     let root = index.end_commit(alloc, volume);
     Ok(CommitBesidePut { root, found })

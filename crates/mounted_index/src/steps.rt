@@ -1,18 +1,19 @@
 // A commit in steps, between which look-ups and changes go on.
 
-ghost use Rattle.std.specs.Prelude.{◌≡◌, ◌<◌, ◌≤◌, ◌+◌, ◌-◌, ◌^◌, ◌++◌, ◌∷◌, [], ℕ, List, None, IfOk, IsTrue, false, length};
+ghost use Rattle.std.specs.Prelude.{◌≡◌, ◌<◌, ◌≤◌, ◌+◌, ◌-◌, ◌^◌, ◌++◌, ◌∷◌, [], ℕ, List, Option, None, IfOk, IsTrue, false, length};
 ghost use Rattle.ubifs_base.specs.RawOf.{raw_of};
 ghost use Rattle.commit_steps.specs.UnderWay.{AreSettledLebs};
 ghost use Rattle.index_media.specs.KeyedRow.{KeyedRow};
+ghost use Rattle.media_sys.specs.declared.branch.Branch.{Branch as ABranch};
 ghost use Rattle.ubi_volume.specs.Geometry.{IsGeometryOf};
 ghost use Rattle.ubi_volume.specs.Volume.{Keeps};
 ghost use Rattle.index_commit.specs.Answers.{IsIndexAnswered, IsNotFull, OnMemory};
 ghost use Rattle.index_commit.specs.LebTexts.{IsNextLeb};
 ghost use Rattle.index_commit.specs.KeysApart.{AreKeysApart};
 ghost use Rattle.index_commit.specs.Lebs.{IsGiven};
-ghost use Rattle.index_commit.specs.Ordered.{IsNotEqualKeys};
+ghost use Rattle.index_commit.specs.Ordered.{AreKeysInOrder, IsNotEqualKeys};
 ghost use Rattle.index_commit.specs.Written.{KeepsOtherIndexes};
-ghost use Rattle.mounted_index.specs.Committed.{nodes_to_write};
+ghost use Rattle.mounted_index.specs.Committed.{HasNodesFrom, nodes_to_write};
 ghost use Rattle.mounted_index.specs.Running.{IsCommitEnded, IsCommitRunning, IsCommitStep, IsStepWritten, dirty_left};
 ghost use Rattle.mounted_index.specs.Shown.{KeepsShown, Shows, StandsIn};
 
@@ -35,8 +36,8 @@ impl MountedIndex {
     /// Begins a commit in steps of the index as it is now, and answers how many nodes it has to write. A commit that ran before ends
     /// without its root. The volume is as it was.
     ///
-    /// The clean nodes of the index stand in LEBs of which a cut leaves what they hold. Until the commit ends, nobody else writes to these or
-    /// to those of its steps.
+    /// The clean nodes of the index stand in LEBs of which a cut leaves what they hold. Until a master names the root of this commit, nobody
+    /// else writes to these or to those of its steps.
     pub fn begin_commit<V: Volume>(&mut self, volume: &V) -> u64
         ensures begun { (row : KeyedRow) (kept : List ℕ) → Shows (V.state volume.now) self.old row → StandsIn (V.state volume.now) kept row → AreSettledLebs (V.state volume.now) kept
             → IsCommitRunning (V.state volume.now) kept [] row self.new row }
@@ -69,11 +70,12 @@ impl MountedIndex {
     }
 
     /// A step of the commit that runs: writes its next nodes to this LEB, all that are left, or as many as the LEB has rooms for. It answers
-    /// where the next node could go, and how many bytes the nodes take, each rounded up to 8. The LEB is replaced by one change, whatever it
-    /// held, and no clean node may stand in it.
+    /// where its nodes end, and how many bytes they take, each rounded up to 8. The LEB is replaced by one change, whatever it held. It is
+    /// none of those that were kept when the commit began, or given since.
     ///
-    /// `Memory` comes before anything is written, and `Full` never. `EqualKeys` comes only if a key but an entry's stands twice in the
-    /// index as it was when the commit began. After `Volume` the index is shown as before, and the commit is of no use.
+    /// `Memory` comes before anything is written, and leaves what is shown or staged. `Full` never comes. `EqualKeys` comes only if the keys
+    /// of the index as it was when the commit began were neither in order in each node nor apart. After `Volume` the index is shown as
+    /// before, and this commit is of no use, nor is a later one in steps.
     pub fn write_step<V: Volume>(
         &mut self,
         alloc: Global,
@@ -86,7 +88,8 @@ impl MountedIndex {
         requires some { 0 < length (dirty_left self.old.nodes) }
         requires number { sqnum.old < 2 ^ 63 }
         ensures step { (row begun : KeyedRow) (kept given : List ℕ) → IsCommitRunning (V.state volume.old) kept given begun self.old row → (IsGiven (given ++ kept) lnum → ⊥)
-            → IsCommitStep (V.state volume.old) (V.state volume.new) lnum kept given begun self.new row result × (AreKeysApart None begun → IsNotEqualKeys result) }
+            → IsCommitStep (V.state volume.old) (V.state volume.new) lnum kept given begun self.old self.new row result
+            × (AreKeysApart None begun → IsNotEqualKeys result) × (AreKeysInOrder begun → IsNotEqualKeys result) }
         ensures written { IsStepWritten (raw_of self.old.geometry) (V.state volume.old) (V.state volume.new) lnum sqnum.old sqnum.new result }
         ensures next { IfOk result (λ done. IsNextLeb (raw_of self.old.geometry) lnum (sqnum.new - sqnum.old) (dirty_left self.new.nodes) done.head) × (self.new.geometry ≡ self.old.geometry) }
         ensures old_stays { KeepsOtherIndexes (V.state volume.old) (V.state volume.new) (lnum ∷ []) }
@@ -111,10 +114,11 @@ impl MountedIndex {
 
     /// Ends the commit that runs, which has no node left to write, and answers the root of what it wrote (`root_lnum`, `root_offs` and
     /// `root_len` of `struct ubifs_mst_node`); an empty index has none. Nothing is written. If no node of the index that is shown is
-    /// dirty, all nodes go, and what was staged.
+    /// dirty, all nodes go, and what was staged. Other LEBs in which nodes stood are free once a master names this root.
     pub fn end_commit<V: Volume>(&mut self, alloc: Global, volume: &V) -> Option<Branch>
         requires none { dirty_left self.old.nodes ≡ [] }
         ensures ended { (row begun : KeyedRow) (kept given : List ℕ) → IsCommitRunning (V.state volume.now) kept given begun self.old row → IsCommitEnded (V.state volume.now) kept given begun row self.new result }
+        ensures gone { dirty_left self.new.nodes ≡ [] → (root : Option ABranch) × HasNodesFrom self.old.geometry.fanout root self.new.nodes }
         ensures geometry { self.new.geometry ≡ self.old.geometry }
     {
         changes_keep_what_stands();
