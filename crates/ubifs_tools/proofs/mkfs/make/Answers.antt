@@ -12,4 +12,4 @@ pub returns-in_ok-image-in-Done : goal.returns-in_ok-image-in-Done
 returns-in_ok-image-in-Done c = λ files text is.
     let P : MadeVolume → Type 0 = λ d. IsVolumeMade files text d in
     let Q : List ℕ → Type 0 = λ bytes. IsMadeOf files text c.in-Done.text.items bytes in
-    subst Q (sym c.in_ok-image.ensures) (subst P c.in-Done.is (c.in_ok-line.ensures files text is))
+    subst Q (sym c.in_ok-image-in-Done.ensures) (subst P c.in-Done.is (c.in_ok-line.ensures files text is))
