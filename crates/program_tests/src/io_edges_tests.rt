@@ -99,7 +99,10 @@ fn host_file_is_written_and_read_back(rt: HostRuntime) -> Result<(), Fail> {
     fs::remove_file(&rt, &name)?;
     let missing = keeper.read(&name).err();
     assert_eq!(rt; (written, pieces), (Ok(true), Ok(true)));
-    assert_eq!(rt; (missing, keeper.faults()), (Some(KeepFault::Failed { count: 1 }), 1));
+    assert_eq!(rt;
+        (missing, keeper.faults()),
+        (Some(KeepFault::Failed { count: 1 }), 1)
+    );
     Ok(())
 }
 
