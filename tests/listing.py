@@ -42,10 +42,12 @@ def found(image):
     leb_size, _ = sizes_of(image)
     first, past, _, _ = areas_of(image)
     for place in places_of(image):
-        # What stands behind the superblock in LEB 0 begins with no node of the format, so the text ends there.
-        if first <= place // leb_size < past or 0 < place < leb_size or place + 24 > len(image):
+        if first <= place // leb_size < past or place + 24 > len(image):
             continue
         crc, sqnum, length, kind = struct.unpack_from("<IQIB", image, place + 4)
+        # Behind the superblock in LEB 0 only padding up to the unit's end may stand. Else the text ends there.
+        if 0 < place < leb_size and (place != 4096 or kind != TYPES.index("pad")):
+            continue
         node = image[place : place + length]
         if len(node) == length >= 28 and zlib.crc32(node[8:]) ^ 0xFFFFFFFF == crc:
             yield place // leb_size, place % leb_size, TYPES[kind], length, sqnum
