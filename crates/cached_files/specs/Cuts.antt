@@ -93,7 +93,7 @@ IsLastPut WasPut group last = (last ≡ (base_head, group) ∷ []) ⊎ ((group �
 IsLastPut NotPut group last = last ≡ []
 IsLastPut MayBePut group last = (last ≡ []) ⊎ (last ≡ (base_head, group) ∷ [])
 
--- A cut leaves of calls first groups that they put of pages, each value of which is one of a tree, and then this group where it was put, whose values are those of the tree or of what the group makes of it.
+-- A cut leaves of calls first groups that they put of pages, each value of which is one of a tree. Then it leaves this group where it was put, whose values are those of the tree or of what the group makes of it.
 pub record PutsWith (tree : Tree) (group : List Change) (fate : GroupFate) (old new : Journal) : Type 0 where
   pub pages : List (ℕ × List Change)
   pub gives : AllByRecursion (λ put. GivesOnly (ValuesOf tree) put.1) pages

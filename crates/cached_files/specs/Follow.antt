@@ -33,7 +33,7 @@ pub record KeepsSize (old new : Inode) : Type 0 where
   pub kind : new.kind ≡ old.kind
   pub size : is_dir old.kind ≡ false → new.size ≡ old.size
 
--- A change of inodes or names over a tree: an inode that is there keeps its kind and, unless it is a directory, its size, and a new one has a number above all that were used. No block changes, but for those of an inode that goes.
+-- A change of inodes or names over a tree. An inode that is there keeps its kind and, unless it is a directory, its size. A new one has a number above all that were used. No block changes, but for those of an inode that goes.
 abbrev pub IsOfNames : Tree → Change → Type 0
 IsOfNames tree (SetInode ino inode) = ((old : Inode) × (inode_at tree ino ≡ Some old) × KeepsSize old inode) ⊎ (tree.highest < ino)
 IsOfNames tree (SetBlock ino block bytes) = ⊥

@@ -59,7 +59,7 @@ has_dirty dirty ino = list_any (λ e. e.0.0 == ino) dirty
 abbrev pub dirty_of_others : DirtyPages → ℕ → DirtyPages
 dirty_of_others dirty ino = filter (λ e. not (e.0.0 == ino)) dirty
 
--- what is kept fits a tree: each dirty page and its file's inode do, no block of the tree ends behind a size that is kept, an inode without a dirty page is that of the tree, each clean page has the bytes of its block, and a dirty page is no shorter than its block
+-- What is kept fits a tree. Each dirty page and its file's inode do, and a dirty page is no shorter than its block. No block of the tree ends behind a size that is kept. An inode without a dirty page is that of the tree, and each clean page has the bytes of its block.
 pub record IsKept (tree : Tree) (kept : Kept) : Type 0 where
   pub proper : IsProper tree
   pub ascends : IsTrue (ascends nat_cmp (keys_of kept.inodes))

@@ -18,7 +18,7 @@ use Rattle.cached_files.specs.Cuts.{GroupFate, PutsSeenWith}
 use Rattle.cached_files.specs.Follow.{followed}
 use Rattle.cached_files.specs.Present.{present}
 
--- the first page of a file that goes with a smaller size: that of the block which is put shortened, or the first one that begins at the new size or past it
+-- The first page of a file that goes with a smaller size. It is that of the block which is put shortened, or the first one that begins at the new size or past it.
 abbrev pub first_gone : ℕ → List Change → ℕ
 first_gone size [] = (size + 4095) / 4096
 first_gone size (shortened ∷ rest) = size / 4096

@@ -55,9 +55,9 @@ pub fn put_group<B: Backing>(
     Ok(())
 }
 
-/// Admits a group of changes of inodes and names, which was reckoned on the present files, and puts it. Where there is no
-/// room for it, dirty pages are put and a commit ends first, and `Enospc` comes where there is none then either; other
-/// refusals are faults of the backing. After a refusal the files are as they were, but some pages may have been put.
+/// Admits a group of changes of inodes and names, which was reckoned on the present files, and puts it. Where there is no room for it, dirty pages
+/// are put and a commit ends first. `Enospc` comes where there is none then either; other refusals are faults of the backing. After a refusal the
+/// files are as they were, but some pages may have been put.
 pub fn apply_group<B: Backing>(
     alloc: Global,
     backing: &mut B,

@@ -43,8 +43,8 @@ pub fn groups_leave_files_alike()
     ensures { (a b : Files) (group : List Change) → IsProper a.tree → IsProper b.tree → AreOfNames a.tree group → IsAlike a b → IsAlike (record a { tree = apply a.tree group }) (record b { tree = apply b.tree group }) }
 {}
 
-/// The present tree is proper, and has as many inodes without a name as the tree below; the present files are sound where
-/// each handle names a regular file of that tree.
+/// The present tree is proper, and has as many inodes without a name as the tree below. The present files are sound where each handle names a regular
+/// file of that tree.
 pub fn present_files_are_sound()
     ensures proper { (tree : Tree) (kept : AnyKept) → IsKept tree kept → IsProper (present tree kept).tree }
     ensures sound { (tree : Tree) (kept : AnyKept) → IsKept tree kept → AreFiles tree kept.handles → IsSound (present tree kept) }
@@ -59,8 +59,8 @@ pub fn clean_files_are_those_of_the_backing()
     ensures { (tree : Tree) (kept : AnyKept) → IsKept tree kept → kept.pages.dirty ≡ [] → (present tree kept).tree ≡ tree }
 {}
 
-/// What a cut leaves after calls has at each place a value of a tree that it might have left before them, or one that they
-/// put: a value of these files, or of what their group makes of them. Where the group wasn't put, it has none of the latter.
+/// What a cut leaves after calls has at each place a value of a tree that it might have left before them, or one that they put. That is a value of
+/// these files, or of what their group makes of them. Where the group wasn't put, it has none of the latter.
 pub fn a_cut_leaves_what_was_put()
     ensures all { (old new : Journal) (tree left files : Tree) (group : List Change) (fate : GroupFate) → IfTold old (IsJournalOf tree) → PutsWith files group fate old new → MayLeave new left → HasValues old (ValuesWith files group) left }
     ensures not_put { (old new : Journal) (tree left files : Tree) (group : List Change) → IfTold old (IsJournalOf tree) → PutsWith files group NotPut old new → MayLeave new left → HasValues old (ValuesOf files) left }

@@ -1,9 +1,8 @@
-//! What are the files, where pages of them are written in memory and not yet put? A backing keeps a tree; in front of it
-//! stand the dirty pages with the inodes of their files, and who has which file open. The present files are the backing's
-//! tree under what is kept here. The idea: a write changes what is kept and leaves the backing alone, a put moves a page
-//! down without a change that a caller sees, and what is kept follows a group of changes that is put. The invariant
-//! (`IsKept`): each dirty page has its file's inode beside it, that inode fits the file in the tree, and each dirty page
-//! is paid by a credit that the backing covers.
+//! What are the files, where pages of them are written in memory and not yet put? A backing keeps a tree; in front of it stand the dirty pages with
+//! the inodes of their files, and who has which file open. The present files are the backing's tree under what is kept here. The idea: a write
+//! changes what is kept and leaves the backing alone, and a put moves a page down without a change that a caller sees. What is kept follows a group
+//! of changes that is put. The invariant (`IsKept`): each dirty page has its file's inode beside it, and that inode fits the file in the tree. Each
+//! dirty page is paid by a credit that the backing covers.
 #![tactic(auto)]
 
 mod admission;

@@ -20,8 +20,8 @@ use page_cache::Ticket;
 use std::alloc::Global;
 use ubifs_base::{Bytes, Memory};
 
-/// Puts the page of a ticket, with its bytes up to the file's end and the inode as it is now, and answers whether it is dirty
-/// at the ticket's version: where it isn't, all is as it was. After a fault the page is dirty and paid as before.
+/// Puts the page of a ticket, with its bytes up to the file's end and the inode as it is now. It answers whether the page is dirty at the ticket's
+/// version: where it isn't, all is as it was. After a fault the page is dirty and paid as before.
 pub fn put_ticket<B: Backing>(
     alloc: Global,
     backing: &mut B,

@@ -21,11 +21,10 @@ use crate::truncations::put_size;
 use fs_model::{Backing, Class, Inode, Need, Refusal};
 use std::alloc::Global;
 
-/// Sets the size of a regular file, of which this is the inode and the present size, at this moment (ftruncate(2)). A smaller
-/// one takes the pages past it, clean and dirty ones, and shortens the last block; the credits of dirty pages are given back.
-/// Where there is no room for its group, dirty pages are put and a commit ends first, and `Enospc` comes where there is none then
-/// either; other refusals are faults of the backing. After a refusal callers see the files as before, but some pages may have
-/// been put.
+/// Sets the size of a regular file, of which this is the inode and the present size, at this moment (ftruncate(2)). A smaller one takes the pages
+/// past it, clean and dirty ones, and shortens the last block; the credits of dirty pages are given back. Where there is no room for its group, dirty
+/// pages are put and a commit ends first. `Enospc` comes where there is none then either; other refusals are faults of the backing. After a refusal
+/// callers see the files as before, but some pages may have been put.
 pub fn set_size<B: Backing>(
     alloc: Global,
     backing: &mut B,

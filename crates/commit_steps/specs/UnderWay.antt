@@ -26,9 +26,9 @@ pub record IsSeenWithin (state : VolumeState) (lebs : List ℕ) (index : PagedIn
   pub settled : AreSettledLebs state lebs
   pub seen : AreWithinLebs state.holds lebs (tree_of index)
 
--- A commit is under way: what is frozen of the index is written, one LEB after another. The clean nodes of the frozen index, and of the
--- one that is seen, stand in LEBs that were kept when it began, and in those that it was given since. All of these are settled. But
--- for the given ones, no LEB has nodes of the index that is seen and none of the frozen one
+-- A commit is under way: what is frozen of the index is written, one LEB after another. The clean nodes of the frozen index, and of the one that is
+-- seen, stand in LEBs that were kept when it began, or were given since. All of these are settled. But for the given ones, no LEB has nodes of the
+-- index that is seen and none of the frozen one
 pub record IsCommitUnderWay (state : VolumeState) (kept given : List ℕ) (index : PagedIndex) : Type 0 where
   pub settled : AreSettledLebs state (given ++ kept)
   pub frozen : AreWithinLebs state.holds (given ++ kept) (frozen_of index)

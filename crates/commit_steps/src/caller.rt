@@ -105,9 +105,9 @@ fn take_steps<V: Volume>(
     take_steps(alloc, volume, geometry, index, rest, leaf, bud, node, sqnum)
 }
 
-/// Commits the index that is seen in steps, one of these LEBs each, and puts a leaf between the steps: it writes the leaf's node to the
-/// LEB `bud`, and puts the leaf into the index. The index stands in settled LEBs that are none of all these. After Ok the index of
-/// before the puts stands on the volume, in settled LEBs. An index that stood in such LEBs before stands in what a cut at any moment leaves.
+/// Commits the index that is seen in steps, one of these LEBs each, and puts a leaf between the steps. It writes the leaf's node to the LEB `bud`,
+/// and puts the leaf into the index. The index stands in settled LEBs that are none of all these. After Ok the index of before the puts stands on the
+/// volume, in settled LEBs. An index that stood in such LEBs before stands in what a cut at any moment leaves.
 pub fn commit_beside_puts<V: Volume>(
     alloc: Global,
     volume: &mut V,

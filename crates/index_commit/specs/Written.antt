@@ -149,8 +149,8 @@ pub record IsLebPut (old new : VolumeState) (lnum : ℕ) (bytes : List ℕ) (use
   pub left : 0 < used → Only (new.holds lnum) (new.left_now lnum)
   pub ended : 0 < used → (new.written lnum ≡ end) × (end % new.min_io ≡ 0)
 
--- while these bytes were put into a LEB, a cut left what it might have left before, or the bytes, a gap to the end of the unit, and
--- nothing behind; without bytes it left what it might have left before
+-- While these bytes were put into a LEB, a cut left what it might have left before. Or it left the bytes, if there are some, a gap to the end of the
+-- unit, and nothing behind.
 pub record IsPutLeft (geo : RawGeometry) (old new : VolumeState) (lnum : ℕ) (bytes : List ℕ) (used : ℕ) : Type 0 where
   pub busy : 0 < used → Leaves old new (λ c. old.left_now lnum (c lnum) ⊎ (c lnum ≡ filled old.leb_size (bytes ++ gap_of (whole_units geo used - used))))
   pub idle : used ≡ 0 → Leaves old new (λ c. old.left_now lnum (c lnum))

@@ -32,8 +32,8 @@ abbrev pub dirty_left : IndexNodes → List ℕ
 dirty_left (OnMedium root) = []
 dirty_left (InMemory index) = dirty_of index
 
--- A commit in steps writes the first row, and these nodes are of the second one: both are one row, which stands on the volume in settled
--- LEBs, or the first one is frozen, with places, and its commit is under way
+-- A commit in steps writes the first row, and these nodes are of the second one. Both are one row, which stands on the volume in settled LEBs. Or the
+-- first one is frozen, with places, and its commit is under way.
 abbrev pub IsCommitOfNodes : VolumeState → List ℕ → List ℕ → KeyedRow → KeyedRow → IndexNodes → Type 0
 IsCommitOfNodes state kept given begun row (OnMedium root) = (row ≡ begun) × AreSettledLebs state (given ++ kept) × AreWithinLebs state.holds (given ++ kept) begun
 IsCommitOfNodes state kept given begun row (InMemory index) = IsCommitUnderWay state kept given index × KeepsPlaces begun (frozen_of index)
@@ -78,9 +78,9 @@ pub record IsStepWritten (geo : RawGeometry) (old new : VolumeState) (lnum first
   pub text : IsIndexNotFailed result → IsLebOf geo old new lnum first nodes
   pub used : IfOk result (λ done. done.used ≡ index_bytes nodes)
 
--- A commit in steps has ended. The row that it began on stands on the volume from this root on, with the places that it had, in LEBs that
--- were kept or given, and a cut leaves what they hold. The index shows what it showed, and stands in the LEBs of that row and in given ones:
--- the next commit may begin on these
+-- A commit in steps has ended. The row that it began on stands on the volume from this root on, with the places that it had. It stands in LEBs that
+-- were kept or given, and a cut leaves what they hold. The index shows what it showed, and stands in the LEBs of that row and in given ones: the next
+-- commit may begin on these
 pub record IsCommitEnded (state : VolumeState) (kept given : List ℕ) (begun row : KeyedRow) (after : MountedIndex) (at : Option Branch) : Type 0 where
   pub now : KeyedRow
   pub places : KeepsPlaces begun now

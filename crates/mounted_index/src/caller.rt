@@ -29,8 +29,8 @@ use std::alloc::Global;
 use ubi_volume::{AreaFault, Volume};
 use ubifs_base::{Geometry, Key};
 
-/// Takes up the index that stands on a volume, puts a leaf, and looks the leaf's key up: it answers the first leaf of that key, of the
-/// leaves of before and the one that came.
+/// Takes up the index that stands on a volume, puts a leaf, and looks the leaf's key up. It answers the first leaf of that key, of the leaves of
+/// before and the one that came.
 pub fn put_and_find<V: Volume>(
     alloc: Global,
     volume: &mut V,
@@ -70,8 +70,8 @@ pub fn stage_look_adopt<V: Volume>(
     Ok(())
 }
 
-/// Takes up the index that stands on a volume, puts a leaf, commits to LEBs in which no node of it stands, and looks the leaf's key up
-/// on the volume: it answers the first leaf of that key, of the leaves of before and the one that came.
+/// Takes up the index that stands on a volume, puts a leaf, commits to LEBs in which no node of it stands, and looks the leaf's key up on the volume.
+/// It answers the first leaf of that key, of the leaves of before and the one that came.
 pub fn put_commit_and_find<V: Volume>(
     alloc: Global,
     volume: &mut V,

@@ -112,9 +112,9 @@ impl MountedIndex {
         }
     }
 
-    /// Ends the commit that runs, which has no node left to write, and answers the root of what it wrote (`root_lnum`, `root_offs` and
-    /// `root_len` of `struct ubifs_mst_node`); an empty index has none. Nothing is written. If no node of the index that is shown is
-    /// dirty, all nodes go, and what was staged. Other LEBs in which nodes stood are free once a master names this root.
+    /// Ends the commit that runs, which has no node left to write, and answers the root of what it wrote. An empty index has none. Linux has it as
+    /// `root_lnum`, `root_offs` and `root_len` of `struct ubifs_mst_node`. Nothing is written. If no node of the index that is shown is dirty, all
+    /// nodes go, and what was staged. Other LEBs in which nodes stood are free once a master names this root.
     pub fn end_commit<V: Volume>(&mut self, alloc: Global, volume: &V) -> Option<Branch>
         requires none { dirty_left self.old.nodes ≡ [] }
         ensures ended { (row begun : KeyedRow) (kept given : List ℕ) → IsCommitRunning (V.state volume.now) kept given begun self.old row → IsCommitEnded (V.state volume.now) kept given begun row self.new result }

@@ -1,10 +1,10 @@
 //! Look-ups of an index that stands on a volume, with few of its nodes in memory.
 //!
-//! A `NodeCache` keeps index nodes of a volume by their places, at most 256 of them. A look-up goes from a branch down. It takes each
-//! node of its way out of the cache, or reads it, and gives it back once it is done below: then the nodes of the last way were
-//! used last, the topmost one at the very last, and the one that was used before all others goes first. So the memory of a look-up
-//! doesn't grow with the index. What is kept are nodes that no change touches: `specs/Kept.antt` says how long they are good.
-//! `specs/Loaded.antt` says what has to stand on a volume so that an index is looked up, or loaded from it.
+//! A `NodeCache` keeps index nodes of a volume by their places, at most 256 of them. A look-up goes from a branch down. It takes each node of its way
+//! out of the cache, or reads it, and gives it back once it is done below. So the nodes of the last way were used last, the topmost one at the very
+//! last. The one that was used before all others goes first. So the memory of a look-up doesn't grow with the index. What is kept are nodes that no
+//! change touches: `specs/Kept.antt` says how long they are good. `specs/Loaded.antt` says what has to stand on a volume so that an index is looked
+//! up, or loaded from it.
 #![tactic(auto)]
 
 mod after;

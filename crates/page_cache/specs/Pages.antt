@@ -9,8 +9,8 @@ pub use Rattle.lru.specs.LruCache.{lru_cache, promoted, put_entries}
 use Rattle.page_cache.specs.declared.dirty_page.DirtyPage.{DirtyPage}
 use Rattle.page_cache.specs.declared.ticket.Ticket.{Ticket}
 
--- the dirty pages in the order in which they became dirty; the clean ones, the one used last first; how many clean ones
--- are kept; and how often a page was put as dirty
+-- The dirty pages in the order in which they became dirty. The clean ones, the one used last first. How many clean ones are kept, and how often a
+-- page was put as dirty.
 pub record Pages : Type 0 where
   pub dirty : List ((ℕ × ℕ) × DirtyPage)
   pub clean : List ((ℕ × ℕ) × List ℕ)
@@ -41,8 +41,8 @@ AreApart dirty clean = (ino block : ℕ) → IsSome (lookup (is_page (ino, block
 abbrev pub AreCounted : ℕ → List ((ℕ × ℕ) × DirtyPage) → Type 0
 AreCounted calls dirty = All (λ page. page.version ≤ calls) (values_of dirty)
 
--- What holds of the pages of every cache: no page stands twice in a list, none stands in both, the next version is that of
--- no page until the count stands at its end, and there are no more clean pages than are kept.
+-- What holds of the pages of every cache. No page stands twice in a list, and none stands in both. The next version is that of no page until the
+-- count stands at its end. There are no more clean pages than are kept.
 pub record IsCache (pages : Pages) : Type 0 where
   pub dirty_once : IsDistinct is_page (keys_of pages.dirty)
   pub clean_once : IsDistinct is_page (keys_of pages.clean)
@@ -91,8 +91,8 @@ pub record IsTakenBack (old new : Pages) (ino : ℕ) (put : List (ℕ × List �
   pub split : first ++ rest ≡ new_pages old ino put
   pub made : new ≡ record (with_all_dirty old ino first) { dirty = old.dirty }
 
--- after a page was put as clean, which is nothing where it is dirty: it was used last, and where the clean ones were as
--- many as are kept, the one that wasn't used for the longest time is gone
+-- After a page was put as clean, which is nothing where it is dirty. It was used last. Where the clean ones were as many as are kept, the one that
+-- wasn't used for the longest time is gone.
 abbrev pub with_clean : Pages → ℕ → ℕ → List ℕ → Pages
 with_clean pages ino block bytes =
     if is_some (dirty_at pages ino block) then pages

@@ -17,7 +17,7 @@ use Rattle.script_phase.specs.Phases.{callers_in, is_memory, ops_by, traced_by}
 use Rattle.script_run.specs.Run.{IsPart, IsServed, Running, clean_space, orphans_told}
 use Rattle.script_run.specs.Stored.{IsUnder}
 
--- What a phase of so many callers opens on: the files as callers see them, the index with all dirty pages put, and a list of orphans with as much room as is left. The volume may be written, and never failed.
+-- What a phase of so many callers opens on: the files as callers see them, the index with all dirty pages put, and the room that is left in the list of orphans. The volume may be written, and never failed.
 abbrev pub opened_on : RawGeometry → ℕ → Running → Opening
 opened_on geo callers here = record {
   geometry = geo;

@@ -18,7 +18,7 @@ use Rattle.script_text.specs.declared.part.Part.TheVariants.{Mount, Unmount, Now
 use Rattle.script_text.specs.Reply.{mount_for_reading_line, reply_line}
 use Rattle.text_lines.specs.Lines.{ended}
 
--- where a script is: the files as callers see them, whether the volume is mounted, the time, and how many lines of each caller stand behind the last line of another kind, at its number
+-- Where a script is: the files as callers see them, whether the volume is mounted, and the time. At each caller's number stands how many lines of it are behind the last line of another kind.
 pub record Reading : Type 0 where
   pub files : Files
   pub mounted : Bool

@@ -32,8 +32,8 @@ pub(crate) struct Opening {
     ghost covers: { IsCovering (raw_of geometry) tree (record space { used = tree_bytes tree; held = 0 }) None },
 }
 
-/// A volume with this tree and these numbers, which may be written. An index takes no more LEBs behind a commit than twice those that its weight
-/// asks for, and three times these are kept; so no sum of a run asks how many it takes now.
+/// A volume with this tree and these numbers, which may be written. An index takes no more LEBs behind a commit than twice those that its weight asks
+/// for, and three times these are kept. So no sum of a run asks how many it takes now.
 pub(crate) fn writable_volume(geometry: Geometry, tree: Tree, space: &Space) -> Opening
     requires proper { IsProper tree }
     requires weighed { leaf_count tree ≤ geometry.fanout * space.now.weight }

@@ -19,8 +19,8 @@ use std::alloc::Global;
 use ubifs_base::{Geometry, Memory};
 use vfs_ops::{Event, Fs};
 
-/// Files over such a volume, why it may only be read, whether it is mounted, the time in seconds since 1970, and how many lines of each caller
-/// stand behind the last line of another kind, at its number.
+/// Files over such a volume, why it may only be read, whether it is mounted, and the time in seconds since 1970. At each caller's number stands how
+/// many lines of it are behind the last line of another kind.
 #[derive(Drop)]
 pub(crate) struct Reader {
     pub(crate) fs: Fs<PlainBacking>,

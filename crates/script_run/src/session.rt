@@ -33,7 +33,7 @@ use vfs_ops::{Event, Fs, Outcome, a_plain_answer_is_no_refusal};
 /// How many clean pages are kept in memory.
 pub(crate) const CLEAN: u32 = 1024;
 
-/// Files over a volume in memory, its geometry, whether it is mounted, the time in seconds since 1970, how many lines of the caller stand
+/// Files over a volume in memory, its geometry, whether it is mounted, and the time in seconds since 1970. Then how many lines of the caller stand
 /// behind the last line of another kind, and how many workers are at work beside the callers.
 #[derive(Drop)]
 pub(crate) struct Session {

@@ -29,7 +29,7 @@ pub struct Run {
     pub tree: Tree,
 }
 
-/// What became of a script: it was run on a volume that may be written, or it printed this on one that may only be read, which stays as it was.
+/// What became of a script. It was run on a volume that may be written. Or it printed this on one that may only be read, which stays as it was.
 #[derive(Drop)]
 pub enum Played {
     Written { run: Run },

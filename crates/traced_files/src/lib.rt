@@ -1,8 +1,7 @@
-//! Which calls did the callers of a file system make, in which order, and what was each answered? Files over a backing are kept
-//! with the lines of all calls so far. The lines are legal: replayed one after another, they lead from the files as they
-//! were to files that callers can't tell from the present ones; each is answered as its operation's definition says, or
-//! refused for a cause that is told. Behind a lock this is known of the files by their type. What a caller knows beyond
-//! that goes with its pass: the lines as it saw them last, in which its own stand each once and in order.
+//! Which calls did the callers of a file system make, in which order, and what was each answered? Files over a backing are kept with the lines of all
+//! calls so far. The lines are legal. Replayed one after another, they lead from the files as they were to files that callers can't tell from the
+//! present ones. Each is answered as its operation's definition says, or refused for a cause that is told. Behind a lock this is known of the files
+//! by their type. What a caller knows beyond that goes with its pass: the lines as it saw them last, in which its own stand each once and in order.
 #![tactic(auto)]
 
 mod law;

@@ -6,8 +6,8 @@ ghost use Rattle.trace_word.specs.Knowledge.{lines_of};
 use credited_files::Stock;
 use std::marker::Model;
 
-/// A caller's right to make calls, with its stock of credits, which holds none between calls. Contracts see it as a `PassState`: its
-/// trace's word and its pool, whose it is, how many calls it has made, the place of the last, and the trace as it was seen then.
+/// A caller's right to make calls, with its stock of credits, which holds none between calls. Contracts see it as a `PassState`: its trace's word and
+/// its pool, and whose it is. It has the count of its calls, the place of the last, and the trace as it was seen then.
 #[derive(Drop)]
 pub struct Pass {
     pub(crate) ticket: trace_word::Pass,

@@ -49,7 +49,7 @@ pub record IsToldImage (geo : RawGeometry) (tree : Tree) (told image : List ℕ)
   pub image_is : image ≡ image_of holds geo.leb_cnt
   pub told_is : told ≡ line_of (codes "made" ∷ decimal geo.leb_cnt ∷ [])
 
--- the geometry of the image that is made of a manifest: of just as many main LEBs as its tree takes, if it says `packed`, and else of as many as it says
+-- The geometry of the image that is made of a manifest. If that says `packed` it has just the main LEBs that its tree takes, and else as many as it says.
 abbrev pub made_geometry : Manifest → Tree → RawGeometry
 made_geometry volume tree = if volume.packed then packed_geometry (geometry_of volume) tree else geometry_of volume
 
@@ -73,7 +73,7 @@ abbrev pub IsImageMade : RawGeometry → Tree → MadeVolume → Type 0
 IsImageMade geo tree (on_volume.BadGeometry line) = IsTooFull geo tree line.items
 IsImageMade geo tree (on_volume.Done told made) = IsAdmitted geo tree × IsToldImage geo tree told.items (volume_image made)
 
--- An image of a tree was made on a volume with no LEB to spare, and the line tells how many LEBs it has; or that volume has a field out of range.
+-- An image of a tree was made on a volume with no LEB to spare, and the line tells how many LEBs it has. Or that volume has a field out of range.
 abbrev pub IsPackedMade : RawGeometry → Tree → MadeVolume → Type 0
 IsPackedMade geo tree (on_volume.BadGeometry line) = IsOutOfRange (packed_geometry geo tree) line.items
 IsPackedMade geo tree (on_volume.Done told made) = IsToldImage (packed_geometry geo tree) tree told.items (volume_image made)

@@ -128,7 +128,7 @@ IsRunFor (Some cause) it = IsUnchanged cause it
 abbrev pub IsRunOf : ImageRun → Type 0
 IsRunOf it = IsRunFor (settled it.geo (mount_numbers it)) it
 
--- The work was done: the volume is a manifest of which an image was made, or a sound image; the script is in its grammar, and it was run on the volume of that image.
+-- The work was done. The volume is a manifest of which an image was made, or a sound image. The script is in its grammar, and it was run on the volume of that image.
 pub record IsDone (files : KeeperState) (texts : List ℕ × List ℕ) (text image : List ℕ) : Type 0 where
   pub start : List ℕ
   pub begun : IsBegunOn files texts.0 start

@@ -32,8 +32,8 @@ pub(crate) enum Performed {
     Done { text: Vec<u8>, image: Vec<u8> },
 }
 
-/// What became of the files of a run: a line for a file that wasn't read, for a bad text, for an image that isn't sound, or for a manifest of which
-/// no image is made; or the text of the run and the image.
+/// What became of the files of a run: its text and the image. Or a line for a file that wasn't read, for a bad text, for an image that isn't sound,
+/// or for a manifest of which no image is made.
 #[derive(Drop)]
 pub(crate) enum Ran {
     Unread { line: Vec<u8> },

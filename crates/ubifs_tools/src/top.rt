@@ -23,10 +23,10 @@ use std::thread::Threads;
 use ubifs_base::Memory;
 use writeback::Gate;
 
-/// Runs the command that the words say, over the keeper's files, and prints to the sink. A script's workers wait at the gate, each
-/// between a page and its put. The answer is the status: 0 the
-/// work was done, 1 the words aren't a command, 2 a text isn't in its grammar, 3 an image isn't sound, 4 a file wasn't read
-/// or written, 5 the output failed, 6 there was no memory, 7 the manifest's geometry is out of range, or its tree has no room.
+/// Runs the command that the words say, over the keeper's files, and prints to the sink. A script's workers wait at the gate, each between a page and
+/// its put. The answer is the status. 0: the work was done. 1: the words aren't a command. 2: a text isn't in its grammar. 3: an image isn't sound.
+/// 4: a file wasn't read or written. 5: the output failed. 6: there was no memory. 7: the manifest's geometry is out of range, or its tree has no
+/// room.
 pub fn ubifs<R: Threads + Wait + Sync, K: Keeper, O: Sink, G: Gate + Sync>(
     rt: &R,
     alloc: Global,

@@ -85,7 +85,7 @@ IsPut p shown (Stale kept now) = IsStale p shown kept now
 IsPut p shown (Fault why) = IsUnplaced p shown why
 IsPut p shown outcome = ⊥
 
--- What each call of the background of a backing keeps to: the files stay, nothing is put, and why it fails. One that is read-only isn't asked, and answers its cause.
+-- What each call of the background of a backing keeps to: the files stay, nothing is put, and why it fails. One that is read-only answers its cause, and stays as it is.
 pub record IsBackingCall {T : Type 0} (old new : BackingState) (result : Result T StoreFault) : Type 0 where
   pub files : KeepsFiles old new
   pub cut : Leaves old.journal new.journal []

@@ -106,7 +106,7 @@ abbrev pub left_of : Outcome → ℕ
 left_of (Replied reply left) = left
 left_of outcome = 0
 
--- After a sync that is done on a store that could be written all that was put is synced, and no page is dirty: of any file after a flush, and of the slot's file after a sync of that one.
+-- After a sync that is done on a store that could be written all that was put is synced. No page is dirty then, of any file after a flush, and of the slot's file after a sync of that one.
 abbrev pub HasSynced : Mode → BackingState → Kept → Kept → ℕ → Op → Reply → Type 0
 HasSynced ReadWrite new before after caller Flush Done = IsSynced new × (after.pages.dirty ≡ []) × (after.inodes ≡ [])
 HasSynced ReadWrite new before after caller (Fsync slot) Done =

@@ -26,7 +26,7 @@ use Rattle.vfs_ops.specs.Writing.{HasGroupRoom}
 
 -- What a caller's event does to the files, and what comes of it.
 pub record IsCallStep (old new : FilesState) (event : Event) (outcome : Outcome) : Type 0 where
-  -- The reply and the files are the plain operation's, or it is refused for a cause that is told and the files are as before; no more of the grant is left than there was.
+  -- The reply and the files are the plain operation's, or it is refused for a cause that is told and the files are as before. No more of the grant is left than there was.
   pub answered : IsAnswer old.backing new.backing old.kept new.kept old.refused new.refused event outcome
   -- What is left is the grant less the pages that became dirty; a question only looks, and so does a refusal that comes before anything is put.
   pub exact : IsExactCall (record { old = old.backing; new = new.backing; before = old.kept; after = new.kept }) event outcome
@@ -46,7 +46,7 @@ pub record IsCallStep (old new : FilesState) (event : Event) (outcome : Outcome)
   pub weighed : IsWeighedCall (record { old = old.backing; new = new.backing; before = old.kept; after = new.kept }) event outcome
   -- The next list of orphans gets longer by one at most, where an open inode lost its last name.
   pub orphans : KeepsOrphans old.backing new.backing (present_in old) (present_in new)
-  -- A cut leaves of it pages with the values of the files before, and then its group as a whole: it was put where the call is done, and it wasn't where it is refused, unless the volume failed.
+  -- A cut leaves of it pages with the values of the files before, and then its group as a whole. It was put where the call is done. It wasn't where it is refused, unless the volume failed.
   pub cut : PutsCalled old.backing new.backing old.kept event outcome
   -- What the backing may have done meanwhile: at most two nodes for each dirty page, and those that the group asks for.
   pub goes : Goes (2 * length old.kept.pages.dirty + nodes_asked_in (present_in old) event) old.backing new.backing
@@ -96,7 +96,7 @@ pub record IsApplied {T : Type 0} (old new : FilesState) (group : List Change) (
   pub weighed : GrowsBy (added_or_refused (length group) (max 2 (length group)) result) old.backing new.backing old.kept new.kept
   -- The next list of orphans gets no longer, or it has room.
   pub orphans : FitsNextOrphans old.backing new.backing
-  -- A cut leaves of it pages with the values of the files before, and then the group as a whole: done, it was put; refused, it wasn't, unless the volume failed.
+  -- A cut leaves of it pages with the values of the files before, and then the group as a whole. Done, it was put; refused, it wasn't, unless the volume failed.
   pub cut : PutsSeenWith old.backing new.backing old.kept group (group_fate result)
   -- What the backing may have done meanwhile: at most two nodes for each dirty page, and the group.
   pub goes : Goes (2 * length old.kept.pages.dirty + length group) old.backing new.backing

@@ -103,7 +103,7 @@ WasAdmitted old new before caller now grant op =
 abbrev pub IsAdmittedReply : BackingState → BackingState → Kept → ℕ → ℕ → ℕ → Op → Reply → Type 0
 IsAdmittedReply old new before caller now grant op reply = ((refusal : Refusal) × (reply ≡ Refused refusal)) ⊎ WasAdmitted old new before caller now grant op
 
--- Where the plain operation is done that has a group, and that is empty or has room at the first test, it isn't refused for want of room, and no more nodes are put than the group's.
+-- Where the plain operation is done, and its group is empty or has room at the first test, it isn't refused for want of room. No more nodes are put than the group's.
 abbrev pub IsAtOnce : {T : Type 0} → BackingState → BackingState → Kept → ℕ → ℕ → Op → Result T Refusal → Type 0
 IsAtOnce old new before caller now op result =
     has_group op ≡ true → (done : Reply × Files) → outcome_of (present old.tree before) caller now op ≡ Ok done → HasRoomAtOnce old (need_of (present old.tree before) caller now op)

@@ -56,7 +56,7 @@ HasRoomAtOnce state need = (need.nodes ≡ 0) ⊎ HasGroupRoom state need
 abbrev pub IsGroupAdmitted : BackingState → BackingState → Kept → List Change → Need → Type 0
 IsGroupAdmitted old new kept group need = (length group ≡ 0) ⊎ WasCovered old new kept need need need.nodes
 
--- A write that is kept in memory alone: nothing goes to the backing, nothing is refused for want of room, and the pages that are touched are dirty then; after a refusal no other page is than before.
+-- A write that is kept in memory alone: nothing goes to the backing, and nothing is refused for want of room. The pages that are touched are dirty then; after a refusal no other page is than before.
 pub record IsBuffered {T : Type 0} (old new : BackingState) (kept after : Kept) (ino offs len : ℕ) (result : Result T Refusal) : Type 0 where
   pub geometry : new.geometry ≡ old.geometry
   pub tree : new.tree ≡ old.tree
@@ -84,7 +84,7 @@ Buffers old new before after caller grant (Write slot offs len byte) result =
     (ino : ℕ) → handle_at (present old.tree before) caller slot ≡ Some ino → HasRoom old before ino offs len grant → IsBuffered old new before after ino offs len result
 Buffers old new before after caller grant op result = Unit {0}
 
--- The same of its reply: nothing goes to the backing, nothing is refused for want of room, and the pages that are touched are dirty then; or it is refused, and no other page is dirty than before.
+-- The same of its reply: nothing goes to the backing, and nothing is refused for want of room. The pages that are touched are dirty then; or it is refused, and no other page is dirty than before.
 pub record IsBufferedReply (old new : BackingState) (before after : Kept) (first last : List NoSpace) (ino offs len : ℕ) (reply : Reply) : Type 0 where
   pub geometry : new.geometry ≡ old.geometry
   pub tree : new.tree ≡ old.tree

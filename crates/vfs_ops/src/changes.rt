@@ -28,11 +28,11 @@ use fs_model::{Backing, Change, Group, Kind, Op, Refusal, Reply, Table};
 use std::alloc::Global;
 use vfs_plans::plan;
 
-/// Does a caller's operation at this moment, in seconds since 1970: one that makes, links, takes away or moves a name, or
-/// sets a mode. It answers and leaves what the operation's definition says, but for zeros at the ends of blocks, which nobody
-/// sees. A refusal is the definition's, or tells that there is no room for what the operation asks for, or that the backing
-/// failed; the files are then as they were. Where the next list of orphans is full, what takes the last name of an open inode
-/// is refused with `Enfile`, after all other refusals of the operation and before want of room.
+/// Does a caller's operation at this moment, in seconds since 1970: one that makes, links, takes away or moves a name, or sets a mode. It answers and
+/// leaves what the operation's definition says, but for zeros at the ends of blocks, which nobody sees. A refusal is the definition's, or tells that
+/// there is no room for what the operation asks for, or that the backing failed; the files are then as they were. Where the next list of orphans is
+/// full, what takes the last name of an open inode is refused with `Enfile`. That comes after all other refusals of the operation, and before want of
+/// room.
 pub fn change<B: Backing>(
     alloc: Global,
     backing: &mut B,

@@ -72,10 +72,9 @@ impl<B: Backing> Fs<B> {
         }
     }
 
-    /// Makes an event. A caller's operation answers and leaves what its definition says, but for zeros at the ends of blocks,
-    /// which nobody sees; or it is refused, for a cause that is told, and callers see the files as before. After a refusal for
-    /// want of room, a fault or want of memory, some dirty pages may have been put. Over an event of the background callers see
-    /// the same files. A `Drain` takes no memory.
+    /// Makes an event. A caller's operation answers and leaves what its definition says, but for zeros at the ends of blocks, which nobody sees. Or
+    /// it is refused, for a cause that is told, and callers see the files as before. After a refusal for want of room, a fault or want of memory,
+    /// some dirty pages may have been put. Over an event of the background callers see the same files. A `Drain` takes no memory.
     pub fn step(&mut self, event: &Event) -> Outcome
         requires call { IsCalled event.now }
         requires grant { length self.old.kept.pages.dirty + grant_of event.now ≤ (B.state self.old.backing).space.credits }
@@ -167,9 +166,9 @@ impl<B: Backing> Fs<B> {
         }
     }
 
-    /// Puts a group of changes of inodes and names that was reckoned on the present files, where there is room for what it asks.
-    /// It is refused by a read-only store, for want of room, for a fault of the backing, or for want of memory; the present files
-    /// are then as before, but some dirty pages may have been put.
+    /// Puts a group of changes of inodes and names that was reckoned on the present files, where there is room for what it asks. It is refused by a
+    /// read-only store, for want of room, for a fault of the backing, or for want of memory. The present files are then as before, but some dirty
+    /// pages may have been put.
     pub fn apply_group(&mut self, group: &Group, need: &Need) -> Result<(), Refusal>
         requires group { MayApply (files_state self.old) group.now need.now }
         ensures applied { IsApplied (files_state self.old) (files_state self.new) group.now need.now result }

@@ -72,17 +72,16 @@ pub fn a_call_adds_few_nodes()
     ensures { (old new : FilesState) (caller now grant : ℕ) (op : Op) (outcome : Outcome) → IsSound (present_in old) → IsStep old new (Call caller now grant op) outcome → GrowsBy (5 + 2 * pages_in op) old.backing new.backing old.kept new.kept }
 {}
 
-/// An operation that is done leaves one inode without a name more at most, and that exactly where its group sets one: a file
-/// that is open has then lost its last name. A new size sets the inode of its file again, which may have none already.
+/// An operation that is done leaves one inode without a name more at most, and exactly where its group sets one. A file that is open has then lost
+/// its last name. A new size sets the inode of its file again, which may have none already.
 pub fn an_operation_leaves_one_orphan_at_most()
     ensures one { (files after : Files) (caller now : ℕ) (op : Op) (reply : Reply) → IsSound files → outcome_of files caller now op ≡ Ok (reply, after) → length (nameless after.tree) ≤ length (nameless files.tree) + 1 }
     ensures exact { (files after : Files) (caller now : ℕ) (op : Op) (reply : Reply) → IsSound files → is_truncate op ≡ false → outcome_of files caller now op ≡ Ok (reply, after) → leaves_orphan files after ≡ orphans (group_of files caller now op) }
 {}
 
-/// What a cut leaves after an event, or after a group, has for each inode, entry and block a value of a tree that it might have
-/// left before, or of the files that callers saw before, or of these with the group of the call; nothing is a value too. An
-/// inode without a name may be gone with its blocks. After a refusal that isn't a fault of the volume, nothing is left of
-/// the group.
+/// What a cut leaves after an event, or after a group, has a value for each inode, entry and block; nothing is a value too. It is one of a tree that
+/// a cut might have left before, of the files that callers saw before, or of these with the call's group. An inode without a name may be gone with
+/// its blocks. After a refusal that isn't a fault of the volume, nothing is left of the group.
 pub fn a_cut_leaves_old_values_or_new_ones()
     ensures event { (old new : FilesState) (event : Event) (outcome : Outcome) (left : Tree) → (sets_size event ≡ true → IsSound (present_in old)) → IfTold old.backing.journal (IsJournalOf old.backing.tree) → IsStep old new event outcome → MayLeave new.backing.journal left
         → HasValues old.backing.journal (ValuesWith (present_in old).tree (group_in (present_in old) event)) left }

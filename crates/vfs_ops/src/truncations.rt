@@ -33,10 +33,10 @@ use op_plans::{is_bad_slot, is_too_big};
 use std::alloc::Global;
 use vfs_plans::inode;
 
-/// Sets the size of an open file of a caller, in bytes, at this moment. A smaller one takes what stands past it, dirty pages
-/// too, whose credits are given back to the backing's pool; bytes between the old end and a greater one read as zeros. A refusal
-/// is the definition's, or tells that there is no room for what the operation asks for, or that the backing failed; callers see
-/// the files then as they were, but some dirty pages may have been put.
+/// Sets the size of an open file of a caller, in bytes, at this moment. A smaller one takes what stands past it, dirty pages too, whose credits are
+/// given back to the backing's pool. Bytes between the old end and a greater one read as zeros. A refusal is the definition's, or tells that there is
+/// no room for what the operation asks for, or that the backing failed. Callers see the files then as they were, but some dirty pages may have been
+/// put.
 pub(crate) fn truncate<B: Backing>(
     alloc: Global,
     backing: &mut B,

@@ -29,13 +29,12 @@ use op_plans::{ends_too_far, is_bad_len, is_bad_slot};
 use std::alloc::Global;
 use vfs_plans::inode;
 
-/// Writes so many copies of a byte into an open file of a caller, from a place on, at this moment (pwrite(2)). `grant` is
-/// how many credits the caller brings, which the backing covers beside those of dirty pages; the number that is answered
-/// is what is left of them. A page that wasn't dirty takes a credit, and where the caller's are too few the rest is asked
-/// for. Where the rest isn't covered as the backing is, all dirty pages are put, a commit ends, and what the write
-/// lacks then is asked for once more. The pages that are written are only dirty, and nothing of them is put. A refusal is
-/// the definition's, or tells that there is no room for the credits, or that the backing failed; the files are then as they
-/// were, and the caller has its credits still.
+/// Writes so many copies of a byte into an open file of a caller, from a place on, at this moment (pwrite(2)). `grant` is how many credits the caller
+/// brings, which the backing covers beside those of dirty pages; the number that is answered is what is left of them. A page that wasn't dirty takes
+/// a credit, and where the caller's are too few the rest is asked for. Where the rest isn't covered as the backing is, all dirty pages are put, a
+/// commit ends, and what the write lacks then is asked for once more. The pages that are written are only dirty, and nothing of them is put. A
+/// refusal is the definition's, or tells that there is no room for the credits, or that the backing failed. The files are then as they were, and the
+/// caller has its credits still.
 pub(crate) fn write<B: Backing>(
     alloc: Global,
     backing: &mut B,
