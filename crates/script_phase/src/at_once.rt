@@ -6,7 +6,9 @@ ghost use Rattle.fs_model.specs.Legal.{IsLegal};
 ghost use Rattle.plain_backing.specs.PlainBacking.{outlook_of};
 ghost use Rattle.traced_files.specs.Calls.{AreLegal, IsClosedHistory};
 ghost use Rattle.traced_files.specs.History.{opening_of, present_of};
+ghost use Rattle.traced_files.specs.Seen.{LeavesSeen};
 ghost use Rattle.traced_files.specs.Start.{IsNewLedger};
+ghost use Rattle.vfs_ops.specs.FilesState.{present_in};
 ghost use Rattle.vfs_ops.specs.Fs.{files_state};
 ghost use Rattle.writeback.specs.Runs.{HasLines, MayRun};
 ghost use Rattle.script_phase.specs.Phases.{HasSameLimits, IsOneTrace, IsUnfailing, callers_in};
@@ -44,6 +46,7 @@ pub fn serve_at_once<G: Gate + Sync, R: Threads + Wait + Sync>(
     ensures unfailing { IfOk result (λ closed. IsUnfailing closed.fs.backing closed.fs.kept) }
     ensures layout { IfOk result (λ closed. HasSameLimits fs.backing closed.fs.backing) }
     ensures trace { IfOk result (λ closed. IsOneTrace (opening_of (files_state fs) (outlook_of fs.backing) (callers_in lines.items)) now lines.items closed.trace.items (files_state closed.fs)) }
+    ensures left { IfOk result (λ closed. LeavesSeen (present_in (files_state fs)) (files_state fs).backing.journal closed.trace.items (files_state closed.fs).backing.journal) }
     ensures legal { IfOk result (λ closed. IsLegal (opening_of (files_state fs) (outlook_of fs.backing) (callers_in lines.items)) closed.trace.items (present_of fs.refused.items (files_state closed.fs) (outlook_of closed.fs.backing))) }
 {
     let last = last_caller(lines.as_slice());

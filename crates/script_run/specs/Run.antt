@@ -1,5 +1,5 @@
 -- What a script does: what each of its lines answers, the files that it leaves and what is stored of them, and the text that is printed.
-use Rattle.std.specs.Prelude.{◌≡◌, ◌⊎◌, ℕ, ◌+◌, ◌-◌, ◌*◌, ◌<◌, ◌≤◌, max, if◌then◌else◌, Bool, true, false, Some, Ok, Err, List, [], ◌∷◌, ◌++◌, length, codes}
+use Rattle.std.specs.Prelude.{◌≡◌, ◌⊎◌, ℕ, ◌+◌, ◌-◌, ◌*◌, ◌<◌, ◌≤◌, max, if◌then◌else◌, Bool, true, false, None, Some, Ok, Err, List, [], ◌∷◌, ◌++◌, length, codes}
 use Rattle.ubifs_base.specs.declared.raw_geometry.RawGeometry.{RawGeometry}
 use Rattle.ubifs_base.specs.Areas.{main_lebs}
 use Rattle.small_areas.specs.Orphans.{orphan_limit}
@@ -12,8 +12,10 @@ use Rattle.fs_model.specs.declared.reply.Reply.{Reply}
 use Rattle.fs_model.specs.declared.reply.Reply.TheVariants.{Done, Refused}
 use Rattle.fs_model.specs.declared.space.Need.{Need}
 use Rattle.fs_model.specs.declared.space.Space.{Space}
+use Rattle.fs_model.specs.declared.trace.TraceLine.{TraceLine}
 use Rattle.fs_model.specs.Cover.{index_lebs, needed, room_for, tree_bytes}
 use Rattle.fs_model.specs.Files.{Tree, Files, handle_at}
+use Rattle.fs_model.specs.Journal.{Journal, MayLeave}
 use Rattle.fs_model.specs.Legal.{pages_in}
 use Rattle.fs_model.specs.Orphan.{leaves_orphan, nameless, without_nameless}
 use Rattle.fs_model.specs.Outcome.{Outcome}
@@ -22,6 +24,7 @@ use Rattle.cached_files.specs.Alike.{IsAlike}
 use Rattle.vfs_ops.specs.Kinds.{added_by, is_question}
 use Rattle.vfs_ops.specs.Operations.{has_group, nodes_asked}
 use Rattle.vfs_ops.specs.Steps.{IsDone, allowed, asked, is_write}
+use Rattle.traced_files.specs.Seen.{LeavesSeen}
 use Rattle.script_text.specs.declared.part.Part.{Part}
 use Rattle.script_text.specs.declared.part.Part.TheVariants.{Mount, Unmount, Now, Workers, Line}
 use Rattle.script_text.specs.Reply.{reply_line}
@@ -36,6 +39,8 @@ pub record Running : Type 0 where
   -- what the index weighs once all dirty pages are put, at most, and how many LEBs it takes
   pub weight : ℕ
   pub index : ℕ
+  -- what is in the journal of what is stored, which says what a cut may leave
+  pub journal : Journal
   -- how many inodes without a name, which the last commit's list names, were closed since its start
   pub closed : ℕ
   -- whether the volume is mounted, the time, and how many lines of the caller stand behind the last line of another kind
@@ -45,13 +50,21 @@ pub record Running : Type 0 where
   -- how many workers are at work beside the callers
   pub workers : ℕ
 
--- A volume with this tree, which isn't mounted, beside an index of this weight. How many LEBs the index takes isn't asked: no more than its weight asks for.
-abbrev pub opening_on : Tree → ℕ → Running
-opening_on tree weight = record { files = record { tree = tree; handles = [] }; stored = tree; weight = weight; index = 0; closed = 0; mounted = false; now = 0; number = 0; workers = 0 }
+-- A volume with this tree and this journal, which isn't mounted, beside an index of this weight. How many LEBs the index takes isn't asked: no more than its weight asks for.
+abbrev pub opening_on : Tree → Journal → ℕ → Running
+opening_on tree journal weight = record { files = record { tree = tree; handles = [] }; stored = tree; journal = journal; weight = weight; index = 0; closed = 0; mounted = false; now = 0; number = 0; workers = 0 }
+
+-- a journal of which nothing is told
+abbrev pub untold : Journal
+untold = record { running = None; left = 0; nodes = 0; later = 0; medium = None }
 
 -- a fresh volume: the root's node is all that its index has
 abbrev pub opening : Running
-opening = opening_on fresh.tree 1
+opening = opening_on fresh.tree untold 1
+
+-- A cut leaves this tree, without what has no name, and nothing else.
+abbrev pub LeavesOnly : Journal → Tree → Type 0
+LeavesOnly journal tree = (left : Tree) → MayLeave journal left → left ≡ without_nameless tree
 
 -- how many numbers the next list of orphans has: the inodes without a name, and those that were closed since the last list
 abbrev pub orphans_told : Running → ℕ
@@ -109,6 +122,7 @@ pub record IsUnmounted (geo : RawGeometry) (before after : Running) : Type 0 whe
   pub same : IsAlike before.files (record before.files { tree = put })
   pub stored : after.stored ≡ without_nameless put
   pub files : after.files ≡ record { tree = without_nameless put; handles = [] }
+  pub left : LeavesOnly after.journal after.stored
   pub grown : HasGrown geo 0 0 before after
   pub closed : after.closed ≡ 0
   pub mounted : after.mounted ≡ false
@@ -124,6 +138,10 @@ nodes_for before caller op = nodes_asked before.files caller before.now op
 abbrev pub nodes_added : Running → ℕ → Op → Reply → ℕ
 nodes_added before caller op reply = added_by (2 * pages_in op + nodes_for before caller op) (max 2 (nodes_for before caller op)) reply
 
+-- a caller's line, as the next of its trace
+abbrev pub line_of : Running → ℕ → Op → Reply → TraceLine
+line_of before caller op reply = record { caller = caller; number = before.number + 1; now = before.now; op = op; reply = reply }
+
 -- What a caller's operation answers and leaves.
 pub record IsReplied (geo : RawGeometry) (before : Running) (caller : ℕ) (op : Op) (reply : Reply) (after : Running) : Type 0 where
   pub answer : IsAnswer geo before caller op reply after
@@ -131,6 +149,8 @@ pub record IsReplied (geo : RawGeometry) (before : Running) (caller : ℕ) (op :
   -- What is stored is joined to the files by what is kept in memory; after a sync it is what that names.
   pub under : IsUnder after.stored after.files
   pub synced : HasStored before caller op reply after
+  -- What a cut leaves was seen before the line or behind it; after a flush that was done it is what callers see.
+  pub left : LeavesSeen before.files before.journal (line_of before caller op reply ∷ []) after.journal
   -- What only looks, or is refused before anything is put, stores nothing.
   pub still : (is_question op ≡ true) ⊎ (is_early reply ≡ true) → after.stored ≡ before.stored
   -- The index gets heavier by what is put at most; a group has five nodes at most.
@@ -142,7 +162,7 @@ pub record IsServed (geo : RawGeometry) (before : Running) (caller : ℕ) (op : 
   pub reply : Reply
   pub replied : IsReplied geo before caller op reply after
   pub printed : text ≡ reply_line caller (before.number + 1) reply
-  pub rest : after ≡ record before { files = after.files; stored = after.stored; weight = after.weight; index = after.index; closed = after.closed; number = before.number + 1 }
+  pub rest : after ≡ record before { files = after.files; stored = after.stored; journal = after.journal; weight = after.weight; index = after.index; closed = after.closed; number = before.number + 1 }
 
 -- what one line prints, and what it leaves
 abbrev pub IsPart : RawGeometry → Running → Part → List ℕ → Running → Type 0
@@ -158,7 +178,8 @@ IsRun geo before [] text after = (text ≡ []) × (after ≡ before)
 IsRun geo before (part ∷ parts) text after =
     (line : List ℕ) × (next : Running) × (rest : List ℕ) × IsPart geo before part line next × IsRun geo next parts rest after × (text ≡ line ++ rest)
 
--- What is stored at the end is under what callers saw last. If the volume isn't mounted then, it is the same.
+-- What is stored at the end is under what callers saw last, and a cut then would leave it, without what has no name. If the volume isn't mounted, it is what they saw.
 pub record IsLeft (last : Running) : Type 0 where
   pub under : IsUnder last.stored last.files
+  pub stored : MayLeave last.journal (without_nameless last.stored)
   pub unmounted : last.mounted ≡ false → last.files ≡ record { tree = last.stored; handles = [] }

@@ -25,6 +25,7 @@ abbrev pub running_of : Session → Running
 running_of session = record {
   files = present (state_in session).tree session.fs.kept;
   stored = (state_in session).tree;
+  journal = (state_in session).journal;
   weight = full_weight (state_in session) session.fs.kept;
   index = (state_in session).space.index;
   closed = (state_in session).closed;
@@ -39,6 +40,7 @@ abbrev pub mounted_over : PlainBacking → Kept → ℕ → Running
 mounted_over backing kept now = record {
   files = present (state_of backing).tree kept;
   stored = (state_of backing).tree;
+  journal = (state_of backing).journal;
   weight = full_weight (state_of backing) kept;
   index = (state_of backing).space.index;
   closed = (state_of backing).closed;

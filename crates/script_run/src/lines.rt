@@ -5,7 +5,8 @@ ghost use Rattle.std.specs.List.{AllByRecursion};
 ghost use Rattle.ubifs_base.specs.RawOf.{raw_of};
 ghost use Rattle.script_text.specs.Script.{IsInRange, Leads, MayStand};
 ghost use Rattle.script_run.specs.Phases.{HasAdvanced, ArePhases, IsTurn};
-ghost use Rattle.script_run.specs.Run.{opening_on};
+ghost use Rattle.fs_model.specs.Journal.{Journal};
+ghost use Rattle.script_run.specs.Run.{LeavesOnly, opening_on};
 ghost use Rattle.script_run.specs.Sessions.{AreReady, IsSession, running_of, stage_of, state_in};
 
 use crate::opening::Opening;
@@ -44,7 +45,7 @@ pub(crate) fn play_lines<R: Threads + Wait + Sync, G: Gate + Sync>(
     requires order { (last : Bool) × Leads false parts.items last }
     requires range { AllByRecursion IsInRange parts.items }
     requires few { length parts.items ≤ 100000 }
-    ensures run { IfOk result (λ played. ArePhases (raw_of opening.geometry) (opening_on opening.tree opening.space.weight) [] parts.items played.text.items (running_of played.session)) }
+    ensures run { IfOk result (λ played. (first : Journal) × LeavesOnly first opening.tree × ArePhases (raw_of opening.geometry) (opening_on opening.tree first opening.space.weight) [] parts.items played.text.items (running_of played.session)) }
     ensures session { IfOk result (λ played. IsSession (raw_of opening.geometry) played.session) }
 {
     let session = first_session(alloc, opening)?;

@@ -14,7 +14,7 @@ ghost use Rattle.vfs_ops.specs.Events.{HasSynced, IsCalled as IsCalledEvent, IsR
 ghost use Rattle.script_run.specs.Replies.{IsCalled};
 ghost use Rattle.fs_model.specs.Files.{Tree};
 ghost use Rattle.fs_model.specs.Orphan.{without_nameless};
-ghost use Rattle.script_run.specs.Run.{HasGrown, IsPart, IsReplied, opening_on};
+ghost use Rattle.script_run.specs.Run.{HasGrown, IsPart, IsReplied, LeavesOnly, opening_on};
 ghost use Rattle.script_run.specs.Sessions.{IsBare, IsSession, IsSteady, running_of, mounted_over, state_in};
 
 use crate::nameless::without_nameless;
@@ -48,7 +48,8 @@ pub(crate) struct Session {
 /// A session on a volume, which isn't mounted.
 pub(crate) fn first_session(alloc: Global, opening: Opening) -> Result<Session, Memory>
     ensures session { IfOk result (λ session. IsSession (raw_of opening.geometry) session) }
-    ensures opening { IfOk result (λ session. running_of session ≡ opening_on opening.tree opening.space.weight) }
+    ensures opening { IfOk result (λ session. running_of session ≡ opening_on opening.tree (state_in session).journal opening.space.weight) }
+    ensures left { IfOk result (λ session. LeavesOnly (state_in session).journal opening.tree) }
 {
     let Opening {
         geometry,
@@ -183,6 +184,7 @@ fn put_away(
     ensures steady { IfOk result (λ new. IsSteady (raw_of geometry) new.backing new.kept) }
     ensures bare { IfOk result (λ new. IsBare new.kept) }
     ensures closed { IfOk result (λ new. (state_of new.backing).closed ≡ 0) }
+    ensures left { IfOk result (λ new. LeavesOnly (state_of new.backing).journal (state_of new.backing).tree) }
     ensures files { IfOk result (λ new. (put : Tree) × IsAlike (present (state_of fs.backing).tree fs.kept) (record (present (state_of fs.backing).tree fs.kept) { tree = put })
         × ((state_of new.backing).tree ≡ without_nameless put) × (present (state_of new.backing).tree new.kept ≡ record { tree = without_nameless put; handles = [] })) }
     ensures grown { IfOk result (λ new. HasGrown (raw_of geometry) 0 0 (mounted_over fs.backing fs.kept 0) (mounted_over new.backing new.kept 0)) }

@@ -13,6 +13,7 @@ use Rattle.vfs_ops.specs.FilesState.{FilesState}
 use Rattle.credited_files.specs.Calls.{WasServed}
 use Rattle.traced_files.specs.History.{IsSureSince, present_of}
 use Rattle.traced_files.specs.Replies.{IsToldAs}
+use Rattle.traced_files.specs.Seen.{HasLeftSeen}
 use Rattle.traced_files.specs.Start.{IsHistoryFrom, Start, opened_at}
 use Rattle.traced_files.specs.States.{PassState}
 
@@ -46,6 +47,8 @@ StandsIn trace pass = IsPrefix pass.seen trace × (lines_of pass.caller trace �
 abbrev pub AreLegal : Start → List TraceLine → FilesState → Outlook → Type 0
 AreLegal start lines now outlook = now.backing.faults < 18446744073709551615 → IsLegal (opened_at start) lines (present_of start.files.refused now outlook)
 
--- the lines lead from the start to these files, and a volume that was sure then met no fault, or takes no more writing
-abbrev pub IsClosedHistory : Start → List TraceLine → FilesState → Outlook → Type 0
-IsClosedHistory start lines now outlook = IsHistoryFrom start lines now × IsSureSince (opened_at start) now.backing.faults outlook
+-- The lines lead from the start to these files. A volume that was sure then met no fault, or takes no more writing. What a cut leaves was seen.
+pub record IsClosedHistory (start : Start) (lines : List TraceLine) (now : FilesState) (outlook : Outlook) : Type 0 where
+  pub history : IsHistoryFrom start lines now
+  pub sure : IsSureSince (opened_at start) now.backing.faults outlook
+  pub left : HasLeftSeen start lines now

@@ -1,5 +1,5 @@
 -- What the lines of many callers come to, with the work between them: from how files over a backing were to how they are.
-use Rattle.std.specs.Prelude.{◌≡◌, ◌⊎◌, ℕ, ◌+◌, ◌*◌, ◌^◌, ◌≤◌, ◌&&◌, ◌||◌, max, if◌then◌else◌, Bool, true, false, List, [], ◌∷◌, ◌++◌, All, drop, length, sum_by}
+use Rattle.std.specs.Prelude.{◌≡◌, ◌⊎◌, ℕ, ◌+◌, ◌*◌, ◌^◌, ◌≤◌, ◌&&◌, ◌||◌, max, if◌then◌else◌, Bool, true, false, List, [], ◌∷◌, ◌++◌, All, drop, fold, length, sum_by}
 use Rattle.std.specs.List.{flat_map}
 use Rattle.fs_model.specs.declared.backing_answers.Mode.{Mode}
 use Rattle.fs_model.specs.declared.backing_answers.Mode.TheVariants.{ReadWrite, ReadOnly}
@@ -13,7 +13,9 @@ use Rattle.fs_model.specs.declared.reply.Reply.TheVariants.{Done, Refused}
 use Rattle.fs_model.specs.declared.trace.TraceLine.{TraceLine}
 use Rattle.fs_model.specs.Backing.{BackingState, Outlook, Rose, orphan_room}
 use Rattle.fs_model.specs.Cover.{index_lebs}
+use Rattle.fs_model.specs.Files.{Files}
 use Rattle.fs_model.specs.Legal.{AreLines, Opening, Place, Present, count_in, most_weight, pages_in, sides_in}
+use Rattle.fs_model.specs.Operation.{files_in, outcome_of}
 use Rattle.fs_laws.specs.Sound.{IsSound}
 use Rattle.cached_files.specs.declared.kept.Kept.{Kept}
 use Rattle.cached_files.specs.Alike.{IsAlike}
@@ -74,6 +76,18 @@ pub record Leads (opening : Opening) (mode : Mode) (lines : List TraceLine) (las
   pub opened : AreLines opening opening.mode (first_place opening) first middle
   pub closed : AreLines opening mode middle rest last
 
+-- the files behind a line: those that its operation makes of them, or the same, if it is refused
+abbrev pub files_after : Files → TraceLine → Files
+files_after files line = by line.reply
+  where
+    by : Reply → Files
+    by (Refused refusal) = files
+    by reply = files_in files (outcome_of files line.caller line.now line.op)
+
+-- the files behind these lines
+abbrev pub files_behind : Files → List TraceLine → Files
+files_behind files lines = fold files_after files lines
+
 -- Want of room refuses nothing but a write, or an operation with a group of changes.
 abbrev pub IsAsked : TraceLine → Type 0
 IsAsked line = (sides : NoSpace) → line.reply ≡ Refused (Enospc sides) → (is_write line.op ≡ true) ⊎ (has_group line.op ≡ true)
@@ -110,6 +124,7 @@ pub record IsHistory (opening : Opening) (noted : List NoSpace) (lines : List Tr
   -- Replayed one after another, the lines lead to a place whose files callers can't tell from the present ones.
   pub last : Place
   pub leads : Leads opening now.backing.mode lines last
+  pub replayed : last.files ≡ files_behind opening.files lines
   pub same : IsAlike last.files (present_in now)
   pub sound : IsSound last.files
   -- The mode changes once at most; the sides of refusals are those that are noted since, and the counts of faults rise.

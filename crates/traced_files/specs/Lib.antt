@@ -3,6 +3,7 @@ pub mod History
 pub mod Laws
 pub mod Passes
 pub mod Replies
+pub mod Seen
 pub mod Start
 pub mod States
 pub mod Traced
