@@ -16,7 +16,7 @@ use Rattle.image_volume.specs.declared.image_volume.ImageVolume.{ImageVolume}
 use Rattle.media_sys.specs.SystemNode.{IsSuper}
 use Rattle.media_sys.specs.declared.super_node.Super.{Super}
 use Rattle.sound_image.specs.Superblock.{BeginsWithSuper, HasSuperblock}
-use Rattle.sound_check.specs.Shape.{HasShapeOfImage}
+use Rattle.recovered_tree.specs.Checked.{HasShapeOfImage}
 use Rattle.image_dump.specs.Opening.{HasVolume, contents_of, shape_of}
 
 -- contents say one geometry
