@@ -35,6 +35,8 @@ CREDITS = 17
 MOST_NODES = 5
 CONTROLS = ("mount", "unmount", "now", "workers")
 MODED = ("create", "mkdir", "chmod")
+# The calls that leave inodes, names and blocks as they are.
+QUESTIONS = ("open", "close", "read", "list", "stat", "readlink", "fsync")
 # The calls whose first word, or first two, isn't a number.
 OF_ONE_PATH = MODED + ("unlink", "rmdir", "list", "stat", "readlink", "open")
 OF_TWO = ("link", "rename", "symlink")
@@ -137,10 +139,16 @@ def has_no_room(model, volume, need, others, reply):
 
 
 class Judge:
-    """What a script has led to so far, and how many of its lines were refused for want of room."""
+    """What a script has led to so far, and how many of its lines were refused for want of room. If asked to, it keeps the states of the files since
+    the last flush that was done or the last unmount, the present one too."""
 
-    def __init__(self, volume):
+    def __init__(self, volume, keeps=False):
         self.volume, self.model, self.without_room = volume, Model(), 0
+        self.states = [copy.deepcopy(self.model)] if keeps else None
+
+    def keep(self, flushed):
+        if self.states is not None:
+            self.states = ([] if flushed else self.states) + [copy.deepcopy(self.model)]
 
     def served(self, caller, call, others, got):
         """The reply that is wanted in place of this one, or the same."""
@@ -176,6 +184,8 @@ class Judge:
             wanted = f"{caller} {counts[caller]} {self.served(caller, call, len(queues) - 1, words[2])}"
             if text != wanted:
                 return at, f"{shown((caller, call))}: '{text}' in place of '{wanted}'"
+            if call[0] not in QUESTIONS and words[2].startswith("ok"):
+                self.keep(call[0] == "flush")
         return None
 
     def control_fault(self, control, printed):
@@ -185,6 +195,7 @@ class Judge:
             return None
         if control[0] == "unmount":
             self.model.unmount()
+            self.keep(True)
         wanted, got = "unmount clean" if control[0] == "unmount" else "mount rw", next(printed, "")
         return None if got == wanted else f"{shown(control)}: '{got}' in place of '{wanted}'"
 
