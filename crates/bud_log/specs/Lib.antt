@@ -13,6 +13,7 @@ pub mod LogCalls
 pub mod LogLaws
 pub mod LogText
 pub mod MeantNodes
+pub mod NamedLaws
 pub mod OpenedLaws
 pub mod References
 pub mod RingRuns
