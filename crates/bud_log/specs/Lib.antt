@@ -14,6 +14,7 @@ pub mod LogLaws
 pub mod LogText
 pub mod MeantNodes
 pub mod NamedLaws
+pub mod OneTextLaws
 pub mod OpenedLaws
 pub mod References
 pub mod RingRuns

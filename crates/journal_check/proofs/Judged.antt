@@ -16,6 +16,7 @@ use Rattle.leb_scan.specs.declared.tail.Tail.TheVariants.{Clean, Torn}
 use Rattle.small_areas.specs.declared.misplaced.Misplaced.{Misplaced}
 use Rattle.bud_log.specs.Log.{IsLogLeb, Run, next_leb, references_of}
 use Rattle.bud_log.specs.LogText.{BeginsCommit, IsReferenceAt, IsTextOf, LogText, Refer, begins_with, is_later, start_of}
+use Rattle.bud_log.specs.OneTextLaws.{one_log_text}
 use Rattle.bud_log.specs.References.{OneNode, one_commit}
 use Rattle.bud_log.specs.RingRuns.{OneText}
 use Rattle.bud_log.specs.Writing.{IsAmong, IsOlder}
@@ -32,7 +33,7 @@ use Rattle.image_check.specs.FirstLaws.{first_alone}
 use Rattle.journal_check.proofs.LogTexts.{last_of_some, lnum_then}
 use Rattle.journal_check.proofs.Members.{one_behind}
 use Rattle.journal_check.proofs.NewerLebs.{among_any, lnums_of}
-use Rattle.journal_check.proofs.OneText.{begins_start, one_log_text, text_seen}
+use Rattle.journal_check.proofs.OneText.{begins_start, text_seen}
 
 some_same : (a b : ℕ) → Some a ≡ Some b → a ≡ b
 some_same a b h = cc

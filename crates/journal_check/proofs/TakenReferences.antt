@@ -10,6 +10,7 @@ use Rattle.leb_scan.specs.Gathered.{IsGathered, gathered_end}
 use Rattle.leb_scan.specs.declared.found.Found.{Found}
 use Rattle.small_areas.specs.declared.misplaced.Misplaced.{Misplaced}
 use Rattle.bud_log.specs.LogText.{IsReferenceAt, Refer}
+use Rattle.bud_log.specs.OneTextLaws.{one_reference}
 use Rattle.bud_log.specs.References.{OneNode, refer_then}
 use Rattle.sound_image.specs.LogBreaches.{misnamed}
 use Rattle.sound_image.specs.Wrong.{Wrong, differs}
@@ -18,7 +19,6 @@ use Rattle.journal_check.specs.LogChecks.{AreTaken, IsMisnamedAmong, differing_a
 use Rattle.image_check.specs.declared.wrong_value.WrongValue.{WrongValue}
 use Rattle.image_check.specs.FirstLaws.{first_alone, first_of_both, first_same}
 use Rattle.journal_check.proofs.Members.{first_or_behind, in_back, in_either, in_front, one_of_none}
-use Rattle.journal_check.proofs.OneText.{one_reference}
 
 pub placed_same : (m n : Misplaced) → Some m ≡ Some n → m ≡ n
 placed_same m n h = cc
