@@ -23,6 +23,7 @@ use Rattle.bud_log.specs.Writing.{IsAmong, IsOlder}
 use Rattle.sound_image.specs.Log.{EndWhole, NamesMain, ends_in_start}
 use Rattle.sound_image.specs.LogBreaches.{HasNoneSpare, IsBrokenIn, IsTornWithin, LacksItsStart, LooksNewer, NamesNoMain, misnamed, uneven}
 use Rattle.sound_image.specs.Wrong.{IsFirstWrong, IsOneOf, Misfit, Wrong, differs, type_byte}
+use Rattle.sound_image.specs.WrongLaws.{one_behind}
 use Rattle.image_check.specs.WrongValues.{IsFirstOf, wrong_at}
 use Rattle.journal_check.specs.LogChecks.{IsFirstNewer, IsJudgedLog, IsOtherStart, IsReadWhole, IsSeenLeb, first_broken, last_lnum, none_spare, verdict_by, verdict_of}
 use Rattle.image_check.specs.declared.wrong_value.WrongValue.{WrongValue}
@@ -31,7 +32,6 @@ use Rattle.journal_check.specs.declared.read_lebs.ReadLebs.{ReadLebs}
 use Rattle.journal_check.specs.declared.seen_leb.SeenLeb.{SeenLeb}
 use Rattle.image_check.specs.FirstLaws.{first_alone}
 use Rattle.journal_check.proofs.LogTexts.{last_of_some, lnum_then}
-use Rattle.journal_check.proofs.Members.{one_behind}
 use Rattle.journal_check.proofs.NewerLebs.{among_any, lnums_of}
 use Rattle.journal_check.proofs.OneText.{begins_start, text_seen}
 
