@@ -1,5 +1,4 @@
 pub mod Appended
-pub mod Calls
 pub mod Ended
 pub mod Found
 pub mod Laid

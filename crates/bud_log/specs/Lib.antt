@@ -6,6 +6,7 @@ pub mod Bytes
 pub mod Chains
 pub mod Grown
 pub mod HeldLaws
+pub mod KeepsOnLaws
 pub mod Log
 pub mod LogAnswers
 pub mod LogAt
