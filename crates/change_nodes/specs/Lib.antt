@@ -3,3 +3,4 @@ pub mod NodeLaws
 pub mod Texts
 pub mod TextLaws
 pub mod Groups
+pub mod LengthLaws
