@@ -4,3 +4,4 @@ pub mod Texts
 pub mod TextLaws
 pub mod Groups
 pub mod LengthLaws
+pub mod FitLaws
