@@ -19,8 +19,8 @@ use Rattle.leaf_map.specs.Kept.{Placed}
 use Rattle.journal_scan.specs.Journal.{AreLeaves, BudRead, IsLeafAt}
 use Rattle.journal_scan.specs.declared.bud_text.BudText.{BudText}
 use Rattle.sound_image.specs.Buds.{IsSoundBud, MayStandInBud}
+use Rattle.sound_image.specs.WrongLaws.{head_of}
 use Rattle.bud_check.specs.Found.{hold_none, is_padding}
-use Rattle.bud_check.proofs.Members.{head_of}
 
 -- ---- one node
 -- whether a node that was found is padding

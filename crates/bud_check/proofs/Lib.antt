@@ -1,7 +1,5 @@
 pub mod CleanBuds
 pub mod Firsts
-pub mod Kept
-pub mod Members
 pub mod NamedBuds
 pub mod ReadBuds
 pub mod SoundBuds

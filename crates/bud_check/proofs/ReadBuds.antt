@@ -5,8 +5,8 @@ use Rattle.ubi_volume.specs.Volume.{VolumeState}
 use Rattle.bud_log.specs.declared.head_at.HeadAt.{HeadAt}
 use Rattle.journal_scan.specs.declared.bud_text.BudText.{BudText}
 use Rattle.sound_image.specs.Buds.{bud_text}
+use Rattle.image_check.specs.KeptLaws.{IsKept, kept_start}
 use Rattle.bud_check.specs.Findings.{IsInVolume}
-use Rattle.bud_check.proofs.Kept.{IsKept, kept_start}
 
 -- the texts of those that were read, and those that are left
 pub record ReadSoFar (old now : VolumeState) (left all : List HeadAt) (texts : List BudText) : Type 0 where

@@ -16,6 +16,7 @@ use Rattle.sound_image.specs.Breaches.{IsWrongInBuds}
 use Rattle.sound_image.specs.Buds.{IsSoundBud, MayStandInBud, bud_text}
 use Rattle.sound_image.specs.Frames.{IsKnownAt}
 use Rattle.sound_image.specs.Wrong.{IsFirstWrong, IsOneOf, Wrong, differs, needs}
+use Rattle.sound_image.specs.WrongLaws.{first_or_behind, head_of, one_behind, one_first, one_of_none}
 use Rattle.sound_image.specs.declared.breach.Breach.{Breach}
 use Rattle.sound_image.specs.declared.breach.Breach.TheVariants.{Super as InSuper, Feature as NeedsOne, NoMaster, Damaged}
 use Rattle.sound_image.specs.declared.rule.Rule.TheVariants as rules
@@ -28,7 +29,6 @@ use Rattle.bud_check.specs.declared.buds_found.BudsFound.{BudsFound}
 use Rattle.bud_check.specs.declared.bud_wrong.BudMisfit.{BudMisfit}
 use Rattle.bud_check.specs.declared.bud_wrong.BudMisfit.TheVariants.{Needs, Unwanted}
 use Rattle.bud_check.specs.declared.bud_wrong.BudWrong.{BudWrong}
-use Rattle.bud_check.proofs.Members.{first_or_behind, head_of, one_behind, one_first, one_of_none}
 use Rattle.bud_check.proofs.TextFirsts.{allowed, not_allowed}
 
 -- ---- where nothing is wrong, a bud that was read is sound

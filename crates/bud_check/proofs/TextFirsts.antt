@@ -15,11 +15,11 @@ use Rattle.journal_scan.specs.declared.bud_text.BudText.{BudText}
 use Rattle.sound_image.specs.Buds.{MayStandInBud}
 use Rattle.sound_image.specs.Frames.{NeedsFeature}
 use Rattle.sound_image.specs.Wrong.{IsOneOf, Wrong, differs, needs}
+use Rattle.sound_image.specs.WrongLaws.{at_end, front_or_end, in_front, one_of_none}
 use Rattle.bud_check.specs.Findings.{IsFirstFound, IsWrongEnd, IsWrongFound, IsWrongText, IsWrongTexts, first_of_two, may_stand}
 use Rattle.bud_check.specs.declared.bud_wrong.BudMisfit.TheVariants.{Needs, Unwanted}
 use Rattle.bud_check.specs.declared.bud_wrong.BudWrong.{BudWrong}
 use Rattle.bud_check.proofs.Firsts.{either_first, feature_once, first_same, there_not, type_once}
-use Rattle.bud_check.proofs.Members.{at_end, front_or_end, in_front, one_of_none}
 
 -- ---- which types may stand in a bud
 pub allowed : (kind : NodeType) → may_stand kind ≡ true → MayStandInBud kind

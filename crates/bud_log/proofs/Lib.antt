@@ -1,6 +1,4 @@
 pub mod Appended
-pub mod BudLists
-pub mod Calls
 pub mod Ended
 pub mod Found
 pub mod Laid

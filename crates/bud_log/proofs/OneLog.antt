@@ -1,45 +1,17 @@
 -- Contents are at most one log.
-use Rattle.std.proofs.Common.{◌≡◌, inl, inr, ℕ, true, false, List, [], ◌∷◌, take, drop, Option, Some, None, refl, ap, sym, ◌∙◌, subst}
+use Rattle.std.proofs.Common.{◌≡◌, inl, inr, ℕ, true, false, List, [], ◌∷◌, Option, Some, None, refl, ap, sym, ◌∙◌, subst}
 use Rattle.std.specs.Prelude.{◌≢◌, IsTrue}
 use Rattle.ubifs_base.specs.NodeLaws.{IsBytes}
 use Rattle.ubifs_base.specs.declared.raw_geometry.RawGeometry.{RawGeometry}
-use Rattle.media_sys.specs.SystemNode.{reference}
-use Rattle.media_sys.specs.declared.ref_node.RefNode.{RefNode}
-use Rattle.leb_scan.specs.Text.{nodes_of}
-use Rattle.leb_scan.specs.declared.found.Found.{Found}
 use Rattle.bud_log.specs.Buds.{buds_of}
 use Rattle.bud_log.specs.Log.{IsLogLeb, next_leb, Run, Stops, AreFurther, references_of, greatest_of, end_of, IsLog, Log}
 use Rattle.bud_log.specs.LogLaws.{next_in}
-use Rattle.bud_log.specs.LogText.{LogText, Refer, IsTextOf, begins_with, start_of, BeginsCommit, is_later}
+use Rattle.bud_log.specs.LogText.{LogText, IsTextOf, begins_with, start_of, BeginsCommit, is_later}
+use Rattle.bud_log.specs.OneTextLaws.{one_log_text}
 use Rattle.bud_log.specs.declared.head_at.HeadAt.{HeadAt}
 use Rattle.bud_log.specs.declared.log_end.LogEnd.{LogEnd}
-use Rattle.bud_log.specs.Bytes.{bytes_drop, bytes_take}
-use Rattle.bud_log.specs.References.{OneNode, reference_same, one_commit}
-use Rattle.bud_log.specs.RingRuns.{OneText, ends_same}
-
-one_refer : OneNode → (leb : List ℕ) → IsBytes leb → (nodes : List Found) (a b : List RefNode) → Refer leb nodes a → Refer leb nodes b → a ≡ b
-one_refer one leb fits [] a b h k = h ∙ sym k
-one_refer one leb fits (found ∷ nodes) a b (inl (other, h)) (inl (again, k)) = one_refer one leb fits nodes a b h k
-one_refer one leb fits (found ∷ nodes) a b (inl (other, h)) (inr (kind, node, more, is, e, k)) = absurd (other kind)
-one_refer one leb fits (found ∷ nodes) a b (inr (kind, node, more, is, e, h)) (inl (other, k)) = absurd (other kind)
-one_refer one leb fits (found ∷ nodes) a b (inr (kind, m, rest, is, e, h)) (inr (again, n, others, also, f, k)) =
-    let bytes = take found.len (drop found.offs leb) in
-    let same = reference_same m n (one bytes found.sqnum found.group found.sqnum found.group (reference m) (reference n) (bytes_take found.len (drop found.offs leb) (bytes_drop found.offs leb fits)) is also).2 in
-    e ∙ ap (λ (x : RefNode). x ∷ rest) same ∙ ap (λ (x : List RefNode). n ∷ x) (one_refer one leb fits nodes rest others h k) ∙ sym f
-
-text_same : (n1 n2 : List Found) (r1 r2 : List RefNode) (e1 e2 : LogEnd) → n1 ≡ n2 → r1 ≡ r2 → e1 ≡ e2
-    → let a : LogText = record { nodes = n1; references = r1; ends = e1 } in
-    let b : LogText = record { nodes = n2; references = r2; ends = e2 } in
-    a ≡ b
-text_same n1 n2 r1 r2 e1 e2 n r e = rw (n, r, e) refl
-
-one_text_of : OneText → OneNode → (leb : List ℕ) (lnum : ℕ) (a b : LogText) → IsBytes leb → IsTextOf leb lnum a → IsTextOf leb lnum b → a ≡ b
-one_text_of one one_node leb lnum a b fits h k =
-    let same = one leb 0 a.ends.offs b.ends.offs h.items k.items a.ends.tail b.ends.tail fits h.is_text k.is_text in
-    let nodes : a.nodes ≡ b.nodes = h.nodes ∙ ap nodes_of same.0 ∙ sym k.nodes in
-    let P : List Found → Type 0 = λ n. Refer leb n a.references in
-    text_same a.nodes b.nodes a.references b.references a.ends b.ends nodes (one_refer one_node leb fits b.nodes a.references b.references (subst P nodes h.refer) k.refer)
-    (ends_same a.ends.lnum b.ends.lnum a.ends.offs b.ends.offs a.ends.tail b.ends.tail (h.here ∙ sym k.here) same.1 same.2)
+use Rattle.bud_log.specs.References.{OneNode, one_commit}
+use Rattle.bud_log.specs.RingRuns.{OneText}
 
 -- a LEB can't be both read and not read
 not_both : OneText → OneNode → (contents : ℕ → List ℕ) (from number lnum past : ℕ) (text : LogText) → IsBytes (contents past) → Stops contents from number past → lnum ≡ past → lnum ≢ from → IsTextOf (contents lnum) lnum text
@@ -47,7 +19,7 @@ not_both : OneText → OneNode → (contents : ℕ → List ℕ) (from number ln
 not_both one one_node contents from number lnum past text fits (inl again) e ne is later = ne (e ∙ again)
 not_both one one_node contents from number lnum past text fits (inr (other, there, not_later)) e ne is later =
     let P : ℕ → Type 0 = λ n. IsTextOf (contents n) n text in
-    let same = one_text_of one one_node (contents past) past text other fits (subst P e is) there in
+    let same = one_log_text one_node one (contents past) past text other fits (subst P e is) there in
     let both : true ≡ false = sym later ∙ ap (λ (t : LogText). is_later number (begins_with t.nodes)) same ∙ not_later in
     absurd cc
 
@@ -57,7 +29,7 @@ one_run one one_node contents geo from number lnum p q [] [] l fits h s k t = re
 one_run one one_node contents geo from number lnum p q [] (y ∷ b) l fits h s k t = let P : ℕ → Type 0 = λ n. IsLogLeb geo n in absurd (not_both one one_node contents from number lnum p y (fits p (subst P h l)) s h k.0 k.1 k.2)
 one_run one one_node contents geo from number lnum p q (x ∷ a) [] l fits h s k t = let P : ℕ → Type 0 = λ n. IsLogLeb geo n in absurd (not_both one one_node contents from number lnum q x (fits q (subst P k l)) t k h.0 h.1 h.2)
 one_run one one_node contents geo from number lnum p q (x ∷ a) (y ∷ b) l fits h s k t =
-    ap (λ (z : LogText). z ∷ a) (one_text_of one one_node (contents lnum) lnum x y (fits lnum l) h.1 k.1) ∙ ap (λ (z : List LogText). y ∷ z) (one_run one one_node contents geo from number (next_leb geo lnum) p q a b (next_in geo lnum l) fits h.3 s k.3 t)
+    ap (λ (z : LogText). z ∷ a) (one_log_text one_node one (contents lnum) lnum x y (fits lnum l) h.1 k.1) ∙ ap (λ (z : List LogText). y ∷ z) (one_run one one_node contents geo from number (next_leb geo lnum) p q a b (next_in geo lnum l) fits h.3 s k.3 t)
 
 one_further : OneText → OneNode → (contents : ℕ → List ℕ) (geo : RawGeometry) (from : ℕ) (start : Option ℕ) (a b : List LogText) → IsLogLeb geo from → ((k : ℕ) → IsLogLeb geo k → IsBytes (contents k)) → AreFurther contents geo from start a → AreFurther contents geo from start b → a ≡ b
 one_further one one_node contents geo from None a b f fits h k = h ∙ sym k
@@ -71,7 +43,7 @@ log_same c1 c2 b1 b2 s1 s2 e1 e2 c b s e = rw (c, b, s, e) refl
 
 pub one_log_of : OneText → OneNode → (contents : ℕ → List ℕ) (geo : RawGeometry) (from : ℕ) (a b : Log) → IsLogLeb geo from → ((k : ℕ) → IsLogLeb geo k → IsBytes (contents k)) → IsLog contents geo from a → IsLog contents geo from b → a ≡ b
 one_log_of one one_node contents geo from a b f fits h k =
-    let first = one_text_of one one_node (contents from) from h.first k.first (fits from f) h.is_first k.is_first in
+    let first = one_log_text one_node one (contents from) from h.first k.first (fits from f) h.is_first k.is_first in
     let P : LogText → Type 0 = λ t. AreFurther contents geo from (start_of (begins_with t.nodes)) h.more in
     let more = one_further one one_node contents geo from (start_of (begins_with k.first.nodes)) h.more k.more f fits (subst P first h.are_further) k.are_further in
     let Q : LogText → Type 0 = λ t. BeginsCommit (contents from) (begins_with t.nodes) a.commit in

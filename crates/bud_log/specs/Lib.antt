@@ -6,6 +6,7 @@ pub mod Bytes
 pub mod Chains
 pub mod Grown
 pub mod HeldLaws
+pub mod KeepsOnLaws
 pub mod Log
 pub mod LogAnswers
 pub mod LogAt
@@ -13,6 +14,8 @@ pub mod LogCalls
 pub mod LogLaws
 pub mod LogText
 pub mod MeantNodes
+pub mod NamedLaws
+pub mod OneTextLaws
 pub mod OpenedLaws
 pub mod References
 pub mod RingRuns

@@ -3,3 +3,5 @@ pub mod NodeLaws
 pub mod Texts
 pub mod TextLaws
 pub mod Groups
+pub mod LengthLaws
+pub mod FitLaws

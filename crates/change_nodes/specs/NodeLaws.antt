@@ -137,7 +137,7 @@ mode_of_node (CutBlocks ino old_size new_size) h = tt
 mode_of_node (DropInode ino) h = tt
 
 -- ---- the change is carried
-bits_are : (kind : Kind) (mode : ℕ) → mode < 4096 → bits_of (type_bits kind + mode) ≡ type_bits kind
+pub bits_are : (kind : Kind) (mode : ℕ) → mode < 4096 → bits_of (type_bits kind + mode) ≡ type_bits kind
 bits_are File mode h = omega (arith, h)
 bits_are Dir mode h = omega (arith, h)
 bits_are Symlink mode h = omega (arith, h)
@@ -146,7 +146,7 @@ bits_are Char mode h = omega (arith, h)
 bits_are Fifo mode h = omega (arith, h)
 bits_are Socket mode h = omega (arith, h)
 
-mode_is : (kind : Kind) (mode : ℕ) → mode < 4096 → (type_bits kind + mode) % 0o10000 ≡ mode
+pub mode_is : (kind : Kind) (mode : ℕ) → mode < 4096 → (type_bits kind + mode) % 0o10000 ≡ mode
 mode_is File mode h = omega (arith, h)
 mode_is Dir mode h = omega (arith, h)
 mode_is Symlink mode h = omega (arith, h)
@@ -155,7 +155,7 @@ mode_is Char mode h = omega (arith, h)
 mode_is Fifo mode h = omega (arith, h)
 mode_is Socket mode h = omega (arith, h)
 
-bits_say : (kind : Kind) → kind_of_bits (type_bits kind) ≡ Some kind
+pub bits_say : (kind : Kind) → kind_of_bits (type_bits kind) ≡ Some kind
 bits_say File = refl
 bits_say Dir = refl
 bits_say Symlink = refl

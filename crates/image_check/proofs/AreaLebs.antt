@@ -6,8 +6,8 @@ use Rattle.ubifs_base.specs.NodeLaws.{IsBytes}
 use Rattle.ubifs_base.specs.declared.raw_geometry.RawGeometry.{RawGeometry}
 use Rattle.ubi_volume.specs.Volume.{VolumeState}
 use Rattle.small_areas.specs.MasterLaws.{take_bytes}
+use Rattle.lpt_area.specs.KeptLaws.{IsKept}
 use Rattle.image_check.specs.PropertyWalk.{IsAreaOf, lpt_leb_in, lebs_behind}
-use Rattle.image_check.proofs.Kept.{IsKept}
 
 -- so many LEBs from one on
 abbrev pub lebs_from : (ℕ → List ℕ) → ℕ → ℕ → List ℕ

@@ -3,7 +3,6 @@ pub mod AreaLebs
 pub mod FirstOfAll
 pub mod ForeignNodes
 pub mod Frames
-pub mod Kept
 pub mod Latest
 pub mod OrphanArea
 pub mod Supers

@@ -11,10 +11,10 @@ use Rattle.sound_image.specs.Wrong.{IsFirstWrong, Wrong, differs}
 use Rattle.sound_image.specs.declared.rule.Rule.TheVariants as rules
 use Rattle.sound_image.specs.declared.breach.Breach.TheVariants.{Damaged}
 use Rattle.std.proofs.lemmas.Bool.{cases_lt}
+use Rattle.lpt_area.specs.KeptLaws.{IsKept}
 use Rattle.image_check.specs.Firsts.{IsFirstForeign, IsForeign}
 use Rattle.image_check.specs.Told.{IsBreachOf}
 use Rattle.image_check.proofs.ForeignNodes.{foreign_not}
-use Rattle.image_check.proofs.Kept.{IsKept}
 use Rattle.image_check.specs.FirstLaws.{first_of_lebs}
 
 -- the LEBs up to one meet the rule

@@ -4,3 +4,4 @@ pub mod WrongValues
 pub mod FirstLaws
 pub mod PropertyWalk
 pub mod Needs
+pub mod KeptLaws

@@ -1,2 +1,3 @@
+pub mod ContentsLaws
 pub mod Listing
 pub mod Opening

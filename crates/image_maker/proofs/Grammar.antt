@@ -1,11 +1,8 @@
 -- What is written of a node is in the grammar, if each of its numbers fits its bytes.
-use Rattle.std.proofs.Common.{ℕ, suc, ◌+◌, ◌≤◌, ◌<◌, ◌^◌, List, [], ◌∷◌, length, arith, inl, inr}
-use Rattle.std.specs.Prelude.{◌%◌, if◌then◌else◌, nat_le}
+use Rattle.std.proofs.Common.{ℕ, suc, ◌+◌, ◌≤◌, ◌<◌, ◌^◌, List, [], ◌∷◌, length, arith}
 use Rattle.std.specs.Bool.{IsTrue}
 use Rattle.std.specs.List.{AllByRecursion}
-use Rattle.std.proofs.lemmas.Bool.{cases_Bool, leb-true}
 use Rattle.std.proofs.lemmas.Bool.Decides.{nat_tests}
-use Rattle.ubifs_base.specs.R5.{r5_of, r5_from}
 use Rattle.node_fields.specs.Fields.{AllFit}
 use Rattle.node_fields.specs.FormLaws.{written_is}
 use Rattle.media_leaf.specs.declared.dent_node.DentNode.{DentNode}
@@ -13,10 +10,9 @@ use Rattle.media_leaf.specs.LeafNode.{LeafNode, inode, block, entry, truncation,
 use Rattle.fs_model.specs.declared.change.Change.TheVariants.{SetInode, SetEntry, SetBlock}
 use Rattle.fs_model.specs.declared.inode.Entry.{Entry}
 use Rattle.fs_model.specs.declared.inode.Inode.{Inode}
-use Rattle.fs_model.specs.declared.inode.Kind.{Kind}
-use Rattle.fs_model.specs.declared.inode.Kind.TheVariants.{File, Dir, Symlink, Block, Char, Fifo, Socket}
 use Rattle.fs_model.specs.Proper.{is_block_node, is_entry_node, is_inode_node, is_name}
-use Rattle.change_nodes.specs.Nodes.{entry_type, node_of, type_bits}
+use Rattle.change_nodes.specs.FitLaws.{r5_small, inode_words, mode_fits, kind_fits, block_ino, block_number}
+use Rattle.change_nodes.specs.Nodes.{node_of}
 use Rattle.change_nodes.specs.NodeLaws.{leaf_of_entry, leaf_of_inode, leaf_of_node, most_bytes, most_data, name_most, plain_mode}
 use Rattle.change_nodes.specs.TextLaws.{width}
 use Rattle.change_nodes.specs.Texts.{leaf_len}
@@ -55,56 +51,11 @@ pub all_leaves : (leaves : List LeafNode) → AllByRecursion CanBeWritten leaves
 all_leaves [] h = tt
 all_leaves (leaf ∷ leaves) h = (h.0.0, all_leaves leaves h.1)
 
--- ---- a hash has 29 bits
-above_two : (masked : ℕ) → masked < 2 ^ 29 → (if nat_le masked 2 then masked + 3 else masked) < 2 ^ 29
-above_two masked h = elim (cases_Bool (nat_le masked 2)) [
-  | inl e ↦ rw e (let few = leb-true masked 2 e in omega (arith, few))
-  | inr e ↦ rw e h
-]
-
-r5_of-lt : (name : List ℕ) → r5_of name < 2 ^ 29
-unfolding r5_of
-r5_of-lt name = above_two (r5_from 0 name % 2 ^ 29) (omega arith)
-
--- ---- inodes
-record AreWords (ino : ℕ) (node : Inode) : Type 0 where
-  pub ino_fits : ino < 2 ^ 32
-  pub uid : node.uid < 2 ^ 32
-  pub gid : node.gid < 2 ^ 32
-  pub flags : node.flags < 2 ^ 32
-  pub nlink : node.nlink < 2 ^ 32
-  pub size : node.size < 2 ^ 64
-  pub atime : node.atime < 2 ^ 64
-  pub ctime : node.ctime < 2 ^ 64
-  pub mtime : node.mtime < 2 ^ 64
-
-inode_words : (e : ℕ × Inode) → IsTrue (is_inode_node e) → AreWords e.0 e.1
-inode_words e h = record {
-  ino_fits = grind (arith, nat_tests);
-  uid = grind (arith, nat_tests);
-  gid = grind (arith, nat_tests);
-  flags = grind (arith, nat_tests);
-  nlink = grind (arith, nat_tests);
-  size = grind (arith, nat_tests);
-  atime = grind (arith, nat_tests);
-  ctime = grind (arith, nat_tests);
-  mtime = grind (arith, nat_tests);
-}
-
 pub nlink_fits : (e : ℕ × Inode) → IsTrue (is_inode_node e) → e.1.nlink < 2 ^ 32
 nlink_fits e h = (inode_words e h).nlink
 
 pub size_fits : (e : ℕ × Inode) → IsTrue (is_inode_node e) → e.1.size < 2 ^ 64
 size_fits e h = (inode_words e h).size
-
-mode_fits : (kind : Kind) (mode : ℕ) → mode < 4096 → type_bits kind + mode < 2 ^ 32
-mode_fits File mode h = omega (arith, h)
-mode_fits Dir mode h = omega (arith, h)
-mode_fits Symlink mode h = omega (arith, h)
-mode_fits Block mode h = omega (arith, h)
-mode_fits Char mode h = omega (arith, h)
-mode_fits Fifo mode h = omega (arith, h)
-mode_fits Socket mode h = omega (arith, h)
 
 -- whatever its size and its links, if they fit
 pub inode_written : (e : ℕ × Inode) (size nlink : ℕ) → IsTrue (is_inode_node e) → size < 2 ^ 64 → nlink < 2 ^ 32 → CanBeWritten (node_of (SetInode e.0 (record e.1 { size = size; nlink = nlink })))
@@ -114,28 +65,11 @@ inode_written e size nlink h s l =
     let mode = mode_fits e.1.kind e.1.mode (plain_mode e h) in
     (leaf_of_inode e h size nlink, (w.ino_fits, (omega arith, (s, (w.atime, (w.ctime, (w.mtime, (l, (w.uid, (w.gid, (mode, (w.flags, (omega (arith, most), (omega arith, (omega arith, (omega arith, tt))))))))))))))))
 
--- ---- blocks
-block_ino : (b : (ℕ × ℕ) × List ℕ) → IsTrue (is_block_node b) → b.0.0 < 2 ^ 32
-block_ino b h = grind (arith, nat_tests)
-
-block_number : (b : (ℕ × ℕ) × List ℕ) → IsTrue (is_block_node b) → b.0.1 < 2 ^ 29
-block_number b h = grind (arith, nat_tests)
-
 pub block_written : (b : (ℕ × ℕ) × List ℕ) → IsTrue (is_block_node b) → CanBeWritten (node_of (SetBlock b.0.0 b.0.1 b.1))
 block_written b h =
     let number = block_number b h in
     let most = most_bytes b h in
     (leaf_of_node (SetBlock b.0.0 b.0.1 b.1) h, (block_ino b h, (omega (arith, number), (omega (arith, most), (omega arith, tt)))))
-
--- ---- entries
-kind_fits : (kind : Kind) → entry_type kind < 256
-kind_fits File = omega arith
-kind_fits Dir = omega arith
-kind_fits Symlink = omega arith
-kind_fits Block = omega arith
-kind_fits Char = omega arith
-kind_fits Fifo = omega arith
-kind_fits Socket = omega arith
 
 entry_dir : (e : (ℕ × List ℕ) × Entry) → IsTrue (is_entry_node e) → e.1.dir < 2 ^ 32
 entry_dir e h = grind (arith, nat_tests)
@@ -148,7 +82,7 @@ entry_name e h = grind (arith, nat_tests)
 
 pub entry_written : (e : (ℕ × List ℕ) × Entry) → IsTrue (is_entry_node e) → CanBeWritten (node_of (SetEntry e.1))
 entry_written e h =
-    let bits = r5_of-lt e.1.name in
+    let bits = r5_small e.1.name in
     let ino = entry_ino e h in
     let most = name_most e.1.name (entry_name e h) in
     (leaf_of_entry e h, (entry_dir e h, (omega (arith, bits), (omega (arith, ino), (kind_fits e.1.kind, (omega (arith, most), tt))))))

@@ -1,22 +1,13 @@
 -- A volume that is only read.
-use Rattle.std.proofs.Common.{◌≡◌, ◌⊎◌, ℕ, ◌≤◌, ◌∙◌, Ok, Err, inl, inr, arith, refl}
+use Rattle.std.proofs.Common.{ℕ, ◌≤◌, ◌∙◌, Ok, Err, inl, inr, arith}
 use Rattle.ubifs_base.specs.Faults.{IsCause-before}
-use Rattle.ubi_volume.specs.Volume.{VolumeState, Keeps, SameShape}
-use Rattle.ubi_volume.specs.VolumeLaws.{Keeps-then, SameShape-then, Keeps-none}
+use Rattle.ubi_volume.specs.Volume.{VolumeState}
+use Rattle.ubi_volume.specs.VolumeLaws.{Keeps-then, SameShape-then}
 use Rattle.ubi_volume.specs.Faults.{HasAreaCause, IsNotVolume}
 use Rattle.ubi_volume.specs.declared.fault.AreaFault.{AreaFault}
 use Rattle.ubi_volume.specs.declared.fault.AreaFault.TheVariants as area
+use Rattle.image_check.specs.KeptLaws.{IsKept}
 use Rattle.index_check.specs.IndexWalk.{OnlyReads}
-
--- a volume as it was, but for its count of faults
-pub record IsKept (old now : VolumeState) : Type 0 where
-  pub keeps : Keeps old now
-  pub shape : SameShape old now
-  pub count : old.faults ≤ now.faults
-  pub sure : old.sure → now.spent ⊎ (now.sure × (now.faults ≡ old.faults))
-
-pub kept_start : (a : VolumeState) → IsKept a a
-kept_start a = record { keeps = Keeps-none a; shape = record { leb_size = refl; min_io = refl; leb_cnt = refl }; count = omega arith; sure = λ s. inr (s, refl) }
 
 -- a call more that answered
 pub kept_on : {T : Type 0} (old now new : VolumeState) (x : T) → IsKept old now → OnlyReads now new (Ok x) → IsKept old new

@@ -16,12 +16,14 @@ use Rattle.leb_scan.specs.declared.tail.Tail.TheVariants.{Clean, Torn}
 use Rattle.small_areas.specs.declared.misplaced.Misplaced.{Misplaced}
 use Rattle.bud_log.specs.Log.{IsLogLeb, Run, next_leb, references_of}
 use Rattle.bud_log.specs.LogText.{BeginsCommit, IsReferenceAt, IsTextOf, LogText, Refer, begins_with, is_later, start_of}
+use Rattle.bud_log.specs.OneTextLaws.{one_log_text}
 use Rattle.bud_log.specs.References.{OneNode, one_commit}
 use Rattle.bud_log.specs.RingRuns.{OneText}
 use Rattle.bud_log.specs.Writing.{IsAmong, IsOlder}
 use Rattle.sound_image.specs.Log.{EndWhole, NamesMain, ends_in_start}
 use Rattle.sound_image.specs.LogBreaches.{HasNoneSpare, IsBrokenIn, IsTornWithin, LacksItsStart, LooksNewer, NamesNoMain, misnamed, uneven}
 use Rattle.sound_image.specs.Wrong.{IsFirstWrong, IsOneOf, Misfit, Wrong, differs, type_byte}
+use Rattle.sound_image.specs.WrongLaws.{one_behind}
 use Rattle.image_check.specs.WrongValues.{IsFirstOf, wrong_at}
 use Rattle.journal_check.specs.LogChecks.{IsFirstNewer, IsJudgedLog, IsOtherStart, IsReadWhole, IsSeenLeb, first_broken, last_lnum, none_spare, verdict_by, verdict_of}
 use Rattle.image_check.specs.declared.wrong_value.WrongValue.{WrongValue}
@@ -30,9 +32,8 @@ use Rattle.journal_check.specs.declared.read_lebs.ReadLebs.{ReadLebs}
 use Rattle.journal_check.specs.declared.seen_leb.SeenLeb.{SeenLeb}
 use Rattle.image_check.specs.FirstLaws.{first_alone}
 use Rattle.journal_check.proofs.LogTexts.{last_of_some, lnum_then}
-use Rattle.journal_check.proofs.Members.{one_behind}
 use Rattle.journal_check.proofs.NewerLebs.{among_any, lnums_of}
-use Rattle.journal_check.proofs.OneText.{begins_start, one_log_text, text_seen}
+use Rattle.journal_check.proofs.OneText.{begins_start, text_seen}
 
 some_same : (a b : ℕ) → Some a ≡ Some b → a ≡ b
 some_same a b h = cc

@@ -2,7 +2,6 @@ pub mod Added
 pub mod Calls
 pub mod Judged
 pub mod LogTexts
-pub mod Members
 pub mod NewerLebs
 pub mod NodeLists
 pub mod OneText

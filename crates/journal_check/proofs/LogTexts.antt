@@ -12,13 +12,13 @@ use Rattle.bud_log.specs.RingRuns.{references_then, run_then}
 use Rattle.sound_image.specs.Log.{ends_in_start}
 use Rattle.sound_image.specs.LogBreaches.{IsTornWithin, NamesNoMain}
 use Rattle.sound_image.specs.Wrong.{IsOneOf, Wrong, differs, type_byte}
+use Rattle.sound_image.specs.WrongLaws.{first_or_behind, head_of, back_of_two, one_of_two, front_of_two, one_of_none}
 use Rattle.image_check.specs.WrongValues.{IsFirstOf, sooner_of}
 use Rattle.journal_check.specs.LogChecks.{IsAddedTo, IsFresh, IsMisnamedAmong, IsReadAs, IsReadUpTo, IsReadWhole, last_lnum, last_tail, torn_behind}
 use Rattle.image_check.specs.declared.wrong_value.WrongValue.{WrongValue}
 use Rattle.journal_check.specs.declared.read_lebs.ReadLebs.{ReadLebs}
 use Rattle.journal_check.specs.declared.seen_leb.SeenLeb.{SeenLeb}
 use Rattle.image_check.specs.FirstLaws.{first_alone, first_of_both, first_same}
-use Rattle.journal_check.proofs.Members.{first_or_behind, head_of, in_back, in_either, in_front, one_of_none}
 
 -- the last text is the one that came last
 pub lnum_then : (texts : List LogText) (text : LogText) → last_lnum (texts ++ text ∷ []) ≡ text.ends.lnum
@@ -43,15 +43,15 @@ last_of_some first (next ∷ more) = let rest = last_of_some next more in (first
 -- ---- references
 names_either : (contents : ℕ → List ℕ) (geo : RawGeometry) (lnum : ℕ) (texts : List LogText) (text : LogText) (at : Wrong) → text.ends.lnum ≡ lnum → NamesNoMain contents geo texts at ⊎ IsMisnamedAmong geo (contents lnum) lnum text.nodes at
     → NamesNoMain contents geo (texts ++ text ∷ []) at
-names_either contents geo lnum texts text at here (inl w) = record { text = w.text; one = in_front w.text texts (text ∷ []) w.one; found = w.found; stands = w.stands; kind = w.kind; node = w.node; is = w.is; wanted = w.wanted; there = w.there; past = w.past; at_is = w.at_is }
+names_either contents geo lnum texts text at here (inl w) = record { text = w.text; one = front_of_two w.text texts (text ∷ []) w.one; found = w.found; stands = w.stands; kind = w.kind; node = w.node; is = w.is; wanted = w.wanted; there = w.there; past = w.past; at_is = w.at_is }
 names_either contents geo lnum texts text at here (inr w) =
     let P : ℕ → Type 0 = λ n. IsReferenceAt (contents n) w.found w.node in
     let Q : ℕ → Wrong = λ n. record { lnum = n; offs = w.found.offs; misfit = differs w.wanted w.there } in
-    record { text = text; one = in_back text texts (text ∷ []) ([], [], refl); found = w.found; stands = w.stands; kind = w.kind; node = w.node; is = subst P (sym here) w.is; wanted = w.wanted; there = w.there; past = w.past; at_is = w.at_is ∙ ap Q (sym here) }
+    record { text = text; one = back_of_two text texts (text ∷ []) ([], [], refl); found = w.found; stands = w.stands; kind = w.kind; node = w.node; is = subst P (sym here) w.is; wanted = w.wanted; there = w.there; past = w.past; at_is = w.at_is ∙ ap Q (sym here) }
 
 names_parts : (contents : ℕ → List ℕ) (geo : RawGeometry) (lnum : ℕ) (texts : List LogText) (text : LogText) (at : Wrong) → text.ends.lnum ≡ lnum → NamesNoMain contents geo (texts ++ text ∷ []) at
     → NamesNoMain contents geo texts at ⊎ IsMisnamedAmong geo (contents lnum) lnum text.nodes at
-names_parts contents geo lnum texts text at here w = elim (in_either w.text texts (text ∷ []) w.one) [
+names_parts contents geo lnum texts text at here w = elim (one_of_two w.text texts (text ∷ []) w.one) [
   | inl before ↦ inl (record { text = w.text; one = before; found = w.found; stands = w.stands; kind = w.kind; node = w.node; is = w.is; wanted = w.wanted; there = w.there; past = w.past; at_is = w.at_is })
   | inr own ↦ elim (first_or_behind w.text text [] own) [
     | inr more ↦ absurd (one_of_none w.text more)

@@ -10,6 +10,7 @@ use Rattle.leb_scan.specs.Text.{nodes_of}
 use Rattle.leb_scan.specs.declared.found.Found.{Found}
 use Rattle.bud_log.specs.Log.{IsLogLeb}
 use Rattle.bud_log.specs.LogText.{IsTextOf, LogText, begins_with}
+use Rattle.bud_log.specs.OneTextLaws.{one_log_text}
 use Rattle.bud_log.specs.References.{OneNode}
 use Rattle.bud_log.specs.RingRuns.{OneText}
 use Rattle.bud_log.specs.Writing.{IsAmong}
@@ -20,7 +21,7 @@ use Rattle.journal_check.specs.LogChecks.{IsFirstNewer, IsSeenLeb, newer_at}
 use Rattle.image_check.specs.declared.wrong_value.WrongValue.{WrongValue}
 use Rattle.journal_check.specs.declared.seen_leb.SeenLeb.{SeenLeb}
 use Rattle.image_check.specs.FirstLaws.{first_alone, first_of_both, first_same}
-use Rattle.journal_check.proofs.OneText.{one_log_text, text_seen}
+use Rattle.journal_check.proofs.OneText.{text_seen}
 
 -- the numbers of the LEBs of texts
 abbrev pub lnums_of : List LogText → List ℕ

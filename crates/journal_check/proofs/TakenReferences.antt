@@ -10,26 +10,26 @@ use Rattle.leb_scan.specs.Gathered.{IsGathered, gathered_end}
 use Rattle.leb_scan.specs.declared.found.Found.{Found}
 use Rattle.small_areas.specs.declared.misplaced.Misplaced.{Misplaced}
 use Rattle.bud_log.specs.LogText.{IsReferenceAt, Refer}
+use Rattle.bud_log.specs.OneTextLaws.{one_reference}
 use Rattle.bud_log.specs.References.{OneNode, refer_then}
 use Rattle.sound_image.specs.LogBreaches.{misnamed}
 use Rattle.sound_image.specs.Wrong.{Wrong, differs}
+use Rattle.sound_image.specs.WrongLaws.{first_or_behind, back_of_two, one_of_two, front_of_two, one_of_none}
 use Rattle.image_check.specs.WrongValues.{IsFirstOf, sooner_of}
 use Rattle.journal_check.specs.LogChecks.{AreTaken, IsMisnamedAmong, differing_at}
 use Rattle.image_check.specs.declared.wrong_value.WrongValue.{WrongValue}
 use Rattle.image_check.specs.FirstLaws.{first_alone, first_of_both, first_same}
-use Rattle.journal_check.proofs.Members.{first_or_behind, in_back, in_either, in_front, one_of_none}
-use Rattle.journal_check.proofs.OneText.{one_reference}
 
 pub placed_same : (m n : Misplaced) → Some m ≡ Some n → m ≡ n
 placed_same m n h = cc
 
 -- one of two lists of nodes has such a reference
 among_either : (geo : RawGeometry) (leb : List ℕ) (lnum : ℕ) (a b : List Found) (at : Wrong) → IsMisnamedAmong geo leb lnum a at ⊎ IsMisnamedAmong geo leb lnum b at → IsMisnamedAmong geo leb lnum (a ++ b) at
-among_either geo leb lnum a b at (inl w) = record { found = w.found; stands = in_front w.found a b w.stands; kind = w.kind; node = w.node; is = w.is; wanted = w.wanted; there = w.there; past = w.past; at_is = w.at_is }
-among_either geo leb lnum a b at (inr w) = record { found = w.found; stands = in_back w.found a b w.stands; kind = w.kind; node = w.node; is = w.is; wanted = w.wanted; there = w.there; past = w.past; at_is = w.at_is }
+among_either geo leb lnum a b at (inl w) = record { found = w.found; stands = front_of_two w.found a b w.stands; kind = w.kind; node = w.node; is = w.is; wanted = w.wanted; there = w.there; past = w.past; at_is = w.at_is }
+among_either geo leb lnum a b at (inr w) = record { found = w.found; stands = back_of_two w.found a b w.stands; kind = w.kind; node = w.node; is = w.is; wanted = w.wanted; there = w.there; past = w.past; at_is = w.at_is }
 
 among_parts : (geo : RawGeometry) (leb : List ℕ) (lnum : ℕ) (a b : List Found) (at : Wrong) → IsMisnamedAmong geo leb lnum (a ++ b) at → IsMisnamedAmong geo leb lnum a at ⊎ IsMisnamedAmong geo leb lnum b at
-among_parts geo leb lnum a b at w = elim (in_either w.found a b w.stands) [
+among_parts geo leb lnum a b at w = elim (one_of_two w.found a b w.stands) [
   | inl here ↦ inl (record { found = w.found; stands = here; kind = w.kind; node = w.node; is = w.is; wanted = w.wanted; there = w.there; past = w.past; at_is = w.at_is })
   | inr there ↦ inr (record { found = w.found; stands = there; kind = w.kind; node = w.node; is = w.is; wanted = w.wanted; there = w.there; past = w.past; at_is = w.at_is })
 ]

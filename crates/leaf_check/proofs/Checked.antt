@@ -18,6 +18,7 @@ use Rattle.sound_image.specs.LeafBreaches.{HasLeafNodeOf, IsLeafMisfit, IsWrongA
 use Rattle.sound_image.specs.Frames.{IsKnownAt, NeedsFeature}
 use Rattle.sound_image.specs.Leaves.{IsSoundLeaf}
 use Rattle.sound_image.specs.Wrong.{IsFirstWrong, IsOneOf, Misfit, Wrong, comes_before, differs, type_byte}
+use Rattle.sound_image.specs.WrongLaws.{one_of_none, back_of_two, front_of_two, one_of_two}
 use Rattle.sound_image.specs.declared.breach.Breach.{Breach}
 use Rattle.sound_image.specs.declared.rule.Rule.TheVariants as rules
 use Rattle.image_check.specs.Told.{IsBreachOf}
@@ -27,7 +28,6 @@ use Rattle.leaf_check.specs.Standings.{IsFirstPlaced, IsPlacedWrong}
 use Rattle.leaf_check.specs.Sweep.{IsBadAmong, IsRightAmong, IsSwept, IsUpTo}
 use Rattle.leaf_check.proofs.Firsts.{some_breach}
 use Rattle.leaf_check.proofs.Overlaps.{AllAbove, Ascend, overlaps-append, some_crossed}
-use Rattle.leaf_check.proofs.Sweeps.{none_in_nil, one_behind, one_front, one_of_two}
 
 -- ---- one of a list, by its place in it
 contains_at : (x : Leaf) (before behind : List Leaf) → get_or (before ++ (x ∷ behind)) (length before) x ≡ x
@@ -96,7 +96,7 @@ right_all IsSound leaves wrong none h x one =
     let N : List Leaf → Type 0 = λ zs. IsUpTo zs x in
     elim (h.rest x one) [
       | inl right ↦ right
-      | inr up ↦ elim (subst N none up) [ inl here ↦ absurd (none_in_nil x here) | inr other ↦ absurd (none_in_nil other.0 other.1) ]
+      | inr up ↦ elim (subst N none up) [ inl here ↦ absurd (one_of_none x here) | inr other ↦ absurd (one_of_none other.0 other.1) ]
     ]
 
 all_of : (P : Leaf → Type 0) (xs : List Leaf) → ((x : Leaf) → IsOneOf x xs → P x) → AllByRecursion P xs
@@ -221,11 +221,11 @@ module _ (contents : ℕ → List ℕ) (geo : RawGeometry) (props : List Lprop) 
   first_wrong at h = record {
     wrong = is_wrong at h.first.wrong;
     least = λ other w. elim w.wrong [
-      | inl gone ↦ h.first.least other (placed other w (one_behind w.leaf wrong missing gone))
+      | inl gone ↦ h.first.least other (placed other w (back_of_two w.leaf wrong missing gone))
       | inr (before, behind, e, among) ↦ elim (swept.rest w.leaf (before, behind, e)) [
         | inl right ↦ absurd (right_among contents geo props w.leaf before behind leaves e right among)
-        | inr (inl told) ↦ h.first.least other (placed other w (one_front w.leaf wrong missing told))
-        | inr (inr (z, told, stands)) ↦ far_before other at z w.leaf w.lnum w.offs stands (h.low z (one_front z wrong missing told))
+        | inr (inl told) ↦ h.first.least other (placed other w (front_of_two w.leaf wrong missing told))
+        | inr (inr (z, told, stands)) ↦ far_before other at z w.leaf w.lnum w.offs stands (h.low z (front_of_two z wrong missing told))
       ]
     ];
   }

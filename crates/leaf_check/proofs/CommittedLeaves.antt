@@ -24,11 +24,11 @@ use Rattle.log_replay.specs.Settling.{HasGrammar}
 use Rattle.log_replay.specs.declared.committed_leaf.CommittedLeaf.{CommittedLeaf}
 use Rattle.sound_image.specs.Frames.{IsKnownAt}
 use Rattle.sound_image.specs.Leaves.{AreCommitted, HasItsNode, IsFoundAt, IsPlaceOf, IsPlacedIn}
+use Rattle.image_check.specs.KeptLaws.{IsKept, kept_start}
 use Rattle.leaf_check.specs.Committed.{HasBytes, IsAnswerTo, IsCommittedRead, IsLeafAnswer, IsReadFor, intact_leaves, nothing_told}
 use Rattle.leaf_check.specs.LeafReads.{HasWholeLeaf, IsWholeOf}
 use Rattle.leaf_check.specs.declared.leaf_answer.LeafAnswer.{LeafAnswer}
 use Rattle.leaf_check.specs.declared.leaf_bytes.LeafBytes.{LeafBytes}
-use Rattle.leaf_check.proofs.Kept.{IsKept, kept_start}
 
 -- ---- one leaf
 -- where no whole node stands none is placed

@@ -6,6 +6,7 @@ use Rattle.media_sys.specs.declared.feature.Feature.{Feature}
 use Rattle.index_tree.specs.declared.leaf.Leaf.{Leaf}
 use Rattle.sound_image.specs.LeafBreaches.{IsLeafMisfit}
 use Rattle.sound_image.specs.Wrong.{IsFirstWrong, IsOneOf, Misfit, Wrong, comes_before, differs, needs}
+use Rattle.sound_image.specs.WrongLaws.{one_of_none, front_of_two, one_of_two}
 use Rattle.sound_image.specs.declared.breach.Breach.{Breach}
 use Rattle.sound_image.specs.declared.breach.Breach.TheVariants.{Super as InSuper, Feature as NeedsOne, NoMaster, Damaged}
 use Rattle.sound_image.specs.declared.rule.Rule.{Rule}
@@ -18,7 +19,7 @@ use Rattle.leaf_check.specs.Overlaps.{StandsBefore}
 use Rattle.leaf_check.specs.Standings.{IsFirstPlaced, IsPlacedWrong, TellsStanding, IsStandingWrong, known_misfit, standing_misfit}
 use Rattle.leaf_check.specs.declared.standing.Standing.{Standing}
 use Rattle.leaf_check.proofs.Standings.{misfit_is, misfit_known, misfit_needs, misfit_only}
-use Rattle.leaf_check.proofs.Sweeps.{none_in_nil, one_front, one_of_two, the_one}
+use Rattle.leaf_check.proofs.Sweeps.{the_one}
 
 wrong_same : (l m o p : ℕ) (x y : Misfit) → l ≡ m → o ≡ p → x ≡ y
     → let a : Wrong = record { lnum = l; offs = o; misfit = x } in
@@ -28,7 +29,7 @@ wrong_same l m o p x y e f g = rw (e, f, g) refl
 
 -- ---- at one place
 standing_front : (s : Standing) (here x : Leaf) (done : List Leaf) (at : Wrong) → IsStandingWrong s here done at → IsStandingWrong s here (done ++ (x ∷ [])) at
-standing_front s here x done at h = record { one = h.one; is_one = one_front h.one done (x ∷ []) h.is_one; lnum = h.lnum; offs = h.offs; at_lnum = h.at_lnum; at_offs = h.at_offs; misfit = h.misfit }
+standing_front s here x done at h = record { one = h.one; is_one = front_of_two h.one done (x ∷ []) h.is_one; lnum = h.lnum; offs = h.offs; at_lnum = h.at_lnum; at_offs = h.at_offs; misfit = h.misfit }
 
 -- a leaf that has its place elsewhere
 pub with_other : (s : Standing) (here x : Leaf) (done : List Leaf) (o : Option WrongValue) → (x.lnum ≡ here.lnum → x.offs ≡ here.offs → ⊥) → IsFirstOf (IsStandingWrong s here done) o → IsFirstOf (IsStandingWrong s here (done ++ (x ∷ []))) o
@@ -63,7 +64,7 @@ with_here s here x done first r v none l o vl vo values is h =
     subst R (sym is) (first_same (λ at. P at ⊎ Q at) (IsStandingWrong s here (done ++ (x ∷ []))) (sooner_of first (Some v)) to from (first_of_both P Q first (Some v) h alone))
 
 pub none_first : (s : Standing) (here : Leaf) → IsFirstOf (IsStandingWrong s here []) None
-none_first s here = λ at w. none_in_nil w.one w.is_one
+none_first s here = λ at w. one_of_none w.one w.is_one
 
 -- of this leaf something is told
 own_wrong : (s : Standing) (here : Leaf) (wrong : List Leaf) → IsOneOf here wrong → IsStandingWrong s here wrong (record { lnum = here.lnum; offs = here.offs; misfit = standing_misfit s here })
@@ -181,7 +182,7 @@ least_more least x now done (inl (lower, e)) h =
 least_more least x now done (inr (not, e)) h =
     let P : Leaf → Type 0 = λ y. IsLeastOf y (done ++ (x ∷ [])) in
     subst P (sym e) (record {
-      one = one_front least done (x ∷ []) h.one;
+      one = front_of_two least done (x ∷ []) h.one;
       none = λ other one k. elim (one_of_two other done (x ∷ []) one) [
         | inl seen ↦ h.none other seen k
         | inr own ↦ (let Q : Leaf → Type 0 = λ y. StandsBefore y least in not (subst Q (the_one other x own) k))

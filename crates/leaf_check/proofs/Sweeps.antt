@@ -4,40 +4,10 @@ use Rattle.std.specs.List.{AllByRecursion}
 use Rattle.std.proofs.lemmas.Bool.{cases_lt}
 use Rattle.index_tree.specs.declared.leaf.Leaf.{Leaf}
 use Rattle.sound_image.specs.Wrong.{IsOneOf}
+use Rattle.sound_image.specs.WrongLaws.{front_of_two, one_of_two, one_of_none}
 use Rattle.leaf_check.specs.Overlaps.{IsNarrow, IsOverlapped, StandsBefore, is_clear_of, overlaps, place_rank, touches}
 use Rattle.leaf_check.specs.Sweep.{IsBadAmong, IsJudged, IsRightAmong, IsSwept, IsUpTo}
 use Rattle.leaf_check.proofs.Overlaps.{AllAbove, AllNarrow, Ascend, CrossedBefore, crossed_back, last_of, one_overlaps, overlapped_behind, step_apart, step_touches, ascend_behind, narrow_behind}
-
--- one of a list, and of the list with more behind it
-pub one_front : (x : Leaf) (xs ys : List Leaf) → IsOneOf x xs → IsOneOf x (xs ++ ys)
-one_front x xs ys (before, behind, e) = (before, behind ++ ys, ap (λ (zs : List Leaf). zs ++ ys) e ∙ append_assoc before (x ∷ behind) ys)
-
-pub one_behind : (x : Leaf) (xs ys : List Leaf) → IsOneOf x ys → IsOneOf x (xs ++ ys)
-one_behind x xs ys (before, behind, e) = (xs ++ before, behind, ap (λ (zs : List Leaf). xs ++ zs) e ∙ sym (append_assoc xs before (x ∷ behind)))
-
--- one of two lists
-pub one_of_two : (x : Leaf) (xs ys : List Leaf) → IsOneOf x (xs ++ ys) → IsOneOf x xs ⊎ IsOneOf x ys
-one_of_two x [] ys h = inr h
-one_of_two x (z ∷ xs) ys ([], behind, e) = inl ([], xs, ap (λ (w : Leaf). w ∷ xs) (first e))
-  where
-    first_or : List Leaf → Leaf
-    first_or [] = x
-    first_or (w ∷ ws) = w
-
-    first : z ∷ (xs ++ ys) ≡ x ∷ behind → z ≡ x
-    first e = ap first_or e
-one_of_two x (z ∷ xs) ys (w ∷ before, behind, e) = elim (one_of_two x xs ys (before, behind, ap tail_of e)) [
-  | inl (b, a, f) ↦ inl (z ∷ b, a, ap (λ (zs : List Leaf). z ∷ zs) f)
-  | inr o ↦ inr o
-]
-  where
-    tail_of : List Leaf → List Leaf
-    tail_of [] = []
-    tail_of (w ∷ ws) = ws
-
-pub none_in_nil : (x : Leaf) → IsOneOf x [] → ⊥
-none_in_nil x ([], behind, e) = cc
-none_in_nil x (y ∷ before, behind, e) = cc
 
 pub the_one : (x y : Leaf) → IsOneOf x (y ∷ []) → x ≡ y
 the_one x y ([], behind, e) = sym (ap first_or e)
@@ -45,7 +15,7 @@ the_one x y ([], behind, e) = sym (ap first_or e)
     first_or : List Leaf → Leaf
     first_or [] = x
     first_or (w ∷ ws) = w
-the_one x y (z ∷ before, behind, e) = absurd (none_in_nil x (before, behind, ap tail_of e))
+the_one x y (z ∷ before, behind, e) = absurd (one_of_none x (before, behind, ap tail_of e))
   where
     tail_of : List Leaf → List Leaf
     tail_of [] = []
@@ -63,7 +33,7 @@ pub record SweptSoFar (IsSound : Leaf → Type 0) (done leaves wrong : List Leaf
 pub swept_start : (IsSound : Leaf → Type 0) (leaves wrong : List Leaf) → wrong ≡ [] → SweptSoFar IsSound [] leaves wrong
 swept_start IsSound leaves wrong e =
     let P : List Leaf → Type 0 = λ zs. AllByRecursion (λ leaf. IsOneOf leaf leaves × IsBadAmong IsSound leaves leaf) zs in
-    record { are = subst P (sym e) tt; rest = λ leaf one. absurd (none_in_nil leaf one) }
+    record { are = subst P (sym e) tt; rest = λ leaf one. absurd (one_of_none leaf one) }
 
 before_then : (a b c : Leaf) → StandsBefore a b → StandsBefore b c → StandsBefore a c
 before_then a b c (inl h) (inl k) = inl (omega (arith, h, k))
@@ -80,8 +50,8 @@ swept_wrong IsSound done rest leaves wrong more x split pushed bad h =
       rest = λ leaf one. elim (one_of_two leaf done (x ∷ []) one) [
         | inl seen ↦ elim (h.rest leaf seen) [
           | inl right ↦ inl right
-          | inr (inl told) ↦ inr (inl (one_front leaf wrong (x ∷ []) told))
-          | inr (inr (other, told, stands)) ↦ inr (inr (other, one_front other wrong (x ∷ []) told, stands))
+          | inr (inl told) ↦ inr (inl (front_of_two leaf wrong (x ∷ []) told))
+          | inr (inr (other, told, stands)) ↦ inr (inr (other, front_of_two other wrong (x ∷ []) told, stands))
         ]
         | inr own ↦ inr (inl (wrong, [], ap (λ (y : Leaf). wrong ++ (y ∷ [])) (sym (the_one leaf x own))))
       ];

@@ -1,43 +1,15 @@
 -- The node that a change makes carries it.
-use Rattle.std.proofs.Common.{◌≡◌, ℕ, ◌+◌, ◌%◌, ◌<◌, refl, ap, ◌∙◌, arith, Option, Some}
+use Rattle.std.proofs.Common.{◌≡◌, ℕ, ◌+◌, ◌<◌, ap, ◌∙◌, Option, Some}
 use Rattle.std.specs.Bool.{IsTrue}
 use Rattle.std.specs.Option.{option_map}
 use Rattle.fs_model.specs.declared.change.Change.{Change}
 use Rattle.fs_model.specs.declared.change.Change.TheVariants.{SetInode, SetEntry, DropEntry, SetBlock, CutBlocks, DropInode}
 use Rattle.fs_model.specs.declared.inode.Inode.{Inode}
 use Rattle.fs_model.specs.declared.inode.Kind.{Kind}
-use Rattle.fs_model.specs.declared.inode.Kind.TheVariants.{File, Dir, Symlink, Block, Char, Fifo, Socket}
 use Rattle.fs_model.specs.Backing.{is_node}
-use Rattle.change_nodes.specs.NodeLaws.{mode_of_node, node_carries}
+use Rattle.change_nodes.specs.NodeLaws.{mode_of_node, node_carries, bits_are, mode_is, bits_say}
 use Rattle.change_nodes.specs.Nodes.{bits_of, inode_node, inode_of, kind_of_bits, node_of, type_bits}
 use Rattle.leaf_map.specs.After.{Carries}
-
-bits_are : (kind : Kind) (mode : ℕ) → mode < 4096 → bits_of (type_bits kind + mode) ≡ type_bits kind
-bits_are File mode h = omega (arith, h)
-bits_are Dir mode h = omega (arith, h)
-bits_are Symlink mode h = omega (arith, h)
-bits_are Block mode h = omega (arith, h)
-bits_are Char mode h = omega (arith, h)
-bits_are Fifo mode h = omega (arith, h)
-bits_are Socket mode h = omega (arith, h)
-
-mode_is : (kind : Kind) (mode : ℕ) → mode < 4096 → (type_bits kind + mode) % 0o10000 ≡ mode
-mode_is File mode h = omega (arith, h)
-mode_is Dir mode h = omega (arith, h)
-mode_is Symlink mode h = omega (arith, h)
-mode_is Block mode h = omega (arith, h)
-mode_is Char mode h = omega (arith, h)
-mode_is Fifo mode h = omega (arith, h)
-mode_is Socket mode h = omega (arith, h)
-
-bits_say : (kind : Kind) → kind_of_bits (type_bits kind) ≡ Some kind
-bits_say File = refl
-bits_say Dir = refl
-bits_say Symlink = refl
-bits_say Block = refl
-bits_say Char = refl
-bits_say Fifo = refl
-bits_say Socket = refl
 
 -- an inode's node shows it, whatever its links
 inode_shown : (ino : ℕ) (node : Inode) → node.mode < 4096 → option_map (λ kind. SetInode ino (inode_of (inode_node ino node) kind)) (kind_of_bits (bits_of (type_bits node.kind + node.mode))) ≡ Some (SetInode ino node)

@@ -22,13 +22,13 @@ use Rattle.leaf_map.specs.After.{goes, is_gone}
 use Rattle.leaf_map.specs.Kept.{Kept, shown_by}
 use Rattle.leaf_map.specs.LeafMap.{IsLeafMap, are_apart, shows_same}
 use Rattle.leaf_map.specs.Recovered.{is_unlinked, without_orphan}
+use Rattle.leaf_map.specs.SameLaws.{same_trees}
 use Rattle.leaf_map.specs.Shown.{inodes_of, tree_of, with_inode}
 use Rattle.leaf_map.proofs.Apart.{filter_map}
 use Rattle.leaf_map.proofs.Changes.{drop_inode}
 use Rattle.leaf_map.proofs.Drops.{missing_inode}
 use Rattle.leaf_map.proofs.Lasts.{found_filter}
 use Rattle.leaf_map.proofs.Maps.{equal_is}
-use Rattle.leaf_map.proofs.Same.{same_trees}
 
 -- ---- on trees
 -- an inode that has no name goes

@@ -13,10 +13,10 @@ use Rattle.fs_model.specs.declared.change.Change.TheVariants.{SetInode, SetEntry
 use Rattle.change_nodes.specs.Nodes.{gone_inode, inode_node}
 use Rattle.leaf_map.specs.Allowed.{IsReadLeaf}
 use Rattle.leaf_map.specs.Kept.{Kept, Placed, kept_at, shown, shown_by}
+use Rattle.leaf_map.specs.KeyedLaws.{node_keyed}
 use Rattle.leaf_map.specs.LeafMap.{HasKeyOf, IsKeyed}
 use Rattle.leaf_map.specs.Parts.{Committed, Parts, is_shown, own_node}
 use Rattle.leaf_map.specs.Recovered.{copy_of_key, found_leaves, stand_in}
-use Rattle.leaf_map.proofs.Keyed.{node_keyed}
 use Rattle.leaf_map.proofs.Ranks.{leaves}
 use Rattle.leaf_map.proofs.Things.{is_entry}
 use Rattle.leaf_map.proofs.Walk.{Walk, left, own_leaf, stand_leaf}

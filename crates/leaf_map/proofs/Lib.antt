@@ -15,7 +15,6 @@ mod FoundLeaves
 mod FoundNodes
 mod FoundTrees
 mod Inodes
-mod Keyed
 mod KnownNodes
 mod Lasts
 mod Maps
@@ -25,7 +24,6 @@ mod Ranges
 mod Ranks
 mod Recovers
 mod Replays
-mod Same
 mod Sorted
 mod Steps
 mod Things

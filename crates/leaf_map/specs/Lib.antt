@@ -3,11 +3,13 @@ pub mod Allowed
 pub mod Follows
 pub mod InOrder
 pub mod Kept
+pub mod KeyedLaws
 pub mod LastChange
 pub mod LeafMap
 pub mod Lost
 pub mod Parts
 pub mod Recovered
+pub mod SameLaws
 pub mod Shown
 pub mod SpaceFound
 pub mod Worked

@@ -7,7 +7,6 @@ mod Founds
 mod FromLast
 mod Hashes
 mod InOrder
-mod Keyed
 mod Maps
 mod Moved
 mod Noted

@@ -26,6 +26,7 @@ use Rattle.change_nodes.specs.Nodes.{bits_of, change_of, inode_of, kind_of_bits,
 use Rattle.leaf_map.specs.After.{Carries, has_inode, is_gone, is_idle, is_inode, is_set, kept_after, kept_by, put_leaf, read}
 use Rattle.leaf_map.specs.Follows.{block_key_from, last_block_key, with_leaf, without_old}
 use Rattle.leaf_map.specs.Kept.{Kept, Placed, kept_at, node_key, shown, shown_by}
+use Rattle.leaf_map.specs.KeyedLaws.{node_keyed, read_carried}
 use Rattle.leaf_map.specs.LeafMap.{IsLeafMap}
 use Rattle.journal_scan.specs.Content.{content_of, told}
 use Rattle.journal_scan.specs.declared.journal_node.JournalNode.{JournalNode}
@@ -36,7 +37,6 @@ use Rattle.log_replay.specs.Changes.{CutsBlocks, Does, DoesBy, DropsInode, Drops
 use Rattle.log_replay.specs.Standing.{IsFresh, Stands, is_entry, is_linked, is_name, leaf_at, leaves, leaves_in, links_of, place_of}
 use Rattle.log_replay.proofs.Distinct.{all_distinct, left_distinct, names_beside, names_stay, put_distinct}
 use Rattle.log_replay.proofs.First.{any_found, block_at, block_key, cut_range, find_same, first_is, found_key, inode_at, inode_key, name_key}
-use Rattle.log_replay.proofs.Keyed.{node_keyed, read_carried}
 use Rattle.log_replay.proofs.Maps.{links_beside, links_dropped, links_set, links_stay, place, place_beside, place_dropped, place_set, place_stay}
 use Rattle.log_replay.proofs.Tests.{all_goes, block_goes, block_stays, cut_goes, cut_stays, entry_goes, entry_is, inode_goes, inode_is, key, name_goes, no_inode}
 

@@ -14,6 +14,7 @@ use Rattle.fs_model.specs.declared.change.Change.TheVariants.{SetInode, SetEntry
 use Rattle.fs_model.specs.declared.inode.Kind.{Kind}
 use Rattle.change_nodes.specs.Nodes.{bits_of, inode_of, kind_of_bits, kind_of_type}
 use Rattle.leaf_map.specs.Kept.{Placed, kept_at, node_key, shown}
+use Rattle.leaf_map.specs.KeyedLaws.{node_keyed}
 use Rattle.leaf_map.specs.LeafMap.{HasKeyOf, shows_same}
 use Rattle.leaf_map.specs.Parts.{is_shown}
 use Rattle.journal_scan.specs.Content.{content_of}
@@ -21,7 +22,6 @@ use Rattle.journal_scan.specs.declared.node_content.NodeContent.{NodeContent}
 use Rattle.journal_scan.specs.declared.node_content.NodeContent.TheVariants.{Inode, Block, Entry, Truncation, Unknown}
 use Rattle.log_replay.specs.Things.{is_same_told, key_told}
 use Rattle.log_replay.specs.Told.{IsSetting}
-use Rattle.log_replay.proofs.Keyed.{node_keyed}
 use Rattle.log_replay.proofs.Noted.{content_block, content_entry, content_inode}
 use Rattle.log_replay.proofs.OneNode.{known}
 

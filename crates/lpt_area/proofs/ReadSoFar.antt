@@ -7,9 +7,9 @@ use Rattle.ubifs_base.specs.declared.raw_geometry.RawGeometry.{RawGeometry}
 use Rattle.media_lpt.specs.Nodes.{IsPlace}
 use Rattle.media_lpt.specs.declared.lprop.Lprop.{Lprop}
 use Rattle.media_lpt.specs.declared.nnode.LptPlace.{LptPlace}
+use Rattle.lpt_area.specs.KeptLaws.{IsKept, kept_start}
 use Rattle.lpt_area.specs.Only.{IsOnly, HasNone, SameFor}
 use Rattle.lpt_area.specs.Tree.{AtPlace, Row, HasNnode, IsBelow, no_place, row_len}
-use Rattle.lpt_area.proofs.Kept.{IsKept, kept_start}
 use Rattle.lpt_area.proofs.PlaceRows.{row_next, row_fails, all_take, all_of, only_moved, none_moved}
 use Rattle.lpt_area.proofs.Decided.{level_down, level_fails, same_then, same_fails, same_self}
 

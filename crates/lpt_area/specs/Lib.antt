@@ -2,3 +2,4 @@ pub mod Tree
 pub mod Written
 pub mod Only
 pub mod Laid
+pub mod KeptLaws

@@ -24,6 +24,7 @@ use Rattle.sound_image.specs.Image.{named_by}
 use Rattle.sound_image.specs.Leaves.{IsPlacedIn}
 use Rattle.sound_image.specs.Tree.{IsCopy}
 use Rattle.sound_image.specs.Wrong.{IsOneOf, Wrong}
+use Rattle.sound_image.specs.WrongLaws.{at_end, front_or_end, in_front, one_of_none}
 use Rattle.image_check.specs.FirstLaws.{first_alone, first_of_both, first_same}
 use Rattle.image_check.specs.WrongValues.{IsFirstOf, sooner_of}
 use Rattle.image_check.specs.declared.wrong_value.WrongValue.{WrongValue}
@@ -35,7 +36,6 @@ use Rattle.shown_leaves.specs.Told.{wrong_node_told}
 use Rattle.shown_leaves.specs.declared.stored_node.StoredNode.{StoredNode}
 use Rattle.shown_leaves.proofs.Contents.{if_set, told_key, wrong_is}
 use Rattle.shown_leaves.proofs.Rights.{all_end, right_more, right_never}
-use Rattle.shown_leaves.proofs.Members.{at_end, front_or_end, in_front, one_of_none}
 use Rattle.shown_leaves.proofs.Stored.{IsOneNode, part_bytes, read_is}
 
 -- ---- a leaf's own node

@@ -1,10 +1,10 @@
 -- The first of what is wrong with the elements of a list.
 use Rattle.std.proofs.Common.{◌≡◌, ◌⊎◌, List, [], ◌∷◌, ap, sym, ◌∙◌, inl, inr, refl, fold, Option, Some, None, subst}
 use Rattle.sound_image.specs.Wrong.{IsOneOf, Wrong}
+use Rattle.sound_image.specs.WrongLaws.{first_or_behind, one_behind, one_first, one_of_none}
 use Rattle.image_check.specs.FirstLaws.{first_alone, first_of_both, first_same}
 use Rattle.image_check.specs.WrongValues.{IsFirstOf, sooner_of, wrong_at}
 use Rattle.image_check.specs.declared.wrong_value.WrongValue.{WrongValue}
-use Rattle.shown_leaves.proofs.Members.{first_or_behind, one_behind, one_first, one_of_none}
 
 -- this is what is told, if it is
 abbrev pub IsTold : Option WrongValue → Wrong → Type 0

@@ -18,6 +18,7 @@ use Rattle.sound_image.specs.Breaches.{number_of}
 use Rattle.sound_image.specs.Leaves.{IsPlacedIn}
 use Rattle.sound_image.specs.Tree.{ShowsItsNode}
 use Rattle.sound_image.specs.Wrong.{Wrong, differs}
+use Rattle.sound_image.specs.WrongLaws.{at_end, front_or_end, in_front, one_of_none}
 use Rattle.image_check.specs.FirstLaws.{first_alone, first_of_both, first_same}
 use Rattle.image_check.specs.WrongValues.{IsFirstOf, sooner_of, wrong_at}
 use Rattle.image_check.specs.declared.wrong_value.WrongValue.{WrongValue}
@@ -34,7 +35,6 @@ use Rattle.shown_leaves.specs.declared.sourced_leaf.Source.{Source}
 use Rattle.shown_leaves.specs.declared.sourced_leaf.SourcedLeaf.{SourcedLeaf}
 use Rattle.shown_leaves.specs.declared.stored_node.StoredNode.{StoredNode}
 use Rattle.shown_leaves.proofs.Rights.{all_end, right_both, right_more}
-use Rattle.shown_leaves.proofs.Members.{at_end, front_or_end, in_front, one_of_none}
 use Rattle.shown_leaves.proofs.Stored.{IsOneNode, part_bytes, read_is}
 
 -- ---- where a leaf's node was read

@@ -2,7 +2,6 @@ pub mod Contents
 pub mod CopiedNodes
 pub mod Firsts
 pub mod JudgedLeaves
-pub mod Kept
 pub mod Lengths
 pub mod Members
 pub mod Ordered

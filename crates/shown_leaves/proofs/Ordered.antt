@@ -3,7 +3,7 @@ use Rattle.std.proofs.Common.{◌≡◌, ◌⊎◌, Bool, true, false, cond, Lis
 use Rattle.leaf_map.specs.Kept.{Placed}
 use Rattle.leaf_map.specs.Recovered.{in_order, placed_node}
 use Rattle.sound_image.specs.Wrong.{IsOneOf}
-use Rattle.shown_leaves.proofs.Members.{first_or_behind, one_behind, one_first, one_of_none}
+use Rattle.sound_image.specs.WrongLaws.{first_or_behind, one_behind, one_first, one_of_none}
 
 placed_one : (x y : Placed) (ys : List Placed) → (x ≡ y) ⊎ IsOneOf x ys → IsOneOf x (placed_node ys y)
 placed_one x y [] (inl e) = one_first x y [] e

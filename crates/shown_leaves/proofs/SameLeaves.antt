@@ -11,11 +11,11 @@ use Rattle.index_tree.specs.declared.leaf.Leaf.{Leaf}
 use Rattle.sound_image.specs.Wrong.{Wrong}
 use Rattle.std.proofs.lemmas.Bool.{false≢true}
 use Rattle.std.proofs.lemmas.Bool.Decides.{nat_tests}
+use Rattle.sound_image.specs.WrongLaws.{head_of}
 use Rattle.image_check.specs.FirstLaws.{first_alone, first_of_both, first_same}
 use Rattle.image_check.specs.WrongValues.{IsFirstOf, sooner_of, wrong_at}
 use Rattle.image_check.specs.declared.wrong_value.WrongValue.{WrongValue}
 use Rattle.shown_leaves.specs.Spots.{AreLeavesApart, IsApartFrom, IsTwiceIn, Spot, has_spot, is_at_one_place, is_same_spot, spot_of, wrong_leaf}
-use Rattle.shown_leaves.proofs.Members.{head_of}
 
 -- ---- the same spot is the same leaf
 then_equal : (o p : Ordering) → is_eq (ordering_then o p) ≡ (is_eq o && is_eq p)

@@ -21,6 +21,7 @@ use Rattle.media_leaf.specs.declared.ino_node.InoNode.{InoNode}
 use Rattle.media_leaf.specs.declared.trun_node.TrunNode.{TrunNode}
 use Rattle.change_nodes.specs.Nodes.{bits_of, kind_of_bits, kind_of_type}
 use Rattle.fs_model.specs.declared.inode.Kind.{Kind}
+use Rattle.change_nodes.specs.LengthLaws.{leaf_length}
 use Rattle.leaf_map.specs.Kept.{Placed, shown}
 use Rattle.sound_image.specs.Leaves.{IsPlacedIn}
 use Rattle.tree_check.specs.Told.{shown_told}
@@ -29,7 +30,6 @@ use Rattle.tree_check.specs.declared.shown_leaf.Shown.TheVariants as shows
 use Rattle.shown_leaves.specs.Judged.{entry_told, inode_told}
 use Rattle.shown_leaves.specs.Sources.{IsReadFrom}
 use Rattle.shown_leaves.specs.declared.sourced_leaf.Source.{Source}
-use Rattle.shown_leaves.proofs.Lengths.{leaf_length}
 use Rattle.shown_leaves.proofs.Stored.{IsOneNode}
 
 -- ---- where it can't stand

@@ -1,21 +1,15 @@
 -- A volume that is read by one call after another.
-use Rattle.std.proofs.Common.{◌≡◌, ◌⊎◌, ◌≤◌, ◌∙◌, ℕ, Result, Ok, Err, inl, inr, sym, subst, arith}
+use Rattle.std.proofs.Common.{◌≡◌, ◌≤◌, ◌∙◌, ℕ, Result, Ok, Err, inl, inr, sym, subst, arith}
 use Rattle.std.specs.Prelude.{IfErr}
 use Rattle.std.specs.Result.{IsErrAnd}
 use Rattle.ubifs_base.specs.Faults.{IsCause-before}
 use Rattle.ubi_volume.specs.Volume.{VolumeState, Keeps, SameShape}
 use Rattle.ubi_volume.specs.VolumeLaws.{Keeps-then, SameShape-then}
+use Rattle.image_check.specs.KeptLaws.{IsKept}
 use Rattle.image_check.specs.Told.{HasCheckCause, IsNoVolumeFault, StaysSureCheck}
 use Rattle.image_check.specs.declared.fault.CheckFault.{CheckFault}
 use Rattle.image_check.specs.declared.fault.CheckFault.TheVariants.{Memory, Volume, Unsound}
 use Rattle.sound_check.specs.Calls.{ReadsOnly}
-
--- what calls that succeeded kept
-pub record IsKept (old now : VolumeState) : Type 0 where
-  pub keeps : Keeps old now
-  pub shape : SameShape old now
-  pub count : old.faults ≤ now.faults
-  pub sure : old.sure → now.spent ⊎ (now.sure × (now.faults ≡ old.faults))
 
 -- contents that are alike LEB by LEB are the same
 pub same_holds : (old now : VolumeState) → Keeps old now → now.holds ≡ old.holds

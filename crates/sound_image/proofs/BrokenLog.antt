@@ -15,11 +15,12 @@ use Rattle.bud_log.specs.Log.{Run, next_leb, references_of}
 use Rattle.bud_log.specs.LogText.{BeginsCommit, IsReferenceAt, IsTextOf, LogText, Refer, begins_with, is_later, start_of}
 use Rattle.bud_log.specs.References.{one_commit}
 use Rattle.small_areas.specs.MasterLaws.{OneNode, OneText}
+use Rattle.bud_log.specs.OneTextLaws.{one_log_text, one_reference}
 use Rattle.sound_image.specs.Log.{EndWhole, HasLog, NamesMain, ends_in_start}
 use Rattle.sound_image.specs.LogBreaches.{HasNoneSpare, IsBrokenBehindStart, IsBrokenIn, IsBrokenLog, IsReadOfLog, IsTornWithin, LacksItsStart, LooksNewer, NamesNoMain, misnamed}
 use Rattle.sound_image.specs.Wrong.{IsFirstOr, IsFirstWrong, Wrong}
 use Rattle.sound_image.proofs.FirstWrong.{one_first, one_first_or}
-use Rattle.sound_image.proofs.OneLog.{one_log_text, one_reading, one_reference}
+use Rattle.sound_image.proofs.OneLog.{one_reading}
 use Rattle.sound_image.proofs.Lists.{cons_parts}
 
 pub reading_of : (contents : ℕ → List ℕ) (geo : RawGeometry) (master : Master) (texts : List LogText) (h : HasLog contents geo master texts) → IsReadOfLog contents geo master.log_lnum h.start texts

@@ -25,6 +25,7 @@ use Rattle.leb_scan.specs.declared.tail.Tail.TheVariants.{Clean}
 use Rattle.small_areas.specs.Addresses.{addresses_of, first_past}
 use Rattle.small_areas.specs.MasterLaws.{OneNode, OneText, one_latest}
 use Rattle.small_areas.specs.Masters.{HasNoMaster, IsLatest}
+use Rattle.bud_log.specs.OneTextLaws.{one_log_text}
 use Rattle.sound_image.specs.Breaches.{IsFirstBreach}
 use Rattle.sound_image.specs.Image.{Image}
 use Rattle.sound_image.specs.Buds.{HasBuds}
@@ -42,7 +43,6 @@ use Rattle.sound_image.specs.declared.breach.Breach.TheVariants.{Super as InSupe
 use Rattle.sound_image.specs.declared.rule.Rule.TheVariants as rules
 use Rattle.sound_image.proofs.FreshLog.{has_fresh_log}
 use Rattle.sound_image.proofs.LeastImage.{has_index, has_leaves, in_range, least_placed, least_text, least_with, no_orphans}
-use Rattle.sound_image.proofs.OneLog.{one_log_text}
 
 -- ---- the superblock
 -- min_io_size is 100, which is no power of 2

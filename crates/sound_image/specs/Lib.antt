@@ -22,3 +22,4 @@ pub mod LeafBreaches
 pub mod Breaches
 pub mod Laid
 pub mod Worked
+pub mod WrongLaws

@@ -20,8 +20,8 @@ use Rattle.sound_image.specs.declared.breach.Breach.TheVariants.{Damaged}
 use Rattle.image_check.specs.Told.{IsBreachOf}
 use Rattle.space_check.specs.Ends.{IsFirstIn, IsFirstWritten, IsUnwrittenFrom, has_free_end}
 use Rattle.space_check.specs.declared.written_byte.WrittenByte.{WrittenByte}
-use Rattle.space_check.proofs.Kept.{IsKept}
 use Rattle.image_check.specs.FirstLaws.{first_of_lebs}
+use Rattle.image_check.specs.KeptLaws.{IsKept}
 use Rattle.space_check.proofs.Places.{in_main, of_main, one_prop, some_inside}
 
 -- ---- one LEB

@@ -1,5 +1,5 @@
 -- The live nodes of a tree as the changes that they carry, each shown by its node.
-use Rattle.std.proofs.Common.{◌≡◌, ◌++◌, ◌+◌, ◌%◌, ◌<◌, ◌≤◌, ℕ, Bool, true, false, cond, not, ◌&&◌, List, [], ◌∷◌, map, refl, ap, subst, ◌∙◌, arith, Option, Some, None}
+use Rattle.std.proofs.Common.{◌≡◌, ◌++◌, ◌<◌, ◌≤◌, ℕ, Bool, true, false, cond, not, ◌&&◌, List, [], ◌∷◌, map, refl, ap, subst, ◌∙◌, arith, Option, Some, None}
 use Rattle.std.specs.Prelude.{◌==◌, filter, fold}
 use Rattle.std.specs.Bool.{IsTrue}
 use Rattle.std.specs.BTreeMap.{insert_entry}
@@ -20,15 +20,15 @@ use Rattle.fs_model.specs.declared.change.Change.TheVariants.{SetInode, SetEntry
 use Rattle.fs_model.specs.declared.inode.Entry.{Entry}
 use Rattle.fs_model.specs.declared.inode.Inode.{Inode}
 use Rattle.fs_model.specs.declared.inode.Kind.{Kind}
-use Rattle.fs_model.specs.declared.inode.Kind.TheVariants.{File, Dir, Symlink, Block, Char, Fifo, Socket}
+use Rattle.fs_model.specs.declared.inode.Kind.TheVariants.{Dir}
 use Rattle.fs_model.specs.Directory.{by_hash, entries_in}
 use Rattle.fs_model.specs.Files.{Blocks, Inodes, Tree, inode_at, name_cmp}
 use Rattle.fs_model.specs.Path.{is_same_name}
 use Rattle.fs_model.specs.Proper.{IsProper, has_kind, is_entry_node, is_inode_node, is_name, is_sound_entry, are_words, same_kind}
 use Rattle.fs_laws.specs.Maps.{all_at}
 use Rattle.fs_laws.specs.Orders.{numbers}
-use Rattle.change_nodes.specs.NodeLaws.{numbered, plain_mode, node_carries}
-use Rattle.change_nodes.specs.Nodes.{bits_of, inode_node, inode_of, kind_of_bits, node_of, type_bits}
+use Rattle.change_nodes.specs.NodeLaws.{numbered, plain_mode, node_carries, bits_are, mode_is, bits_say}
+use Rattle.change_nodes.specs.Nodes.{inode_node, inode_of, kind_of_bits, node_of}
 use Rattle.leaf_map.specs.Kept.{shown}
 use Rattle.image_maker.specs.Leaves.{block_leaf, entry_leaf, leaves_of}
 use Rattle.tree_nodes.specs.Stored.{as_stored}
@@ -76,33 +76,6 @@ IsShownSo c = shown (node_of c) ≡ Some c
 pub all_append : {X : Type 0} (P : X → Type 0) (xs ys : List X) → AllByRecursion P xs → AllByRecursion P ys → AllByRecursion P (xs ++ ys)
 all_append P [] ys h k = k
 all_append P (x ∷ xs) ys h k = (h.0, all_append P xs ys h.1 k)
-
-bits_are : (kind : Kind) (mode : ℕ) → mode < 4096 → bits_of (type_bits kind + mode) ≡ type_bits kind
-bits_are File mode h = omega (arith, h)
-bits_are Dir mode h = omega (arith, h)
-bits_are Symlink mode h = omega (arith, h)
-bits_are Block mode h = omega (arith, h)
-bits_are Char mode h = omega (arith, h)
-bits_are Fifo mode h = omega (arith, h)
-bits_are Socket mode h = omega (arith, h)
-
-mode_is : (kind : Kind) (mode : ℕ) → mode < 4096 → (type_bits kind + mode) % 0o10000 ≡ mode
-mode_is File mode h = omega (arith, h)
-mode_is Dir mode h = omega (arith, h)
-mode_is Symlink mode h = omega (arith, h)
-mode_is Block mode h = omega (arith, h)
-mode_is Char mode h = omega (arith, h)
-mode_is Fifo mode h = omega (arith, h)
-mode_is Socket mode h = omega (arith, h)
-
-bits_say : (kind : Kind) → kind_of_bits (type_bits kind) ≡ Some kind
-bits_say File = refl
-bits_say Dir = refl
-bits_say Symlink = refl
-bits_say Block = refl
-bits_say Char = refl
-bits_say Fifo = refl
-bits_say Socket = refl
 
 inode_shown : (ino : ℕ) (node : Inode) → node.mode < 4096 → IsShownSo (SetInode ino node)
 inode_shown ino node small =

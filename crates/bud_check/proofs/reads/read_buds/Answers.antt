@@ -1,4 +1,4 @@
-use Rattle.bud_check.proofs.Kept.{kept_next, sure_of_area}
+use Rattle.image_check.specs.KeptLaws.{kept_next, sure_of_area}
 use Rattle.bud_check.proofs.ReadBuds.{no_more, read_end, read_next, read_start}
 use Rattle.bud_check.proofs.reads.read_buds.Goals as goal
 

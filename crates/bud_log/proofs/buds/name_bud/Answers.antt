@@ -1,7 +1,7 @@
 use Rattle.std.proofs.Common.{◌≡◌, ◌++◌, ◌<◌, List, length, take, drop, ap, sym, ◌∙◌, subst, rules}
 use Rattle.bud_log.specs.Buds.{named}
+use Rattle.bud_log.specs.NamedLaws.{named_there}
 use Rattle.bud_log.specs.declared.head_at.HeadAt.{HeadAt}
-use Rattle.bud_log.proofs.BudLists.{named_there}
 use Rattle.bud_log.proofs.buds.name_bud.Goals as goal
 
 pub returns-then-index-node : goal.returns-then-index-node

@@ -1,10 +1,10 @@
 use Rattle.std.proofs.Common.{◌≡◌, true, Option, IfSome, List, ℕ, ◌∙◌, subst}
 use Rattle.ubifs_base.specs.RawOf.{raw_of}
 use Rattle.ubi_volume.specs.Faults.{IsNotVolume}
+use Rattle.bud_log.specs.KeepsOnLaws.{keeps_on_then}
 use Rattle.bud_log.specs.LogText.{is_later}
 use Rattle.bud_log.specs.Seen.{IsTaken}
 use Rattle.bud_log.specs.declared.seen.Seen.{Seen}
-use Rattle.bud_log.proofs.Calls.{keeps_on_then}
 use Rattle.bud_log.specs.RingRuns.{so_far_next}
 use Rattle.bud_log.proofs.reading.read_on.Goals as goal
 

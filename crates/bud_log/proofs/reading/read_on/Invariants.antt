@@ -1,8 +1,8 @@
 use Rattle.std.proofs.Common.{◌≡◌, length}
 use Rattle.ubifs_base.specs.RawOf.{raw_of}
+use Rattle.bud_log.specs.KeepsOnLaws.{KeepsOn}
 use Rattle.bud_log.specs.Log.{IsLogLeb}
 use Rattle.bud_log.specs.RingRuns.{left_of, IsReadSoFar}
-use Rattle.bud_log.proofs.Calls.{KeepsOn}
 use Rattle.bud_log.proofs.reading.read_on.Given as goal
 
 -- what was read so far, and that all is kept

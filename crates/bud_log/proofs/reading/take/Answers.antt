@@ -1,6 +1,6 @@
 use Rattle.std.proofs.Common.{arith}
+use Rattle.bud_log.specs.KeepsOnLaws.{on_ok}
 use Rattle.bud_log.specs.Seen.{AreNamed, IsTaken}
-use Rattle.bud_log.proofs.Calls.{on_ok}
 use Rattle.bud_log.specs.RingRuns.{taken_of}
 use Rattle.bud_log.proofs.reading.take.Goals as goal
 

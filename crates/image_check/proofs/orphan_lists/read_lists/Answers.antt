@@ -1,6 +1,6 @@
 use Rattle.std.proofs.Common.{arith, rules, ◌∙◌}
 use Rattle.ubifs_base.specs.RawOf.{raw_of}
-use Rattle.image_check.proofs.Kept.{kept_next, kept_start, sure_of_one}
+use Rattle.lpt_area.specs.KeptLaws.{kept_next, kept_start, sure_of_one}
 use Rattle.image_check.proofs.OrphanArea.{area_broken, lists_next, lists_start}
 use Rattle.image_check.proofs.orphan_lists.read_lists.Goals as goal
 

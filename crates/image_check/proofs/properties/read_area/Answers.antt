@@ -1,8 +1,8 @@
 use Rattle.std.proofs.Common.{◌-◌, ◌∙◌, arith, rules, sym}
 use Rattle.ubifs_base.specs.Areas.{lpt_first}
 use Rattle.ubifs_base.specs.RawOf.{raw_of}
+use Rattle.lpt_area.specs.KeptLaws.{kept_next, kept_start, sure_of_one}
 use Rattle.image_check.proofs.AreaLebs.{area_is, area_next, area_start}
-use Rattle.image_check.proofs.Kept.{kept_next, kept_start, sure_of_one}
 use Rattle.image_check.proofs.properties.read_area.Goals as goal
 
 pub loop-lnum-init : goal.loop-lnum-init

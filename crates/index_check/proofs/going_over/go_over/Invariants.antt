@@ -1,7 +1,7 @@
 use Rattle.std.proofs.Common.{◌+◌}
 use Rattle.ubifs_base.specs.RawOf.{raw_of}
+use Rattle.image_check.specs.KeptLaws.{IsKept}
 use Rattle.index_check.specs.IndexWalk.{waiting_in}
-use Rattle.index_check.proofs.Kept.{IsKept}
 use Rattle.index_check.proofs.Walks.{IsUnderWay, work}
 use Rattle.index_check.proofs.going_over.go_over.Given as goal
 

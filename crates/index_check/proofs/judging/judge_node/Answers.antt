@@ -2,8 +2,9 @@ use Rattle.std.proofs.Common.{Err, inl, subst}
 use Rattle.sound_image.specs.Wrong.{Misfit}
 use Rattle.index_check.specs.IndexWalk.{told_misfit}
 use Rattle.sound_image.specs.IndexBreaches.{LacksIndexNode}
+use Rattle.image_check.specs.KeptLaws.{kept_start}
 use Rattle.index_check.proofs.Contents.{lack_moved, node_moved}
-use Rattle.index_check.proofs.Kept.{kept_on, kept_start, reads_ok}
+use Rattle.index_check.proofs.Kept.{kept_on, reads_ok}
 use Rattle.index_check.proofs.StandingNodes.{none_of, same_values}
 use Rattle.index_check.proofs.judging.judge_node.Goals as goal
 

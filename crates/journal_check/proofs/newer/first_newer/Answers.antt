@@ -3,10 +3,10 @@ use Rattle.std.specs.Prelude.{◌==◌, IsOk}
 use Rattle.std.specs.List.{list_any}
 use Rattle.ubifs_base.specs.Areas.{lpt_first}
 use Rattle.ubifs_base.specs.RawOf.{raw_of}
+use Rattle.bud_log.specs.KeepsOnLaws.{KeepsOn, keeps_on_then}
 use Rattle.image_check.specs.WrongValues.{sooner_of}
 use Rattle.journal_check.specs.LogChecks.{IsSeenLeb}
 use Rattle.image_check.specs.declared.wrong_value.WrongValue.{WrongValue}
-use Rattle.journal_check.proofs.Calls.{KeepsOn, keeps_on_then}
 use Rattle.journal_check.proofs.NewerLebs.{IsNewerSoFar, newer_all, newer_next, newer_skip}
 use Rattle.journal_check.proofs.newer.first_newer.Goals.{then-not-is_among+in_ok-seen, else-not-is_among}
 use Rattle.journal_check.proofs.newer.first_newer.Goals as goal

@@ -1,7 +1,7 @@
 use Rattle.std.proofs.Common.{◌≡◌, ◌≤◌, length}
 use Rattle.ubifs_base.specs.RawOf.{raw_of}
 use Rattle.ubifs_base.specs.Areas.{lpt_first}
-use Rattle.journal_check.proofs.Calls.{KeepsOn}
+use Rattle.bud_log.specs.KeepsOnLaws.{KeepsOn}
 use Rattle.journal_check.proofs.NewerLebs.{IsNewerSoFar}
 use Rattle.journal_check.proofs.newer.first_newer.Given as goal
 

@@ -3,10 +3,10 @@ use Rattle.ubifs_base.specs.RawOf.{raw_of}
 use Rattle.ubi_volume.specs.Faults.{IsNotVolume}
 use Rattle.bud_log.specs.Writing.{IsOlder}
 use Rattle.ubi_volume.specs.VolumeLaws.{Keeps-then}
+use Rattle.bud_log.specs.KeepsOnLaws.{keeps_on_then}
 use Rattle.bud_log.specs.RingRuns.{fewer_left, left_of}
 use Rattle.journal_check.specs.LogChecks.{IsAddedTo, IsReadUpTo}
 use Rattle.journal_check.specs.declared.read_lebs.ReadLebs.{ReadLebs}
-use Rattle.journal_check.proofs.Calls.{keeps_on_then}
 use Rattle.journal_check.proofs.LogTexts.{all_read, next_read}
 use Rattle.journal_check.proofs.reading.read_on.Goals as goal
 

@@ -1,9 +1,9 @@
 use Rattle.std.proofs.Common.{◌≡◌, length}
 use Rattle.ubifs_base.specs.RawOf.{raw_of}
+use Rattle.bud_log.specs.KeepsOnLaws.{KeepsOn}
 use Rattle.bud_log.specs.Log.{IsLogLeb}
 use Rattle.bud_log.specs.RingRuns.{left_of}
 use Rattle.journal_check.specs.LogChecks.{IsReadUpTo}
-use Rattle.journal_check.proofs.Calls.{KeepsOn}
 use Rattle.journal_check.proofs.reading.read_on.Given as goal
 
 -- what was read so far, and that all is kept

@@ -9,8 +9,8 @@ use Rattle.log_replay.specs.Replay.{told_committed}
 use Rattle.log_replay.specs.Settling.{HasGrammar}
 use Rattle.log_replay.specs.declared.committed_leaf.CommittedLeaf.{CommittedLeaf}
 use Rattle.sound_image.specs.Leaves.{AreCommitted, HasItsNode}
+use Rattle.image_check.specs.KeptLaws.{kept_next, sure_of_area}
 use Rattle.leaf_check.proofs.CommittedLeaves.{intact_more, none_left, parted, read_end, read_more, read_start}
-use Rattle.leaf_check.proofs.Kept.{kept_next, sure_of_area}
 use Rattle.leaf_check.proofs.committed.read_committed.Goals as goal
 
 pub reading-init : goal.reading-init

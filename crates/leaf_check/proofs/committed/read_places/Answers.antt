@@ -1,5 +1,5 @@
+use Rattle.image_check.specs.KeptLaws.{kept_next, sure_of_area}
 use Rattle.leaf_check.proofs.CommittedLeaves.{no_more, places_end, places_next, places_start}
-use Rattle.leaf_check.proofs.Kept.{kept_next, sure_of_area}
 use Rattle.leaf_check.proofs.committed.read_places.Goals as goal
 
 pub reading-init : goal.reading-init

@@ -3,10 +3,10 @@ use Rattle.std.specs.List.{AllByRecursion}
 use Rattle.ubifs_base.specs.RawOf.{raw_of}
 use Rattle.index_tree.specs.declared.leaf.Leaf.{Leaf}
 use Rattle.sound_image.specs.Leaves.{HasItsNode, IsSoundLeaf}
+use Rattle.image_check.specs.KeptLaws.{kept_next, kept_start, sure_of_area}
 use Rattle.leaf_check.proofs.Checked.{ascend_of}
 use Rattle.leaf_check.proofs.CommittedLeaves.{all_behind, its_moved, no_more}
 use Rattle.leaf_check.proofs.Judged.{judged_moved, past_of}
-use Rattle.leaf_check.proofs.Kept.{kept_next, kept_start, sure_of_area}
 use Rattle.leaf_check.proofs.Overlaps.{last_more}
 use Rattle.leaf_check.proofs.Sweeps.{swept_end, swept_next, swept_past, swept_start}
 use Rattle.leaf_check.proofs.sweep.sweep.Goals as goal

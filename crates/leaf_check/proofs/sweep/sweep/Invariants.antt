@@ -3,7 +3,7 @@ use Rattle.std.specs.List.{AllByRecursion}
 use Rattle.ubifs_base.specs.RawOf.{raw_of}
 use Rattle.index_tree.specs.declared.leaf.Leaf.{Leaf}
 use Rattle.sound_image.specs.Leaves.{HasItsNode, IsSoundLeaf}
-use Rattle.leaf_check.proofs.Kept.{IsKept}
+use Rattle.image_check.specs.KeptLaws.{IsKept}
 use Rattle.leaf_check.proofs.Overlaps.{last_of}
 use Rattle.leaf_check.proofs.Sweeps.{SweptSoFar}
 use Rattle.leaf_check.proofs.sweep.sweep.Given as goal

@@ -7,9 +7,10 @@ use Rattle.media_lpt.specs.declared.lprop.Lprop.{Lprop}
 use Rattle.media_lpt.specs.declared.nnode.LptPlace.{LptPlace}
 use Rattle.std.specs.List.{All}
 use Rattle.media_lpt.specs.Nodes.{IsPlace}
+use Rattle.lpt_area.specs.KeptLaws.{kept_next, sure_of_area}
 use Rattle.lpt_area.specs.Only.{SameFor}
 use Rattle.lpt_area.specs.Tree.{IsBelow}
-use Rattle.lpt_area.proofs.Kept.{kept_next, area_sure, sure_of, still_geometry}
+use Rattle.lpt_area.proofs.Kept.{area_sure, still_geometry}
 use Rattle.lpt_area.proofs.ReadSoFar.{LevelsSoFar, levels_start, levels_next, levels_fail}
 use Rattle.lpt_area.proofs.reading.pnode_places.Goals as goal
 
@@ -66,7 +67,7 @@ loop-level-preserved g c =
     let P : List LptPlace → Type 0 = λ r. LevelsSoFar (raw_of c.args.geo.now) a now c.args.root c.loop-level.level r in
     levels_next (raw_of c.args.geo.now) a now new c.args.root c.loop-level.level _ c.deref.result.now c.in-Some.below.items _ _ (subst P (sym c.deref.ensures.value) before) (omega (arith, c.loop-level-test.true))
     (rw c.in-Some.is at c.in_ok-below.ensures.found) (rw c.in-Some.is at c.in_ok-below.ensures.places) c.row_len.ensures c.truncate.ensures.items
-    (kept_next a now new before.kept c.nnode_row.ensures.keeps c.nnode_row.ensures.shape c.in_ok-below.ensures.cause (sure_of now new c.nnode_row.result c.nnode_row.ensures.sure))
+    (kept_next a now new before.kept c.nnode_row.ensures.keeps c.nnode_row.ensures.shape c.in_ok-below.ensures.cause (sure_of_area now new c.nnode_row.result c.nnode_row.ensures.sure))
 
 pub returns-clause-found : goal.returns-clause-found
 returns-clause-found g c =

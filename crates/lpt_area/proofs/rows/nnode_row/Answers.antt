@@ -6,10 +6,10 @@ use Rattle.media_lpt.specs.declared.nnode.LptPlace.{LptPlace}
 use Rattle.media_lpt.specs.Nodes.{IsPlace}
 use Rattle.lpt_area.specs.Only.{IsOnly}
 use Rattle.lpt_area.specs.Tree.{Row, HasNnode, no_place}
-use Rattle.lpt_area.proofs.Kept.{kept_start, kept_next, sure_of_one, stays_sure}
 use Rattle.lpt_area.proofs.PlaceRows.{row_none}
 use Rattle.lpt_area.proofs.ReadSoFar.{read_next, read_fails}
 use Rattle.std.proofs.lemmas.List.Elements.{All-append}
+use Rattle.lpt_area.specs.KeptLaws.{kept_start, kept_next, sure_of_one, stays_sure}
 use Rattle.lpt_area.proofs.rows.nnode_row.Goals as goal
 
 pub loop-place-init : goal.loop-place-init

@@ -2,9 +2,10 @@ use Rattle.std.proofs.Common.{List, [], subst, sym, rules, length-take, length-a
 use Rattle.ubi_volume.specs.VolumeLaws.{Keeps-then}
 use Rattle.ubifs_base.specs.RawOf.{raw_of}
 use Rattle.media_lpt.specs.declared.lprop.Lprop.{Lprop}
+use Rattle.lpt_area.specs.KeptLaws.{kept_start, kept_next, sure_of_one, stays_sure}
 use Rattle.lpt_area.specs.Only.{IsOnly}
 use Rattle.lpt_area.specs.Tree.{Row, HasPnode, empty_leb}
-use Rattle.lpt_area.proofs.Kept.{kept_start, kept_next, sure_of_one, stays_sure, not_volume}
+use Rattle.lpt_area.proofs.Kept.{not_volume}
 use Rattle.lpt_area.proofs.PlaceRows.{row_none}
 use Rattle.lpt_area.proofs.ReadSoFar.{read_next, read_fails}
 use Rattle.lpt_area.proofs.rows.pnode_row.Goals as goal

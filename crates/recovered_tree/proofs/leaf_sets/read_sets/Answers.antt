@@ -1,7 +1,7 @@
 use Rattle.std.proofs.Common.{ℕ, List, subst}
 use Rattle.std.specs.Prelude.{take, drop}
+use Rattle.image_check.specs.KeptLaws.{kept_next, kept_start, sure_of_area}
 use Rattle.recovered_tree.specs.Sets.{IsShownIn}
-use Rattle.recovered_tree.proofs.Kept.{kept_next, kept_start, sure_of_area}
 use Rattle.recovered_tree.proofs.SetsSoFar.{read_all, read_next, read_starts}
 use Rattle.recovered_tree.proofs.leaf_sets.read_sets.Goals as goal
 

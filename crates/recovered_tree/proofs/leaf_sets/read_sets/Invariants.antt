@@ -2,7 +2,7 @@ use Rattle.std.proofs.Common.{◌≡◌, length, List, map}
 use Rattle.std.specs.List.{AllByRecursion}
 use Rattle.leaf_map.specs.Kept.{Kept}
 use Rattle.sound_image.specs.Tree.{ShowsItsNode}
-use Rattle.recovered_tree.proofs.Kept.{IsKept}
+use Rattle.image_check.specs.KeptLaws.{IsKept}
 use Rattle.recovered_tree.proofs.SetsSoFar.{ReadSoFar}
 use Rattle.recovered_tree.proofs.leaf_sets.read_sets.Given as goal
 

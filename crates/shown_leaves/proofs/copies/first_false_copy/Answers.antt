@@ -1,10 +1,10 @@
 use Rattle.std.proofs.Common.{◌≡◌, ◌∙◌, true, false, subst, ap, rules}
 use Rattle.std.specs.Prelude.{Some}
+use Rattle.image_check.specs.KeptLaws.{kept_next, kept_start, sure_of_area}
 use Rattle.image_check.specs.WrongValues.{sooner_of}
 use Rattle.image_check.specs.declared.wrong_value.WrongValue.{WrongValue}
 use Rattle.shown_leaves.specs.Copies.{DecidesCopy}
 use Rattle.shown_leaves.proofs.CopiedNodes.{copy_next, false_end, false_next, false_start, placed_kept, read_kept, right_end}
-use Rattle.shown_leaves.proofs.Kept.{kept_next, kept_start, sure_of_area}
 use Rattle.shown_leaves.proofs.Members.{no_left}
 use Rattle.shown_leaves.proofs.copies.first_false_copy.Goals as goal
 

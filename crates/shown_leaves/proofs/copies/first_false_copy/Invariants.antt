@@ -1,8 +1,8 @@
 use Rattle.std.proofs.Common.{length}
 use Rattle.leaf_map.specs.Parts.{Parts}
+use Rattle.image_check.specs.KeptLaws.{IsKept}
 use Rattle.shown_leaves.specs.Copies.{ArePartsTold}
 use Rattle.shown_leaves.proofs.CopiedNodes.{FalseSoFar}
-use Rattle.shown_leaves.proofs.Kept.{IsKept}
 use Rattle.shown_leaves.proofs.copies.first_false_copy.Given as goal
 
 -- the nodes so far, and the first of them that is no copy

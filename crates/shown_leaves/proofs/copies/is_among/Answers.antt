@@ -1,8 +1,8 @@
 use Rattle.std.proofs.Common.{◌∙◌, sym}
 use Rattle.std.proofs.lemmas.Bool.{false≢true}
+use Rattle.image_check.specs.KeptLaws.{kept_next, sure_of_area}
 use Rattle.shown_leaves.specs.Stored.{leaf_node}
 use Rattle.shown_leaves.proofs.CopiedNodes.{found_kept, left_found, left_next, left_none}
-use Rattle.shown_leaves.proofs.Kept.{kept_next, sure_of_area}
 use Rattle.shown_leaves.proofs.Members.{no_left}
 use Rattle.shown_leaves.proofs.copies.is_among.Goals as goal
 

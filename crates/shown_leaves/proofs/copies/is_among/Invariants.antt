@@ -1,9 +1,9 @@
 use Rattle.std.proofs.Common.{length, List}
 use Rattle.leaf_map.specs.Parts.{Committed, Named}
+use Rattle.image_check.specs.KeptLaws.{IsKept}
 use Rattle.shown_leaves.specs.Copies.{AreCommittedTold}
 use Rattle.shown_leaves.specs.Stored.{leaf_node}
 use Rattle.shown_leaves.proofs.CopiedNodes.{OwnLeft}
-use Rattle.shown_leaves.proofs.Kept.{IsKept}
 use Rattle.shown_leaves.proofs.copies.is_among.Given as goal
 
 -- the node is the own node of none of the leaves so far

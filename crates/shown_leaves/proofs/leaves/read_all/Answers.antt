@@ -1,6 +1,6 @@
 use Rattle.std.proofs.Common.{sym, ◌∙◌}
+use Rattle.image_check.specs.KeptLaws.{kept_next, sure_of_area}
 use Rattle.shown_leaves.proofs.JudgedLeaves.{all_right, all_told, judged_moved, sourced_moved, told_next}
-use Rattle.shown_leaves.proofs.Kept.{kept_next, sure_of_area}
 use Rattle.shown_leaves.proofs.Members.{no_left}
 use Rattle.shown_leaves.proofs.leaves.read_all.Goals as goal
 

@@ -1,8 +1,8 @@
 use Rattle.std.proofs.Common.{◌≡◌, length, List}
 use Rattle.leaf_map.specs.Kept.{Kept}
+use Rattle.image_check.specs.KeptLaws.{IsKept}
 use Rattle.shown_leaves.specs.Sources.{AreSourced}
 use Rattle.shown_leaves.proofs.JudgedLeaves.{ToldSoFar}
-use Rattle.shown_leaves.proofs.Kept.{IsKept}
 use Rattle.shown_leaves.proofs.leaves.read_all.Given as goal
 
 -- the leaves so far

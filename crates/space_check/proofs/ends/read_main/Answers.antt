@@ -2,8 +2,8 @@ use Rattle.std.proofs.Common.{ℕ, ◌+◌, false, arith, ap, ◌∙◌}
 use Rattle.ubifs_base.specs.RawOf.{raw_of}
 use Rattle.ubi_volume.specs.VolumeLaws.{Keeps-then}
 use Rattle.media_lpt.specs.declared.lprop.Lprop.{Lprop}
+use Rattle.image_check.specs.KeptLaws.{kept_next, sure_of_one}
 use Rattle.space_check.proofs.FreeEnds.{broken_here, ends_met, met_here}
-use Rattle.space_check.proofs.Kept.{kept_next, sure_of_one}
 use Rattle.space_check.proofs.ends.read_main.Goals as goal
 
 pub returns-in-Some-clause-broken : goal.returns-in-Some-clause-broken

@@ -4,6 +4,7 @@ use Rattle.ubifs_base.specs.GeometryLaws.{min_io-mod}
 use Rattle.ubifs_base.specs.RawOf.{raw_of}
 use Rattle.media_sys.specs.SystemNode.{reference}
 use Rattle.bud_log.specs.Buds.{named}
+use Rattle.bud_log.specs.KeepsOnLaws.{on_ok}
 use Rattle.bud_log.specs.Log.{IsLogLeb, next_leb}
 use Rattle.bud_log.specs.LogAnswers.{StartsWith}
 use Rattle.bud_log.specs.LogAt.{LogAt, room_of, lnum_at, offs_at}
@@ -11,7 +12,6 @@ use Rattle.bud_log.specs.LogCalls.{IsAdded, AddDuring}
 use Rattle.bud_log.specs.LogText.{IsNoLoneStart}
 use Rattle.bud_log.specs.Writing.{IsReady}
 use Rattle.bud_log.specs.declared.head_at.HeadAt.{HeadAt}
-use Rattle.bud_log.proofs.Calls.{on_ok}
 use Rattle.bud_log.proofs.Opened.{added_ready}
 use Rattle.bud_log.proofs.Sections.{added_section}
 use Rattle.bud_log.proofs.Spelled.{mod_through, fits_leb, fits_there}

@@ -6,6 +6,7 @@ use Rattle.media_sys.specs.SystemNode.{commit_start}
 use Rattle.media_sys.specs.declared.commit_start.CommitStart.{CommitStart}
 use Rattle.media_sys.specs.declared.ref_node.RefNode.{RefNode}
 use Rattle.bud_log.specs.Buds.{named, buds_of}
+use Rattle.bud_log.specs.KeepsOnLaws.{on_ok}
 use Rattle.bud_log.specs.Log.{IsLogLeb, next_leb}
 use Rattle.bud_log.specs.LogAt.{LogAt, room_of, references_to, head_nodes, section_nodes}
 use Rattle.bud_log.specs.LogText.{StartsCommit}
@@ -13,7 +14,6 @@ use Rattle.bud_log.specs.LogAnswers.{StartsWith}
 use Rattle.bud_log.specs.LogCalls.{IsAdded, AddDuring}
 use Rattle.bud_log.specs.Writing.{AreOthersOlder, IsReady}
 use Rattle.bud_log.specs.declared.head_at.HeadAt.{HeadAt}
-use Rattle.bud_log.proofs.Calls.{on_ok}
 use Rattle.bud_log.proofs.Opened.{added_ready, begun_laid}
 use Rattle.bud_log.proofs.ReadyAgain.{ready_section, starts_commit, starts_with}
 use Rattle.bud_log.proofs.Spelled.{references_same, mod_through, fits_leb}

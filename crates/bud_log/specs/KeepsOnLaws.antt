@@ -1,8 +1,8 @@
 -- Calls that keep all, one after another.
-use Rattle.std.proofs.Common.{◌≡◌, ◌⊎◌, inl, inr, ◌≤◌, Result, Ok, Err, refl, ◌∙◌, arith}
+use Rattle.std.proofs.Common.{◌≡◌, ◌⊎◌, inl, inr, ◌≤◌, Result, Ok, Err, ◌∙◌, arith}
 use Rattle.std.specs.Prelude.{OnOk}
 use Rattle.ubi_volume.specs.Volume.{VolumeState, Keeps, SameShape}
-use Rattle.ubi_volume.specs.VolumeLaws.{Keeps-none, Keeps-then, SameShape-then}
+use Rattle.ubi_volume.specs.VolumeLaws.{Keeps-then, SameShape-then}
 
 -- what calls that succeeded kept
 pub record KeepsOn (old now : VolumeState) : Type 0 where
@@ -10,9 +10,6 @@ pub record KeepsOn (old now : VolumeState) : Type 0 where
   pub shape : SameShape old now
   pub count : old.faults ≤ now.faults
   pub sure : old.sure → now.spent ⊎ (now.sure × (now.faults ≡ old.faults))
-
-pub keeps_on_none : (a : VolumeState) → KeepsOn a a
-keeps_on_none a = record { keeps = Keeps-none a; shape = record { leb_size = refl; min_io = refl; leb_cnt = refl }; count = omega arith; sure = λ s. inr (s, refl) }
 
 pub on_ok : {T E : Type 0} (r : Result T E) (A B : Type 0) → (A → B) → OnOk r A → OnOk r B
 on_ok (Ok x) A B f h = f h

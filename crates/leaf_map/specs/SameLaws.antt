@@ -10,7 +10,8 @@ use Rattle.fs_model.specs.Proper.{ascends, IsInOrder}
 use Rattle.fs_laws.specs.Maps.{IsOrder, apart, key_cases, missing_before, missing_first, tail_ascends}
 use Rattle.fs_laws.specs.Orders.{named, numbers, pairs}
 
-same_maps : {K X : Type 0} (cmp : K → K → Ordering) → IsOrder cmp → (a b : List (K × X)) → ascends cmp (keys_of a) ≡ true → ascends cmp (keys_of b) ≡ true → ((k : K) → lookup (is_at (cmp k)) a ≡ lookup (is_at (cmp k)) b) → a ≡ b
+-- maps in order in which the same is found are one
+pub same_maps : {K X : Type 0} (cmp : K → K → Ordering) → IsOrder cmp → (a b : List (K × X)) → ascends cmp (keys_of a) ≡ true → ascends cmp (keys_of b) ≡ true → ((k : K) → lookup (is_at (cmp k)) a ≡ lookup (is_at (cmp k)) b) → a ≡ b
 same_maps cmp order [] [] h i each = refl
 same_maps cmp order [] (e ∷ b) h i each = let f = each e.0 in let g = rw (order.same e.0) at f in absurd cc
 same_maps cmp order (d ∷ a) [] h i each = let f = each d.0 in let g = rw (order.same d.0) at f in absurd cc

@@ -33,3 +33,18 @@ front_or_end x y (z ∷ xs) h = elim (first_or_behind x z (xs ++ y ∷ []) h) [
   | inl e ↦ inl (one_first x z xs e)
   | inr more ↦ elim (front_or_end x y xs more) [ inl here ↦ inl (one_behind x z xs here) | inr e ↦ inr e ]
 ]
+
+-- an element of one list, or of the other behind it
+pub front_of_two : {X : Type 0} (x : X) (a b : List X) → IsOneOf x a → IsOneOf x (a ++ b)
+front_of_two x a b (before, behind, e) = (before, behind ++ b, ap (λ zs. zs ++ b) e ∙ append_assoc before (x ∷ behind) b)
+
+pub back_of_two : {X : Type 0} (x : X) (a b : List X) → IsOneOf x b → IsOneOf x (a ++ b)
+back_of_two x [] b h = h
+back_of_two x (y ∷ a) b h = one_behind x y (a ++ b) (back_of_two x a b h)
+
+pub one_of_two : {X : Type 0} (x : X) (a b : List X) → IsOneOf x (a ++ b) → IsOneOf x a ⊎ IsOneOf x b
+one_of_two x [] b h = inr h
+one_of_two x (y ∷ a) b h = elim (first_or_behind x y (a ++ b) h) [
+  | inl e ↦ inl (one_first x y a e)
+  | inr more ↦ elim (one_of_two x a b more) [ inl here ↦ inl (one_behind x y a here) | inr there ↦ inr there ]
+]

@@ -3,7 +3,8 @@ use Rattle.std.proofs.Common.{◌≡◌, ◌⊎◌, ◌≤◌, ◌∙◌, inl, i
 use Rattle.std.specs.Prelude.{Result}
 use Rattle.ubi_volume.specs.Volume.{VolumeState, Keeps, SameShape}
 use Rattle.ubi_volume.specs.VolumeLaws.{Keeps-then, SameShape-then, Keeps-none}
-use Rattle.ubi_volume.specs.Faults.{StaysSure}
+use Rattle.ubi_volume.specs.Faults.{StaysSure, StaysSureArea}
+use Rattle.ubi_volume.specs.declared.fault.AreaFault.{AreaFault}
 use Rattle.ubi_volume.specs.declared.fault.VolFault.{VolFault}
 
 -- a volume as it was, but for its count of faults
@@ -22,6 +23,9 @@ stays_sure old now new before spent step sure = elim (before sure) [
   | inl gone ↦ inl (spent gone)
   | inr still ↦ elim (step still.0) [ inl gone ↦ inl gone | inr fine ↦ inr (fine.0, fine.1 ∙ still.1) ]
 ]
+
+pub sure_of_area : {T : Type 0} (old new : VolumeState) (r : Result T AreaFault) → StaysSureArea old new r → old.sure → new.spent ⊎ (new.sure × (new.faults ≡ old.faults))
+sure_of_area old new r stays sure = elim (stays sure) [ inl gone ↦ inl gone | inr fine ↦ inr (fine.0, fine.1.0) ]
 
 pub sure_of_one : {T : Type 0} (old new : VolumeState) (r : Result T VolFault) → StaysSure old new r → old.sure → new.spent ⊎ (new.sure × (new.faults ≡ old.faults))
 sure_of_one old new r stays sure = elim (stays sure) [ inl gone ↦ inl gone | inr fine ↦ inr (fine.0, fine.1.0) ]
