@@ -1,13 +1,13 @@
 -- What is shown at one place of the order: the same inode or block, or names of one hash.
-use Rattle.std.proofs.Common.{◌≡◌, ◌⊎◌, ℕ, ◌+◌, ◌^◌, ◌<◌, ◌%◌, Bool, true, false, cond, not, List, [], ◌∷◌, refl, sym, subst, ◌∙◌, arith, inl, inr, Option, Some, None}
-use Rattle.std.specs.Prelude.{◌==◌, nat_le}
+use Rattle.std.proofs.Common.{◌≡◌, ◌⊎◌, Bool, true, false, not, List, [], ◌∷◌, refl, sym, subst, ◌∙◌, arith, inl, inr, Option, Some, None}
+use Rattle.std.specs.Prelude.{◌==◌}
 use Rattle.std.specs.List.{AllByRecursion, list_all}
-use Rattle.std.proofs.lemmas.Bool.{false≢true, and_parts, and_from, eq-eqb, leb-true}
-use Rattle.ubifs_base.specs.R5.{r5_of, r5_from}
+use Rattle.std.proofs.lemmas.Bool.{false≢true, and_parts, and_from, eq-eqb}
 use Rattle.media_leaf.specs.LeafNode.{LeafNode}
 use Rattle.index_tree.specs.declared.leaf.Leaf.{Leaf}
 use Rattle.fs_model.specs.declared.change.Change.{Change}
 use Rattle.fs_model.specs.declared.change.Change.TheVariants.{SetInode, SetEntry, SetBlock}
+use Rattle.change_nodes.specs.FitLaws.{r5_small}
 use Rattle.leaf_map.specs.After.{is_set}
 use Rattle.leaf_map.specs.Allowed.{IsNodeOf}
 use Rattle.leaf_map.specs.Kept.{Kept, shown, shown_by}
@@ -20,17 +20,6 @@ use Rattle.leaf_map.proofs.Ranks.{rank_shown, same_rank}
 abbrev pub is_entry : Option Change → Bool
 is_entry (Some (SetEntry e)) = true
 is_entry s = false
-
-pub r5_small : (name : List ℕ) → r5_of name < 2 ^ 29
-unfolding r5_of
-r5_small name = by (r5_from 0 name % 2 ^ 29) (omega arith)
-  where
-    by : (m : ℕ) → m < 2 ^ 29 → cond (nat_le m 2) (m + 3) m < 2 ^ 29
-    by m h = test (nat_le m 2) refl
-      where
-        test : (b : Bool) → nat_le m 2 ≡ b → cond b (m + 3) m < 2 ^ 29
-        test true e = let l = leb-true m 2 e in omega (arith, l)
-        test false e = h
 
 -- at one place stands the same, or names do
 pub same_thing : (l m : Leaf) (s t : Option Change) → HasKeyOf l s → HasKeyOf m t → rank_shown s ≡ rank_shown t → (shows_same s t ≡ true) ⊎ ((is_entry s ≡ true) × (is_entry t ≡ true))

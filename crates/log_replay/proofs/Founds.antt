@@ -14,6 +14,7 @@ use Rattle.index_tree.specs.Keyed.{HasKey, HaveKeys}
 use Rattle.index_tree.specs.Order.{key_rank, leaf_rank}
 use Rattle.fs_model.specs.declared.change.Change.{Change}
 use Rattle.fs_model.specs.declared.change.Change.TheVariants.{SetInode, SetEntry, SetBlock}
+use Rattle.change_nodes.specs.FitLaws.{r5_small}
 use Rattle.leaf_map.specs.Kept.{Kept, Placed, kept_at, shown_by}
 use Rattle.leaf_map.specs.LeafMap.{HasKeyOf, IsKeyed}
 use Rattle.leaf_map.specs.Parts.{Committed, Parts, own_node}
@@ -21,7 +22,6 @@ use Rattle.leaf_map.specs.Recovered.{copies_left, copy_of_key, found_leaves, lea
 use Rattle.log_replay.specs.Placing.{LeafFound, IsFoundWell, IsSound, is_key, pair_found, pair_told, present}
 use Rattle.log_replay.specs.Settling.{kept_of, read_as, settled_at, settled_of, settled_one}
 use Rattle.log_replay.specs.Told.{told_leaf}
-use Rattle.log_replay.proofs.Hashes.{r5_small}
 use Rattle.log_replay.proofs.Ranked.{found_rank}
 use Rattle.log_replay.proofs.Things.{rank_is, rank_shown}
 

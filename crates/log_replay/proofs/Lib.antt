@@ -5,7 +5,6 @@ mod Finding
 mod First
 mod Founds
 mod FromLast
-mod Hashes
 mod InOrder
 mod Maps
 mod Moved

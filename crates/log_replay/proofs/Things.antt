@@ -7,9 +7,9 @@ use Rattle.index_tree.specs.declared.leaf.Leaf.{Leaf}
 use Rattle.index_tree.specs.Order.{key_rank, leaf_rank}
 use Rattle.fs_model.specs.declared.change.Change.{Change}
 use Rattle.fs_model.specs.declared.change.Change.TheVariants.{SetInode, SetEntry, SetBlock}
+use Rattle.change_nodes.specs.FitLaws.{r5_small}
 use Rattle.leaf_map.specs.LeafMap.{HasKeyOf, shows_same}
 use Rattle.log_replay.specs.Standing.{is_entry}
-use Rattle.log_replay.proofs.Hashes.{r5_small}
 
 -- the place of what is shown
 abbrev pub rank_shown : Option Change → ℕ

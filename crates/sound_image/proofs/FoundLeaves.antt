@@ -1,12 +1,12 @@
 -- The leaves that are found are those of an index, where no two show the same.
-use Rattle.std.proofs.Common.{◌≡◌, ℕ, ◌+◌, ◌*◌, ◌^◌, ◌<◌, ◌≤◌, ◌%◌, nat_le, Bool, true, false, cond, not, List, [], ◌∷◌, ◌++◌, map, filter, Option, Some, None, refl, ap, sym, ◌∙◌, subst, arith}
+use Rattle.std.proofs.Common.{◌≡◌, ℕ, ◌+◌, ◌*◌, ◌^◌, ◌≤◌, nat_le, Bool, true, false, cond, not, List, [], ◌∷◌, ◌++◌, map, filter, Option, Some, None, refl, ap, sym, ◌∙◌, subst, arith}
 use Rattle.std.specs.Prelude.{◌==◌, ◌&&◌, if◌then◌else◌}
 use Rattle.std.specs.List.{AllByRecursion, find, list_any}
 use Rattle.std.specs.Option.{option_map}
 use Rattle.std.proofs.lemmas.Bool.{eqb-true, le-leb, leb-true}
 use Rattle.std.proofs.lemmas.List.Elements.{recursion_from_All}
 use Rattle.ubifs_base.specs.Key.{IsKey, key_words}
-use Rattle.ubifs_base.specs.R5.{r5_from, r5_of}
+use Rattle.ubifs_base.specs.R5.{r5_of}
 use Rattle.ubifs_base.specs.declared.key.Key.{Key}
 use Rattle.ubifs_base.specs.declared.key.Key.TheVariants.{Ino, Block, Dent, Xent}
 use Rattle.media_leaf.specs.LeafNode.{IsLeaf, LeafNode, inode, block, entry, truncation}
@@ -17,6 +17,7 @@ use Rattle.index_tree.specs.declared.leaf.Leaf.{Leaf}
 use Rattle.fs_model.specs.declared.change.Change.{Change}
 use Rattle.fs_model.specs.declared.change.Change.TheVariants.{SetBlock, SetEntry, SetInode, DropEntry}
 use Rattle.fs_model.specs.declared.inode.Kind.{Kind}
+use Rattle.change_nodes.specs.FitLaws.{r5_small}
 use Rattle.change_nodes.specs.Nodes.{bits_of, gone_inode, inode_node, inode_of, kind_of_bits, kind_of_type}
 use Rattle.leaf_map.specs.Kept.{Kept, Placed, kept_at, node_key, shown}
 use Rattle.leaf_map.specs.LeafMap.{HasKeyOf, IsKeyed, IsLeafMap, are_apart, shows_same}
@@ -25,18 +26,6 @@ use Rattle.leaf_map.specs.Recovered.{copies_left, copy_of_key, found_leaves, is_
 use Rattle.log_replay.specs.Settling.{HasGrammar}
 use Rattle.log_replay.specs.Told.{IsSetting}
 use Rattle.sound_image.proofs.Lists.{two_true}
-
--- ---- what is shown, and its place in the order
-r5_small : (name : List ℕ) → r5_of name < 2 ^ 29
-unfolding r5_of
-r5_small name = by (r5_from 0 name % 2 ^ 29) (omega arith)
-  where
-    by : (m : ℕ) → m < 2 ^ 29 → cond (nat_le m 2) (m + 3) m < 2 ^ 29
-    by m h = test (nat_le m 2) refl
-      where
-        test : (b : Bool) → nat_le m 2 ≡ b → cond b (m + 3) m < 2 ^ 29
-        test true e = let l = leb-true m 2 e in omega (arith, l)
-        test false e = h
 
 abbrev rank_shown : Option Change → ℕ
 rank_shown (Some (SetInode ino it)) = ino * 2 ^ 33
