@@ -15,8 +15,9 @@ use Rattle.leaf_map.specs.After.{goes, is_gone}
 use Rattle.leaf_map.specs.Follows.{block_key_from, last_block_key}
 use Rattle.leaf_map.specs.Kept.{Kept, shown_by}
 use Rattle.leaf_map.specs.LeafMap.{HasKeyOf, IsKeyed}
+use Rattle.leaf_map.specs.RankLaws.{rank_is}
 use Rattle.leaf_map.specs.Recovered.{is_unlinked, without_orphan}
-use Rattle.leaf_map.proofs.Ranks.{leaves, rank_is}
+use Rattle.leaf_map.proofs.Ranks.{leaves}
 
 inside : (from to : ℕ) (x : Leaf) (r : ℕ) → leaf_rank x ≡ r → from ≤ r → r ≤ to → in_range from to x ≡ true
 inside from to x r e l m = rw (e, le-leb from r l, le-leb r to m) refl

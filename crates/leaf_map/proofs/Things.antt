@@ -1,44 +1,19 @@
 -- What is shown at one place of the order: the same inode or block, or names of one hash.
-use Rattle.std.proofs.Common.{◌≡◌, ◌⊎◌, Bool, true, false, not, List, [], ◌∷◌, refl, sym, subst, ◌∙◌, arith, inl, inr, Option, Some, None}
-use Rattle.std.specs.Prelude.{◌==◌}
+use Rattle.std.proofs.Common.{◌≡◌, Bool, true, false, not, List, [], ◌∷◌, refl, sym, subst, ◌∙◌, inl, inr, Option, Some, None}
 use Rattle.std.specs.List.{AllByRecursion, list_all}
-use Rattle.std.proofs.lemmas.Bool.{false≢true, and_parts, and_from, eq-eqb}
+use Rattle.std.proofs.lemmas.Bool.{false≢true, and_parts}
 use Rattle.media_leaf.specs.LeafNode.{LeafNode}
 use Rattle.index_tree.specs.declared.leaf.Leaf.{Leaf}
 use Rattle.fs_model.specs.declared.change.Change.{Change}
 use Rattle.fs_model.specs.declared.change.Change.TheVariants.{SetInode, SetEntry, SetBlock}
-use Rattle.change_nodes.specs.FitLaws.{r5_small}
 use Rattle.leaf_map.specs.After.{is_set}
 use Rattle.leaf_map.specs.Allowed.{IsNodeOf}
 use Rattle.leaf_map.specs.Kept.{Kept, shown, shown_by}
 use Rattle.leaf_map.specs.LeafMap.{HasKeyOf, IsKeyed, are_apart, shows_same}
 use Rattle.leaf_map.specs.Parts.{is_shown}
+use Rattle.leaf_map.specs.RankLaws.{rank_shown, is_entry}
 use Rattle.leaf_map.proofs.Apart.{through, turned}
-use Rattle.leaf_map.proofs.Ranks.{rank_shown, same_rank}
-
--- whether a name is shown
-abbrev pub is_entry : Option Change → Bool
-is_entry (Some (SetEntry e)) = true
-is_entry s = false
-
--- at one place stands the same, or names do
-pub same_thing : (l m : Leaf) (s t : Option Change) → HasKeyOf l s → HasKeyOf m t → rank_shown s ≡ rank_shown t → (shows_same s t ≡ true) ⊎ ((is_entry s ≡ true) × (is_entry t ≡ true))
-same_thing l m (Some (SetInode a x)) (Some (SetInode b y)) h g r = inl (eq-eqb b a (omega (arith, r)))
-same_thing l m (Some (SetInode a x)) (Some (SetBlock b n y)) h g r = let small = g.1 in absurd (omega (arith, r, small))
-same_thing l m (Some (SetInode a x)) (Some (SetEntry e)) h g r = let small = r5_small e.name in absurd (omega (arith, r, small))
-same_thing l m (Some (SetBlock a n x)) (Some (SetInode b y)) h g r = let small = h.1 in absurd (omega (arith, r, small))
-same_thing l m (Some (SetBlock a n x)) (Some (SetBlock b k y)) h g r =
-    let p = h.1 in
-    let q = g.1 in
-    inl (and_from (b == a) (k == n) (eq-eqb b a (omega (arith, r, p, q))) (eq-eqb k n (omega (arith, r, p, q))))
-same_thing l m (Some (SetBlock a n x)) (Some (SetEntry e)) h g r = let p = h.1 in let small = r5_small e.name in absurd (omega (arith, r, p, small))
-same_thing l m (Some (SetEntry e)) (Some (SetInode b y)) h g r = let small = r5_small e.name in absurd (omega (arith, r, small))
-same_thing l m (Some (SetEntry e)) (Some (SetBlock b n y)) h g r = let q = g.1 in let small = r5_small e.name in absurd (omega (arith, r, q, small))
-same_thing l m (Some (SetEntry e)) (Some (SetEntry f)) h g r = inr (refl, refl)
-same_thing l m (Some (SetInode a x)) t h g r = absurd g
-same_thing l m (Some (SetBlock a n x)) t h g r = absurd g
-same_thing l m (Some (SetEntry e)) t h g r = absurd g
-same_thing l m s t h g r = absurd h
+use Rattle.leaf_map.proofs.Ranks.{same_rank}
 
 -- what is set
 pub shown_set : (s : Option Change) → is_shown s ≡ true → (c : Change) → s ≡ Some c → is_set c ≡ true

@@ -17,11 +17,11 @@ use Rattle.leaf_map.specs.After.{goes, is_inode}
 use Rattle.leaf_map.specs.Follows.{block_key_from, last_block_key}
 use Rattle.leaf_map.specs.Kept.{Kept}
 use Rattle.leaf_map.specs.LeafMap.{HasKeyOf, IsKeyed}
+use Rattle.leaf_map.specs.RankLaws.{rank_is}
 use Rattle.log_replay.specs.Changes.{IsOfKey, first_of}
 use Rattle.log_replay.specs.Standing.{is_name, leaves}
 use Rattle.log_replay.proofs.Maps.{place}
 use Rattle.log_replay.proofs.Tests.{name_is}
-use Rattle.log_replay.proofs.Things.{rank_is}
 
 unequal : (a b : ℕ) → (a ≡ b → ⊥) → (a == b) ≡ false
 unequal a b h = by (a == b) refl

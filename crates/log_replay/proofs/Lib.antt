@@ -24,5 +24,4 @@ mod Staying
 mod Swaps
 mod Telling
 mod Tests
-mod Things
 mod Places
