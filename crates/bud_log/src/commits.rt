@@ -13,7 +13,7 @@ use ubifs_base::NodeType;
 
 /// The number of the commit with whose start a LEB begins, which begins with this node; none if it begins with no commit
 /// start.
-pub(crate) fn commit_of(alloc: Global, leb: &[u8], begins: Option<Found>) -> Option<u64>
+pub fn commit_of(alloc: Global, leb: &[u8], begins: Option<Found>) -> Option<u64>
     requires { HasBeginning leb.now begins }
     ensures { BeginsCommit leb.now begins result }
 {

@@ -29,6 +29,7 @@ mod reading;
 mod ring;
 mod seen;
 
+pub use crate::commits::commit_of;
 pub use crate::head_at::HeadAt;
 pub use crate::laws::one_log;
 pub use crate::log::Log;

@@ -1,15 +1,15 @@
 -- The leaves of nodes that stand have keys, and those of live nodes are in the order that nodes of an index ask for.
-use Rattle.std.proofs.Common.{◌≡◌, ℕ, ◌+◌, ◌*◌, ◌^◌, ◌%◌, ◌<◌, ◌≤◌, Bool, true, false, cond, not, ◌&&◌, List, [], ◌∷◌, length, map, refl, sym, ap, ◌∙◌, arith, inl, inr, Option, Some, None}
-use Rattle.std.specs.Prelude.{◌==◌, ◌||◌, if◌then◌else◌, nat_le, nat_lt}
+use Rattle.std.proofs.Common.{◌≡◌, ℕ, ◌+◌, ◌*◌, ◌^◌, ◌<◌, ◌≤◌, Bool, true, false, cond, not, ◌&&◌, List, [], ◌∷◌, length, map, refl, sym, ap, ◌∙◌, arith, Option, Some, None}
+use Rattle.std.specs.Prelude.{◌==◌, ◌||◌, nat_le, nat_lt}
 use Rattle.std.specs.List.{AllByRecursion, flat_map, list_all}
-use Rattle.std.proofs.lemmas.Bool.{and_from, and_parts, cases_Bool, eqb-false, eqb-true, false≢true, leb-true}
+use Rattle.std.proofs.lemmas.Bool.{and_from, and_parts, eqb-false, eqb-true, false≢true, leb-true}
 use Rattle.std.proofs.lemmas.Bool.Decides.{nat_tests}
 use Rattle.std.proofs.lemmas.List.{length-map}
 use Rattle.std.proofs.lemmas.List.Elements.{All-from_recursion}
 use Rattle.ubifs_base.specs.declared.key.Key.{Key}
 use Rattle.ubifs_base.specs.declared.key.Key.TheVariants.{Ino, Block, Dent, Xent}
 use Rattle.ubifs_base.specs.Key.{IsKey, key_words}
-use Rattle.ubifs_base.specs.R5.{r5_of, r5_from}
+use Rattle.ubifs_base.specs.R5.{r5_of}
 use Rattle.node_fields.specs.Fields.{Spells}
 use Rattle.media_leaf.specs.declared.dent_node.DentNode.{DentNode}
 use Rattle.media_leaf.specs.LeafNode.{LeafNode, inode, block, entry, truncation, IsLeafNode}
@@ -24,6 +24,7 @@ use Rattle.fs_model.specs.declared.inode.Inode.{Inode}
 use Rattle.fs_model.specs.declared.inode.Kind.TheVariants.{Dir}
 use Rattle.fs_model.specs.Files.{Inodes, Tree}
 use Rattle.fs_model.specs.Proper.{IsProper, has_kind}
+use Rattle.change_nodes.specs.FitLaws.{r5_small}
 use Rattle.leaf_map.specs.Kept.{Kept, Placed, kept_at, node_key, shown, shown_by}
 use Rattle.leaf_map.specs.LeafMap.{HasKeyOf, IsKeyed, IsLeafMap, are_apart, shows_same}
 use Rattle.image_maker.specs.Leaves.{leaves_of, live_leaves}
@@ -32,16 +33,6 @@ use Rattle.laid_image.specs.Laid.{leaf_of}
 use Rattle.tree_nodes.specs.Stored.{AreNodesOf}
 
 -- ---- keys
-above_two : (masked : ℕ) → masked < 2 ^ 29 → (if nat_le masked 2 then masked + 3 else masked) < 2 ^ 29
-above_two masked h = elim (cases_Bool (nat_le masked 2)) [
-  | inl e ↦ rw e (let few = leb-true masked 2 e in omega (arith, few))
-  | inr e ↦ rw e h
-]
-
-r5_small : (name : List ℕ) → r5_of name < 2 ^ 29
-unfolding r5_of
-r5_small name = above_two (r5_from 0 name % 2 ^ 29) (omega arith)
-
 entry_is : (node : DentNode) (attribute : Bool) → (key_words (cond attribute (Xent node.dir (r5_of node.name)) (Dent node.dir (r5_of node.name)))).0 < 256 ^ 4
     → IsKey (cond attribute (Xent node.dir (r5_of node.name)) (Dent node.dir (r5_of node.name)))
 entry_is node true s = (omega (arith, s), r5_small node.name)

@@ -11,8 +11,9 @@ use Rattle.fs_laws.specs.Maps.{all_filter, all_weaken}
 use Rattle.leaf_map.specs.After.{goes, is_gone, is_set, put_leaf}
 use Rattle.leaf_map.specs.Kept.{Kept, shown_by}
 use Rattle.leaf_map.specs.LeafMap.{HasKeyOf, IsKeyed, IsLeafMap, are_apart, shows_same}
+use Rattle.leaf_map.specs.RankLaws.{rank_is, rank_shown}
 use Rattle.leaf_map.proofs.Names.{is_name}
-use Rattle.leaf_map.proofs.Ranks.{rank_is, rank_shown, same_rank, leaves, are_from, name_is, ordered_all}
+use Rattle.leaf_map.proofs.Ranks.{same_rank, leaves, are_from, name_is, ordered_all}
 
 number_turned : (a b : ℕ) → (a == b) ≡ true → (b == a) ≡ true
 number_turned a b h = eq-eqb b a (sym (eqb-true a b h))

@@ -16,9 +16,10 @@ use Rattle.fs_laws.specs.Orders.{pairs}
 use Rattle.leaf_map.specs.After.{goes, is_gone, put_leaf}
 use Rattle.leaf_map.specs.Kept.{Kept, shown_by}
 use Rattle.leaf_map.specs.LeafMap.{HasKeyOf, IsKeyed}
+use Rattle.leaf_map.specs.RankLaws.{rank_is, rank_shown}
 use Rattle.leaf_map.specs.Shown.{blocks_of, with_block}
 use Rattle.leaf_map.proofs.Maps.{insert_front, less_is, equal_is, reversed}
-use Rattle.leaf_map.proofs.Ranks.{rank_is, rank_shown, leaves, are_from, ordered_all}
+use Rattle.leaf_map.proofs.Ranks.{leaves, are_from, ordered_all}
 use Rattle.leaf_map.proofs.Steps.{Reads, put_here, put_past, put_before}
 
 pub read_blocks : Reads with_block blocks_of

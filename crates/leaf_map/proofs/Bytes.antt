@@ -9,8 +9,9 @@ use Rattle.fs_model.specs.declared.change.Change.{Change}
 use Rattle.leaf_map.specs.After.{come_by, gone_by, is_gone, is_idle, is_set, kept_by, put_leaf, used_by}
 use Rattle.leaf_map.specs.Kept.{Kept, kept_bytes, shown_by}
 use Rattle.leaf_map.specs.LeafMap.{IsKeyed, IsLeafMap, are_apart, shows_same}
+use Rattle.leaf_map.specs.RankLaws.{rank_shown}
 use Rattle.leaf_map.proofs.Apart.{none_above, none_after}
-use Rattle.leaf_map.proofs.Ranks.{leaves, ordered_all, rank_shown}
+use Rattle.leaf_map.proofs.Ranks.{leaves, ordered_all}
 
 -- where none passes there is none
 none_passes : (test : Kept → Bool) (kept : List Kept) → list_all (λ y. not (test y)) kept ≡ true → filter test kept ≡ []

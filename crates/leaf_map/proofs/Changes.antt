@@ -15,13 +15,13 @@ use Rattle.leaf_map.specs.After.{Carries, goes, has_inode, is_gone, is_idle, is_
 use Rattle.leaf_map.specs.Kept.{Kept, Placed, kept_at, shown, shown_by}
 use Rattle.leaf_map.specs.KeyedLaws.{node_keyed, read_carried}
 use Rattle.leaf_map.specs.LeafMap.{HasKeyOf, IsLeafMap}
+use Rattle.leaf_map.specs.RankLaws.{rank_is, rank_shown}
 use Rattle.leaf_map.specs.Shown.{blocks_of, entries_of, inodes_of, tree_of, with_block, with_entry, with_inode}
 use Rattle.leaf_map.proofs.Apart.{filter_map, put_map}
 use Rattle.leaf_map.proofs.Blocks.{cut_leaves, drop_blocks, put_blocks, read_blocks}
 use Rattle.leaf_map.proofs.Drops.{drop_inodes}
 use Rattle.leaf_map.proofs.Inodes.{has_is, put_inodes, read_inodes}
 use Rattle.leaf_map.proofs.Names.{drop_entries, put_entries, read_entries}
-use Rattle.leaf_map.proofs.Ranks.{rank_is, rank_shown}
 use Rattle.leaf_map.proofs.Steps.{drop_leaves, put_leaves}
 
 abbrev pub tree : Inodes → Blocks → Entries → ℕ → Tree

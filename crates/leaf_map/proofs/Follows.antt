@@ -17,9 +17,10 @@ use Rattle.leaf_map.specs.After.{goes, is_gone, is_idle, is_set, kept_by, put_le
 use Rattle.leaf_map.specs.Follows.{with_leaf, without_old}
 use Rattle.leaf_map.specs.Kept.{Kept, shown_by}
 use Rattle.leaf_map.specs.LeafMap.{IsKeyed, IsLeafMap, are_apart, shows_same}
+use Rattle.leaf_map.specs.RankLaws.{rank_shown}
 use Rattle.leaf_map.proofs.Apart.{none_above, none_after}
 use Rattle.leaf_map.proofs.Distinct.{Apart}
-use Rattle.leaf_map.proofs.Ranks.{leaves, ordered_all, rank_shown}
+use Rattle.leaf_map.proofs.Ranks.{leaves, ordered_all}
 
 same_itself : (x : Leaf) → same_leaf x x ≡ true
 unfolding same_leaf

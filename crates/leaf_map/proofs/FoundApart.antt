@@ -11,10 +11,10 @@ use Rattle.leaf_map.specs.Allowed.{IsReadLeaf}
 use Rattle.leaf_map.specs.Kept.{Kept, Placed, kept_at, shown, shown_by}
 use Rattle.leaf_map.specs.LeafMap.{HasKeyOf, IsKeyed, are_apart, shows_same}
 use Rattle.leaf_map.specs.Parts.{Committed, Named, Parts, is_shown, own_node}
+use Rattle.leaf_map.specs.RankLaws.{rank_is, rank_shown, is_entry, same_thing}
 use Rattle.leaf_map.specs.Recovered.{found_leaves, is_original}
 use Rattle.leaf_map.proofs.FoundKeys.{IsGood, copy_keyed, copy_place, filter_all, find_all, own_keyed, stand_keyed, stand_plain}
-use Rattle.leaf_map.proofs.Ranks.{rank_is, rank_shown}
-use Rattle.leaf_map.proofs.Things.{is_entry, keyed_shown, not_true, same_kind, same_place, same_thing, same_turned}
+use Rattle.leaf_map.proofs.Things.{keyed_shown, not_true, same_kind, same_place, same_turned}
 use Rattle.leaf_map.proofs.Walk.{Pairs, Walk, left, own_leaf, stand_leaf, walk}
 
 -- what is shown at the place of a leaf, and is no name

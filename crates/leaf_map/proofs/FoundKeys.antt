@@ -16,9 +16,9 @@ use Rattle.leaf_map.specs.Kept.{Kept, Placed, kept_at, shown, shown_by}
 use Rattle.leaf_map.specs.KeyedLaws.{node_keyed}
 use Rattle.leaf_map.specs.LeafMap.{HasKeyOf, IsKeyed}
 use Rattle.leaf_map.specs.Parts.{Committed, Parts, is_shown, own_node}
+use Rattle.leaf_map.specs.RankLaws.{is_entry}
 use Rattle.leaf_map.specs.Recovered.{copy_of_key, found_leaves, stand_in}
 use Rattle.leaf_map.proofs.Ranks.{leaves}
-use Rattle.leaf_map.proofs.Things.{is_entry}
 use Rattle.leaf_map.proofs.Walk.{Walk, left, own_leaf, stand_leaf}
 
 -- a copy that becomes a leaf

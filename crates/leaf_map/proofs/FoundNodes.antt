@@ -14,11 +14,11 @@ use Rattle.leaf_map.specs.Allowed.{FitsLeaves, IsCopied, IsNodeOf, IsOwnNode, Is
 use Rattle.leaf_map.specs.Kept.{Kept, Placed, kept_at, shown, shown_by}
 use Rattle.leaf_map.specs.LeafMap.{IsKeyed, shows_same}
 use Rattle.leaf_map.specs.Parts.{Committed, Named, Parts, is_shown, own_node}
+use Rattle.leaf_map.specs.RankLaws.{rank_is, rank_shown}
 use Rattle.leaf_map.specs.Recovered.{copy_of_key, found_leaves, is_original, leaves_found, spare_copies}
 use Rattle.leaf_map.proofs.FoundKeys.{IsGood, copy_keyed, copy_place, filter_all, find_all}
 use Rattle.leaf_map.proofs.FoundLeaves.{goods, pairs_of}
 use Rattle.leaf_map.proofs.Names.{is_name}
-use Rattle.leaf_map.proofs.Ranks.{rank_is, rank_shown}
 use Rattle.leaf_map.proofs.Things.{one_node}
 use Rattle.leaf_map.proofs.Walk.{Pairs, Walk, left, own_leaf, walk}
 

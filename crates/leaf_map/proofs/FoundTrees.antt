@@ -26,6 +26,7 @@ use Rattle.leaf_map.specs.Kept.{Kept, Placed, kept_at, shown, shown_by}
 use Rattle.leaf_map.specs.LastChange.{last_made, makes_block, makes_entry, makes_inode}
 use Rattle.leaf_map.specs.LeafMap.{HasKeyOf, IsKeyed, IsLeafMap, are_apart, shows_same}
 use Rattle.leaf_map.specs.Parts.{Committed, Parts, is_shown}
+use Rattle.leaf_map.specs.RankLaws.{rank_is, rank_shown, is_entry, same_thing}
 use Rattle.leaf_map.specs.Recovered.{committed_highest, found_leaves, leaves_found, listed_left, spare_copies, stand_in}
 use Rattle.leaf_map.specs.Shown.{blocks_of, entries_of, inodes_of, tree_of, with_block, with_entry, with_inode}
 use Rattle.leaf_map.proofs.FoundKeys.{IsGood, has_no_link, stand_linkless, copy_keyed, copy_place, filter_all, find_all, gone_entry, stand_keyed, stand_plain}
@@ -34,9 +35,8 @@ use Rattle.leaf_map.proofs.FoundNodes.{filter_copied, find_copied, found_nodes, 
 use Rattle.leaf_map.proofs.Forgets.{unlinked}
 use Rattle.leaf_map.proofs.KnownNodes.{all_left}
 use Rattle.leaf_map.proofs.Names.{is_name, key, same_key}
-use Rattle.leaf_map.proofs.Ranks.{rank_is, rank_shown}
 use Rattle.leaf_map.proofs.Sorted.{leaves_sorted}
-use Rattle.leaf_map.proofs.Things.{at_node, is_entry, node_shown, not_true, one_node, same_thing, same_turned}
+use Rattle.leaf_map.proofs.Things.{at_node, node_shown, not_true, one_node, same_turned}
 use Rattle.leaf_map.proofs.Walk.{Walk, left, own_leaf, stand_leaf, walk}
 
 abbrev pair_of : {K X : Type 0} → K → X → K × X

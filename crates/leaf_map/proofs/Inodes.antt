@@ -17,9 +17,10 @@ use Rattle.fs_laws.specs.Orders.{numbers}
 use Rattle.leaf_map.specs.After.{goes, is_gone, is_inode, has_inode, put_leaf}
 use Rattle.leaf_map.specs.Kept.{Kept, shown_by}
 use Rattle.leaf_map.specs.LeafMap.{IsKeyed}
+use Rattle.leaf_map.specs.RankLaws.{rank_is, rank_shown}
 use Rattle.leaf_map.specs.Shown.{inodes_of, with_inode}
 use Rattle.leaf_map.proofs.Maps.{insert_front, less_is, greater_is, equal_is}
-use Rattle.leaf_map.proofs.Ranks.{rank_is, rank_shown, leaves, are_from, ordered_all}
+use Rattle.leaf_map.proofs.Ranks.{leaves, are_from, ordered_all}
 use Rattle.leaf_map.proofs.Steps.{Reads, put_here, put_past, put_before}
 
 pub read_inodes : Reads with_inode inodes_of

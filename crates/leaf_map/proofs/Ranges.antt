@@ -10,13 +10,14 @@ use Rattle.index_tree.specs.Order.{key_rank, leaf_rank}
 use Rattle.index_tree.specs.RangeRemoval.{in_range, outside_range}
 use Rattle.fs_model.specs.declared.change.Change.{Change}
 use Rattle.fs_model.specs.declared.change.Change.TheVariants.{SetInode, SetEntry, SetBlock, CutBlocks, DropInode}
+use Rattle.change_nodes.specs.FitLaws.{r5_small}
 use Rattle.leaf_map.specs.After.{goes, is_gone}
 use Rattle.leaf_map.specs.Follows.{block_key_from, last_block_key}
 use Rattle.leaf_map.specs.Kept.{Kept, shown_by}
 use Rattle.leaf_map.specs.LeafMap.{HasKeyOf, IsKeyed}
+use Rattle.leaf_map.specs.RankLaws.{rank_is}
 use Rattle.leaf_map.specs.Recovered.{is_unlinked, without_orphan}
-use Rattle.leaf_map.proofs.Ranks.{leaves, rank_is}
-use Rattle.leaf_map.proofs.Things.{r5_small}
+use Rattle.leaf_map.proofs.Ranks.{leaves}
 
 inside : (from to : ℕ) (x : Leaf) (r : ℕ) → leaf_rank x ≡ r → from ≤ r → r ≤ to → in_range from to x ≡ true
 inside from to x r e l m = rw (e, le-leb from r l, le-leb r to m) refl

@@ -10,27 +10,13 @@ use Rattle.std.proofs.lemmas.Bool.{false≢true, and_parts, and_from, eqb-true, 
 use Rattle.std.proofs.lemmas.Map.Lookups.{exact_bytes}
 use Rattle.ubifs_base.specs.R5.{r5_of}
 use Rattle.index_tree.specs.declared.leaf.Leaf.{Leaf}
-use Rattle.index_tree.specs.Order.{key_rank, leaf_rank, ordered_from}
+use Rattle.index_tree.specs.Order.{leaf_rank, ordered_from}
 use Rattle.fs_model.specs.declared.change.Change.{Change}
 use Rattle.fs_model.specs.declared.change.Change.TheVariants.{SetInode, SetEntry, SetBlock}
 use Rattle.fs_model.specs.Path.{is_same_name}
 use Rattle.leaf_map.specs.After.{goes, is_set}
 use Rattle.leaf_map.specs.Kept.{Kept}
-use Rattle.leaf_map.specs.LeafMap.{HasKeyOf}
-
--- the place of what is shown
-abbrev pub rank_shown : Option Change → ℕ
-rank_shown (Some (SetInode ino inode)) = ino * 2 ^ 33
-rank_shown (Some (SetBlock ino number bytes)) = ino * 2 ^ 33 + (2 ^ 29 + number)
-rank_shown (Some (SetEntry e)) = e.dir * 2 ^ 33 + (2 ^ 30 + r5_of e.name)
-rank_shown other = 0
-
-pub rank_is : (leaf : Leaf) (s : Option Change) → HasKeyOf leaf s → leaf_rank leaf ≡ rank_shown s
-unfolding key_rank
-rank_is leaf (Some (SetInode ino inode)) h = ap key_rank h ∙ omega arith
-rank_is leaf (Some (SetBlock ino number bytes)) h = ap key_rank h.0 ∙ omega arith
-rank_is leaf (Some (SetEntry e)) h = ap key_rank h ∙ omega arith
-rank_is leaf other h = absurd h
+use Rattle.leaf_map.specs.RankLaws.{rank_shown}
 
 -- names that are told as the same are
 pub name_is : (a b : List ℕ) → is_same_name a b ≡ true → a ≡ b

@@ -15,12 +15,13 @@ use Rattle.fs_laws.specs.Maps.{ascends_from}
 use Rattle.leaf_map.specs.After.{goes}
 use Rattle.leaf_map.specs.Kept.{Kept, shown_by}
 use Rattle.leaf_map.specs.LeafMap.{IsKeyed, IsLeafMap, are_apart, shows_same}
+use Rattle.leaf_map.specs.RankLaws.{rank_is, rank_shown}
 use Rattle.leaf_map.specs.Shown.{blocks_of, inodes_of, tree_of, with_block, with_inode}
 use Rattle.leaf_map.proofs.Blocks.{HasNumber, block_above_step, has_number}
 use Rattle.leaf_map.proofs.Inodes.{higher}
 use Rattle.leaf_map.proofs.Maps.{less_is}
 use Rattle.leaf_map.proofs.Names.{entries_ascend}
-use Rattle.leaf_map.proofs.Ranks.{are_from, leaves, ordered_all, rank_is, rank_shown}
+use Rattle.leaf_map.proofs.Ranks.{are_from, leaves, ordered_all}
 
 behind_step : (ino : ℕ) (old : Inode) (s : Option Change) (rest : Inodes) → not (goes (SetInode ino old) s) ≡ true → ino * 2 ^ 33 ≤ rank_shown s → list_all (λ e. is_lt (nat_cmp ino e.0)) rest ≡ true → list_all (λ e. is_lt (nat_cmp ino e.0)) (with_inode s rest) ≡ true
 behind_step ino old (Some (SetInode other inode)) rest n l h = by (goes (SetInode ino old) (Some (SetInode other inode))) refl n

@@ -1,9 +1,7 @@
 -- What is shown at one place of the order: the same inode or block, or names of one hash.
-use Rattle.std.proofs.Common.{◌≡◌, ◌⊎◌, ℕ, ◌+◌, ◌^◌, ◌<◌, ◌%◌, Bool, true, false, cond, not, List, [], ◌∷◌, refl, sym, subst, ◌∙◌, arith, inl, inr, Option, Some, None}
-use Rattle.std.specs.Prelude.{◌==◌, nat_le}
+use Rattle.std.proofs.Common.{◌≡◌, Bool, true, false, not, List, [], ◌∷◌, refl, sym, subst, ◌∙◌, inl, inr, Option, Some, None}
 use Rattle.std.specs.List.{AllByRecursion, list_all}
-use Rattle.std.proofs.lemmas.Bool.{false≢true, and_parts, and_from, eq-eqb, leb-true}
-use Rattle.ubifs_base.specs.R5.{r5_of, r5_from}
+use Rattle.std.proofs.lemmas.Bool.{false≢true, and_parts}
 use Rattle.media_leaf.specs.LeafNode.{LeafNode}
 use Rattle.index_tree.specs.declared.leaf.Leaf.{Leaf}
 use Rattle.fs_model.specs.declared.change.Change.{Change}
@@ -13,43 +11,9 @@ use Rattle.leaf_map.specs.Allowed.{IsNodeOf}
 use Rattle.leaf_map.specs.Kept.{Kept, shown, shown_by}
 use Rattle.leaf_map.specs.LeafMap.{HasKeyOf, IsKeyed, are_apart, shows_same}
 use Rattle.leaf_map.specs.Parts.{is_shown}
+use Rattle.leaf_map.specs.RankLaws.{rank_shown, is_entry}
 use Rattle.leaf_map.proofs.Apart.{through, turned}
-use Rattle.leaf_map.proofs.Ranks.{rank_shown, same_rank}
-
--- whether a name is shown
-abbrev pub is_entry : Option Change → Bool
-is_entry (Some (SetEntry e)) = true
-is_entry s = false
-
-pub r5_small : (name : List ℕ) → r5_of name < 2 ^ 29
-unfolding r5_of
-r5_small name = by (r5_from 0 name % 2 ^ 29) (omega arith)
-  where
-    by : (m : ℕ) → m < 2 ^ 29 → cond (nat_le m 2) (m + 3) m < 2 ^ 29
-    by m h = test (nat_le m 2) refl
-      where
-        test : (b : Bool) → nat_le m 2 ≡ b → cond b (m + 3) m < 2 ^ 29
-        test true e = let l = leb-true m 2 e in omega (arith, l)
-        test false e = h
-
--- at one place stands the same, or names do
-pub same_thing : (l m : Leaf) (s t : Option Change) → HasKeyOf l s → HasKeyOf m t → rank_shown s ≡ rank_shown t → (shows_same s t ≡ true) ⊎ ((is_entry s ≡ true) × (is_entry t ≡ true))
-same_thing l m (Some (SetInode a x)) (Some (SetInode b y)) h g r = inl (eq-eqb b a (omega (arith, r)))
-same_thing l m (Some (SetInode a x)) (Some (SetBlock b n y)) h g r = let small = g.1 in absurd (omega (arith, r, small))
-same_thing l m (Some (SetInode a x)) (Some (SetEntry e)) h g r = let small = r5_small e.name in absurd (omega (arith, r, small))
-same_thing l m (Some (SetBlock a n x)) (Some (SetInode b y)) h g r = let small = h.1 in absurd (omega (arith, r, small))
-same_thing l m (Some (SetBlock a n x)) (Some (SetBlock b k y)) h g r =
-    let p = h.1 in
-    let q = g.1 in
-    inl (and_from (b == a) (k == n) (eq-eqb b a (omega (arith, r, p, q))) (eq-eqb k n (omega (arith, r, p, q))))
-same_thing l m (Some (SetBlock a n x)) (Some (SetEntry e)) h g r = let p = h.1 in let small = r5_small e.name in absurd (omega (arith, r, p, small))
-same_thing l m (Some (SetEntry e)) (Some (SetInode b y)) h g r = let small = r5_small e.name in absurd (omega (arith, r, small))
-same_thing l m (Some (SetEntry e)) (Some (SetBlock b n y)) h g r = let q = g.1 in let small = r5_small e.name in absurd (omega (arith, r, q, small))
-same_thing l m (Some (SetEntry e)) (Some (SetEntry f)) h g r = inr (refl, refl)
-same_thing l m (Some (SetInode a x)) t h g r = absurd g
-same_thing l m (Some (SetBlock a n x)) t h g r = absurd g
-same_thing l m (Some (SetEntry e)) t h g r = absurd g
-same_thing l m s t h g r = absurd h
+use Rattle.leaf_map.proofs.Ranks.{same_rank}
 
 -- what is set
 pub shown_set : (s : Option Change) → is_shown s ≡ true → (c : Change) → s ≡ Some c → is_set c ≡ true

@@ -8,6 +8,7 @@ pub mod LastChange
 pub mod LeafMap
 pub mod Lost
 pub mod Parts
+pub mod RankLaws
 pub mod Recovered
 pub mod SameLaws
 pub mod Shown

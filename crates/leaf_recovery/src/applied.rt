@@ -8,8 +8,9 @@ ghost use Rattle.leaf_recovery.specs.Things.{has_inode_told, is_idle_told};
 
 use crate::found::leaf_at_node;
 use crate::recovered_leaf::RecoveredLeaf;
-use crate::thing::{becomes_leaf, ends, is_inode, rank};
+use crate::thing::{becomes_leaf, ends};
 use journal_scan::{JournalNode, NodeContent};
+use log_replay::thing::{is_inode, rank};
 use std::alloc::Global;
 use ubifs_base::Memory;
 

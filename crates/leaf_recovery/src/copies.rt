@@ -6,10 +6,11 @@ ghost use Rattle.leaf_recovery.specs.Found.{copy_of_key_told, is_original_told, 
 ghost use Rattle.leaf_recovery.specs.Things.{shows_told};
 
 use crate::named::in_bud;
-use crate::thing::{copied, is_one, leaf_of, rank, shows, shows_thing};
+use crate::thing::{copied, leaf_of, shows, shows_thing};
 use index_tree::Leaf;
 use journal_scan::{JournalNode, NodeContent};
 use log_replay::CommittedLeaf;
+use log_replay::thing::{is_one, rank};
 use media_sys::RefNode;
 use std::alloc::Global;
 use ubifs_base::Memory;

@@ -4,8 +4,9 @@ ghost use Rattle.std.specs.Prelude.{◌≡◌, IsTrue};
 ghost use Rattle.leaf_recovery.specs.Ranked.{AreInKeyOrder, DoFitKeys, HasKeyShown, first_ended, fits_key, past_ended};
 
 use crate::recovered_leaf::RecoveredLeaf;
-use crate::thing::{number_of, rank, rank_shown};
+use crate::thing::rank_shown;
 use journal_scan::{JournalNode, NodeContent};
+use log_replay::thing::{number_of, rank};
 use ubifs_base::r5;
 
 const FIRST: u128 = 1 << 33;

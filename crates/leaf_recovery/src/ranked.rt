@@ -11,8 +11,8 @@ ghost use Rattle.leaf_recovery.specs.declared.recovered_leaf.RecoveredLeaf.{Reco
 
 use crate::applied::{drop_ended, has_inode, put_leaf};
 use crate::recovered_leaf::RecoveredLeaf;
-use crate::thing::rank;
 use journal_scan::NodeContent;
+use log_replay::thing::rank;
 use std::alloc::Global;
 use std::collections::BTreeMap;
 use std::ops::Bound;

@@ -1,50 +1,18 @@
 // What a node says of leaves.
 
 ghost use Rattle.std.specs.Prelude.{◌≡◌, IfOk};
-ghost use Rattle.ubifs_base.specs.Key.{key_words};
-ghost use Rattle.index_tree.specs.Order.{key_rank};
-ghost use Rattle.index_tree.specs.Removal.{same_leaf};
-ghost use Rattle.fs_model.specs.Path.{is_same_name};
-ghost use Rattle.log_replay.specs.Things.{is_block_told, is_inode_told, is_name_told};
 ghost use Rattle.leaf_recovery.specs.Found.{place_told};
 ghost use Rattle.leaf_recovery.specs.Things.{becomes_leaf, ends_told, is_cut_told, is_entry_told, is_part_told, is_unlinked_told, leaf_told, node_key_told, rank_shown, same_name_told, shows_thing, shows_told};
 
 use crate::recovered_leaf::Place;
 use index_tree::Leaf;
 use journal_scan::{JournalNode, NodeContent};
+use log_replay::thing::{is_block, is_inode, is_name, is_same_name, number_of, rank};
 use std::alloc::Global;
 use ubifs_base::{Key, Memory, Name, r5};
 
-const FIRST: u128 = 1 << 33;
-
-const KIND: u128 = 1 << 29;
-
 // The bytes of a block.
 const BLOCK_BYTES: u64 = 4096;
-
-// A key's place in the order.
-#[tactic(auto, unfolding(index_tree::specs::Order::key_rank))]
-pub(crate) fn rank(key: &Key) -> u128
-    ensures { result ≡ key_rank key.now }
-{
-    match *key {
-        Key::Ino { ino } => ino as u128 * FIRST,
-        Key::Block { ino, block } => ino as u128 * FIRST + KIND + block as u128,
-        Key::Dent { dir, hash } => dir as u128 * FIRST + 2 * KIND + hash as u128,
-        Key::Xent { ino, hash } => ino as u128 * FIRST + 3 * KIND + hash as u128,
-    }
-}
-
-// Whether two leaves have one key and one place.
-#[tactic(auto, unfolding(index_tree::specs::Removal::same_leaf))]
-pub(crate) fn is_one(one: &Leaf, other: &Leaf) -> bool
-    ensures { result ≡ same_leaf one.now other.now }
-{
-    rank(&one.key) == rank(&other.key)
-        && one.lnum == other.lnum
-        && one.offs == other.offs
-        && one.len == other.len
-}
 
 // The key of a node; a truncation has that of its inode.
 pub(crate) fn key_of(content: &NodeContent) -> Key
@@ -187,63 +155,6 @@ pub(crate) fn ends(one: &NodeContent, other: &NodeContent) -> bool
     }
 }
 
-// The inode number of a key.
-pub(crate) fn number_of(key: &Key) -> u32
-    ensures { result ≡ (key_words key.now).0 }
-{
-    match *key {
-        Key::Ino { ino } | Key::Block { ino, .. } | Key::Xent { ino, .. } => ino,
-        Key::Dent { dir, .. } => dir,
-    }
-}
-
-// Whether a node is that of this inode.
-pub(crate) fn is_inode(ino: u32, other: &NodeContent) -> bool
-    ensures { result ≡ is_inode_told ino other.now }
-{
-    match other {
-        NodeContent::Inode { ino: number, .. } => *number == ino,
-        NodeContent::Block { .. }
-        | NodeContent::Entry { .. }
-        | NodeContent::Truncation { .. }
-        | NodeContent::Unknown { .. } => false,
-    }
-}
-
-// Whether a node is that of this block.
-fn is_block(ino: u32, block: u32, other: &NodeContent) -> bool
-    ensures { result ≡ is_block_told ino block other.now }
-{
-    match other {
-        NodeContent::Block {
-            ino: number,
-            block: at,
-        } => *number == ino && *at == block,
-        NodeContent::Inode { .. }
-        | NodeContent::Entry { .. }
-        | NodeContent::Truncation { .. }
-        | NodeContent::Unknown { .. } => false,
-    }
-}
-
-// Whether a node is that of this name.
-fn is_name(dir: u32, name: &Name, other: &NodeContent) -> bool
-    ensures { result ≡ is_name_told dir name.now other.now }
-{
-    match other {
-        NodeContent::Entry {
-            dir: number,
-            name: word,
-            linked: true,
-        } => *number == dir && is_same_name(word, name),
-        NodeContent::Entry { linked: false, .. }
-        | NodeContent::Inode { .. }
-        | NodeContent::Block { .. }
-        | NodeContent::Truncation { .. }
-        | NodeContent::Unknown { .. } => false,
-    }
-}
-
 // Whether a node is that of a block behind a size.
 fn is_cut(ino: u32, size: u64, other: &NodeContent) -> bool
     ensures { result ≡ is_cut_told ino size other.now }
@@ -315,10 +226,4 @@ fn has_name(dir: u32, name: &Name, other: &NodeContent) -> bool
         | NodeContent::Truncation { .. }
         | NodeContent::Unknown { .. } => false,
     }
-}
-
-fn is_same_name(one: &Name, other: &Name) -> bool
-    ensures { result ≡ is_same_name one.now other.now }
-{
-    one == other
 }

@@ -12,8 +12,8 @@ use Rattle.index_tree.specs.Removal.{same_leaf, holds}
 use Rattle.leaf_map.specs.After.{put_leaf}
 use Rattle.leaf_map.specs.Kept.{Kept, shown_by}
 use Rattle.leaf_map.specs.LeafMap.{IsKeyed, are_apart, shows_same}
+use Rattle.leaf_map.specs.RankLaws.{rank_is, same_thing}
 use Rattle.log_replay.specs.Standing.{is_entry, leaves, names_in}
-use Rattle.log_replay.proofs.Things.{rank_is, same_thing}
 
 abbrev pub Apart : Leaf → List Leaf → Type 0
 Apart x xs = AllByRecursion (λ y. same_leaf x y ≡ false) xs

@@ -12,16 +12,16 @@ use Rattle.index_tree.specs.Order.{key_rank, leaf_rank}
 use Rattle.index_tree.specs.RangeRemoval.{in_range, outside_range}
 use Rattle.fs_model.specs.declared.change.Change.{Change}
 use Rattle.fs_model.specs.declared.change.Change.TheVariants.{SetInode, SetEntry, SetBlock}
+use Rattle.change_nodes.specs.FitLaws.{r5_small}
 use Rattle.leaf_map.specs.After.{goes, is_inode}
 use Rattle.leaf_map.specs.Follows.{block_key_from, last_block_key}
 use Rattle.leaf_map.specs.Kept.{Kept}
 use Rattle.leaf_map.specs.LeafMap.{HasKeyOf, IsKeyed}
+use Rattle.leaf_map.specs.RankLaws.{rank_is}
 use Rattle.log_replay.specs.Changes.{IsOfKey, first_of}
 use Rattle.log_replay.specs.Standing.{is_name, leaves}
-use Rattle.log_replay.proofs.Hashes.{r5_small}
 use Rattle.log_replay.proofs.Maps.{place}
 use Rattle.log_replay.proofs.Tests.{name_is}
-use Rattle.log_replay.proofs.Things.{rank_is}
 
 unequal : (a b : ℕ) → (a ≡ b → ⊥) → (a == b) ≡ false
 unequal a b h = by (a == b) refl

@@ -1,5 +1,5 @@
 -- The committed leaves as they are found: own nodes, copies, and what stands for a node that nobody can read.
-use Rattle.std.proofs.Common.{◌≡◌, ℕ, ◌^◌, Bool, true, false, List, [], ◌∷◌, ◌++◌, map, refl, sym, ap, subst, ◌∙◌, arith, Option, Some, None}
+use Rattle.std.proofs.Common.{◌≡◌, ◌^◌, Bool, true, false, List, [], ◌∷◌, ◌++◌, map, refl, sym, ap, subst, ◌∙◌, Option, Some, None}
 use Rattle.std.specs.List.{AllByRecursion}
 use Rattle.std.specs.Option.{option_map}
 use Rattle.std.proofs.lemmas.Bool.{lt-ltb}
@@ -11,19 +11,19 @@ use Rattle.ubifs_base.specs.Key.{IsKey}
 use Rattle.media_leaf.specs.LeafNode.{LeafNode}
 use Rattle.index_tree.specs.declared.leaf.Leaf.{Leaf}
 use Rattle.index_tree.specs.Keyed.{HasKey, HaveKeys}
-use Rattle.index_tree.specs.Order.{key_rank, leaf_rank}
+use Rattle.index_tree.specs.Order.{leaf_rank}
 use Rattle.fs_model.specs.declared.change.Change.{Change}
 use Rattle.fs_model.specs.declared.change.Change.TheVariants.{SetInode, SetEntry, SetBlock}
+use Rattle.change_nodes.specs.FitLaws.{r5_small}
 use Rattle.leaf_map.specs.Kept.{Kept, Placed, kept_at, shown_by}
 use Rattle.leaf_map.specs.LeafMap.{HasKeyOf, IsKeyed}
 use Rattle.leaf_map.specs.Parts.{Committed, Parts, own_node}
+use Rattle.leaf_map.specs.RankLaws.{key_of_place}
 use Rattle.leaf_map.specs.Recovered.{copies_left, copy_of_key, found_leaves, leaf_at, stand_in}
 use Rattle.log_replay.specs.Placing.{LeafFound, IsFoundWell, IsSound, is_key, pair_found, pair_told, present}
 use Rattle.log_replay.specs.Settling.{kept_of, read_as, settled_at, settled_of, settled_one}
 use Rattle.log_replay.specs.Told.{told_leaf}
-use Rattle.log_replay.proofs.Hashes.{r5_small}
 use Rattle.log_replay.proofs.Ranked.{found_rank}
-use Rattle.log_replay.proofs.Things.{rank_is, rank_shown}
 
 -- as what a leaf is found, where these copies are left
 abbrev pub at_copy : Committed → Option Placed → Option Kept
@@ -88,37 +88,6 @@ pair_is parts left c None e = by (copy_of_key c.leaf left)
 pub found_pairs : (parts : Parts) (left : List Placed) (cs : List Committed) → map pair_told (settled_of parts left cs) ≡ map pair_found (founds parts left cs)
 found_pairs parts left [] = refl
 found_pairs parts left (c ∷ cs) = rw (pair_is parts left c (own_node parts.named c) refl, found_pairs parts (copies_left left c (own_node parts.named c)) cs) refl
-
--- ---- keys
--- a key that is one has one place in the order
-pub key_of_place : (l : Leaf) (s : Option Change) (k : Key) → HasKeyOf l s → IsKey k → leaf_rank l ≡ key_rank k → l.key ≡ k
-unfolding key_rank
-key_of_place l s k h g e = by s k h g (sym (rank_is l s h) ∙ e)
-  where
-    by : (s : Option Change) (k : Key) → HasKeyOf l s → IsKey k → rank_shown s ≡ key_rank k → l.key ≡ k
-    by (Some (SetInode a x)) (Ino b) h g r = h ∙ ap (λ (n : ℕ). Ino n) (omega (arith, r))
-    by (Some (SetInode a x)) (Block b n) h g r = let small = g.1 in absurd (omega (arith, r, small))
-    by (Some (SetInode a x)) (Dent b n) h g r = let small = g.1 in absurd (omega (arith, r, small))
-    by (Some (SetInode a x)) (Xent b n) h g r = let small = g.1 in absurd (omega (arith, r, small))
-    by (Some (SetBlock a n x)) (Ino b) h g r = let small = h.1 in absurd (omega (arith, r, small))
-    by (Some (SetBlock a n x)) (Block b k) h g r =
-        let p = h.1 in
-        let q = g.1 in
-        let i : a ≡ b = omega (arith, r, p, q) in
-        let j : n ≡ k = omega (arith, r, p, q) in
-        h.0 ∙ ap (λ (z : ℕ). Block z n) i ∙ ap (λ (z : ℕ). Block b z) j
-    by (Some (SetBlock a n x)) (Dent b k) h g r = let p = h.1 in let q = g.1 in absurd (omega (arith, r, p, q))
-    by (Some (SetBlock a n x)) (Xent b k) h g r = let p = h.1 in let q = g.1 in absurd (omega (arith, r, p, q))
-    by (Some (SetEntry e)) (Ino b) h g r = let p = r5_small e.name in absurd (omega (arith, r, p))
-    by (Some (SetEntry e)) (Block b k) h g r = let p = r5_small e.name in let q = g.1 in absurd (omega (arith, r, p, q))
-    by (Some (SetEntry e)) (Dent b k) h g r =
-        let p = r5_small e.name in
-        let q = g.1 in
-        let i : e.dir ≡ b = omega (arith, r, p, q) in
-        let j : r5_of e.name ≡ k = omega (arith, r, p, q) in
-        h ∙ ap (λ (z : ℕ). Dent z (r5_of e.name)) i ∙ ap (λ (z : ℕ). Dent b z) j
-    by (Some (SetEntry e)) (Xent b k) h g r = let p = r5_small e.name in let q = g.1 in absurd (omega (arith, r, p, q))
-    by s k h g r = absurd h
 
 key_fits : (k : Key) → IsKey k → is_key k ≡ true
 key_fits (Ino ino) h = refl

@@ -19,12 +19,13 @@ use Rattle.change_nodes.specs.Nodes.{gone_inode, inode_node}
 use Rattle.leaf_map.specs.Kept.{Kept, Placed, kept_at, shown}
 use Rattle.leaf_map.specs.LeafMap.{HasKeyOf, IsKeyed, IsLeafMap, are_apart}
 use Rattle.leaf_map.specs.Parts.{Committed, Parts, own_node}
+use Rattle.leaf_map.specs.RankLaws.{key_of_place}
 use Rattle.leaf_map.specs.Recovered.{copies_left, copy_of_key, is_original, leaves_found, spare_copies, stand_in}
 use Rattle.log_replay.specs.Placing.{present}
 use Rattle.log_replay.specs.Settling.{HasGrammar}
 use Rattle.log_replay.specs.Standing.{leaves}
 use Rattle.log_replay.specs.Told.{IsSetting}
-use Rattle.log_replay.proofs.Founds.{HaveTrueKeys, at_copy, found_as, found_present, founds, key_of_place, present_one, true_keys, with_one}
+use Rattle.log_replay.proofs.Founds.{HaveTrueKeys, at_copy, found_as, found_present, founds, present_one, true_keys, with_one}
 use Rattle.log_replay.proofs.Owning.{owns}
 use Rattle.log_replay.proofs.Ranked.{filter_setting, find_all, found_rank}
 use Rattle.log_replay.proofs.Settles.{left_setting}

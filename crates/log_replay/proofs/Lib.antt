@@ -5,7 +5,6 @@ mod Finding
 mod First
 mod Founds
 mod FromLast
-mod Hashes
 mod InOrder
 mod Maps
 mod Moved
@@ -25,5 +24,4 @@ mod Staying
 mod Swaps
 mod Telling
 mod Tests
-mod Things
 mod Places

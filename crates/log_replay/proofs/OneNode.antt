@@ -1,5 +1,5 @@
 -- One node makes of an index and its maps those of the leaves after it.
-use Rattle.std.proofs.Common.{◌≡◌, ℕ, zero, suc, ◌≤◌, arith, Bool, true, false, cond, not, List, refl, sym, ap, subst, ◌∙◌, Option, Some, None}
+use Rattle.std.proofs.Common.{◌≡◌, ℕ, Bool, true, false, cond, not, List, refl, sym, ap, subst, ◌∙◌, Option, Some, None}
 use Rattle.std.specs.Prelude.{◌==◌, is_some}
 use Rattle.std.specs.BTreeMap.{BTreeMap, get, is_at}
 use Rattle.std.specs.List.{find}
@@ -34,6 +34,7 @@ use Rattle.journal_scan.specs.declared.node_content.NodeContent.TheVariants.{Ino
 use Rattle.log_replay.specs.declared.application.Place.{Place}
 use Rattle.log_replay.specs.declared.standing.Standing.{Standing}
 use Rattle.log_replay.specs.Changes.{CutsBlocks, Does, DoesBy, DropsInode, DropsName, IsOfKey, PutsBlock, SetsBlock, SetsInode, SetsName, first_of, put_over, taken_out}
+use Rattle.log_replay.specs.KeyToldLaws.{known}
 use Rattle.log_replay.specs.Standing.{IsFresh, Stands, is_entry, is_linked, is_name, leaf_at, leaves, leaves_in, links_of, place_of}
 use Rattle.log_replay.proofs.Distinct.{all_distinct, left_distinct, names_beside, names_stay, put_distinct}
 use Rattle.log_replay.proofs.First.{any_found, block_at, block_key, cut_range, find_same, first_is, found_key, inode_at, inode_key, name_key}
@@ -247,17 +248,6 @@ entry_does node place s t true z k h d = d
 entry_does node place s t false true k h d = d
 entry_does node place s t false false (Some kind) h d = d
 entry_does node place s t false false None h d = absurd (false≢true h)
-
--- an entry's node is of a known kind
-pub known : (k : ℕ) → k ≤ 6 → is_some (kind_of_type k) ≡ true
-known zero h = refl
-known (suc zero) h = refl
-known (suc (suc zero)) h = refl
-known (suc (suc (suc zero))) h = refl
-known (suc (suc (suc (suc zero)))) h = refl
-known (suc (suc (suc (suc (suc zero))))) h = refl
-known (suc (suc (suc (suc (suc (suc zero)))))) h = refl
-known (suc (suc (suc (suc (suc (suc (suc k))))))) h = absurd (omega (arith, h))
 
 does_change : (node : LeafNode) (place : Place) (s t : Standing) → IsLeaf node → DoesBy (content_of node) place s t → ByChange (change_of node) place s t
 does_change (inode node) place s t leaf d = inode_does node place s t (node.nlink == 0) (kind_of_bits (bits_of node.mode)) d

@@ -18,6 +18,7 @@ use Rattle.leaf_map.specs.Recovered.{stand_in}
 use Rattle.journal_scan.specs.Content.{content_of, told}
 use Rattle.journal_scan.specs.declared.journal_node.JournalNode.{JournalNode}
 use Rattle.log_replay.specs.Copies.{Ranked}
+use Rattle.log_replay.specs.KeyToldLaws.{if_set, told_key}
 use Rattle.log_replay.specs.Named.{in_named}
 use Rattle.log_replay.specs.Reading.{own_told, read_told, stand_in_told, unread_told, with_told}
 use Rattle.log_replay.specs.Replay.{told_committed}
@@ -25,7 +26,6 @@ use Rattle.log_replay.specs.Settling.{HasCopies, HasGrammar, read_as, read_of}
 use Rattle.log_replay.specs.Things.{is_at_leaf, key_told}
 use Rattle.log_replay.specs.Told.{IsSetting, told_leaf}
 use Rattle.log_replay.proofs.Ranked.{KeyIs, RankIs, copy_told, rank_itself, rank_of_key}
-use Rattle.log_replay.proofs.Telling.{if_set, told_key}
 
 -- one place, of one length
 pub record IsOne (x y : Leaf) : Type 0 where

@@ -1,18 +1,9 @@
 -- What is told of nodes says which leaf they make, and which nodes make the leaf of one inode, block or name.
-use Rattle.std.proofs.Common.{◌≡◌, Bool, true, false, cond, not, refl, sym, ap, ◌∙◌, Option, Some, None}
-use Rattle.std.specs.Prelude.{◌==◌, is_some}
-use Rattle.std.specs.Option.{option_map}
+use Rattle.std.proofs.Common.{◌≡◌, true, false, refl, sym, ap, ◌∙◌, Option, Some, None}
 use Rattle.std.proofs.lemmas.Bool.{false≢true}
-use Rattle.ubifs_base.specs.R5.{r5_of}
-use Rattle.ubifs_base.specs.declared.key.Key.{Key}
-use Rattle.ubifs_base.specs.declared.key.Key.TheVariants.{Dent, Ino, Xent}
-use Rattle.media_leaf.specs.LeafNode.{LeafNode, IsLeaf, inode, block, entry, truncation}
-use Rattle.media_leaf.specs.declared.dent_node.DentNode.{DentNode}
-use Rattle.media_leaf.specs.declared.ino_node.InoNode.{InoNode}
+use Rattle.media_leaf.specs.LeafNode.{LeafNode, IsLeaf}
 use Rattle.fs_model.specs.declared.change.Change.{Change}
 use Rattle.fs_model.specs.declared.change.Change.TheVariants.{SetInode, SetEntry, SetBlock, DropEntry, CutBlocks, DropInode}
-use Rattle.fs_model.specs.declared.inode.Kind.{Kind}
-use Rattle.change_nodes.specs.Nodes.{bits_of, inode_of, kind_of_bits, kind_of_type}
 use Rattle.leaf_map.specs.Kept.{Placed, kept_at, node_key, shown}
 use Rattle.leaf_map.specs.KeyedLaws.{node_keyed}
 use Rattle.leaf_map.specs.LeafMap.{HasKeyOf, shows_same}
@@ -20,34 +11,10 @@ use Rattle.leaf_map.specs.Parts.{is_shown}
 use Rattle.journal_scan.specs.Content.{content_of}
 use Rattle.journal_scan.specs.declared.node_content.NodeContent.{NodeContent}
 use Rattle.journal_scan.specs.declared.node_content.NodeContent.TheVariants.{Inode, Block, Entry, Truncation, Unknown}
+use Rattle.log_replay.specs.KeyToldLaws.{if_set, told_key}
 use Rattle.log_replay.specs.Things.{is_same_told, key_told}
 use Rattle.log_replay.specs.Told.{IsSetting}
 use Rattle.log_replay.proofs.Noted.{content_block, content_entry, content_inode}
-use Rattle.log_replay.proofs.OneNode.{known}
-
--- the key, if something is set
-abbrev pub if_set : Bool → Key → Option Key
-if_set true key = Some key
-if_set false key = None
-
-inode_key : (node : InoNode) (l : Bool) (k : Option Kind) → key_told (cond (is_some k) (Inode node.ino l) (Unknown (Ino node.ino) l)) ≡ if_set (is_shown (option_map (λ kind. SetInode node.ino (inode_of node kind)) k)) (node_key (inode node))
-inode_key node l None = refl
-inode_key node l (Some kind) = refl
-
-entry_key : (node : DentNode) (a z : Bool) (k : Option Kind) → is_some k ≡ true
-    → key_told (cond a (Unknown (Xent node.dir (r5_of node.name)) true) (Entry node.dir node.name (not z)))
-    ≡ if_set (is_shown (cond a None (cond z (Some (DropEntry node.dir node.name)) (option_map (λ kind. SetEntry (record { dir = node.dir; name = node.name; ino = node.inum; kind = kind })) k)))) (cond a (Xent node.dir (r5_of node.name)) (Dent node.dir (r5_of node.name)))
-entry_key node true z k h = refl
-entry_key node false true k h = refl
-entry_key node false false None h = absurd (false≢true h)
-entry_key node false false (Some kind) h = refl
-
--- a node's key is told if it sets something
-pub told_key : (node : LeafNode) → IsLeaf node → key_told (content_of node) ≡ if_set (is_shown (shown node)) (node_key node)
-told_key (inode node) leaf = inode_key node (not (node.nlink == 0)) (kind_of_bits (bits_of node.mode))
-told_key (block node) leaf = refl
-told_key (entry node) leaf = entry_key node node.attribute (node.inum == 0) (kind_of_type node.kind) (known node.kind leaf.kind_known)
-told_key (truncation node) leaf = refl
 
 pub set_key : (node : LeafNode) → IsSetting node → key_told (content_of node) ≡ Some (node_key node)
 set_key node is = told_key node is.leaf ∙ ap (λ b. if_set b (node_key node)) is.shown

@@ -1,5 +1,6 @@
 pub mod Changes
 pub mod Copies
+pub mod KeyToldLaws
 pub mod Moving
 pub mod Named
 pub mod Noting

@@ -11,11 +11,12 @@ use Rattle.index_tree.specs.Shape.{contents}
 use Rattle.index_tree.specs.Tree.{shape}
 use Rattle.ubifs_base.specs.declared.key.Key.{Key}
 use Rattle.fs_model.specs.declared.change.Change.{Change}
-use Rattle.fs_model.specs.declared.change.Change.TheVariants.{SetInode, DropEntry, SetEntry}
+use Rattle.fs_model.specs.declared.change.Change.TheVariants.{SetInode, DropEntry}
 use Rattle.fs_model.specs.Files.{name_cmp}
 use Rattle.leaf_map.specs.After.{goes, is_inode, kept_after}
 use Rattle.leaf_map.specs.Kept.{Kept, Placed, kept_at, shown, shown_by}
 use Rattle.leaf_map.specs.LeafMap.{IsLeafMap}
+pub use Rattle.leaf_map.specs.RankLaws.{is_entry}
 use Rattle.log_replay.specs.declared.application.Place.{Place}
 use Rattle.log_replay.specs.declared.standing.Standing.{Standing}
 
@@ -31,11 +32,6 @@ is_name q s = goes (DropEntry q.0 q.1) s
 abbrev pub is_linked : Option Change → Bool
 is_linked (Some (SetInode ino inode)) = not (inode.nlink == 0)
 is_linked other = false
-
--- whether a name is shown
-abbrev pub is_entry : Option Change → Bool
-is_entry (Some (SetEntry e)) = true
-is_entry other = false
 
 -- the leaves of a list
 abbrev pub leaves : List Kept → List Leaf

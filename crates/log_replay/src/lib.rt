@@ -26,7 +26,7 @@ mod replayed;
 mod settling;
 mod spared;
 mod standing;
-mod thing;
+pub mod thing;
 
 pub use crate::committed_leaf::CommittedLeaf;
 pub use crate::laws::{

@@ -17,9 +17,9 @@ const FIRST: u128 = 1 << 33;
 
 const KIND: u128 = 1 << 29;
 
-// A key's place in the order.
+/// A key's place in the order.
 #[tactic(auto, unfolding(index_tree::specs::Order::key_rank))]
-pub(crate) fn rank(key: &Key) -> u128
+pub fn rank(key: &Key) -> u128
     ensures { result ≡ key_rank key.now }
 {
     match *key {
@@ -30,8 +30,8 @@ pub(crate) fn rank(key: &Key) -> u128
     }
 }
 
-// The inode number of a key.
-pub(crate) fn number_of(key: &Key) -> u32
+/// The inode number of a key.
+pub fn number_of(key: &Key) -> u32
     ensures { result ≡ (key_words key.now).0 }
 {
     match *key {
@@ -82,7 +82,8 @@ pub(crate) fn is_same(one: &NodeContent, other: &NodeContent) -> bool
     }
 }
 
-fn is_inode(ino: u32, other: &NodeContent) -> bool
+/// Whether a node is that of this inode.
+pub fn is_inode(ino: u32, other: &NodeContent) -> bool
     ensures { result ≡ is_inode_told ino other.now }
 {
     match other {
@@ -94,7 +95,8 @@ fn is_inode(ino: u32, other: &NodeContent) -> bool
     }
 }
 
-fn is_block(ino: u32, block: u32, other: &NodeContent) -> bool
+/// Whether a node is that of this block.
+pub fn is_block(ino: u32, block: u32, other: &NodeContent) -> bool
     ensures { result ≡ is_block_told ino block other.now }
 {
     match other {
@@ -109,7 +111,8 @@ fn is_block(ino: u32, block: u32, other: &NodeContent) -> bool
     }
 }
 
-fn is_name(dir: u32, name: &Name, other: &NodeContent) -> bool
+/// Whether a node is that of this name.
+pub fn is_name(dir: u32, name: &Name, other: &NodeContent) -> bool
     ensures { result ≡ is_name_told dir name.now other.now }
 {
     match other {
@@ -126,7 +129,8 @@ fn is_name(dir: u32, name: &Name, other: &NodeContent) -> bool
     }
 }
 
-fn is_same_name(one: &Name, other: &Name) -> bool
+/// Whether two names are the same.
+pub fn is_same_name(one: &Name, other: &Name) -> bool
     ensures { result ≡ is_same_name one.now other.now }
 {
     one == other
@@ -153,9 +157,9 @@ pub(crate) fn makes(node: &JournalNode, leaf: &Leaf) -> bool
     }
 }
 
-// Whether two leaves have one key and one place.
+/// Whether two leaves have one key and one place.
 #[tactic(auto, unfolding(index_tree::specs::Removal::same_leaf))]
-pub(crate) fn is_one(one: &Leaf, other: &Leaf) -> bool
+pub fn is_one(one: &Leaf, other: &Leaf) -> bool
     ensures { result ≡ same_leaf one.now other.now }
 {
     rank(&one.key) == rank(&other.key)

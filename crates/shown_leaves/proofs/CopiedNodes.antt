@@ -17,6 +17,7 @@ use Rattle.leaf_map.specs.Kept.{Placed, kept_at, node_key, shown}
 use Rattle.leaf_map.specs.Parts.{Committed, Named, Parts, in_bud, is_own, is_shown, own_node}
 use Rattle.journal_scan.specs.Content.{told}
 use Rattle.journal_scan.specs.declared.journal_node.JournalNode.{JournalNode}
+use Rattle.log_replay.specs.KeyToldLaws.{if_set, told_key}
 use Rattle.log_replay.specs.Replay.{told_committed}
 use Rattle.log_replay.specs.Things.{is_at_leaf, key_told}
 use Rattle.log_replay.specs.declared.committed_leaf.CommittedLeaf.{CommittedLeaf}
@@ -34,7 +35,7 @@ use Rattle.shown_leaves.specs.Sources.{bytes_of}
 use Rattle.shown_leaves.specs.Stored.{IsStoredIn, leaf_node}
 use Rattle.shown_leaves.specs.Told.{wrong_node_told}
 use Rattle.shown_leaves.specs.declared.stored_node.StoredNode.{StoredNode}
-use Rattle.shown_leaves.proofs.Contents.{if_set, told_key, wrong_is}
+use Rattle.shown_leaves.proofs.Contents.{wrong_is}
 use Rattle.shown_leaves.proofs.Rights.{all_end, right_more, right_never}
 use Rattle.shown_leaves.proofs.Stored.{IsOneNode, part_bytes, read_is}
 

@@ -1,12 +1,12 @@
 -- The leaves that are found are those of an index, where no two show the same.
-use Rattle.std.proofs.Common.{◌≡◌, ℕ, ◌+◌, ◌*◌, ◌^◌, ◌<◌, ◌≤◌, ◌%◌, nat_le, Bool, true, false, cond, not, List, [], ◌∷◌, ◌++◌, map, filter, Option, Some, None, refl, ap, sym, ◌∙◌, subst, arith}
+use Rattle.std.proofs.Common.{◌≡◌, ℕ, ◌≤◌, nat_le, Bool, true, false, cond, not, List, [], ◌∷◌, ◌++◌, map, filter, Option, Some, None, refl, ap, sym, ◌∙◌, subst, arith}
 use Rattle.std.specs.Prelude.{◌==◌, ◌&&◌, if◌then◌else◌}
 use Rattle.std.specs.List.{AllByRecursion, find, list_any}
 use Rattle.std.specs.Option.{option_map}
 use Rattle.std.proofs.lemmas.Bool.{eqb-true, le-leb, leb-true}
 use Rattle.std.proofs.lemmas.List.Elements.{recursion_from_All}
 use Rattle.ubifs_base.specs.Key.{IsKey, key_words}
-use Rattle.ubifs_base.specs.R5.{r5_from, r5_of}
+use Rattle.ubifs_base.specs.R5.{r5_of}
 use Rattle.ubifs_base.specs.declared.key.Key.{Key}
 use Rattle.ubifs_base.specs.declared.key.Key.TheVariants.{Ino, Block, Dent, Xent}
 use Rattle.media_leaf.specs.LeafNode.{IsLeaf, LeafNode, inode, block, entry, truncation}
@@ -21,65 +21,11 @@ use Rattle.change_nodes.specs.Nodes.{bits_of, gone_inode, inode_node, inode_of, 
 use Rattle.leaf_map.specs.Kept.{Kept, Placed, kept_at, node_key, shown}
 use Rattle.leaf_map.specs.LeafMap.{HasKeyOf, IsKeyed, IsLeafMap, are_apart, shows_same}
 use Rattle.leaf_map.specs.Parts.{Committed, Named, Parts, in_bud, is_own, is_shown, own_node}
+use Rattle.leaf_map.specs.RankLaws.{key_of_place}
 use Rattle.leaf_map.specs.Recovered.{copies_left, copy_of_key, found_leaves, is_original, leaf_at, leaves_found, spare_copies, stand_in}
 use Rattle.log_replay.specs.Settling.{HasGrammar}
 use Rattle.log_replay.specs.Told.{IsSetting}
 use Rattle.sound_image.proofs.Lists.{two_true}
-
--- ---- what is shown, and its place in the order
-r5_small : (name : List ℕ) → r5_of name < 2 ^ 29
-unfolding r5_of
-r5_small name = by (r5_from 0 name % 2 ^ 29) (omega arith)
-  where
-    by : (m : ℕ) → m < 2 ^ 29 → cond (nat_le m 2) (m + 3) m < 2 ^ 29
-    by m h = test (nat_le m 2) refl
-      where
-        test : (b : Bool) → nat_le m 2 ≡ b → cond b (m + 3) m < 2 ^ 29
-        test true e = let l = leb-true m 2 e in omega (arith, l)
-        test false e = h
-
-abbrev rank_shown : Option Change → ℕ
-rank_shown (Some (SetInode ino it)) = ino * 2 ^ 33
-rank_shown (Some (SetBlock ino number bytes)) = ino * 2 ^ 33 + (2 ^ 29 + number)
-rank_shown (Some (SetEntry e)) = e.dir * 2 ^ 33 + (2 ^ 30 + r5_of e.name)
-rank_shown other = 0
-
-rank_is : (leaf : Leaf) (s : Option Change) → HasKeyOf leaf s → leaf_rank leaf ≡ rank_shown s
-unfolding key_rank
-rank_is leaf (Some (SetInode ino it)) h = ap key_rank h ∙ omega arith
-rank_is leaf (Some (SetBlock ino number bytes)) h = ap key_rank h.0 ∙ omega arith
-rank_is leaf (Some (SetEntry e)) h = ap key_rank h ∙ omega arith
-rank_is leaf other h = absurd h
-
--- a key that is one has what is shown, if it has its place
-key_of_place : (s : Option Change) (leaf : Leaf) (k : Key) → HasKeyOf leaf s → IsKey k → leaf_rank leaf ≡ key_rank k → leaf.key ≡ k
-unfolding key_rank
-key_of_place s leaf k h g e = by s k h g (sym (rank_is leaf s h) ∙ e)
-  where
-    by : (s : Option Change) (k : Key) → HasKeyOf leaf s → IsKey k → rank_shown s ≡ key_rank k → leaf.key ≡ k
-    by (Some (SetInode a x)) (Ino b) h g r = h ∙ ap (λ (n : ℕ). Ino n) (omega (arith, r))
-    by (Some (SetInode a x)) (Block b n) h g r = let small = g.1 in absurd (omega (arith, r, small))
-    by (Some (SetInode a x)) (Dent b n) h g r = let small = g.1 in absurd (omega (arith, r, small))
-    by (Some (SetInode a x)) (Xent b n) h g r = let small = g.1 in absurd (omega (arith, r, small))
-    by (Some (SetBlock a n x)) (Ino b) h g r = let small = h.1 in absurd (omega (arith, r, small))
-    by (Some (SetBlock a n x)) (Block b k) h g r =
-        let p = h.1 in
-        let q = g.1 in
-        let i : a ≡ b = omega (arith, r, p, q) in
-        let j : n ≡ k = omega (arith, r, p, q) in
-        h.0 ∙ ap (λ (z : ℕ). Block z n) i ∙ ap (λ (z : ℕ). Block b z) j
-    by (Some (SetBlock a n x)) (Dent b k) h g r = let p = h.1 in let q = g.1 in absurd (omega (arith, r, p, q))
-    by (Some (SetBlock a n x)) (Xent b k) h g r = let p = h.1 in let q = g.1 in absurd (omega (arith, r, p, q))
-    by (Some (SetEntry e)) (Ino b) h g r = let p = r5_small e.name in absurd (omega (arith, r, p))
-    by (Some (SetEntry e)) (Block b k) h g r = let p = r5_small e.name in let q = g.1 in absurd (omega (arith, r, p, q))
-    by (Some (SetEntry e)) (Dent b k) h g r =
-        let p = r5_small e.name in
-        let q = g.1 in
-        let i : e.dir ≡ b = omega (arith, r, p, q) in
-        let j : r5_of e.name ≡ k = omega (arith, r, p, q) in
-        h ∙ ap (λ (z : ℕ). Dent z (r5_of e.name)) i ∙ ap (λ (z : ℕ). Dent b z) j
-    by (Some (SetEntry e)) (Xent b k) h g r = let p = r5_small e.name in let q = g.1 in absurd (omega (arith, r, p, q))
-    by s k h g r = absurd h
 
 -- a node that sets something has the key of what it shows
 pub shown_key : (node : LeafNode) (leaf : Leaf) → IsLeaf node → is_shown (shown node) ≡ true → leaf.key ≡ node_key node → HasKeyOf leaf (shown node)
@@ -181,7 +127,7 @@ left_setting copies c None all = by (copy_of_key c.leaf copies) refl
 found_one : (named : List Named) (copies : List Placed) (c : Committed) (own : Option Placed) → own_node named c ≡ own → HasGrammar c → IsKey c.leaf.key → AreSetting copies → AllByRecursion (IsFoundFor c.leaf) (leaf_at copies c own)
 found_one named copies c (Some own) e g k all =
     let is = own_of named c own g e in
-    let key = key_of_place (shown own.node) (kept_at own).leaf c.leaf.key (setting_key own is.setting) k (sym is.rank) in
+    let key = key_of_place (kept_at own).leaf (shown own.node) c.leaf.key (setting_key own is.setting) k (sym is.rank) in
     (record { keyed = with_key (kept_at own).leaf c.leaf (shown own.node) key (setting_key own is.setting); key = refl }, tt)
 found_one named copies c None e g k all = copy (copy_of_key c.leaf copies) refl
   where
@@ -194,7 +140,7 @@ found_one named copies c None e g k all = copy (copy_of_key c.leaf copies) refl
     copy (Some d) f =
         let is = find_all (λ z. IsSetting z.node) (λ z. leaf_rank (kept_at z).leaf == leaf_rank c.leaf) copies d all f in
         let rank = eqb-true (leaf_rank (kept_at d).leaf) (leaf_rank c.leaf) is.1 in
-        rw f (record { keyed = setting_key d is.0; key = key_of_place (shown d.node) (kept_at d).leaf c.leaf.key (setting_key d is.0) k rank }, tt)
+        rw f (record { keyed = setting_key d is.0; key = key_of_place (kept_at d).leaf (shown d.node) c.leaf.key (setting_key d is.0) k rank }, tt)
 
 -- ---- all of them
 -- a leaf's key names no number above this one

@@ -1,6 +1,6 @@
 -- The changes that live nodes carry stand in order of key, and no two of them set the same.
-use Rattle.std.proofs.Common.{◌≡◌, ◌⊎◌, ◌++◌, ◌+◌, ◌*◌, ◌^◌, ◌%◌, ◌<◌, ◌≤◌, ℕ, Bool, true, false, cond, List, [], ◌∷◌, map, refl, sym, ap, subst, ◌∙◌, arith, inl, inr, Some}
-use Rattle.std.specs.Prelude.{⊤, ◌==◌, nat_le, filter, fold}
+use Rattle.std.proofs.Common.{◌≡◌, ◌⊎◌, ◌++◌, ◌+◌, ◌*◌, ◌^◌, ◌<◌, ◌≤◌, ℕ, Bool, true, false, cond, List, [], ◌∷◌, map, refl, sym, ap, subst, ◌∙◌, arith, inl, inr, Some}
+use Rattle.std.specs.Prelude.{⊤, ◌==◌, filter, fold}
 use Rattle.std.specs.BTreeMap.{insert_entry}
 use Rattle.std.specs.Cmp.Lexicographic.{slice_cmp}
 use Rattle.std.specs.List.{AllByRecursion, list_all}
@@ -8,10 +8,10 @@ use Rattle.std.specs.Map.{keys_of, values_of}
 use Rattle.std.specs.Ordering.{is_lt, match_ordering, nat_cmp, ordering_then}
 use Rattle.std.specs.declared.cmp.Ordering.{Ordering}
 use Rattle.std.specs.declared.cmp.Ordering.TheVariants.{Less, Equal, Greater}
-use Rattle.std.proofs.lemmas.Bool.{false≢true, and_left, and_right, and_parts, eqb-true, leb-true, false_from_ne_true}
+use Rattle.std.proofs.lemmas.Bool.{false≢true, and_left, and_right, and_parts, eqb-true, false_from_ne_true}
 use Rattle.std.proofs.lemmas.Bool.Decides.{nat_tests}
 use Rattle.std.proofs.lemmas.Map.Lookups.{exact_unsigned}
-use Rattle.ubifs_base.specs.R5.{r5_from, r5_of}
+use Rattle.ubifs_base.specs.R5.{r5_of}
 use Rattle.fs_model.specs.declared.change.Change.{Change}
 use Rattle.fs_model.specs.declared.change.Change.TheVariants.{SetInode, SetEntry, SetBlock}
 use Rattle.fs_model.specs.declared.inode.Entry.{Entry}
@@ -22,20 +22,10 @@ use Rattle.fs_model.specs.Path.{is_same_name}
 use Rattle.fs_model.specs.Proper.{ascends, is_block_node}
 use Rattle.fs_laws.specs.Maps.{below_rest, filter_ascends, insert_ascends, tail_ascends}
 use Rattle.fs_laws.specs.Orders.{named, numbers, pairs}
+use Rattle.change_nodes.specs.FitLaws.{r5_small}
 use Rattle.leaf_map.specs.After.{goes}
 use Rattle.tree_nodes.specs.Stored.{as_stored, hash_and_name}
 use Rattle.tree_nodes.proofs.Changes.{all_append, all_by_hash, changes_from, changes_of, name_is, set_block}
-
-pub r5_small : (name : List ℕ) → r5_of name < 2 ^ 29
-unfolding r5_of
-r5_small name = by (r5_from 0 name % 2 ^ 29) (omega arith)
-  where
-    by : (m : ℕ) → m < 2 ^ 29 → cond (nat_le m 2) (m + 3) m < 2 ^ 29
-    by m h = test (nat_le m 2) refl
-      where
-        test : (b : Bool) → nat_le m 2 ≡ b → cond b (m + 3) m < 2 ^ 29
-        test true e = let l = leb-true m 2 e in omega (arith, l)
-        test false e = h
 
 -- the place of what a change sets in the order of keys
 abbrev pub place_of : Change → ℕ
