@@ -3,9 +3,9 @@ use Rattle.std.proofs.Common.{◌≡◌, ℕ, ◌<◌, ◌≤◌, true, List, []
 use Rattle.std.proofs.lemmas.List.Elements.{All-weaker}
 use Rattle.commit_steps.specs.UnderWayLaws.{given_all, given_behind, given_front, given_of}
 use Rattle.std.specs.Prelude.{All, None, Result, Ok, Err, IfOk, OnOk, slice_get}
+use Rattle.index_media.specs.Clean.{is_clean_row}
 use Rattle.index_media.specs.KeyedRow.{KeyedRow, all_clean}
 use Rattle.index_media.specs.PlacedRow.{PlacedRow, ended, leaf_at, node_at}
-use Rattle.node_table.specs.Clean.{is_clean_row}
 use Rattle.ubi_volume.specs.Geometry.{IsGeometryOf}
 use Rattle.ubi_volume.specs.Volume.{SameShape, VolumeState}
 use Rattle.ubifs_base.specs.declared.raw_geometry.RawGeometry.{RawGeometry}

@@ -2,12 +2,13 @@
 use Rattle.std.specs.Prelude.{ℕ, List, ◌++◌}
 use Rattle.index_media.specs.KeyedRow.{KeyedRow}
 use Rattle.index_media.specs.PlacedRow.{Stretch}
+use Rattle.index_media.specs.Standing.{AreStandingAs}
 use Rattle.ubi_volume.specs.Frame.{IsSameLeb}
 use Rattle.ubi_volume.specs.Volume.{VolumeState, Leaves, Only}
 use Rattle.index_cache.specs.Paged.{frozen_of, tree_of}
 use Rattle.index_cache.specs.declared.paged.PagedIndex.{PagedIndex}
 use Rattle.index_commit.specs.Lebs.{AreApart, IsGiven}
-use Rattle.index_commit.specs.Standing.{AreOutside, AreStandingAs}
+use Rattle.index_commit.specs.Standing.{AreOutside}
 
 -- a place is in one of these LEBs
 abbrev pub IsWithinLebs : List ℕ → Stretch → ℕ → ℕ → Type 0

@@ -5,13 +5,14 @@ use Rattle.std.proofs.lemmas.Bool.{cases_eq}
 use Rattle.std.proofs.lemmas.List.Elements.{All-cons, All-head, All-nil, All-tail, All-weaker}
 use Rattle.ubifs_base.specs.declared.key.Key.{Key}
 use Rattle.ubifs_base.specs.declared.raw_geometry.RawGeometry.{RawGeometry}
+use Rattle.index_media.specs.Clean.{is_clean_row, node_branch, placed_of}
 use Rattle.index_media.specs.KeyedRow.{KeyedRow, no_more, leaf_in, node_in, all_clean}
 use Rattle.index_media.specs.PlacedRow.{PlacedRow, Stretch, all_nodes, branches_of, lebs_of}
+use Rattle.index_media.specs.Standing.{AreStandingAs, OfClean, StandsAs}
 use Rattle.index_media.specs.Stored.{IsIndexNodeAt, IsStoredIndex}
 use Rattle.media_sys.specs.Index.{Index}
 use Rattle.media_sys.specs.SystemNode.{IsSystemNode, index as index_node}
 use Rattle.media_sys.specs.declared.branch.Branch.{Branch}
-use Rattle.node_table.specs.Clean.{is_clean_row, node_branch, placed_of}
 use Rattle.node_table.specs.NodeView.{tree_at}
 use Rattle.node_table.specs.Placing.{KeepsPlaces}
 use Rattle.node_table.specs.declared.node.Root.{Root}
@@ -24,7 +25,7 @@ use Rattle.index_cache.specs.declared.paged.PagedIndex.{PagedIndex}
 use Rattle.index_commit.specs.Lebs.{AreApart, IsGiven}
 use Rattle.index_commit.specs.LebTexts.{IsLebOf, firsts, nodes_written, said_by}
 use Rattle.index_commit.specs.Rooms.{Room}
-use Rattle.index_commit.specs.Standing.{AreOutside, AreStandingAs, IsOutside, OfClean, StandsAs}
+use Rattle.index_commit.specs.Standing.{AreOutside, IsOutside}
 use Rattle.index_commit.specs.Written.{AreStanding, IsIndexKept, IsIndexTaken, WorksInLebs}
 use Rattle.commit_steps.specs.UnderWay.{AreSettledLebs, AreWithinLebs, IsCommitUnderWay, IsSeenWithin, IsWithinLebs, WorksBeside}
 

@@ -7,6 +7,7 @@ use Rattle.ubifs_base.specs.Key.{IsKey}
 use Rattle.index_tree.specs.Levels.{levelled}
 use Rattle.index_tree.specs.Shape.{Shape, done, node, fits}
 use Rattle.media_sys.specs.declared.branch.Branch.{Branch}
+use Rattle.index_media.specs.Clean.{is_clean_row}
 use Rattle.index_media.specs.InsertionLaws.{clean_bare}
 use Rattle.index_media.specs.InsertionSound.{AreKeys}
 use Rattle.index_media.specs.KeyedRow.{no_more, all_clean}
@@ -14,7 +15,6 @@ use Rattle.index_media.specs.PlacedRow.{PlacedRow, ended, leaf_at, node_at, plai
 use Rattle.index_media.specs.Stored.{AreStored}
 use Rattle.node_cache.specs.Loaded.{IsRowOn}
 use Rattle.node_cache.specs.RowsOn.{below, clean_bounded, said_by}
-use Rattle.node_table.specs.Clean.{is_clean_row}
 use Rattle.node_table.specs.Sound.{IsSoundView}
 use Rattle.ubi_volume.specs.Volume.{VolumeState}
 

@@ -10,12 +10,12 @@ use Rattle.ubifs_base.specs.declared.key.Key.{Key}
 use Rattle.ubifs_base.specs.declared.memory.Memory.{Memory}
 use Rattle.index_tree.specs.Levels.{levelled}
 use Rattle.index_tree.specs.Shape.{Shape, count, leaf, node, done, is_whole}
+use Rattle.index_media.specs.Clean.{node_branch, placed_of}
 use Rattle.index_media.specs.InsertionSound.{AreKeys, fit_node}
 use Rattle.index_media.specs.KeyedRow.{KeyedRow, no_more, leaf_in, node_in, bare}
 use Rattle.index_media.specs.PlacedRow.{Stretch, plain, branch_to, branches_of}
 use Rattle.media_sys.specs.Index.{IsIdxNode, in_order}
 use Rattle.media_sys.specs.declared.branch.Branch.{Branch}
-use Rattle.node_table.specs.Clean.{node_branch, placed_of}
 use Rattle.node_table.specs.NodeView.{NodeView, views, view_of, row_of, node_before, children_in, tree_at}
 use Rattle.node_table.specs.Pruning.{place_in}
 use Rattle.node_table.specs.Sound.{IsSoundView, AreSoundViews}

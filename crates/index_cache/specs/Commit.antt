@@ -1,10 +1,11 @@
 -- What a commit writes of a frozen index.
 use Rattle.std.specs.Prelude.{◌≡◌, ◌+◌, ◌*◌, ℕ, List, Option, None, Some, length, slice_get}
+use Rattle.index_media.specs.Clean.{node_branch, placed_of}
 use Rattle.index_media.specs.KeyedRow.{KeyedRow}
 use Rattle.index_media.specs.PlacedRow.{branch_to, branches_of}
 use Rattle.media_sys.specs.Index.{Index}
 use Rattle.media_sys.specs.declared.branch.Branch.{Branch}
-use Rattle.node_table.specs.Clean.{node_branch, placed_of, IsReadyNode}
+use Rattle.node_table.specs.Clean.{IsReadyNode}
 use Rattle.node_table.specs.NodeView.{NodeView, views, children_in}
 use Rattle.node_table.specs.Pruning.{place_in}
 use Rattle.node_table.specs.declared.link.Link.{Link}

@@ -1,10 +1,10 @@
 // A caller of several calls, proved from their contracts alone.
 
 ghost use Rattle.std.specs.Prelude.{◌≡◌, IfOk, OnOk, IsTrue};
+ghost use Rattle.index_media.specs.Clean.{placed_of};
 ghost use Rattle.index_media.specs.KeyedRow.{all_clean};
 ghost use Rattle.index_media.specs.PlacedRow.{PlacedRow, plain};
 ghost use Rattle.index_tree.specs.Shape.{contents};
-ghost use Rattle.node_table.specs.Clean.{placed_of};
 ghost use Rattle.node_table.specs.Placing.{KeepsPlaces};
 ghost use Rattle.node_table.specs.Changing.{AreChanges, changed_by, leaves_after_all};
 ghost use Rattle.ubifs_base.specs.Key.{IsKey};

@@ -1,13 +1,13 @@
 // What a commit does with an index: it freezes it, and writes its dirty nodes, children before their parent.
 
 ghost use Rattle.std.specs.Prelude.{◌≡◌, ◌≤◌, ℕ, true, IfOk, IfSome, IfNone, IsTrue, None, Option, length, option_map, slice_get};
+ghost use Rattle.index_media.specs.Clean.{placed_of};
 ghost use Rattle.index_media.specs.KeyedRow.{all_clean, bare};
 ghost use Rattle.index_media.specs.PlacedRow.{branches_of};
 ghost use Rattle.index_tree.specs.Levels.{levelled};
 ghost use Rattle.index_tree.specs.Shape.{fits, is_whole};
 ghost use Rattle.media_sys.specs.Index.{in_order};
 ghost use Rattle.media_sys.specs.SystemNode.{IsSystemNode, index, written};
-ghost use Rattle.node_table.specs.Clean.{placed_of};
 ghost use Rattle.node_table.specs.NodeView.{tree_at};
 ghost use Rattle.node_table.specs.Placing.{with_place, IsPlacedRow, without_number};
 ghost use Rattle.node_table.specs.Staging.{IsSoundRoot};

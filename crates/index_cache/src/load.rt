@@ -1,9 +1,9 @@
 // An index is loaded from a volume: what is below a node before the node itself.
 
 ghost use Rattle.std.specs.Prelude.{◌≡◌, ◌+◌, ◌<◌, true, IfOk, OnOk, Some, length};
+ghost use Rattle.index_media.specs.Clean.{is_clean_row};
 ghost use Rattle.index_media.specs.KeyedRow.{KeyedRow, no_more, node_in, all_clean};
 ghost use Rattle.index_media.specs.PlacedRow.{PlacedRow, ended, node_at, branches_of, stretch_of, leaf_of};
-ghost use Rattle.node_table.specs.Clean.{is_clean_row};
 ghost use Rattle.node_table.specs.NodeView.{views, row_of, linked_before};
 ghost use Rattle.node_table.specs.Sound.{IsSoundView};
 ghost use Rattle.node_table.specs.Staging.{row_before, AreLinksIn, IsAdded};

@@ -1,9 +1,9 @@
 // A node of the table as an index node of the medium.
 
 ghost use Rattle.std.specs.Prelude.{◌≡◌, ◌≤◌, ◌+◌, ◌++◌, length, map, slice_get, vec_len, vec_capacity};
+ghost use Rattle.index_media.specs.Clean.{node_branch, placed_of};
 ghost use Rattle.index_media.specs.PlacedRow.{branches_of};
 ghost use Rattle.media_sys.specs.Index.{in_order, is_entry as is_entry_key, may_follow as may_follow_key};
-ghost use Rattle.node_table.specs.Clean.{node_branch, placed_of};
 ghost use Rattle.node_table.specs.NodeView.{views, row_of};
 ghost use Rattle.node_table.specs.Pruning.{place_in};
 ghost use Rattle.ubifs_base.specs.Key.{key_words};

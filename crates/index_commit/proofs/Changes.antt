@@ -11,6 +11,7 @@ use Rattle.index_tree.specs.RangeRemoval.{in_range, within_range}
 use Rattle.index_tree.specs.Removal.{holds, same_leaf}
 use Rattle.index_tree.specs.Shape.{Shape, contents, count, fits, left_half, lone}
 use Rattle.index_tree.specs.declared.leaf.Leaf.{Leaf}
+use Rattle.index_media.specs.Clean.{is_clean_row, placed_of}
 use Rattle.index_media.specs.Insertion.{inserted_by_keys, keyed_back, keyed_front, keyed_parted, lowered, starts_by, with_leaf_by_keys}
 use Rattle.index_media.specs.InsertionLaws.{clean_bare}
 use Rattle.index_media.specs.InsertionSound.{fit_node}
@@ -18,15 +19,15 @@ use Rattle.index_media.specs.KeyedRange.{place_without_range, pruned_by_keys, wi
 use Rattle.index_media.specs.KeyedRemoval.{keyed_collapsed, keyed_tidied, removed_by_keys, replaced_by_keys, without_leaf_by_keys}
 use Rattle.index_media.specs.KeyedRow.{KeyedRow, no_more, leaf_in, node_in, all_clean, bare}
 use Rattle.index_media.specs.PlacedRow.{PlacedRow, ended, leaf_at, node_at, Stretch, all_nodes, branches_of, lebs_of, plain}
+use Rattle.index_media.specs.Standing.{OfClean, OfCleanNodes, StandsAs}
 use Rattle.index_media.specs.Stored.{AreStored, IsIndexNodeAt}
 use Rattle.media_sys.specs.declared.branch.Branch.{Branch}
 use Rattle.node_table.specs.Changing.{changed}
-use Rattle.node_table.specs.Clean.{is_clean_row, placed_of}
 use Rattle.node_table.specs.Exchange.{tree_without}
 use Rattle.node_table.specs.declared.change.Change.{Change}
 use Rattle.node_table.specs.declared.change.Change.TheVariants.{Insert, Remove, RemoveRange, Replace}
 use Rattle.index_commit.specs.Lebs.{IsGiven}
-use Rattle.index_commit.specs.Standing.{AreOutside, IsOutside, OfClean, OfCleanNodes, StandsAs}
+use Rattle.index_commit.specs.Standing.{AreOutside, IsOutside}
 
 -- ---- insertions
 front_clean : (P : Key → Stretch → KeyedRow → Type 0) (n : ℕ) (row : KeyedRow) → OfCleanNodes P row → OfCleanNodes P (keyed_front n row)

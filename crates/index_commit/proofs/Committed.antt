@@ -10,11 +10,12 @@ use Rattle.ubifs_base.specs.RawOf.{raw_of}
 use Rattle.ubifs_base.specs.declared.geometry.Geometry.{Geometry}
 use Rattle.index_tree.specs.Levels.{levelled}
 use Rattle.index_tree.specs.Shape.{fits, is_whole}
+use Rattle.index_media.specs.Clean.{is_clean_row, placed_of}
 use Rattle.index_media.specs.KeyedKeys.{AreKeysBounded}
 use Rattle.index_media.specs.KeyedRow.{KeyedRow, no_more, leaf_in, node_in, all_clean, bare}
 use Rattle.index_media.specs.PlacedRow.{PlacedRow, ended, leaf_at, node_at, all_nodes, branches_of}
+use Rattle.index_media.specs.Standing.{AreStandingAs}
 use Rattle.media_sys.specs.declared.branch.Branch.{Branch}
-use Rattle.node_table.specs.Clean.{is_clean_row, placed_of}
 use Rattle.node_table.specs.NodeView.{tree_at}
 use Rattle.node_table.specs.declared.node.Root.{Root}
 use Rattle.ubi_volume.specs.Volume.{VolumeState, Only}
@@ -22,7 +23,7 @@ use Rattle.index_cache.specs.Paged.{dirty_of, fanout_of, frozen_of}
 use Rattle.index_cache.specs.declared.paged.PagedIndex.{PagedIndex}
 use Rattle.index_commit.specs.Lebs.{IsGiven}
 use Rattle.index_commit.specs.Rooms.{Room}
-use Rattle.index_commit.specs.Standing.{AreOutside, AreStandingAs}
+use Rattle.index_commit.specs.Standing.{AreOutside}
 use Rattle.index_commit.specs.Written.{AreLebsSettled, AreStanding, IsHeadAfter, IsIndexAt, IsIndexTaken, IsNewIn}
 use Rattle.index_commit.specs.declared.index_at.IndexHead.{IndexHead}
 use Rattle.index_commit.proofs.Standing.{clean_node}

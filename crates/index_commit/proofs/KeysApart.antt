@@ -10,6 +10,7 @@ use Rattle.index_tree.specs.RangeRemoval.{in_range}
 use Rattle.index_tree.specs.Removal.{holds, same_leaf}
 use Rattle.index_tree.specs.Shape.{contents, count, first_rank, left_half, lone}
 use Rattle.index_tree.specs.declared.leaf.Leaf.{Leaf}
+use Rattle.index_media.specs.Clean.{node_branch, placed_of}
 use Rattle.index_media.specs.Insertion.{first_key, inserted_by_keys, keyed_back, keyed_front, keyed_parted, lowered, starts_by, with_leaf_by_keys}
 use Rattle.index_media.specs.InsertionSound.{AreKeys}
 use Rattle.index_media.specs.KeyedKeys.{AreKeysBounded, key_before}
@@ -19,7 +20,6 @@ use Rattle.index_media.specs.KeyedRow.{KeyedRow, HaveFirstKeys, no_more, leaf_in
 use Rattle.index_media.specs.PlacedRow.{Stretch, branches_of}
 use Rattle.media_sys.specs.Index.{in_order, is_entry, may_follow}
 use Rattle.node_table.specs.Changing.{IsChange, changed}
-use Rattle.node_table.specs.Clean.{node_branch, placed_of}
 use Rattle.node_table.specs.Exchange.{tree_without}
 use Rattle.node_table.specs.Placing.{KeepsPlaces}
 use Rattle.node_table.specs.declared.change.Change.{Change}

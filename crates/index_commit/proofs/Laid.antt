@@ -8,11 +8,12 @@ use Rattle.std.proofs.Math.Nat.{add-mul}
 use Rattle.std.proofs.Math.Seq.{drop-append_seam, take-append_seam}
 use Rattle.ubifs_base.specs.declared.key.Key.{Key}
 use Rattle.index_tree.specs.Levels.{levelled}
+use Rattle.index_media.specs.Clean.{is_clean_row}
 use Rattle.index_media.specs.KeyedRow.{KeyedRow, bare}
 use Rattle.index_media.specs.PlacedRow.{Stretch}
+use Rattle.index_media.specs.Standing.{AreStandingAs, StandsAs}
 use Rattle.media_sys.specs.SystemNode.{index, IsSystemNode}
 use Rattle.media_sys.specs.Index.{Index}
-use Rattle.node_table.specs.Clean.{is_clean_row}
 use Rattle.node_table.specs.NodeView.{stretch_at, tree_at}
 use Rattle.node_table.specs.Placing.{IsPlacedRow, KeepsPlaces, with_place, without_number}
 use Rattle.node_table.specs.declared.node.NodePlace.{NodePlace}
@@ -21,7 +22,6 @@ use Rattle.index_cache.specs.Commit.{IsNextNode, below_node, node_length, place_
 use Rattle.index_cache.specs.Paged.{dirty_of, frozen_of, tree_of, KeepsRoots}
 use Rattle.index_cache.specs.declared.paged.PagedIndex.{PagedIndex}
 use Rattle.index_commit.specs.Rooms.{IsInRoom, Room, room_in}
-use Rattle.index_commit.specs.Standing.{AreStandingAs, StandsAs}
 use Rattle.index_commit.specs.Written.{AreFirstsTaken, IsIndexKept, IsIndexTaken, AreNodesLaid, Laying, Meets, with_leb_bytes}
 use Rattle.index_commit.specs.LebTexts.{in_room}
 use Rattle.index_commit.proofs.LebTexts.{both_texts, firsts_taken, one_text}

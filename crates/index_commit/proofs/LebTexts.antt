@@ -7,9 +7,9 @@ use Rattle.std.proofs.lemmas.List.{drop_all, length-map, map-append, take_all}
 use Rattle.ubifs_base.specs.Gap.{gap_of}
 use Rattle.ubifs_base.specs.Geometry.{index_node_len, index_nodes_per_leb}
 use Rattle.ubifs_base.specs.declared.raw_geometry.RawGeometry.{RawGeometry}
+use Rattle.index_media.specs.Clean.{is_clean_row}
 use Rattle.index_media.specs.PlacedRow.{node_end}
 use Rattle.media_sys.specs.Index.{Index}
-use Rattle.node_table.specs.Clean.{is_clean_row}
 use Rattle.node_table.specs.Placing.{without_number}
 use Rattle.ubi_volume.specs.Frame.{Elsewhere, IsSameLeb}
 use Rattle.ubi_volume.specs.FrameLaws.{IsSameLeb-none, IsSameLeb-then, Only-same}

@@ -8,13 +8,14 @@ use Rattle.std.proofs.lemmas.List.Elements.{All-weaker}
 use Rattle.ubifs_base.specs.declared.key.Key.{Key}
 use Rattle.ubifs_base.specs.declared.raw_geometry.RawGeometry.{RawGeometry}
 use Rattle.ubifs_base.specs.Gap.{gap_of}
+use Rattle.index_media.specs.Clean.{node_branch, placed_of}
 use Rattle.index_media.specs.KeyedRow.{KeyedRow}
 use Rattle.index_media.specs.PlacedRow.{PlacedRow, Stretch, branches_of, lebs_of}
+use Rattle.index_media.specs.Standing.{AreStandingAs, StandsAs}
 use Rattle.index_media.specs.Stored.{IsIndexNodeAt, IsStoredIndex}
 use Rattle.media_sys.specs.Index.{Index}
 use Rattle.media_sys.specs.SystemNode.{index, IsSystemNode}
 use Rattle.media_sys.specs.declared.branch.Branch.{Branch}
-use Rattle.node_table.specs.Clean.{node_branch, placed_of}
 use Rattle.node_table.specs.NodeView.{tree_at}
 use Rattle.node_table.specs.declared.node.Root.{Root}
 use Rattle.ubi_volume.specs.Frame.{Elsewhere, IsSameLeb}
@@ -27,7 +28,7 @@ use Rattle.index_cache.specs.declared.paged.PagedIndex.{PagedIndex}
 use Rattle.index_commit.specs.Answers.{IsIndexNotFailed}
 use Rattle.index_commit.specs.declared.index_fault.IndexFault.{IndexFault}
 use Rattle.index_commit.specs.Lebs.{AreGivable, IsGiven}
-use Rattle.index_commit.specs.Standing.{AreStandingAs, IsOutside, StandsAs}
+use Rattle.index_commit.specs.Standing.{IsOutside}
 use Rattle.index_commit.specs.Written.{AreStanding, AreFirstsTaken, AreWritten, IsHeadAfter, IsHeadIn, AreNodesLaid, IsLebPut, IsNewIn, IsPut, Demand, Meets, IsSettledOutside, KeepsOtherIndexes, WorksInLebs, with_leb_bytes}
 use Rattle.index_commit.specs.declared.index_at.IndexHead.{IndexHead}
 use Rattle.index_commit.proofs.Laid.{AreFewer, taken_fewer}

@@ -2,11 +2,11 @@
 use Rattle.std.proofs.Common.{◌≡◌, ℕ, zero, suc, ◌+◌, ◌-◌, ◌<◌, true, List, [], ◌∷◌, ◌++◌, length, refl, ap, sym, ◌∙◌, subst, arith, inl, inr, length-append}
 use Rattle.std.specs.Prelude.{◌⊎◌, ◌&&◌, Option, None, Some, Result, Ok, Err, slice_get, unwrap_or, ⊤}
 use Rattle.ubifs_base.specs.declared.key.Key.{Key}
+use Rattle.index_media.specs.Clean.{node_branch, placed_of}
 use Rattle.index_media.specs.KeyedRow.{KeyedRow, no_more, leaf_in, node_in, all_clean}
 use Rattle.index_media.specs.PlacedRow.{PlacedRow, ended, leaf_at, node_at, Stretch, branches_of}
 use Rattle.index_media.specs.Stored.{AreStored}
 use Rattle.media_sys.specs.Index.{in_order, may_follow}
-use Rattle.node_table.specs.Clean.{node_branch, placed_of}
 use Rattle.node_table.specs.Dirty.{dirty_among, dirty_behind, dirty_below, dirty_from, dirty_node}
 use Rattle.node_table.specs.NodeView.{NodeView, children_in, node_before, row_of, tree_at, view_of, views, views_behind}
 use Rattle.node_table.specs.Placing.{KeepsPlaces}

@@ -8,10 +8,11 @@ use Rattle.std.proofs.lemmas.List.Elements.{All-head, All-tail}
 use Rattle.ubifs_base.specs.declared.key.Key.{Key}
 use Rattle.ubifs_base.specs.declared.raw_geometry.RawGeometry.{RawGeometry}
 use Rattle.index_tree.specs.Shape.{done, fits}
+use Rattle.index_media.specs.Clean.{is_clean_row}
 use Rattle.index_media.specs.InsertionSound.{fit_node}
 use Rattle.index_media.specs.KeyedRow.{KeyedRow, no_more, leaf_in, node_in, bare}
 use Rattle.index_media.specs.PlacedRow.{Stretch}
-use Rattle.node_table.specs.Clean.{are_clean_below, is_clean_below, is_clean_row}
+use Rattle.node_table.specs.Clean.{are_clean_below, is_clean_below}
 use Rattle.node_table.specs.Dirty.{dirty_among, dirty_behind, dirty_below, dirty_from, dirty_lists, dirty_node}
 use Rattle.node_table.specs.NodeView.{NodeView, node_before, row_of, stretch_at, tree_at, view_of, views, views_behind}
 use Rattle.node_table.specs.Placing.{without_number}

@@ -3,17 +3,17 @@ use Rattle.std.proofs.Common.{◌≡◌, ℕ, ◌+◌, ◌≤◌, true, false, L
 use Rattle.std.specs.Prelude.{◌⊎◌, ◌&&◌, Bool, Option, None, Some, is_some}
 use Rattle.std.proofs.lemmas.List.{take-append-le, drop-append-le}
 use Rattle.ubifs_base.specs.declared.key.Key.{Key}
+use Rattle.index_media.specs.Clean.{is_clean_row, node_branch, placed_of}
 use Rattle.index_media.specs.KeyedRow.{KeyedRow, no_more, leaf_in, node_in}
 use Rattle.index_media.specs.PlacedRow.{Stretch, branches_of}
+use Rattle.index_media.specs.Standing.{OfClean, OfCleanNodes, StandsAs, AreStandingAs}
 use Rattle.index_media.specs.Stored.{IsIndexNodeAt}
 use Rattle.media_sys.specs.Index.{Index}
 use Rattle.media_sys.specs.SystemNode.{index, IsSystemNode}
 use Rattle.media_sys.specs.declared.branch.Branch.{Branch}
-use Rattle.node_table.specs.Clean.{is_clean_row, node_branch, placed_of}
 use Rattle.node_table.specs.NodeView.{stretch_at}
 use Rattle.node_table.specs.Placing.{IsPlacedRow}
 use Rattle.node_table.specs.declared.node.NodePlace.{NodePlace}
-use Rattle.index_commit.specs.Standing.{OfClean, OfCleanNodes, StandsAs, AreStandingAs}
 
 -- ---- clean rows
 pub and_left : (a b : Bool) → (a && b) ≡ true → a ≡ true

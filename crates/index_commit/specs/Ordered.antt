@@ -1,9 +1,9 @@
 -- Indexes whose nodes have their keys in order.
 use Rattle.std.specs.Prelude.{◌≡◌, true, None, Result, Ok, Err, ⊤}
+use Rattle.index_media.specs.Clean.{placed_of}
 use Rattle.index_media.specs.KeyedRow.{KeyedRow, no_more, leaf_in, node_in}
 use Rattle.index_media.specs.PlacedRow.{branches_of}
 use Rattle.media_sys.specs.Index.{in_order}
-use Rattle.node_table.specs.Clean.{placed_of}
 use Rattle.index_commit.specs.declared.index_fault.IndexFault.{IndexFault}
 use Rattle.index_commit.specs.declared.index_fault.IndexFault.TheVariants.{Memory, Full, EqualKeys, Volume}
 

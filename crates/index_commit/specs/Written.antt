@@ -2,11 +2,12 @@
 use Rattle.std.specs.Prelude.{◌≡◌, ◌⊎◌, ◌<◌, ◌≤◌, ◌+◌, ◌-◌, ◌*◌, ◌%◌, ◌==◌, ℕ, if◌then◌else◌, List, [], ◌∷◌, ◌++◌, Option, None, Some, length, map, slice_get, All}
 use Rattle.ubifs_base.specs.Gap.{gap_of}
 use Rattle.ubifs_base.specs.declared.raw_geometry.RawGeometry.{RawGeometry}
+use Rattle.index_media.specs.Clean.{placed_of}
 use Rattle.index_media.specs.KeyedRow.{KeyedRow, no_more, all_clean}
 use Rattle.index_media.specs.PlacedRow.{PlacedRow, Stretch, lebs_of}
+use Rattle.index_media.specs.Standing.{AreStandingAs}
 use Rattle.index_media.specs.Stored.{IsStoredIndex}
 use Rattle.media_sys.specs.declared.branch.Branch.{Branch}
-use Rattle.node_table.specs.Clean.{placed_of}
 use Rattle.node_table.specs.NodeView.{tree_at}
 use Rattle.node_table.specs.Placing.{KeepsPlaces, without_number}
 use Rattle.node_table.specs.declared.link.Link.{Link}
@@ -20,7 +21,7 @@ use Rattle.index_cache.specs.declared.paged.PagedIndex.{PagedIndex}
 use Rattle.index_commit.specs.Lebs.{AreApart, IsGiven}
 use Rattle.index_commit.specs.LebTexts.{firsts, in_rooms, said_by}
 use Rattle.index_commit.specs.Rooms.{Room, room_in, place_by_number, AreDistinctNumbers, AreInRooms, IsNotAmong, whole_units}
-use Rattle.index_commit.specs.Standing.{AreOutside, AreStandingAs}
+use Rattle.index_commit.specs.Standing.{AreOutside}
 use Rattle.index_commit.specs.declared.index_at.IndexAt.{IndexAt}
 use Rattle.index_commit.specs.declared.index_at.IndexHead.{IndexHead}
 

@@ -1,8 +1,8 @@
 // The root of an index that is written.
 
 ghost use Rattle.std.specs.Prelude.{◌≡◌, [], ℕ, List};
+ghost use Rattle.index_media.specs.Clean.{placed_of};
 ghost use Rattle.index_media.specs.KeyedRow.{all_clean};
-ghost use Rattle.node_table.specs.Clean.{placed_of};
 ghost use Rattle.index_cache.specs.Paged.{dirty_of, fanout_of, frozen_of};
 ghost use Rattle.index_commit.specs.Standing.{AreOutside};
 ghost use Rattle.index_commit.specs.Written.{IsRootOf};

@@ -3,6 +3,8 @@ pub mod Keys
 pub mod Stored
 pub mod StoredList
 pub mod KeyedRow
+pub mod Clean
+pub mod Standing
 pub mod Insertion
 pub mod KeyedKeys
 pub mod KeyedBounds

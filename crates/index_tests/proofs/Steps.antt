@@ -7,9 +7,9 @@ use Rattle.index_commit.specs.Answers.{IsIndexNotFailed}
 use Rattle.index_commit.specs.Lebs.{AreApart, IsGiven}
 use Rattle.index_commit.specs.declared.index_at.IndexAt.{IndexAt}
 use Rattle.index_commit.specs.declared.index_fault.IndexFault.{IndexFault}
+use Rattle.index_media.specs.Clean.{placed_of}
 use Rattle.index_media.specs.KeyedRow.{KeyedRow, no_more, all_clean}
 use Rattle.index_media.specs.PlacedRow.{PlacedRow, lebs_of}
-use Rattle.node_table.specs.Clean.{placed_of}
 use Rattle.media_sys.specs.declared.branch.Branch.{Branch}
 use Rattle.node_cache.specs.Loaded.{IsIndexOn}
 use Rattle.mounted_index.specs.Changed.{AreChangesMade}

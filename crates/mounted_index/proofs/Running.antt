@@ -4,6 +4,7 @@ use Rattle.std.specs.Prelude.{◌&&◌, Bool, Option, None, Some, All, IfOk, Res
 use Rattle.std.proofs.lemmas.List.Elements.{All-weaker}
 use Rattle.ubifs_base.specs.declared.geometry.Geometry.{Geometry}
 use Rattle.ubifs_base.specs.declared.raw_geometry.RawGeometry.{RawGeometry}
+use Rattle.index_media.specs.Clean.{is_clean_row, node_branch, placed_of}
 use Rattle.index_media.specs.KeyedKeys.{AreKeysBounded, key_before}
 use Rattle.index_media.specs.KeyedRow.{KeyedRow, no_more, leaf_in, node_in, all_clean}
 use Rattle.index_media.specs.PlacedRow.{PlacedRow, Stretch, branches_of, lebs_of}
@@ -15,7 +16,6 @@ use Rattle.ubifs_base.specs.declared.key.Key.{Key}
 use Rattle.node_cache.specs.Kept.{AreKept}
 use Rattle.node_cache.specs.Loaded.{IsIndexOn}
 use Rattle.node_cache.specs.declared.cache.NodeCache.{NodeCache}
-use Rattle.node_table.specs.Clean.{is_clean_row, node_branch, placed_of}
 use Rattle.node_table.specs.NodeView.{tree_at}
 use Rattle.node_table.specs.Placing.{KeepsPlaces}
 use Rattle.node_table.specs.Staging.{IsSoundRoot}

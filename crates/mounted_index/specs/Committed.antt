@@ -15,6 +15,7 @@ use Rattle.index_commit.specs.Written.{AreLebsSettled, IsHeadIn}
 use Rattle.index_commit.specs.declared.index_at.IndexAt.{IndexAt}
 use Rattle.index_commit.specs.declared.index_fault.IndexFault.{IndexFault}
 use Rattle.index_commit.specs.declared.index_fault.IndexFault.TheVariants.{Memory, Full, EqualKeys, Volume}
+use Rattle.index_media.specs.Clean.{placed_of}
 use Rattle.index_media.specs.KeyedRow.{KeyedRow, no_more, leaf_in, node_in, all_clean, bare}
 use Rattle.index_media.specs.PlacedRow.{PlacedRow, Stretch}
 use Rattle.index_tree.specs.Distinct.{AreDistinct}
@@ -22,7 +23,6 @@ use Rattle.index_tree.specs.Shape.{contents}
 use Rattle.media_sys.specs.Index.{Index}
 use Rattle.media_sys.specs.declared.branch.Branch.{Branch}
 use Rattle.node_cache.specs.Loaded.{IsIndexOn}
-use Rattle.node_table.specs.Clean.{placed_of}
 use Rattle.node_table.specs.Dirty.{dirty_below}
 use Rattle.node_table.specs.Placing.{KeepsPlaces}
 use Rattle.ubi_volume.specs.Volume.{VolumeState, Keeps, Leaves}

@@ -9,6 +9,7 @@ use Rattle.index_commit.specs.Written.{WorksInLebs}
 use Rattle.index_commit.specs.declared.index_at.WrittenLeb.{WrittenLeb}
 use Rattle.index_commit.specs.declared.index_fault.IndexFault.{IndexFault}
 use Rattle.index_commit.specs.declared.index_fault.IndexFault.TheVariants.{Memory, Full, EqualKeys, Volume}
+use Rattle.index_media.specs.Clean.{placed_of}
 use Rattle.index_media.specs.KeyedKeys.{AreKeysBounded}
 use Rattle.index_media.specs.KeyedRow.{KeyedRow, bare}
 use Rattle.index_media.specs.PlacedRow.{lebs_of}
@@ -17,7 +18,6 @@ use Rattle.index_tree.specs.Shape.{contents}
 use Rattle.index_tree.specs.declared.leaf.Leaf.{Leaf}
 use Rattle.media_sys.specs.Index.{Index}
 use Rattle.media_sys.specs.declared.branch.Branch.{Branch}
-use Rattle.node_table.specs.Clean.{placed_of}
 use Rattle.node_table.specs.Placing.{KeepsPlaces}
 use Rattle.ubi_volume.specs.Volume.{VolumeState, Leaves}
 use Rattle.ubifs_base.specs.declared.raw_geometry.RawGeometry.{RawGeometry}

@@ -3,9 +3,10 @@ use Rattle.std.proofs.Common.{◌≡◌, ℕ, zero, suc, ◌<◌, true, false, L
 use Rattle.std.specs.Prelude.{◌&&◌, ◌||◌, Bool, Option, None, Some, is_some, is_none, slice_get, unwrap_or}
 use Rattle.std.proofs.lemmas.Option.{slice_get-get_or, slice_get_within}
 use Rattle.ubifs_base.specs.declared.key.Key.{Key}
+use Rattle.index_media.specs.Clean.{is_clean_row, node_branch, placed_of}
 use Rattle.index_media.specs.KeyedRow.{KeyedRow, no_more, leaf_in, node_in, all_clean}
 use Rattle.index_media.specs.PlacedRow.{Stretch}
-use Rattle.node_table.specs.Clean.{is_clean_row, is_clean_node, is_clean_below, are_clean_below, node_branch, placed_of, IsReadyNode}
+use Rattle.node_table.specs.Clean.{is_clean_node, is_clean_below, are_clean_below, IsReadyNode}
 use Rattle.node_table.specs.Dirty.{dirty_node, dirty_among, dirty_lists, dirty_from}
 use Rattle.node_table.specs.NodeView.{NodeView, stretch_at, node_before, row_of, view_of, views, children_in, tree_at}
 use Rattle.node_table.specs.Pruning.{place_in}

@@ -6,11 +6,12 @@ use Rattle.ubifs_base.specs.declared.key.Key.{Key}
 use Rattle.index_tree.specs.Levels.{levelled}
 use Rattle.index_tree.specs.Order.{key_rank, leaf_rank}
 use Rattle.index_tree.specs.Shape.{node, done, fits}
+use Rattle.index_media.specs.Clean.{is_clean_row}
 use Rattle.index_media.specs.InsertionSound.{AreKeys}
 use Rattle.index_media.specs.KeyedKeys.{key_before, AreKeysBounded}
 use Rattle.index_media.specs.KeyedRow.{KeyedRow, no_more, leaf_in, node_in, bare}
 use Rattle.index_media.specs.PlacedRow.{Stretch}
-use Rattle.node_table.specs.Clean.{is_clean_row, is_clean_below, are_clean_below}
+use Rattle.node_table.specs.Clean.{is_clean_below, are_clean_below}
 use Rattle.node_table.specs.Counting.{counts_of, counts_of_all}
 use Rattle.node_table.specs.NodeView.{NodeView, stretch_at, node_before, linked_before, row_of, view_of, views_behind, views, children_in, tree_at, IsRootIn}
 use Rattle.node_table.specs.Placing.{with_place, IsPlacedRow}

@@ -1,7 +1,8 @@
 // The walk to the next dirty node: down dirty nodes alone.
 
 ghost use Rattle.std.specs.Prelude.{◌≡◌, ◌<◌, ◌∷◌, [], true, IfSome, IfNone, length, slice_get};
-ghost use Rattle.node_table.specs.Clean.{is_clean_row, is_clean_node, IsReadyNode};
+ghost use Rattle.index_media.specs.Clean.{is_clean_row};
+ghost use Rattle.node_table.specs.Clean.{is_clean_node, IsReadyNode};
 ghost use Rattle.node_table.specs.Dirty.{dirty_lists, dirty_among, dirty_from, dirty_below};
 ghost use Rattle.node_table.specs.NodeView.{views, row_of, tree_at, IsRootIn};
 ghost use Rattle.node_table.specs.Staging.{IsLinkIn, AreLinksIn};

@@ -1,8 +1,8 @@
 // What stays where nodes are added, and where a node gets its place.
 
 ghost use Rattle.std.specs.Prelude.{◌≡◌, ◌<◌, true, ℕ, List, Option, Some, length, slice_get};
+ghost use Rattle.index_media.specs.Clean.{is_clean_row, placed_of};
 ghost use Rattle.index_media.specs.KeyedRow.{KeyedRow, all_clean, bare};
-ghost use Rattle.node_table.specs.Clean.{is_clean_row, placed_of};
 ghost use Rattle.node_table.specs.Dirty.{dirty_below};
 ghost use Rattle.node_table.specs.NodeView.{tree_at, IsRootIn};
 ghost use Rattle.node_table.specs.Placing.{IsPlacedRow, KeepsPlaces, without_number};

@@ -2,6 +2,7 @@
 use Rattle.std.proofs.Common.{◌≡◌, ℕ, zero, suc, ◌+◌, ◌-◌, ◌<◌, List, [], ◌∷◌, ◌++◌, length, refl, ap, sym, ◌∙◌, subst, arith, length-append, inl, inr}
 use Rattle.std.specs.Prelude.{All, Option, Some, slice_get, unwrap_or}
 use Rattle.std.proofs.lemmas.Bool.{cases_eq}
+use Rattle.index_media.specs.Clean.{placed_of}
 use Rattle.index_media.specs.KeyedRow.{all_clean}
 use Rattle.index_media.specs.PlacedRow.{PlacedRow, ended, leaf_at, node_at, branches_of, lebs_of}
 use Rattle.index_media.specs.Stored.{AreStored, IsIndexNodeAt}
@@ -9,7 +10,6 @@ use Rattle.media_sys.specs.Index.{Index}
 use Rattle.media_sys.specs.declared.branch.Branch.{Branch}
 use Rattle.node_cache.specs.Loaded.{IsRowOn}
 use Rattle.node_cache.specs.RowsOn.{below, lebs_parts, node_moved}
-use Rattle.node_table.specs.Clean.{placed_of}
 use Rattle.rows_below.specs.NodeSaid.{node_said_at, node_said_told}
 use Rattle.rows_below.specs.RowBelow.{row_by}
 use Rattle.rows_below.specs.RowBelowLaws.{branches_read, row_read_back}

@@ -1,8 +1,8 @@
 use Rattle.std.proofs.Common.{◌≡◌, ◌++◌, [], ℕ, List, ◌∙◌, subst, append-nil}
 use Rattle.std.specs.Prelude.{All}
 use Rattle.index_commit.specs.Lebs.{IsGiven}
+use Rattle.index_media.specs.Clean.{placed_of}
 use Rattle.index_media.specs.KeyedRow.{KeyedRow}
-use Rattle.node_table.specs.Clean.{placed_of}
 use Rattle.node_table.specs.Placing.{KeepsPlaces}
 use Rattle.index_cache.specs.Paged.{fanout_of, frozen_of}
 use Rattle.index_commit.specs.Written.{IsRootOf}

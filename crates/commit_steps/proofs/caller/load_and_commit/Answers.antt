@@ -2,11 +2,11 @@ use Rattle.std.proofs.Common.{◌≡◌, ℕ, List, refl, ap, sym, subst, ◌∙
 use Rattle.std.specs.Prelude.{Option, All, OnOk}
 use Rattle.index_tree.specs.Order.{placed}
 use Rattle.index_tree.specs.Shape.{Shape, contents}
+use Rattle.index_media.specs.Clean.{placed_of}
 use Rattle.index_media.specs.KeyedRow.{KeyedRow, all_clean, bare}
 use Rattle.index_media.specs.PlacedRow.{lebs_of, plain}
 use Rattle.index_media.specs.Stored.{IsStoredIndex}
 use Rattle.media_sys.specs.declared.branch.Branch.{Branch}
-use Rattle.node_table.specs.Clean.{placed_of}
 use Rattle.node_table.specs.Placing.{KeepsPlaces}
 use Rattle.ubi_volume.specs.Volume.{Only, filled}
 use Rattle.ubi_volume.specs.VolumeLaws.{Leaves-then}

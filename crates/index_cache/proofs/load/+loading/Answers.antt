@@ -1,9 +1,9 @@
 use Rattle.std.proofs.Common.{ℕ, ◌≡◌, ◌<◌, ◌∙◌, ◌++◌, ◌∷◌, List, [], refl, ap, sym, subst, arith, length}
 use Rattle.std.specs.Prelude.{OnOk, Some}
+use Rattle.index_media.specs.Clean.{is_clean_row}
 use Rattle.index_media.specs.KeyedRow.{KeyedRow, no_more, node_in, all_clean}
 use Rattle.index_media.specs.PlacedRow.{branches_of, stretch_of, leaf_of}
 use Rattle.media_sys.specs.Index.{Index}
-use Rattle.node_table.specs.Clean.{is_clean_row}
 use Rattle.node_table.specs.NodeView.{views, row_of}
 use Rattle.node_table.specs.Sound.{IsSoundView}
 use Rattle.node_table.specs.Staging.{row_before, AreLinksIn}

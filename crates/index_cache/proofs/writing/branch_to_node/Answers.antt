@@ -1,5 +1,5 @@
 use Rattle.std.proofs.Common.{ap, sym}
-use Rattle.node_table.specs.Clean.{node_branch}
+use Rattle.index_media.specs.Clean.{node_branch}
 use Rattle.node_table.specs.Pruning.{place_in}
 use Rattle.index_cache.proofs.writing.branch_to_node.Goals as goal
 

@@ -1,10 +1,10 @@
 use Rattle.std.proofs.Common.{◌≡◌, ◌-◌, true, ℕ, [], ap, sym, ◌∙◌, subst, append-nil}
 use Rattle.index_tree.specs.Order.{placed}
 use Rattle.index_tree.specs.Shape.{Shape, contents, fits}
+use Rattle.index_media.specs.Clean.{placed_of}
 use Rattle.index_media.specs.KeyedRow.{KeyedRow, all_clean, bare}
 use Rattle.index_media.specs.PlacedRow.{plain}
 use Rattle.node_table.specs.declared.change.Change.TheVariants.{Insert}
-use Rattle.node_table.specs.Clean.{placed_of}
 use Rattle.index_cache.specs.Paged.{fanout_of, frozen_of, tree_of}
 use Rattle.ubifs_base.specs.RawOf.{raw_of}
 use Rattle.index_commit.specs.Rooms.{IsIndexLaidOut}

@@ -1,6 +1,6 @@
 use Rattle.std.proofs.Common.{ℕ, List, ap, ◌∙◌}
 use Rattle.std.specs.Prelude.{slice_get}
-use Rattle.node_table.specs.Clean.{is_clean_row, placed_of}
+use Rattle.index_media.specs.Clean.{is_clean_row, placed_of}
 use Rattle.index_cache.specs.Paged.{fanout_of, frozen_of}
 use Rattle.index_commit.specs.Standing.{IsOutside}
 use Rattle.index_commit.proofs.Committed.{all_is_clean}

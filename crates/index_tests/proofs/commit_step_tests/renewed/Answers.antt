@@ -1,6 +1,6 @@
 use Rattle.std.proofs.Common.{◌++◌, ◌∙◌}
+use Rattle.index_media.specs.Clean.{placed_of}
 use Rattle.index_media.specs.PlacedRow.{lebs_of}
-use Rattle.node_table.specs.Clean.{placed_of}
 use Rattle.index_tests.proofs.Steps.{renewed_well}
 use Rattle.index_tests.proofs.commit_step_tests.renewed.Goals as goal
 

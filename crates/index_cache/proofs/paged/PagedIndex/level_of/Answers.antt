@@ -1,8 +1,8 @@
 use Rattle.std.proofs.Common.{length, ap, sym, ◌∙◌, arith}
+use Rattle.index_media.specs.Clean.{placed_of}
 use Rattle.index_media.specs.KeyedRow.{bare}
 use Rattle.index_tree.specs.Levels.{levelled}
 use Rattle.index_media.specs.PlacedRow.{branches_of}
-use Rattle.node_table.specs.Clean.{placed_of}
 use Rattle.node_table.specs.NodeView.{views, children_in}
 use Rattle.index_cache.specs.Commit.{level_in}
 use Rattle.index_cache.proofs.Written.{few_children}

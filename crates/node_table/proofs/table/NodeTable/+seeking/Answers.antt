@@ -1,7 +1,7 @@
 use Rattle.std.proofs.Common.{ℕ, List, [], ◌∷◌, length, ap, sym, ◌∙◌, subst, arith}
 use Rattle.std.specs.Prelude.{slice_get}
 use Rattle.std.proofs.lemmas.Option.{slice_get_within}
-use Rattle.node_table.specs.Clean.{is_clean_row}
+use Rattle.index_media.specs.Clean.{is_clean_row}
 use Rattle.node_table.specs.Dirty.{dirty_lists, dirty_among}
 use Rattle.node_table.specs.NodeView.{views, view_of, row_of, children_in}
 use Rattle.node_table.specs.Pruning.{place_in}
