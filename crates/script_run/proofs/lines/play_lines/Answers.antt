@@ -35,11 +35,15 @@ loop-part-init g c =
     let first = opening_on c.args.opening.tree (state_in session).journal c.args.opening.space.weight in
     record {
       ready = (c.in_ok-session.ensures.session, subst (All (IsWaiting session.mounted)) (sym c.new.ensures.items) (All-nil (IsWaiting session.mounted)));
-      run = ((state_in session).journal, c.in_ok-session.ensures.left, λ more last run.
-          let here = subst (λ (s : Running). ArePhases geo s c.new.result.items rest more last) opened run in
-          let empty = subst (λ (lines : List CallerLine). ArePhases geo first lines rest more last) c.new.ensures.items here in
-          let whole = subst (λ (parts : List Part). ArePhases geo first [] parts more last) all empty in
-          subst (λ (t : List ℕ). ArePhases geo first [] c.args.parts.items (t ++ more) last) (sym c.new-text.ensures.items) whole);
+      run = (
+        (state_in session).journal,
+        c.in_ok-session.ensures.left,
+        λ more last run.
+            let here = subst (λ (s : Running). ArePhases geo s c.new.result.items rest more last) opened run in
+            let empty = subst (λ (lines : List CallerLine). ArePhases geo first lines rest more last) c.new.ensures.items here in
+            let whole = subst (λ (parts : List Part). ArePhases geo first [] parts more last) all empty in
+            subst (λ (t : List ℕ). ArePhases geo first [] c.args.parts.items (t ++ more) last) (sym c.new-text.ensures.items) whole,
+      );
       order = (c.requires.order.0, subst (λ (b : Bool). Leads b rest c.requires.order.0) (sym (ap (λ (s : Running). s.mounted) opened)) (subst (λ (parts : List Part). Leads false parts c.requires.order.0) (sym all) c.requires.order.1));
       range = subst (AllByRecursion IsInRange) (sym all) c.requires.range;
       few = omega (arith, number, none, many, few);
@@ -66,11 +70,15 @@ loop-part-preserved g c =
     let more_few = c.in_ok-gathered.ensures.few in
     record {
       ready = subst (λ (g : RawGeometry). AreReady g gathered.session gathered.lines.items) same c.in_ok-gathered.ensures.ready;
-      run = (was.run.0, was.run.1, λ more last run.
-          let text : c.advance.new.text.items ++ more ≡ c.loop-part.text.items ++ (step.0 ++ more) = ap (λ (t : List ℕ). t ++ more) step.2 ∙ append_assoc c.loop-part.text.items step.0 more in
-          let behind = advanced geo old new part rest step.0 more last one run in
-          subst (λ (t : List ℕ). ArePhases geo first [] c.args.parts.items t last) (sym text)
-          (was.run.2 (step.0 ++ more) last (subst (λ (parts : List Part). ArePhases geo old.here old.lines parts (step.0 ++ more) last) (sym next) behind)));
+      run = (
+        was.run.0,
+        was.run.1,
+        λ more last run.
+            let text : c.advance.new.text.items ++ more ≡ c.loop-part.text.items ++ (step.0 ++ more) = ap (λ (t : List ℕ). t ++ more) step.2 ∙ append_assoc c.loop-part.text.items step.0 more in
+            let behind = advanced geo old new part rest step.0 more last one run in
+            subst (λ (t : List ℕ). ArePhases geo first [] c.args.parts.items t last) (sym text)
+            (was.run.2 (step.0 ++ more) last (subst (λ (parts : List Part). ArePhases geo old.here old.lines parts (step.0 ++ more) last) (sym next) behind)),
+      );
       order = (was.order.0, subst (λ (b : Bool). Leads b rest was.order.0) (sym (advance_mounts geo old new part step.0 one)) order.1);
       range = range.1;
       few = omega (arith, few, more_few, lengths);
