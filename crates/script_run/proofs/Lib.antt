@@ -1,6 +1,7 @@
 pub mod Answering
 pub mod AtOnce
 pub mod Closed
+pub mod Covering
 pub mod FirstBeside
 pub mod FirstFile
 pub mod Growth

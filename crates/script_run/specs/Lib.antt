@@ -1,3 +1,4 @@
+pub mod Covered
 pub mod Heaviest
 pub mod Opening
 pub mod Phases

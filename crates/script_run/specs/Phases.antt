@@ -15,6 +15,7 @@ use Rattle.script_text.specs.declared.part.Part.TheVariants.{Line, Workers}
 use Rattle.script_text.specs.Reply.{reply_line}
 use Rattle.script_phase.specs.declared.lines.CallerLine.{CallerLine}
 use Rattle.script_phase.specs.Phases.{callers_in, is_memory, ops_by, traced_by}
+use Rattle.script_run.specs.Covered.{IsCovered}
 use Rattle.script_run.specs.Run.{IsPart, IsServed, Running, clean_space, orphans_told}
 use Rattle.script_run.specs.Stored.{IsUnder}
 
@@ -90,11 +91,12 @@ IsPhaseOf false geo before lines text after = AreServedTogether geo before lines
 abbrev pub IsPhase : RawGeometry → Running → List CallerLine → List ℕ → Running → Type 0
 IsPhase geo before lines text after = IsPhaseOf (is_alone before.workers lines) geo before lines text after
 
--- A line of another kind ends the phase whose lines stand before it.
+-- A line of another kind ends the phase whose lines stand before it. All that was promised has room then.
 pub record IsTurn (geo : RawGeometry) (before : Running) (lines : List CallerLine) (part : Part) (text : List ℕ) (after : Running) : Type 0 where
   pub middle : Running
   pub first : List ℕ
   pub phase : IsPhase geo before lines first middle
+  pub covered : IsCovered geo middle
   pub line : List ℕ
   pub control : IsPart geo middle part line after
   pub printed : text ≡ first ++ line

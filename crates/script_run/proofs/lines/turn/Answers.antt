@@ -3,6 +3,7 @@ use Rattle.std.proofs.lemmas.List.{append_assoc}
 use Rattle.ubifs_base.specs.declared.raw_geometry.RawGeometry.{RawGeometry}
 use Rattle.script_run.specs.Run.{IsPart}
 use Rattle.script_run.specs.Sessions.{running_of}
+use Rattle.script_run.proofs.Covering.{session_covers}
 use Rattle.script_run.proofs.Running.{called}
 use Rattle.script_run.proofs.lines.turn.Goals as goal
 
@@ -21,6 +22,7 @@ returns-clause-turn g c =
         middle = running_of middle;
         first = phase.0;
         phase = phase.1;
+        covered = session_covers _ middle c.in_ok-session.ensures.session;
         line = line.0;
         control = subst (λ (g : RawGeometry). IsPart g (running_of middle) c.args.part line.0 (running_of last)) same line.1;
         printed = refl;

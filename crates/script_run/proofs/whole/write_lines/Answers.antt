@@ -5,6 +5,7 @@ use Rattle.fs_model.specs.Proper.{IsProper}
 use Rattle.fs_model.specs.Orphan.{without_nameless}
 use Rattle.plain_backing.specs.PlainBacking.{state_of}
 use Rattle.script_run.specs.Sessions.{running_of, state_in}
+use Rattle.script_run.proofs.Covering.{session_covers}
 use Rattle.script_run.proofs.Leaving.{stored_left}
 use Rattle.script_run.proofs.LeftCover.{named_in}
 use Rattle.script_run.proofs.Running.{bare_files}
@@ -25,6 +26,7 @@ returns-clause-played g c =
       only = c.in_ok-played.ensures.run.1;
       last = running_of session;
       lines = c.in_ok-played.ensures.run.2;
+      covered = session_covers (raw_of c.args.opening.geometry) session c.in_ok-played.ensures.session;
       left = record {
         under = record { kept = session.fs.kept; fits = session.fs.ready.kept_fits; seen = refl };
         stored = stored_left session.fs.backing;
