@@ -10,10 +10,9 @@ use Rattle.fs_model.specs.declared.reply.Reply.{Reply}
 use Rattle.fs_model.specs.declared.reply.Reply.TheVariants.{Done, Refused}
 use Rattle.fs_model.specs.declared.refusal.Refusal.TheVariants.{Enomem}
 use Rattle.fs_model.specs.declared.trace.TraceLine.{TraceLine}
-use Rattle.fs_model.specs.Backing.{BackingState}
 use Rattle.cached_files.specs.declared.kept.Kept.{Kept}
 use Rattle.vfs_ops.specs.declared.event.Event.{Event}
-use Rattle.vfs_ops.specs.declared.event.Event.TheVariants.{Call, Pick, Put}
+use Rattle.vfs_ops.specs.declared.event.Event.TheVariants.{Pick, Put}
 use Rattle.vfs_ops.specs.declared.event.Outcome.{Outcome}
 use Rattle.vfs_ops.specs.declared.event.Outcome.TheVariants.{PutDone, Stale, Fault}
 use Rattle.vfs_ops.specs.Background.{IsMade}
@@ -21,7 +20,7 @@ use Rattle.vfs_ops.specs.Events.{HasSynced}
 use Rattle.vfs_ops.specs.FilesState.{FilesState}
 use Rattle.vfs_ops.specs.Kinds.{is_question}
 use Rattle.vfs_ops.specs.Steps.{IsExact, Passage}
-use Rattle.traced_files.specs.History.{flushed_by, flushed_from, is_flushed}
+use Rattle.traced_files.specs.History.{flushed_by, flushed_from}
 
 pub flushed_on : (flushed : Bool) (lines : List TraceLine) (line : TraceLine) → flushed_from flushed (lines ++ line ∷ []) ≡ flushed_by (flushed_from flushed lines) line.op line.reply
 flushed_on flushed [] line = refl

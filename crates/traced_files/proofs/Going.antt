@@ -46,9 +46,10 @@ use Rattle.vfs_ops.specs.Replies.{holds_bytes, is_refusal}
 use Rattle.vfs_ops.specs.Writing.{BuffersReply}
 use Rattle.vfs_ops.specs.Steps.{IsAnswered, IsDone, IsLast, IsReady, IsRefusal, IsRefusedFor, IsTurnedDown, allowed_on, asked, no_space_in}
 use Rattle.traced_files.specs.Laws.{AreLaws}
-use Rattle.traced_files.specs.History.{IsAsked, IsWithinWeight}
+use Rattle.traced_files.specs.History.{IsAsked, IsWithinWeight, files_after}
 use Rattle.traced_files.proofs.Answering.{IsChanging, IsCounted, IsDoneAlike, IsDowned, IsOverfull, alike_done, alike_refused, allowed_done, allowed_refused, asked_by, asked_none, counts_none, counts_one, downed, open_of, sides_told, tells_count, tells_room}
 use Rattle.traced_files.proofs.Lines.{IsLine}
+use Rattle.traced_files.proofs.Replaying.{done_after, refused_after}
 use Rattle.traced_files.proofs.Sides.{IsFull, are_sides, whole_most}
 
 pub alike_then : (a b c : Files) → IsAlike a b → IsAlike b c → IsAlike a c
@@ -86,6 +87,7 @@ pub record IsMadeCall (opening : Opening) (s : Stepped) : Type 0 where
 pub record WasEntered (opening : Opening) (place : Place) (s : Stepped) : Type 0 where
   pub after : Files
   pub one : IsLine opening s.old.backing.mode place s.line after ⊎ IsLine opening s.new.backing.mode place s.line after
+  pub replayed : after ≡ files_after place.files s.line
   pub same : IsAlike after (present_in s.new)
   pub sound : IsSound after
   pub refused : s.new.refused ≡ s.old.refused ++ sides_in s.line
@@ -146,6 +148,7 @@ entered_done opening place s laws h r closed done kept =
     record {
       after = here.after;
       one = inl (record { number = r.number; answer = inl (record { done = closed; told = sym (ap reply_in here.done); left = sym (ap (files_in f) here.done) }) });
+      replayed = sym (done_after f s.line no ∙ ap (files_in f) here.done);
       same = alike_then here.after seen (present_in s.new) here.same done.2;
       sound = subst (λ (o : Outcome). IsSound (files_in f o)) here.done (laws.sound f c n op r.sound h.moment h.call).sound;
       refused = kept ∙ sym (append-nil s.old.refused) ∙ ap (λ (x : List NoSpace). s.old.refused ++ x) (sym (sides_told s.line ∙ no_sides s.line.reply no));
@@ -343,6 +346,7 @@ entered_refused opening place s laws h r refused noted =
     record {
       after = place.files;
       one = told.one;
+      replayed = sym (refused_after place.files s.line refused.refusal refused.told);
       same = alike_then place.files (present_in s.old) (present_in s.new) r.same refused.same;
       sound = r.sound;
       refused = noted ∙ ap (λ (x : List NoSpace). s.old.refused ++ x) (sym (sides_told s.line));
@@ -392,6 +396,7 @@ entered_short opening place s laws h r bytes = by h.step.answered.0
         record {
           after = place.files;
           one = inl (told_as opening place (with_reply s (Refused Enomem)) s.old.backing.mode Enomem r.number refl tt);
+          replayed = sym (refused_after place.files (record s.line { reply = Refused Enomem }) Enomem refl);
           same = alike_then place.files (present_in s.old) (present_in s.new) r.same same;
           sound = r.sound;
           refused = done.2 ∙ sym (append-nil s.old.refused) ∙ ap (λ (x : List NoSpace). s.old.refused ++ x) (sym (sides_told (record s.line { reply = Refused Enomem })));

@@ -18,6 +18,7 @@ use Rattle.fs_model.specs.declared.reply.Reply.TheVariants.{Refused}
 use Rattle.fs_model.specs.declared.trace.TraceLine.{TraceLine}
 use Rattle.fs_model.specs.Backing.{BackingState, ModeGoes, next_orphans, orphan_room}
 use Rattle.fs_model.specs.Cover.{index_lebs}
+use Rattle.fs_model.specs.Files.{Files}
 use Rattle.fs_model.specs.Legal.{Opening, Place, behind, count_in, most_weight, next_number, pages_in, sides_in}
 use Rattle.cached_files.specs.Calls.{full_weight}
 use Rattle.vfs_ops.specs.declared.event.Event.{Event}
@@ -29,13 +30,14 @@ use Rattle.vfs_ops.specs.Operations.{nodes_asked}
 use Rattle.vfs_ops.specs.FilesState.{FilesState, present_in}
 use Rattle.vfs_ops.specs.Replies.{holds_bytes}
 use Rattle.traced_files.specs.Laws.{AreLaws}
-use Rattle.traced_files.specs.History.{IsAsked, IsHistory, IsWithinWeight, Rise, is_flushed}
+use Rattle.traced_files.specs.History.{IsAsked, IsHistory, IsWithinWeight, Rise, files_after, is_flushed}
 use Rattle.traced_files.specs.Replies.{IsToldAs}
 use Rattle.traced_files.proofs.Answering.{IsCounted}
 use Rattle.traced_files.proofs.Counts.{mode_after, mode_turns, rise_later, rise_on}
 use Rattle.traced_files.proofs.Flushing.{flushed_on, line_flushes, work_flushes}
 use Rattle.traced_files.proofs.Going.{IsMadeCall, IsReached, Stepped, WasEntered, alike_then, entered, entered_short, orphan_same, with_reply}
 use Rattle.traced_files.proofs.Lines.{before_last, leads_on, leads_stay}
+use Rattle.traced_files.proofs.Replaying.{behind_on}
 use Rattle.traced_files.proofs.Sides.{lebs_mono}
 use Rattle.traced_files.proofs.Weighing.{IsUnfailed, call_grows, grown_on, unfailed}
 
@@ -113,6 +115,7 @@ call_goes_with opening noted lines s reply laws h history entry says whole =
     record {
       last = behind last line entry.after;
       leads = leads_on opening s.old.backing.mode s.new.backing.mode lines last line entry.after (mode_turns opening s.old.backing s.new.backing history.mode goes.mode) history.leads entry.one;
+      replayed = entry.replayed ∙ ap (λ (files : Files). files_after files line) history.replayed ∙ sym (behind_on opening.files lines line);
       same = entry.same;
       sound = entry.sound;
       mode = mode_after opening s.old.backing s.new.backing history.mode goes.mode was faults;
@@ -214,6 +217,7 @@ background_goes_on opening noted lines old new event outcome h main history =
     record {
       last = history.last;
       leads = leads_stay opening old.backing.mode new.backing.mode lines history.last (mode_turns opening old.backing new.backing history.mode h.goes.mode) history.leads;
+      replayed = history.replayed;
       same = alike_then history.last.files (present_in old) (present_in new) history.same h.same;
       sound = history.sound;
       mode = mode_after opening old.backing new.backing history.mode h.goes.mode was faults;

@@ -27,10 +27,12 @@ use Rattle.vfs_ops.specs.Steps.{IsReady}
 use Rattle.traced_files.specs.History.{IsHistory, IsSureSince}
 use Rattle.traced_files.specs.Laws.{AreLaws}
 use Rattle.traced_files.specs.Replies.{IsToldAs}
+use Rattle.traced_files.specs.Seen.{HasLeftSeen}
 use Rattle.traced_files.specs.Start.{IsHistoryFrom, Start, opened_at}
 use Rattle.traced_files.specs.Traced.{IsTraced}
 use Rattle.traced_files.proofs.Going.{IsMadeCall, Stepped}
 use Rattle.traced_files.proofs.Histories.{background_goes_on, call_goes_on}
+use Rattle.traced_files.proofs.Leaving.{IsJournalTold, background_leaves, call_leaves, opened_leaves}
 use Rattle.traced_files.proofs.Legality.{history_opens}
 
 -- what a backing says of a step's states
@@ -40,6 +42,8 @@ pub record AreStates (old new : FilesState) : Type 0 where
   pub used : new.backing.space.used ≡ tree_bytes new.backing.tree
   pub first : old.backing.space.main ≡ main_lebs old.backing.geometry
   pub main : new.backing.space.main ≡ main_lebs new.backing.geometry
+  pub journal : IsJournalTold old
+  pub journal_after : IsJournalTold new
 
 main_same : (old new : FilesState) → AreStates old new → new.backing.geometry ≡ old.backing.geometry → new.backing.space.main ≡ old.backing.space.main
 main_same old new states same = states.main ∙ ap (λ (geo : RawGeometry). main_lebs geo) same ∙ sym states.first
@@ -68,6 +72,7 @@ pub history_credits : (opening : Opening) (noted : List NoSpace) (lines : List T
 history_credits opening noted lines old new only h = subst (λ (x : FilesState). IsHistory opening noted lines x) (sym only) (record {
   last = h.last;
   leads = h.leads;
+  replayed = h.replayed;
   same = h.same;
   sound = h.sound;
   mode = h.mode;
@@ -83,6 +88,10 @@ history_credits opening noted lines old new only h = subst (λ (x : FilesState).
   grown = h.grown;
   flushed = h.flushed;
 })
+
+-- nor does what a cut leaves
+pub left_credits : (start : Start) (lines : List TraceLine) (old new : FilesState) → HasOtherCredits old new → HasLeftSeen start lines old → HasLeftSeen start lines new
+left_credits start lines old new only left = subst (λ (x : FilesState). HasLeftSeen start lines x) (sym only) left
 
 -- A call was served, its line was told, and the recorder knows it.
 pub record WasMade (word : TableId) (callers held : ℕ) (trace : List TraceLine) (first new : FilesState) (line : TraceLine) (told : Reply) (recorder : RecorderState) : Type 0 where
@@ -114,31 +123,36 @@ traced_on word start held first last line told before after recorder new trace l
       paid = w.most;
       few = w.drained;
     } in
+    let history = history_credits (opened_at start) start.files.refused trace first w.between w.only h.history in
+    let now = call_goes_on (opened_at start) start.files.refused trace s told laws call history made.number made.says in
+    let journal : IsJournalTold w.between = subst (λ (x : FilesState). IsJournalTold x) (sym w.only) made.states.journal in
     record {
       of_word = made.of_word;
       seen = made.seen;
-      history = call_goes_on (opened_at start) start.files.refused trace s told laws call (history_credits (opened_at start) start.files.refused trace first w.between w.only h.history) made.number made.says;
+      history = now;
       sure = sure_on start first.backing last.backing before after h.sure sure;
+      left = λ writes. call_leaves (opened_at start) start.files.refused start.files.backing.journal trace s told laws call journal made.states.journal_after made.says writes history now (left_credits start trace first w.between w.only h.left writes);
     }
 
 -- an event of the background goes on with the lines
-pub traced_beside : (word : TableId) (start : Start) (old new : FilesState) (event : Event) (outcome : Outcome) (before after : Outlook) (recorder : RecorderState) (trace : List TraceLine) → IsTraced word start old before recorder trace → IsBackgroundStep old new event outcome
+pub traced_beside : (word : TableId) (start : Start) (old new : FilesState) (event : Event) (outcome : Outcome) (before after : Outlook) (recorder : RecorderState) (trace : List TraceLine) → AreLaws → IsTraced word start old before recorder trace → IsBackgroundStep old new event outcome
     → SureGoes before after old.backing new.backing → AreStates old new → IsTraced word start new after recorder trace
-traced_beside word start old new event outcome before after recorder trace h step sure states = record {
+traced_beside word start old new event outcome before after recorder trace laws h step sure states = record {
   of_word = h.of_word;
   seen = h.seen;
   history = background_goes_on (opened_at start) start.files.refused trace old new event outcome step (main_same old new states step.goes.geometry) h.history;
   sure = sure_on start old.backing new.backing before after h.sure sure;
+  left = λ writes. background_leaves (opened_at start) start.files.refused start.files.backing.journal trace old new event outcome laws step states.journal states.ready.sound h.history (h.left writes);
 }
 
 between : (old new : FilesState) (event : Event) (outcome : Outcome) → is_work_between event ≡ true → IsStep old new event outcome → IsBackgroundStep old new event outcome
 between old new (Call caller now grant op) outcome kind h = absurd (false≢true kind)
 between old new event outcome kind h = h
 
-pub traced_between : (word : TableId) (start : Start) (old new : FilesState) (event : Event) (outcome : Outcome) (before after : Outlook) (recorder : RecorderState) (trace : List TraceLine) → IsTraced word start old before recorder trace → is_work_between event ≡ true
+pub traced_between : (word : TableId) (start : Start) (old new : FilesState) (event : Event) (outcome : Outcome) (before after : Outlook) (recorder : RecorderState) (trace : List TraceLine) → AreLaws → IsTraced word start old before recorder trace → is_work_between event ≡ true
     → IsStep old new event outcome → SureGoes before after old.backing new.backing → AreStates old new → IsTraced word start new after recorder trace
-traced_between word start old new event outcome before after recorder trace h kind stepped sure states =
-    traced_beside word start old new event outcome before after recorder trace h (between old new event outcome kind stepped) sure states
+traced_between word start old new event outcome before after recorder trace laws h kind stepped sure states =
+    traced_beside word start old new event outcome before after recorder trace laws h (between old new event outcome kind stepped) sure states
 
 -- files with no line yet
 pub traced_first : (word : TableId) (start : Start) (now : FilesState) (outlook : Outlook) (recorder : RecorderState) → now ≡ start.files → IsSound (present_in now) → (start.outlook.sure → outlook.sure)
@@ -148,4 +162,5 @@ traced_first word start now outlook recorder is sound sure made = record {
   seen = made.1;
   history = subst (λ (x : FilesState). IsHistoryFrom start [] x) (sym is) (history_opens start.files start.outlook start.callers (subst (λ (x : FilesState). IsSound (present_in x)) is sound));
   sure = λ first. inr (sure first, ap (λ (x : FilesState). x.backing.faults) is);
+  left = subst (λ (x : FilesState). HasLeftSeen start [] x) (sym is) (λ writes. opened_leaves (present_in start.files) start.files.backing.journal);
 }

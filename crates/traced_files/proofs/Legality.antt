@@ -58,6 +58,7 @@ pub history_opens : (state : FilesState) (outlook : Outlook) (callers : ℕ) →
 history_opens state outlook callers sound = record {
   last = first_place (opening_of state outlook callers);
   leads = record { first = []; rest = []; all = refl; middle = first_place (opening_of state outlook callers); opened = refl; closed = refl };
+  replayed = refl;
   same = alike_same (present_in state);
   sound = sound;
   mode = inl refl;

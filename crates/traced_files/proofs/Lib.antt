@@ -5,9 +5,12 @@ pub mod Flushing
 pub mod Going
 pub mod Histories
 pub mod Keeping
+pub mod Leaving
 pub mod Legality
 pub mod Lines
 pub mod Passing
 pub mod Plain
+pub mod Replaying
+pub mod SeenLast
 pub mod Sides
 pub mod Weighing

@@ -169,6 +169,7 @@ impl<B: Backing, J: Site> TracedFs<B, J> {
         ensures step { IsStep self.old.files self.new.files (Refill n) result.outcome }
         ensures trace { self.new.trace ≡ self.old.trace }
     {
+        laws();
         self.credited.refill(pool, n)
     }
 
@@ -180,6 +181,7 @@ impl<B: Backing, J: Site> TracedFs<B, J> {
         ensures left { self.new.files.backing.space.credits ≤ length self.new.files.kept.pages.dirty + 17 * J.start.callers }
         ensures trace { self.new.trace ≡ self.old.trace }
     {
+        laws();
         self.credited.drain(pool)
     }
 
@@ -190,6 +192,7 @@ impl<B: Backing, J: Site> TracedFs<B, J> {
         ensures step { IsStep self.old.files self.new.files event result.outcome }
         ensures trace { self.new.trace ≡ self.old.trace }
     {
+        laws();
         self.credited.work(event)
     }
 

@@ -12,4 +12,11 @@ returns c = record {
   told = c.a_plain_answer_is_no_refusal.ensures;
   clean = c.clean_files_are_those_of_the_backing.ensures;
   bytes = c.a_reply_with_bytes_leaves_the_files.ensures;
+  cuts = record {
+    makes = c.groups_make_the_changes.ensures;
+    pages = c.a_cut_leaves_what_was_put.ensures.not_put;
+    event = c.a_cut_leaves_old_values_or_new_ones.ensures.event;
+    refused = c.a_cut_leaves_old_values_or_new_ones.ensures.refused;
+    flushed = c.a_cut_after_a_flush_leaves_the_files.ensures;
+  };
 }

@@ -65,6 +65,8 @@ traced g c =
       used = g.met.B.Backing.used c.call-op.new.self.fs.backing;
       first = g.met.B.Backing.main c.self.inside.credited.fs.backing;
       main = g.met.B.Backing.main c.call-op.new.self.fs.backing;
+      journal = g.met.B.Backing.journal c.self.inside.credited.fs.backing;
+      journal_after = g.met.B.Backing.journal c.call-op.new.self.fs.backing;
     } in
     let caller : c.args.stock.caller ≡ c.pass.inside.caller = c.requires.stock.1 ∙ sym (ap (λ (p : PassState). p.caller) c.pass.view_is) in
     let served : ℕ × ℕ → Type 0 = λ x. WasServed x.0 c.args.stock.held old new x.1 c.args.now c.args.op c.call-op.result.1 in
