@@ -34,7 +34,7 @@ returns-clause-unfailing g c =
     let old = c.args.fs in
     let new = c.in_ok-closed.closed.fs in
     let ran = c.in_ok-closed.ensures in
-    unfailing_after old.backing new.backing old.kept new.kept old.refused.items new.refused.items c.in_ok-word.field-0.ledger.callers c.in_ok-closed.closed.trace.items c.requires.unfailing ran.history.0 ran.history.1 ran.credits
+    unfailing_after old.backing new.backing old.kept new.kept old.refused.items new.refused.items c.in_ok-word.field-0.ledger.callers c.in_ok-closed.closed.trace.items c.requires.unfailing ran.history.history ran.history.sure ran.credits
 
 pub returns-clause-trace : goal.returns-clause-trace
 returns-clause-trace g c =
@@ -65,7 +65,7 @@ returns-clause-trace g c =
     let told = subst (λ (n : ℕ). All (IsToldOf n) trace) (ap length counts ∙ length-map jobs count_of) (subst (λ (t : List TraceLine). All (IsToldOf (length c.as_slice-4.result.now)) t) traced (whole.told is)) in
     let served = all_whole w.word w.pool trace c.args.now lines 0 jobs numbered new_passes c.in_ok-closed.ensures.lines c.in_ok-jobs.ensures.ops (λ k less. ap (λ (n : ℕ). lines_of n trace) (omega arith) ∙ has k less) in
     let found = found_of trace c.args.now lines jobs numbered served (sym last ∙ sym many) (weaken GivesBytes IsPositive (λ line is. is.0) lines c.requires.lines) told in
-    let history = subst (λ (n : ℕ). IsHistory (opened_over old.backing old.kept old.refused.items n) old.refused.items trace (over new.backing new.kept new.refused.items)) of c.in_ok-closed.ensures.history.0 in
+    let history = subst (λ (n : ℕ). IsHistory (opened_over old.backing old.kept old.refused.items n) old.refused.items trace (over new.backing new.kept new.refused.items)) of c.in_ok-closed.ensures.history.history in
     trace_of old.backing new.backing old.kept new.kept old.refused.items new.refused.items c.args.now lines trace c.requires.unfailing (returns-clause-unfailing g c) history found
 
 pub returns-clause-legal : goal.returns-clause-legal
@@ -80,3 +80,6 @@ returns-clause-legal g c =
     let faults = (returns-clause-unfailing g c).faults in
     subst (λ (n : ℕ). IsLegal (opened_over old.backing old.kept old.refused.items n) closed.trace.items (present_of old.refused.items (over new.backing new.kept new.refused.items) (outlook_of new.backing))) of
     (c.in_ok-closed.ensures.legal (omega (arith, faults)))
+
+pub returns-clause-left : goal.returns-clause-left
+returns-clause-left g c = c.in_ok-closed.ensures.history.left c.requires.unfailing.mode
