@@ -24,6 +24,7 @@ use Rattle.plain_backing.specs.declared.backing.PlainBacking.{PlainBacking}
 use Rattle.plain_backing.specs.PlainBacking.{outlook_of, state_of}
 use Rattle.vfs_ops.specs.FilesState.{FilesState}
 use Rattle.traced_files.specs.History.{first_place, opening_of}
+use Rattle.traced_files.specs.Seen.{LeavesSeen}
 use Rattle.script_phase.specs.declared.lines.CallerLine.{CallerLine}
 use Rattle.script_phase.specs.Phases.{HasSameLimits, IsOneTrace, IsUnfailing, callers_in}
 use Rattle.script_run.specs.Phases.{AreServedTogether, opened_on, trace_text}
@@ -93,6 +94,7 @@ abbrev pub running_over : PlainBacking → Kept → Bool → ℕ → ℕ → ℕ
 running_over backing kept mounted now number workers = record {
   files = present (state_of backing).tree kept;
   stored = (state_of backing).tree;
+  journal = (state_of backing).journal;
   weight = full_weight (state_of backing) kept;
   index = (state_of backing).space.index;
   closed = (state_of backing).closed;
@@ -120,9 +122,9 @@ much_as old before noted mounted now number workers callers steady none = record
 -- a phase of many callers, from its trace
 pub at_once_of : (old new : PlainBacking) (before after : Kept) (noted refused : List NoSpace) (mounted : Bool) (now number workers : ℕ) (lines : List CallerLine) (trace : List TraceLine)
     → IsSteady (state_of old).geometry old before → IsSteady (state_of old).geometry new after → HasSameNameless old before → HasSameNameless new after → IsKept (state_of new).tree after → ((tree : Tree) (kept : Kept) → IsKept tree kept → kept.pages.dirty ≡ [] → (present tree kept).tree ≡ tree)
-    → IsOneTrace (opened_over old before noted (callers_in lines)) now lines trace (over new after refused)
+    → LeavesSeen (present (state_of old).tree before) (state_of old).journal trace (state_of new).journal → IsOneTrace (opened_over old before noted (callers_in lines)) now lines trace (over new after refused)
     → AreServedTogether (state_of old).geometry (running_over old before mounted now number workers) lines (trace_text trace) (running_over new after mounted now 0 workers)
-at_once_of old new before after noted refused mounted now number workers lines trace was is none_before none_after fits clean h =
+at_once_of old new before after noted refused mounted now number workers lines trace was is none_before none_after fits clean left h =
     let callers = callers_in lines in
     let a = opened_over old before noted callers in
     let geo = (state_of old).geometry in
@@ -140,6 +142,7 @@ at_once_of old new before after noted refused mounted now number workers lines t
       printed = refl;
       same = h.same;
       under = record { kept = after; fits = fits; seen = refl };
+      left = left;
       flushed = λ behind. sym (clean (state_of new).tree after fits (h.flushed behind));
       weight = let grown = h.grown in omega (arith, grown);
       index = subst (λ (w : ℕ). (state_of new).space.index ≤ max (state_of old).space.index (2 * index_lebs geo w)) (much.weight trace) h.weight.index;

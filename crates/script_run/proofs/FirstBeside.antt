@@ -1,6 +1,6 @@
 -- The first file on a fresh volume of 64 main LEBs, beside a worker.
-use Rattle.std.proofs.Common.{◌≡◌, ◌≢◌, ◌⊎◌, ℕ, ◌+◌, ◌≤◌, ◌++◌, Bool, cond, List, [], ◌∷◌, true, false, Some, All, map, inl, inr, refl, sym, ap, subst, ◌∙◌, arith}
-use Rattle.std.specs.Prelude.{◌==◌, IsTrue, codes, filter}
+use Rattle.std.proofs.Common.{◌≡◌, ◌⊎◌, ℕ, ◌++◌, Bool, cond, List, [], ◌∷◌, true, false, All, map, inl, inr, refl, sym, ap, subst, ◌∙◌, arith}
+use Rattle.std.specs.Prelude.{◌==◌, codes, filter}
 use Rattle.std.proofs.lemmas.Bool.{false≢true}
 use Rattle.std.proofs.lemmas.Bool.Decides.{nat_tests}
 use Rattle.std.proofs.lemmas.List.{append-nil}
@@ -15,6 +15,7 @@ use Rattle.fs_model.specs.declared.reply.Reply.{Reply}
 use Rattle.fs_model.specs.declared.reply.Reply.TheVariants.{Ino, Refused}
 use Rattle.fs_model.specs.declared.trace.TraceLine.{TraceLine}
 use Rattle.fs_model.specs.Files.{Files}
+use Rattle.fs_model.specs.Journal.{Journal}
 use Rattle.fs_model.specs.Legal.{AreLines, IsPlain, IsRefusal, IsRefused, Opening}
 use Rattle.script_text.specs.Reply.{reply_line}
 use Rattle.script_text.specs.declared.part.Part.TheVariants.{Workers}
@@ -32,11 +33,11 @@ abbrev one_line : List CallerLine
 one_line = (record { caller = 1; op = creating }) ∷ []
 
 -- where the script is before it
-abbrev beside : Running
-beside = record opening { mounted = true; number = 0; workers = 1 }
+abbrev beside : Journal → Running
+beside journal = record (opening journal) { mounted = true; number = 0; workers = 1 }
 
-abbrev opened : Opening
-opened = opened_on worked_geometry (callers_in one_line) beside
+abbrev opened : Journal → Opening
+opened journal = opened_on worked_geometry (callers_in one_line) (beside journal)
 
 equal_is : (n : ℕ) → (n == n) ≡ true
 equal_is n = grind (arith, nat_tests)
@@ -100,40 +101,40 @@ one_traced (l ∷ rest) own =
 abbrev known : ℕ → Reply → TraceLine
 known number reply = record { caller = 1; number = number; now = 0; op = creating; reply = reply }
 
-not_full : (number : ℕ) (reply : Reply) (refusal : Refusal) → is_memory reply ≡ false → reply ≡ Refused refusal → IsRefusal opened (place_at beside) ReadWrite (known number reply) refusal → ⊥
-not_full number reply (Enospc sides) memory told (free, why) =
+not_full : (journal : Journal) (number : ℕ) (reply : Reply) (refusal : Refusal) → is_memory reply ≡ false → reply ≡ Refused refusal → IsRefusal (opened journal) (place_at (beside journal)) ReadWrite (known number reply) refusal → ⊥
+not_full journal number reply (Enospc sides) memory told (free, why) =
     let need = why.need in
     let room = why.room in
     let above = why.exceeds in
     absurd (omega (arith, need, room, above))
-not_full number reply (Erofs cause) memory told why = absurd cc
-not_full number reply (Eio count) memory told why = why refl
-not_full number reply Enomem memory told why = false≢true (sym memory ∙ ap is_memory told)
-not_full number reply (Enfile Orphans limit) memory told why = let none = why.2 in absurd (omega (arith, none))
-not_full number reply refusal memory told why = why
+not_full journal number reply (Erofs cause) memory told why = absurd cc
+not_full journal number reply (Eio count) memory told why = why refl
+not_full journal number reply Enomem memory told why = false≢true (sym memory ∙ ap is_memory told)
+not_full journal number reply (Enfile Orphans limit) memory told why = let none = why.2 in absurd (omega (arith, none))
+not_full journal number reply refusal memory told why = why
 
-replied : (number : ℕ) (reply : Reply) (after : Files) → is_memory reply ≡ false → IsPlain (place_at beside) ReadWrite (known number reply) after ⊎ IsRefused opened (place_at beside) ReadWrite (known number reply) after → reply ≡ Ino 65
-replied number reply after memory (inl plain) = plain.told
-replied number reply after memory (inr refused) = absurd (not_full number reply refused.refusal memory refused.told refused.why)
+replied : (journal : Journal) (number : ℕ) (reply : Reply) (after : Files) → is_memory reply ≡ false → IsPlain (place_at (beside journal)) ReadWrite (known number reply) after ⊎ IsRefused (opened journal) (place_at (beside journal)) ReadWrite (known number reply) after → reply ≡ Ino 65
+replied journal number reply after memory (inl plain) = plain.told
+replied journal number reply after memory (inr refused) = absurd (not_full journal number reply refused.refusal memory refused.told refused.why)
 
 -- what is printed of the phase
-shown : (text : List ℕ) (last : Running) → AreServedTogether worked_geometry beside one_line text last → text ≡ reply_line 1 1 (Ino 65)
-shown text last h =
+shown : (journal : Journal) (text : List ℕ) (last : Running) → AreServedTogether worked_geometry (beside journal) one_line text last → text ≡ reply_line 1 1 (Ino 65)
+shown journal text last h =
     let one = one_traced h.trace h.own in
     let l = one.line in
     let now : l.now ≡ 0 = All-head (λ (line : TraceLine). line.now ≡ 0) l [] (subst (All (λ (line : TraceLine). line.now ≡ 0)) one.all h.time) in
     let memory : is_memory l.reply ≡ false = All-head (λ (line : TraceLine). is_memory line.reply ≡ false) l [] (subst (All (λ (line : TraceLine). is_memory line.reply ≡ false)) one.all h.memory) in
     let is : l ≡ known l.number l.reply = λ i. record { caller = one.caller i; number = l.number; now = now i; op = one.op i; reply = l.reply } in
-    let lines : AreLines opened ReadWrite (place_at beside) (known l.number l.reply ∷ []) h.last =
-    subst (λ (x : TraceLine). AreLines opened ReadWrite (place_at beside) (x ∷ []) h.last) is (subst (λ (t : List TraceLine). AreLines opened ReadWrite (place_at beside) t h.last) one.all h.answered) in
-    let reply : l.reply ≡ Ino 65 = replied l.number l.reply lines.1 memory lines.2 in
+    let lines : AreLines (opened journal) ReadWrite (place_at (beside journal)) (known l.number l.reply ∷ []) h.last =
+    subst (λ (x : TraceLine). AreLines (opened journal) ReadWrite (place_at (beside journal)) (x ∷ []) h.last) is (subst (λ (t : List TraceLine). AreLines (opened journal) ReadWrite (place_at (beside journal)) t h.last) one.all h.answered) in
+    let reply : l.reply ≡ Ino 65 = replied journal l.number l.reply lines.1 memory lines.2 in
     h.printed ∙ ap trace_text one.all ∙ append-nil (reply_line l.caller l.number l.reply) ∙ (λ i. reply_line (one.caller i) (lines.0 i) (reply i))
 
-pub first_text_beside : (text : List ℕ) (last : Running) → ArePhases worked_geometry opening [] (Workers 1 ∷ one_create) text last → text ≡ ended (codes "mount rw") ++ reply_line 1 1 (Ino 65)
-first_text_beside text last (front, next, rest, turn, (front_too, next_too, rest_too, turn_too, phase, all_too), all) =
-    let here : next ≡ record opening { workers = 1; number = 0 } = turn.control.1 ∙ ap (λ (s : Running). record s { workers = 1; number = 0 }) turn.phase.1 in
-    let there : next_too ≡ beside = turn_too.control.1 ∙ ap (λ (s : Running). record s { mounted = true; number = 0 }) (turn_too.phase.1 ∙ here) in
-    let served : AreServedTogether worked_geometry beside one_line rest_too last = subst (λ (s : Running). IsPhase worked_geometry s one_line rest_too last) there phase in
+pub first_text_beside : (journal : Journal) (text : List ℕ) (last : Running) → ArePhases worked_geometry (opening journal) [] (Workers 1 ∷ one_create) text last → text ≡ ended (codes "mount rw") ++ reply_line 1 1 (Ino 65)
+first_text_beside journal text last (front, next, rest, turn, (front_too, next_too, rest_too, turn_too, phase, all_too), all) =
+    let here : next ≡ record (opening journal) { workers = 1; number = 0 } = turn.control.1 ∙ ap (λ (s : Running). record s { workers = 1; number = 0 }) turn.phase.1 in
+    let there : next_too ≡ beside journal = turn_too.control.1 ∙ ap (λ (s : Running). record s { mounted = true; number = 0 }) (turn_too.phase.1 ∙ here) in
+    let served : AreServedTogether worked_geometry (beside journal) one_line rest_too last = subst (λ (s : Running). IsPhase worked_geometry s one_line rest_too last) there phase in
     let none : front ≡ [] = turn.printed ∙ (ap (λ (t : List ℕ). t ++ turn.line) turn.phase.0 ∙ turn.control.0) in
     let mounted : front_too ≡ ended (codes "mount rw") = turn_too.printed ∙ (ap (λ (t : List ℕ). t ++ turn_too.line) turn_too.phase.0 ∙ turn_too.control.0) in
-    all ∙ (ap (λ (t : List ℕ). t ++ rest) none ∙ (all_too ∙ (λ i. mounted i ++ shown rest_too last served i)))
+    all ∙ (ap (λ (t : List ℕ). t ++ rest) none ∙ (all_too ∙ (λ i. mounted i ++ shown journal rest_too last served i)))

@@ -10,6 +10,7 @@ use Rattle.fs_model.specs.declared.reply.Reply.TheVariants.{Ino}
 use Rattle.fs_model.specs.declared.space.Class.TheVariants.{Ordinary}
 use Rattle.fs_model.specs.Cover.{index_lebs, tree_bytes}
 use Rattle.fs_model.specs.Files.{Blocks, Files, Tree}
+use Rattle.fs_model.specs.Journal.{Journal}
 use Rattle.fs_model.specs.Outcome.{reply_in}
 use Rattle.fs_model.specs.Same.{trimmed_blocks}
 use Rattle.fs_model.specs.Worked.{fresh}
@@ -21,19 +22,19 @@ use Rattle.vfs_ops.specs.Steps.{IsDone}
 use Rattle.script_run.specs.Heaviest.{one_create, worked_geometry}
 use Rattle.script_run.specs.Run.{HasGrown, HasNoRoom, IsAnswer, IsFull, IsReplied, IsRun, IsServed, Running, nodes_added, nodes_for, opening, plain}
 
-abbrev mounted : Running
-mounted = record opening { mounted = true; number = 0 }
+abbrev mounted : Journal → Running
+mounted journal = record (opening journal) { mounted = true; number = 0 }
 
 abbrev creating : Op
 creating = Create (codes "/f") 420
 
 -- the reply of a plain operation that is done
-done_reply : (files : Files) (reply : Reply) → IsDone (plain worked_geometry mounted 1 creating) files reply → reply ≡ Ino 65
-done_reply files reply (after, is, same) = let e : Ino 65 ≡ reply = ap reply_in is in sym e
+done_reply : (journal : Journal) (files : Files) (reply : Reply) → IsDone (plain worked_geometry (mounted journal) 1 creating) files reply → reply ≡ Ino 65
+done_reply journal files reply (after, is, same) = let e : Ino 65 ≡ reply = ap reply_in is in sym e
 
 -- it isn't refused
-not_refused : (refusal : Refusal) → plain worked_geometry mounted 1 creating ≡ Err refusal → ⊥
-not_refused refusal is = absurd (cc is)
+not_refused : (journal : Journal) (refusal : Refusal) → plain worked_geometry (mounted journal) 1 creating ≡ Err refusal → ⊥
+not_refused journal refusal is = absurd (cc is)
 
 -- no block is stored where none is trimmed
 no_blocks : (blocks : Blocks) → [] ≡ trimmed_blocks blocks → blocks ≡ []
@@ -48,10 +49,10 @@ fresh_bytes files same =
     ∙ ap (λ entries. one (record files.tree { inodes = fresh.tree.inodes; blocks = []; entries = entries })) (sym same.entries)
 
 -- nor is there no room
-not_full : (reply : Reply) (last : Running) → IsAlike fresh last.files → HasGrown worked_geometry (nodes_added mounted 1 creating reply) (nodes_for mounted 1 creating) mounted last → IsFull worked_geometry mounted 1 creating reply last → ⊥
-not_full reply last same grown full =
+not_full : (journal : Journal) (reply : Reply) (last : Running) → IsAlike fresh last.files → HasGrown worked_geometry (nodes_added (mounted journal) 1 creating reply) (nodes_for (mounted journal) 1 creating) (mounted journal) last → IsFull worked_geometry (mounted journal) 1 creating reply last → ⊥
+not_full journal reply last same grown full =
     let room : HasNoRoom worked_geometry last (record { credits = 0; bytes = 384; nodes = 3; class = Ordinary }) full.sides = full.room in
-    let P : Reply → Type 0 = λ r. HasGrown worked_geometry (nodes_added mounted 1 creating r) 3 mounted last in
+    let P : Reply → Type 0 = λ r. HasGrown worked_geometry (nodes_added (mounted journal) 1 creating r) 3 (mounted journal) last in
     let heavy = subst P full.told grown in
     let weight : last.weight ≤ 1 = heavy.weight in
     let index : last.index ≤ 2 = heavy.index in
@@ -62,22 +63,22 @@ not_full reply last same grown full =
     let d = room.full in
     absurd (omega (arith, a, b, d, used, index, lebs))
 
-first_reply : (reply : Reply) (last : Running) → IsReplied worked_geometry mounted 1 creating reply last → reply ≡ Ino 65
-first_reply reply last h = by h.answer
+first_reply : (journal : Journal) (reply : Reply) (last : Running) → IsReplied worked_geometry (mounted journal) 1 creating reply last → reply ≡ Ino 65
+first_reply journal reply last h = by h.answer
   where
-    by : IsAnswer worked_geometry mounted 1 creating reply last → reply ≡ Ino 65
-    by (inl done) = done_reply last.files reply done
+    by : IsAnswer worked_geometry (mounted journal) 1 creating reply last → reply ≡ Ino 65
+    by (inl done) = done_reply journal last.files reply done
     by (inr refusal) = elim refusal.why [
-      | inl plainly ↦ absurd (not_refused plainly.0 plainly.1)
-      | inr full ↦ absurd (not_full reply last refusal.same h.grown full)
+      | inl plainly ↦ absurd (not_refused journal plainly.0 plainly.1)
+      | inr full ↦ absurd (not_full journal reply last refusal.same h.grown full)
     ]
 
-first_line : (line : List ℕ) (last : Running) → IsServed worked_geometry mounted 1 creating line last → line ≡ reply_line 1 1 (Ino 65)
-first_line line last h = h.printed ∙ ap (λ reply. reply_line 1 1 reply) (first_reply h.reply last h.replied)
+first_line : (journal : Journal) (line : List ℕ) (last : Running) → IsServed worked_geometry (mounted journal) 1 creating line last → line ≡ reply_line 1 1 (Ino 65)
+first_line journal line last h = h.printed ∙ ap (λ reply. reply_line 1 1 reply) (first_reply journal h.reply last h.replied)
 
-pub first_text : (text : List ℕ) (last : Running) → IsRun worked_geometry opening one_create text last → text ≡ ended (codes "mount rw") ++ reply_line 1 1 (Ino 65)
-first_text text last (line, next, rest, (shown, is), (after, behind, none, served, ended_is, joined), all) =
+pub first_text : (journal : Journal) (text : List ℕ) (last : Running) → IsRun worked_geometry (opening journal) one_create text last → text ≡ ended (codes "mount rw") ++ reply_line 1 1 (Ino 65)
+first_text journal text last (line, next, rest, (shown, is), (after, behind, none, served, ended_is, joined), all) =
     let P : Running → Type 0 = λ here. IsServed worked_geometry here 1 creating after behind in
-    let reply = first_line after behind (subst P is served) in
+    let reply = first_line journal after behind (subst P is served) in
     let last_is : rest ≡ reply_line 1 1 (Ino 65) = joined ∙ ap (λ (t : List ℕ). after ++ t) ended_is.0 ∙ append-nil after ∙ reply in
     all ∙ ap (λ (t : List ℕ). t ++ rest) shown ∙ ap (λ (t : List ℕ). ended (codes "mount rw") ++ t) last_is

@@ -5,6 +5,7 @@ pub mod FirstBeside
 pub mod FirstFile
 pub mod Growth
 pub mod Heavier
+pub mod Leaving
 pub mod LeftCover
 pub mod LegalPhase
 pub mod OneCaller

@@ -1,5 +1,5 @@
 -- The lines of a run.
-use Rattle.std.proofs.Common.{◌≡◌, ◌⊎◌, ℕ, Bool, Err, List, [], inl, inr, refl, ap, ◌∙◌}
+use Rattle.std.proofs.Common.{◌≡◌, ◌⊎◌, ℕ, ◌+◌, Bool, Err, List, [], inl, inr, refl, ap, ◌∙◌}
 use Rattle.ubifs_base.specs.declared.raw_geometry.RawGeometry.{RawGeometry}
 use Rattle.fs_model.specs.declared.op.Op.{Op}
 use Rattle.fs_model.specs.declared.op.Op.TheVariants.{Flush, Fsync}
@@ -15,8 +15,9 @@ use Rattle.script_text.specs.declared.part.Part.{Part}
 use Rattle.script_text.specs.declared.part.Part.TheVariants.{Mount, Unmount, Now, Workers, Line}
 use Rattle.script_text.specs.Script.{IsInRange, mounted_after}
 use Rattle.script_run.specs.Replies.{IsCalled}
-use Rattle.script_run.specs.Run.{HasStored, IsAnswer, IsFull, IsPart, IsReplied, Running, plain}
+use Rattle.script_run.specs.Run.{HasStored, IsAnswer, IsFull, IsPart, IsReplied, Running, line_of, plain}
 use Rattle.script_run.specs.Sessions.{IsBare}
+use Rattle.script_run.proofs.Leaving.{leaves_numbered}
 
 -- whether the volume is mounted then
 pub mounted_next : (geo : RawGeometry) (before after : Running) (part : Part) (text : List ℕ) → IsPart geo before part text after → after.mounted ≡ mounted_after before.mounted part
@@ -78,6 +79,7 @@ replied_in geo a b m n i j w v caller op reply h = record {
   orphans = h.orphans;
   under = h.under;
   synced = synced_in a b m n i j w v caller op reply h.synced;
+  left = leaves_numbered a.files a.journal b.journal (line_of a caller op reply) (i + 1) h.left;
   still = h.still;
   grown = record { weight = h.grown.weight; index = h.grown.index };
   few = h.few;

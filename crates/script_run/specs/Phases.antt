@@ -69,7 +69,7 @@ pub record AreServedTogether (geo : RawGeometry) (before : Running) (lines : Lis
   pub weight : after.weight ≤ grown_weight (opened_on geo (callers_in lines) before) trace
   pub index : after.index ≤ max before.index (2 * index_lebs geo (most_weight (opened_on geo (callers_in lines) before) trace))
   pub orphans : orphan_limit geo.leb_size - orphans_told before ≤ (orphan_limit geo.leb_size - orphans_told after) + last.orphans
-  pub rest : after ≡ record before { files = after.files; stored = after.stored; weight = after.weight; index = after.index; closed = after.closed; number = 0 }
+  pub rest : after ≡ record before { files = after.files; stored = after.stored; journal = after.journal; weight = after.weight; index = after.index; closed = after.closed; number = 0 }
 
 -- One caller's lines, each on what the one before it left.
 abbrev pub AreServed : RawGeometry → Running → List CallerLine → List ℕ → Running → Type 0

@@ -1,5 +1,5 @@
 -- What a script does: what each of its lines answers, the files that it leaves and what is stored of them, and the text that is printed.
-use Rattle.std.specs.Prelude.{◌≡◌, ◌⊎◌, ℕ, ◌+◌, ◌-◌, ◌*◌, ◌<◌, ◌≤◌, max, if◌then◌else◌, Bool, true, false, None, Some, Ok, Err, List, [], ◌∷◌, ◌++◌, length, codes}
+use Rattle.std.specs.Prelude.{◌≡◌, ◌⊎◌, ℕ, ◌+◌, ◌-◌, ◌*◌, ◌<◌, ◌≤◌, max, if◌then◌else◌, Bool, true, false, Some, Ok, Err, List, [], ◌∷◌, ◌++◌, length, codes}
 use Rattle.ubifs_base.specs.declared.raw_geometry.RawGeometry.{RawGeometry}
 use Rattle.ubifs_base.specs.Areas.{main_lebs}
 use Rattle.small_areas.specs.Orphans.{orphan_limit}
@@ -54,13 +54,9 @@ pub record Running : Type 0 where
 abbrev pub opening_on : Tree → Journal → ℕ → Running
 opening_on tree journal weight = record { files = record { tree = tree; handles = [] }; stored = tree; journal = journal; weight = weight; index = 0; closed = 0; mounted = false; now = 0; number = 0; workers = 0 }
 
--- a journal of which nothing is told
-abbrev pub untold : Journal
-untold = record { running = None; left = 0; nodes = 0; later = 0; medium = None }
-
--- a fresh volume: the root's node is all that its index has
-abbrev pub opening : Running
-opening = opening_on fresh.tree untold 1
+-- a fresh volume with this journal: the root's node is all that its index has
+abbrev pub opening : Journal → Running
+opening journal = opening_on fresh.tree journal 1
 
 -- A cut leaves this tree, without what has no name, and nothing else.
 abbrev pub LeavesOnly : Journal → Tree → Type 0
@@ -116,7 +112,7 @@ pub record HasGrown (geo : RawGeometry) (added put : ℕ) (before after : Runnin
   pub weight : after.weight ≤ before.weight + added
   pub index : after.index ≤ max before.index (2 * index_lebs geo (before.weight + put))
 
--- An unmount puts the files as they are. Then nobody has a file open any more, and what has no name is gone. The index gets no heavier.
+-- An unmount puts the files as they are. Then nobody has a file open any more, what has no name is gone, and a cut leaves nothing else. The index gets no heavier.
 pub record IsUnmounted (geo : RawGeometry) (before after : Running) : Type 0 where
   pub put : Tree
   pub same : IsAlike before.files (record before.files { tree = put })

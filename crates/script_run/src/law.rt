@@ -6,6 +6,7 @@ ghost use Rattle.ubifs_base.specs.declared.raw_geometry.RawGeometry.{RawGeometry
 ghost use Rattle.fs_model.specs.declared.refusal.NoSpace.{NoSpace};
 ghost use Rattle.fs_model.specs.declared.reply.Reply.TheVariants.{Ino};
 ghost use Rattle.fs_model.specs.declared.space.Need.{Need};
+ghost use Rattle.fs_model.specs.Journal.{Journal};
 ghost use Rattle.fs_model.specs.Legal.{IsLegal};
 ghost use Rattle.space_sums.specs.Spaces.{HasRoom};
 ghost use Rattle.script_text.specs.declared.part.Part.{Part};
@@ -32,12 +33,12 @@ pub fn what_has_room_is_not_refused_for_want_of_it()
 
 /// On a fresh volume of 64 main LEBs a file is made: this text, and no other, is that of such a script.
 pub fn a_first_file_is_made()
-    ensures { (text : List ℕ) (last : Running) → IsRun worked_geometry opening one_create text last → text ≡ ended (codes "mount rw") ++ reply_line 1 1 (Ino 65) }
+    ensures { (journal : Journal) (text : List ℕ) (last : Running) → IsRun worked_geometry (opening journal) one_create text last → text ≡ ended (codes "mount rw") ++ reply_line 1 1 (Ino 65) }
 {}
 
 /// So it is beside a worker, whose pages may be put at any moment.
 pub fn a_first_file_is_made_beside_a_worker()
-    ensures { (text : List ℕ) (last : Running) → ArePhases worked_geometry opening [] (Workers 1 ∷ one_create) text last → text ≡ ended (codes "mount rw") ++ reply_line 1 1 (Ino 65) }
+    ensures { (journal : Journal) (text : List ℕ) (last : Running) → ArePhases worked_geometry (opening journal) [] (Workers 1 ∷ one_create) text last → text ≡ ended (codes "mount rw") ++ reply_line 1 1 (Ino 65) }
 {}
 
 /// The trace of callers who were at work at once is legal, from what their phase opened on to what it left.

@@ -12,6 +12,7 @@ ghost use Rattle.plain_backing.specs.Covering.{IsCovering, leaf_count};
 ghost use Rattle.plain_backing.specs.PlainBacking.{Covers, state_of};
 ghost use Rattle.fs_model.specs.declared.backing_answers.Mode.TheVariants.{ReadWrite};
 ghost use Rattle.script_run.specs.Opening.{mounted_space};
+ghost use Rattle.script_run.specs.Run.{LeavesOnly};
 
 use fs_model::{Mode, Space};
 use plain_backing::{PlainBacking, Tree};
@@ -113,6 +114,7 @@ pub(crate) fn backing_of(
     ensures covers { IfOk result (λ backing. Covers (state_of backing)) }
     ensures orphans { IfOk result (λ backing. (state_of backing).orphan_limit ≡ orphan_limit geometry.leb_size) }
     ensures closed { IfOk result (λ backing. (state_of backing).closed ≡ 0) }
+    ensures left { IfOk result (λ backing. LeavesOnly (state_of backing).journal tree) }
     ensures weight { IfOk result (λ backing. ((state_of backing).space.weight ≡ space.weight) × ((state_of backing).space.index ≡ space.index)) }
 {
     PlainBacking::new(

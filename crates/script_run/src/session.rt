@@ -27,6 +27,7 @@ use script_phase::is_memory;
 use script_text::{Part, write_reply};
 use space_sums::more_never_lowers_the_need;
 use std::alloc::Global;
+use traced_files::a_line_leaves_what_was_seen;
 use ubifs_base::{Geometry, Memory};
 use vfs_ops::{Event, Fs, Outcome, a_plain_answer_is_no_refusal};
 
@@ -267,6 +268,7 @@ fn replied(fs: &mut Fs<PlainBacking>, caller: u16, now: u64, op: Op) -> Result<R
     clean_files_are_those_of_the_backing();
     present_files_are_sound();
     a_plain_answer_is_no_refusal();
+    a_line_leaves_what_was_seen();
     let event = Event::Call {
         caller,
         now,

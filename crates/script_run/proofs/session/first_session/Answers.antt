@@ -1,6 +1,8 @@
 use Rattle.std.proofs.Common.{ap, length, refl, sym, subst, ◌∙◌}
 use Rattle.ubifs_base.specs.RawOf.{raw_of}
 use Rattle.plain_backing.specs.declared.backing.PlainBacking.{PlainBacking}
+use Rattle.plain_backing.specs.PlainBacking.{state_of}
+use Rattle.script_run.specs.Run.{LeavesOnly}
 use Rattle.script_run.specs.Sessions.{IsSteady}
 use Rattle.script_run.proofs.session.first_session.Goals as goal
 
@@ -22,3 +24,6 @@ returns-in-Ok-clause-session c =
       });
       bare = λ none. record { pages = opened.dirty; inodes = opened.inodes; handles = opened.handles };
     }
+
+pub returns-in-Ok-clause-left : goal.returns-in-Ok-clause-left
+returns-in-Ok-clause-left c = subst (λ (b : PlainBacking). LeavesOnly (state_of b).journal c.args.opening.tree) (sym c.in-Ok.ensures.backing) c.in_ok-backing.ensures.left

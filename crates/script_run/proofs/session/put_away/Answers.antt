@@ -3,11 +3,12 @@ use Rattle.cached_files.specs.Present.{present}
 use Rattle.fs_model.specs.Files.{Tree}
 use Rattle.fs_model.specs.Orphan.{without_nameless}
 use Rattle.fs_model.specs.Proper.{IsProper}
+use Rattle.plain_backing.specs.declared.backing.PlainBacking.{PlainBacking}
 use Rattle.plain_backing.specs.PlainBacking.{state_of}
 use Rattle.ubifs_base.specs.RawOf.{raw_of}
 use Rattle.ubifs_base.specs.declared.raw_geometry.RawGeometry.{RawGeometry}
 use Rattle.fs_model.specs.declared.space.Space.{Space}
-use Rattle.script_run.specs.Run.{HasGrown, Running}
+use Rattle.script_run.specs.Run.{HasGrown, LeavesOnly, Running}
 use Rattle.script_run.specs.Sessions.{mounted_over}
 use Rattle.script_run.proofs.Growth.{grown_anew, grown_then}
 use Rattle.script_run.proofs.LeftCover.{named_covers}
@@ -41,6 +42,12 @@ returns-in-Ok-clause-files c =
       bare_files (state_of c.in-Ok.fs.backing).tree (without_nameless put) c.in-Ok.fs.kept left
           (record { pages = c.in-Ok.ensures.opened.dirty; inodes = c.in-Ok.ensures.opened.inodes; handles = c.in-Ok.ensures.opened.handles }),
     )
+
+pub returns-in-Ok-clause-left : goal.returns-in-Ok-clause-left
+returns-in-Ok-clause-left c =
+    let made = c.in_ok-backing.backing in
+    let alone = subst (λ (tree : Tree). LeavesOnly (state_of made).journal tree) (sym c.in_ok-backing.ensures.tree) c.in_ok-backing.ensures.left in
+    subst (λ (b : PlainBacking). LeavesOnly (state_of b).journal (state_of b).tree) (sym c.in-Ok.ensures.backing) alone
 
 pub returns-in-Ok-clause-grown : goal.returns-in-Ok-clause-grown
 returns-in-Ok-clause-grown c =

@@ -1,14 +1,19 @@
-use Rattle.std.proofs.Common.{◌+◌, ap, arith, length, refl, sym, ◌∙◌}
+use Rattle.std.proofs.Common.{◌+◌, ap, arith, length, refl, sym, subst, ◌∙◌}
 use Rattle.std.specs.Prelude.{if◌then◌else◌}
 use Rattle.ubifs_base.specs.RawOf.{raw_of}
 use Rattle.fs_model.specs.Backing.{next_orphans}
 use Rattle.fs_model.specs.Orphan.{leaves_orphan}
 use Rattle.plain_backing.specs.PlainBacking.{state_of}
+use Rattle.vfs_ops.specs.declared.event.Event.TheVariants.{Call}
+use Rattle.vfs_ops.specs.declared.event.Outcome.{Outcome}
+use Rattle.vfs_ops.specs.Passing.{IsStep}
 use Rattle.vfs_ops.specs.Steps.{Passage}
-use Rattle.script_run.specs.Run.{nodes_added, nodes_for, orphans_told}
+use Rattle.script_run.specs.Run.{line_of, nodes_added, nodes_for, orphans_told}
 use Rattle.script_run.specs.Sessions.{mounted_over}
 use Rattle.script_run.proofs.Answering.{answer_of, exact_of, grows_of, issued_of, no_room, reply_of, steady_next, told_of, weighed_of, written_of}
+use Rattle.script_run.proofs.AtOnce.{over}
 use Rattle.script_run.proofs.Growth.{grown_of}
+use Rattle.script_run.proofs.Leaving.{told_journal}
 use Rattle.script_run.proofs.Storing.{still_of, stored_of}
 use Rattle.vfs_ops.proofs.Truncating.{few_asked}
 use Rattle.script_run.proofs.session.replied.Goals as goal
@@ -41,6 +46,8 @@ returns-clause-replied c =
     let clean = c.clean_files_are_those_of_the_backing.ensures (state_of new).tree after in
     let nameless = c.present_files_are_sound.ensures.nameless in
     let told = told_of (state_of old) (state_of new) before after _ _ c.args.caller c.args.now c.args.op c.step-outcome.result reply left is step.answered in
+    let first = over old before c.args.fs.now.refused.items in
+    let last = over new after c.step-outcome.new.self.refused.items in
     let passage : Passage = record { old = state_of old; new = state_of new; before = before; after = after } in
     record {
       answer = answer_of geo (state_of old) (state_of new) after was here c.args.caller c.args.op reply _ _
@@ -59,6 +66,8 @@ returns-clause-replied c =
           step.orphans;
       under = record { kept = after; fits = fits; seen = refl };
       synced = stored_of old new before after c.args.now c.args.caller c.args.op reply fits clean (written_of (state_of old) (state_of new) before after c.args.caller c.args.now c.args.op c.step-outcome.result reply left c.requires.steady.mode is step.written);
+      left = c.a_line_leaves_what_was_seen.ensures first last (line_of was c.args.caller c.args.op reply) 0 left c.requires.steady.mode (omega arith) c.requires.call c.args.fs.now.ready c.step-outcome.new.self.ready (told_journal old) (told_journal new)
+          (subst (λ (o : Outcome). IsStep first last (Call c.args.caller c.args.now 0 c.args.op) o) is step);
       still = still_of passage c.args.caller c.args.now c.args.op reply left c.a_plain_answer_is_no_refusal.ensures c.args.fs.now.ready.sound (exact_of passage c.args.caller c.args.now c.args.op c.step-outcome.result reply left is step.exact);
       grown = grown_of old new before after c.args.now (nodes_added was c.args.caller c.args.op reply) (nodes_for was c.args.caller c.args.op) _
           (weighed_of passage c.args.caller c.args.now c.args.op c.step-outcome.result reply left is step.weighed) step.goes (omega arith);

@@ -29,6 +29,7 @@ returns-clause-part c =
           same = away.files.1;
           stored = away.files.2;
           files = away.files.3;
+          left = away.left;
           grown = record { weight = grown.weight; index = grown.index };
           closed = away.closed;
           mounted = refl;

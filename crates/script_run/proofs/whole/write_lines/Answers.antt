@@ -5,6 +5,7 @@ use Rattle.fs_model.specs.Proper.{IsProper}
 use Rattle.fs_model.specs.Orphan.{without_nameless}
 use Rattle.plain_backing.specs.PlainBacking.{state_of}
 use Rattle.script_run.specs.Sessions.{running_of, state_in}
+use Rattle.script_run.proofs.Leaving.{stored_left}
 use Rattle.script_run.proofs.LeftCover.{named_in}
 use Rattle.script_run.proofs.Running.{bare_files}
 use Rattle.script_run.proofs.whole.write_lines.Goals as goal
@@ -20,10 +21,13 @@ returns-clause-played g c =
     let session = c.in_ok-played.played.session in
     let same : c.into_tree.result ≡ (state_in session).tree = c.into_tree.ensures ∙ ap (λ b. (state_of b).tree) c.into_parts.ensures in
     record {
+      first = c.in_ok-played.ensures.run.0;
+      only = c.in_ok-played.ensures.run.1;
       last = running_of session;
-      lines = c.in_ok-played.ensures.run;
+      lines = c.in_ok-played.ensures.run.2;
       left = record {
         under = record { kept = session.fs.kept; fits = session.fs.ready.kept_fits; seen = refl };
+        stored = stored_left session.fs.backing;
         unmounted = λ away. bare_files (state_in session).tree (state_in session).tree session.fs.kept refl (c.in_ok-played.ensures.session.bare away);
       };
       named = c.in_ok-tree.ensures ∙ ap without_nameless same;
