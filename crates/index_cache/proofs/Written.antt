@@ -59,17 +59,18 @@ branches_keys (leaf_in x rest) h = (h.0, branches_keys rest h.1)
 branches_keys (node_in key place children rest) h = (subst IsKey (sym (branch_key key place)) h.0, branches_keys rest h.2)
 
 -- how many children a node has
-pub few_links : (f : ℕ) (seen : List NodeView) (n : TableNode) → f ≤ 256 → IsSoundView f (view_of seen n) → length n.links.items ≤ 256
-few_links f seen n most s =
-    let fit = (fit_node f (bare (row_of seen n.links.items)) done s.0).most in
+pub few_links : (f : ℕ) (seen : List NodeView) (n : TableNode) → f ≤ 256 → IsSoundView f (view_of seen n) → (view_of seen n).children ≡ row_of seen n.links.items → length n.links.items ≤ 256
+few_links f seen n most s row =
+    let fit = (fit_node f (bare (view_of seen n).children) done s.0).most in
+    let same = ap (λ (r : KeyedRow). count (bare r)) row in
     let long = branches_long seen n.links.items in
     let counted = branches_counted (row_of seen n.links.items) in
-    omega (arith, fit, long, counted, most)
+    omega (arith, fit, same, long, counted, most)
 
-pub few_children : (f : ℕ) (seen : List NodeView) (n : TableNode) → IsSoundView f (view_of seen n) → length (branches_of (placed_of (row_of seen n.links.items))) ≤ f
+pub few_children : (f : ℕ) (seen : List NodeView) (n : TableNode) → IsSoundView f (view_of seen n) → length (branches_of (placed_of (view_of seen n).children)) ≤ f
 few_children f seen n s =
-    let fit = (fit_node f (bare (row_of seen n.links.items)) done s.0).most in
-    let counted = branches_counted (row_of seen n.links.items) in
+    let fit = (fit_node f (bare (view_of seen n).children) done s.0).most in
+    let counted = branches_counted (view_of seen n).children in
     omega (arith, fit, counted)
 
 -- what a node says is an index node

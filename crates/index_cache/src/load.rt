@@ -56,6 +56,7 @@ fn add_clean(
         level,
         place: Some(place),
         links,
+        beyond: None,
     })
 }
 

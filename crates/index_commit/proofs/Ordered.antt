@@ -7,6 +7,7 @@ use Rattle.index_media.specs.KeyedRow.{KeyedRow, no_more, leaf_in, node_in, all_
 use Rattle.index_media.specs.PlacedRow.{PlacedRow, ended, leaf_at, node_at, Stretch, branches_of}
 use Rattle.index_media.specs.Stored.{AreStored}
 use Rattle.media_sys.specs.Index.{in_order, may_follow}
+use Rattle.node_table.specs.BeyondLaws.{dirty_row}
 use Rattle.node_table.specs.Dirty.{dirty_among, dirty_behind, dirty_below, dirty_from, dirty_node}
 use Rattle.node_table.specs.NodeView.{NodeView, children_in, node_before, row_of, tree_at, view_of, views, views_behind}
 use Rattle.node_table.specs.Placing.{KeepsPlaces}
@@ -81,16 +82,16 @@ among_below seen known (ToNode key k ∷ links) number all h = elim (given_of (u
       )
 ]
 
-own_below : (seen : List NodeView) (known : List (List ℕ)) (node : TableNode) (place : Option NodePlace) (number : ℕ) → length known ≡ length seen → AreBelow seen known
+own_below : (seen : List NodeView) (known : List (List ℕ)) (node : TableNode) (place : Option NodePlace) (number : ℕ) → node.place ≡ place → length known ≡ length seen → AreBelow seen known
     → IsGiven (dirty_node place (length known) (dirty_among known node.links.items)) number
     → (number < length seen + 1) × (IsInOrder (Some (view_of seen node)) → IsInOrder (slice_get (seen ++ view_of seen node ∷ []) number))
-own_below seen known node (Some place) number same all h = absurd h
-own_below seen known node None number same all h = elim (given_of (dirty_among known node.links.items) (length known ∷ []) number h) [
+own_below seen known node (Some place) number at same all h = absurd h
+own_below seen known node None number at same all h = elim (given_of (dirty_among known node.links.items) (length known ∷ []) number h) [
   | inl below ↦
       let one = among_below seen known node.links.items number all below in
       let less = one.0 in (
         omega (arith, less),
-        (λ order. subst IsInOrder (sym (get_front seen (view_of seen node) number less)) (one.1 order.1)),
+        (λ order. subst IsInOrder (sym (get_front seen (view_of seen node) number less)) (one.1 (subst AreKeysInOrder (dirty_row seen node at) order.1))),
       )
   | inr itself ↦ elim itself [
     | inl e ↦ (
@@ -117,7 +118,7 @@ more_below seen known node same all i number h =
           )
       | inr end ↦
           let is = end.0 in
-          let one = own_below seen known node node.place number same all end.1 in
+          let one = own_below seen known node node.place number refl same all end.1 in
           let fewer = one.0 in (
             omega (arith, long, fewer),
             (λ order. one.1 (subst IsInOrder (get_end seen v i (omega (arith, is, same))) order)),

@@ -12,6 +12,8 @@ use Rattle.index_media.specs.Clean.{is_clean_row}
 use Rattle.index_media.specs.InsertionSound.{fit_node}
 use Rattle.index_media.specs.KeyedRow.{KeyedRow, no_more, leaf_in, node_in, bare}
 use Rattle.index_media.specs.PlacedRow.{Stretch}
+use Rattle.node_table.specs.Beyond.{are_loaded, is_loaded}
+use Rattle.node_table.specs.BeyondLaws.{loaded_row}
 use Rattle.node_table.specs.Clean.{are_clean_below, is_clean_below}
 use Rattle.node_table.specs.Dirty.{dirty_among, dirty_behind, dirty_below, dirty_from, dirty_lists, dirty_node}
 use Rattle.node_table.specs.NodeView.{NodeView, node_before, row_of, stretch_at, tree_at, view_of, views, views_behind}
@@ -201,12 +203,12 @@ record AreTables (at : ℕ → Option Room) (f : ℕ) (seen later : List NodeVie
   places : (i : ℕ) (v w : NodeView) → slice_get seen i ≡ Some v → slice_get later i ≡ Some w → (at i ≡ option_map place_room w.place) × ((w.place ≡ v.place) ⊎ (v.place ≡ None))
 
 all_filled : (at : ℕ → Option Room) (f : ℕ) (seen later : List NodeView) (known : List (List ℕ)) (nodes news : List TableNode) → length later ≡ length seen → length known ≡ length seen
-    → map node_links news ≡ map node_links nodes → AreTables at f (views_behind seen nodes) (views_behind later news) → AreFilled at seen later known
+    → map node_links news ≡ map node_links nodes → are_loaded nodes ≡ true → are_loaded news ≡ true → AreTables at f (views_behind seen nodes) (views_behind later news) → AreFilled at seen later known
     → AreFilled at (views_behind seen nodes) (views_behind later news) (dirty_behind known nodes)
-all_filled at f seen later known [] [] same count links tables all = all
-all_filled at f seen later known [] (y ∷ news) same count links tables all = absurd cc
-all_filled at f seen later known (x ∷ nodes) [] same count links tables all = absurd cc
-all_filled at f seen later known (x ∷ nodes) (y ∷ news) same count links tables all =
+all_filled at f seen later known [] [] same count links old new tables all = all
+all_filled at f seen later known [] (y ∷ news) same count links old new tables all = absurd cc
+all_filled at f seen later known (x ∷ nodes) [] same count links old new tables all = absurd cc
+all_filled at f seen later known (x ∷ nodes) (y ∷ news) same count links old new tables all =
     let v = view_of seen x in
     let w = view_of later y in
     let own = dirty_node x.place (length known) (dirty_among known x.links.items) in
@@ -217,14 +219,21 @@ all_filled at f seen later known (x ∷ nodes) (y ∷ news) same count links tab
     let places = tables.places (length seen) v w here there in
     let theirs : y.links.items ≡ x.links.items = ap first_links links in
     let L : List Link → Type 0 = λ l. IsFilled at (dirty_among known x.links.items) (rooms_of (row_of seen x.links.items)) (rooms_of (row_of later l)) in
-    let below = subst L (sym theirs) (links_filled at f seen later known x.links.items all (tables.sound (length seen) v here)) in
+    let front = loaded_row seen x (and_left (is_loaded x) (are_loaded nodes) old) in
+    let back = loaded_row later y (and_left (is_loaded y) (are_loaded news) new) in
+    let F : KeyedRow → Type 0 = λ r. fits f (bare r) ≡ true in
+    let linked = subst L (sym theirs) (links_filled at f seen later known x.links.items all (subst F front (tables.sound (length seen) v here))) in
+    let R : KeyedRow → Type 0 = λ r. IsFilled at (dirty_among known x.links.items) (rooms_of r) (rooms_of (row_of later y.links.items)) in
+    let S : KeyedRow → Type 0 = λ r. IsFilled at (dirty_among known x.links.items) (rooms_of v.children) (rooms_of r) in
+    let below = subst S (sym back) (subst R (sym front) linked) in
     let N : ℕ → Type 0 = λ n. at n ≡ option_map place_room (stretch_at y.place) in
-    let mine = own_filled at (length known) (dirty_among known x.links.items) (row_of seen x.links.items) (row_of later y.links.items) x.place y.place below (subst N (sym count) places.0) places.1
+    let mine = own_filled at (length known) (dirty_among known x.links.items) v.children w.children x.place y.place below (subst N (sym count) places.0) places.1
     (tables.clean (length seen) v here) in
     let one = length-append seen (v ∷ []) in
     let two = length-append later (w ∷ []) in
     let three = length-append known (own ∷ []) in
-    all_filled at f (seen ++ v ∷ []) (later ++ w ∷ []) (known ++ own ∷ []) nodes news (omega (arith, one, two, same)) (omega (arith, one, three, count)) (ap rest_links links) tables
+    all_filled at f (seen ++ v ∷ []) (later ++ w ∷ []) (known ++ own ∷ []) nodes news (omega (arith, one, two, same)) (omega (arith, one, three, count)) (ap rest_links links)
+    (and_right (is_loaded x) (are_loaded nodes) old) (and_right (is_loaded y) (are_loaded news) new) tables
     (more_filled at seen later known v w own same count all mine)
 
 -- ---- the tables of an index before and after
@@ -270,7 +279,7 @@ none_filled at i v is = absurd cc
 root_filled : (a b : PagedIndex) (root : Root) → IsIndexKept a b → fits (fanout_of a) (bare (tree_at a.table.nodes.items (Some root))) ≡ true
     → IsFilled (room_now b) (dirty_below a.table.nodes.items (Some root)) (rooms_of (tree_at a.table.nodes.items (Some root))) (rooms_of (tree_at b.table.nodes.items (Some root)))
 root_filled a b root kept fit =
-    let all = all_filled (room_now b) (fanout_of a) [] [] [] a.table.nodes.items b.table.nodes.items refl refl kept.links (tables_are a b kept) (none_filled (room_now b)) in
+    let all = all_filled (room_now b) (fanout_of a) [] [] [] a.table.nodes.items b.table.nodes.items refl refl kept.links a.table.loaded b.table.loaded (tables_are a b kept) (none_filled (room_now b)) in
     let numbers = dirty_from a.table.nodes.items root.number in
     let P : List ℕ → Type 0 = λ l. IsFilled (room_now b) l (rooms_of (tree_at a.table.nodes.items (Some root))) (rooms_of (tree_at b.table.nodes.items (Some root))) in
     subst P (append-nil numbers) (node_filled (room_now b) (fanout_of a) (views a.table.nodes.items) (views b.table.nodes.items) (dirty_lists a.table.nodes.items) root.key root.number

@@ -13,6 +13,7 @@ use Rattle.index_tree.specs.Shape.{Shape, done, leaf, node, contents, count, fit
 use Rattle.index_tree.specs.declared.leaf.Leaf.{Leaf}
 use Rattle.index_media.specs.InsertionSound.{fit_node}
 use Rattle.index_media.specs.KeyedRow.{KeyedRow, no_more, bare}
+use Rattle.node_table.specs.BeyondLaws.{dirty_row}
 use Rattle.node_table.specs.Dirty.{dirty_among, dirty_behind, dirty_below, dirty_from, dirty_lists, dirty_node}
 use Rattle.node_table.specs.NodeView.{NodeView, node_before, row_of, tree_at, view_of, views, views_behind}
 use Rattle.node_table.specs.Sound.{AreSoundViews, IsSoundView}
@@ -195,7 +196,7 @@ links_fewer t x f seen known (ToLeaf y ∷ links) all fit = let rest = links_few
 links_fewer t x f seen known (ToNode key k ∷ links) all fit =
     node_fewer t x f seen known key k (slice_get seen k) (dirty_among known links) (row_of seen links) refl all fit (λ g. links_fewer t x f seen known links all g)
 
-own_fewer : (t : ℕ) (x : Leaf) (n : ℕ) (below : List ℕ) (leaves : List Leaf) (place : Option NodePlace) → often t below ≤ leaf_often x leaves → AreLower n below → (n ≡ t → 1 ≤ leaf_often x leaves)
+own_fewer : (t : ℕ) (x : Leaf) (n : ℕ) (below : List ℕ) (leaves : List Leaf) (place : Option NodePlace) → (place ≡ None → often t below ≤ leaf_often x leaves) → AreLower n below → (n ≡ t → 1 ≤ leaf_often x leaves)
     → often t (dirty_node place n below) ≤ leaf_often x leaves
 own_fewer t x n below leaves (Some p) few lower own = omega arith
 own_fewer t x n below leaves None few lower own = elim (cases_Bool (n == t)) [
@@ -209,7 +210,8 @@ own_fewer t x n below leaves None few lower own = elim (cases_Bool (n == t)) [
   | inr e ↦
       let here : one (n == t) ≡ 0 = ap one e in
       let sum = often_both t below (n ∷ []) in
-      omega (arith, here, sum, few)
+      let less = few refl in
+      omega (arith, here, sum, less)
 ]
 
 more_fewer : (t : ℕ) (x : Leaf) (seen : List NodeView) (known : List (List ℕ)) (v : NodeView) (own : List ℕ) → length known ≡ length seen → AreFewer t x seen known
@@ -239,7 +241,11 @@ all_fewer t x f seen known (y ∷ nodes) count ends sound all =
     let own = dirty_node y.place (length known) (dirty_among known y.links.items) in
     let here = sound (length seen) v (seen_stays (seen ++ v ∷ []) nodes (length seen) v (get_end seen v)) in
     let lower = lower_among known y.links.items ends in
-    let few = links_fewer t x f seen known y.links.items all here.0 in
+    let F : KeyedRow → Type 0 = λ r. fits f (bare r) ≡ true in
+    let L : KeyedRow → Type 0 = λ r. often t (dirty_among known y.links.items) ≤ leaf_often x (contents (bare r)) in
+    let few : y.place ≡ None → often t (dirty_among known y.links.items) ≤ leaf_often x (contents (bare v.children)) = λ dirty.
+    let row = dirty_row seen y dirty in
+    subst L (sym row) (links_fewer t x f seen known y.links.items all (subst F row here.0)) in
     let mine = own_fewer t x (length known) (dirty_among known y.links.items) (contents (bare v.children)) y.place few lower (λ e. here.1 (sym count ∙ e)) in
     let zero : length known ≡ 0 + length known = omega arith in
     let ended = end_both 0 known own ends (own_ends_at y.place (length known) (0 + length known) (dirty_among known y.links.items) zero lower) in

@@ -10,6 +10,7 @@ use Rattle.index_media.specs.Clean.{is_clean_row}
 use Rattle.index_media.specs.InsertionSound.{fit_node}
 use Rattle.index_media.specs.KeyedRow.{KeyedRow, no_more, leaf_in, node_in, all_clean, bare}
 use Rattle.index_media.specs.PlacedRow.{Stretch}
+use Rattle.node_table.specs.BeyondLaws.{dirty_row}
 use Rattle.node_table.specs.Clean.{are_clean_below, is_clean_below}
 use Rattle.node_table.specs.Dirty.{dirty_among, dirty_behind, dirty_below, dirty_lists, dirty_node}
 use Rattle.node_table.specs.NodeView.{NodeView, IsRootIn, node_before, row_of, stretch_at, tree_at, view_of, views, views_behind}
@@ -64,9 +65,12 @@ among_counted f known seen (ToNode key number ∷ links) counted fit =
     length-append (unwrap_or (slice_get known number) []) (dirty_among known links)
     ∙ node_counted f known seen key number (length (dirty_among known links)) (slice_get seen number) (row_of seen links) refl counted fit behind
 
-own_counted : (place : Option NodePlace) (number : ℕ) (below : List ℕ) (row : KeyedRow) → length below ≡ dirty_nodes_in row → (is_none (stretch_at place) || is_clean_row row) ≡ true
+own_counted : (place : Option NodePlace) (number : ℕ) (below : List ℕ) (row : KeyedRow) → (place ≡ None → length below ≡ dirty_nodes_in row) → (is_none (stretch_at place) || is_clean_row row) ≡ true
     → length (dirty_node place number below) ≡ dirty_one (stretch_at place) + dirty_nodes_in row
-own_counted None number below row count clean = let one = length-append below (number ∷ []) in omega (arith, one, count)
+own_counted None number below row count clean =
+    let one = length-append below (number ∷ []) in
+    let same = count refl in
+    omega (arith, one, same)
 own_counted (Some place) number below row count clean =
     let none : dirty_nodes_in row ≡ 0 = clean_none row clean in
     let both : 0 ≡ 0 + dirty_nodes_in row = omega (arith, none) in
@@ -117,7 +121,11 @@ behind_counted f known seen (n ∷ nodes) long counted good =
     let below = dirty_among known n.links.items in
     let own = dirty_node n.place (length known) below in
     let here = good (length seen) v (behind_stays (seen ++ v ∷ []) nodes (length seen) v (get_last seen v)) in
-    let count = own_counted n.place (length known) below (row_of seen n.links.items) (among_counted f known seen n.links.items counted here.0) here.1 in
+    let F : KeyedRow → Type 0 = λ r. fits f (bare r) ≡ true in
+    let among : n.place ≡ None → length below ≡ dirty_nodes_in v.children = λ dirty.
+    let row = dirty_row seen n dirty in
+    among_counted f known seen n.links.items counted (subst F row here.0) ∙ sym (ap dirty_nodes_in row) in
+    let count = own_counted n.place (length known) below v.children among here.1 in
     let one = length-append known (own ∷ []) in
     let other = length-append seen (v ∷ []) in
     behind_counted f (known ++ own ∷ []) (seen ++ v ∷ []) nodes (omega (arith, one, other, long)) (counted_push known seen own v long counted count) good

@@ -5,7 +5,9 @@ use Rattle.std.proofs.lemmas.List.Elements.{All-push}
 use Rattle.std.proofs.lemmas.List.Folds.{list_all-append}
 use Rattle.std.proofs.lemmas.Option.{slice_get-get_or}
 use Rattle.ubifs_base.specs.declared.key.Key.{Key}
-use Rattle.index_media.specs.KeyedRow.{no_more, node_in}
+use Rattle.index_media.specs.KeyedRow.{KeyedRow, no_more, node_in}
+use Rattle.node_table.specs.Beyond.{is_loaded, are_loaded}
+use Rattle.node_table.specs.BeyondLaws.{loaded_row}
 use Rattle.node_table.specs.Clean.{is_clean_below, are_clean_below}
 use Rattle.node_table.specs.NodeView.{node_before, row_of, view_of, stretch_at, views, tree_at, IsRootIn}
 use Rattle.node_table.specs.Sound.{IsSoundView, AreSoundViews}
@@ -27,13 +29,14 @@ pushed_kept nodes n (Some root) h =
     let after = ap (λ w. slice_get w root.number) (views_push nodes n) ∙ get_left seen (v ∷ []) root.number _ there in
     ap (λ o. node_before root.key o no_more) (after ∙ sym there)
 
-pub pushed_made : (nodes : List TableNode) (n : TableNode) (key : Key) (number : ℕ) → number ≡ length nodes
+pub pushed_made : (nodes : List TableNode) (n : TableNode) (key : Key) (number : ℕ) → number ≡ length nodes → is_loaded n ≡ true
     → tree_at (nodes ++ n ∷ []) (Some (record { key = key; number = number })) ≡ node_in key (stretch_at n.place) (row_of (views nodes) n.links.items) no_more
-pushed_made nodes n key number e =
+pushed_made nodes n key number e l =
     let seen = views nodes in
     let v = view_of seen n in
     let place : number ≡ length seen = e ∙ sym (views_length nodes) in
     ap (λ o. node_before key o no_more) (ap (λ w. slice_get w number) (views_push nodes n) ∙ ap (λ k. slice_get (seen ++ v ∷ []) k) place ∙ get_seam seen v [])
+    ∙ ap (λ (r : KeyedRow). node_in key (stretch_at n.place) r no_more) (loaded_row seen n l)
 
 -- the table after a node that may have found no memory
 pub after_push : (fanout : ℕ) (nodes new : List TableNode) (n : TableNode) (b : Bool) → new ≡ (if b then nodes ++ n ∷ [] else nodes) → AreSoundViews fanout (views nodes)
@@ -49,5 +52,11 @@ after_push_settled nodes new n true e s h =
     let one : are_clean_below (v ∷ []) ≡ true = rw h refl in
     ap (λ v. are_clean_below (views v)) e ∙ ap are_clean_below (views_push nodes n) ∙ list_all-append is_clean_below seen (v ∷ []) ∙ rw (s, one) refl
 after_push_settled nodes new n false e s h = ap (λ v. are_clean_below (views v)) e ∙ s
+
+pub after_push_loaded : (nodes new : List TableNode) (n : TableNode) (b : Bool) → new ≡ (if b then nodes ++ n ∷ [] else nodes) → are_loaded nodes ≡ true → is_loaded n ≡ true → are_loaded new ≡ true
+after_push_loaded nodes new n true e s h =
+    let one : are_loaded (n ∷ []) ≡ true = rw h refl in
+    ap are_loaded e ∙ list_all-append is_loaded nodes (n ∷ []) ∙ rw (s, one) refl
+after_push_loaded nodes new n false e s h = ap are_loaded e ∙ s
 
 pub ruleset adding = (pushed_sound, pushed_kept, pushed_made, views_push)

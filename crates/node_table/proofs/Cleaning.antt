@@ -6,6 +6,7 @@ use Rattle.ubifs_base.specs.declared.key.Key.{Key}
 use Rattle.index_media.specs.Clean.{is_clean_row, node_branch, placed_of}
 use Rattle.index_media.specs.KeyedRow.{KeyedRow, no_more, leaf_in, node_in, all_clean}
 use Rattle.index_media.specs.PlacedRow.{Stretch}
+use Rattle.node_table.specs.BeyondLaws.{dirty_row}
 use Rattle.node_table.specs.Clean.{is_clean_node, is_clean_below, are_clean_below, IsReadyNode}
 use Rattle.node_table.specs.Dirty.{dirty_node, dirty_among, dirty_lists, dirty_from}
 use Rattle.node_table.specs.NodeView.{NodeView, stretch_at, node_before, row_of, view_of, views, children_in, tree_at}
@@ -78,7 +79,7 @@ pub ready_node : (f : ℕ) (nodes : List TableNode) (number : ℕ) (n : TableNod
 ready_node f nodes number n s r h =
     let seen = opened f nodes number n s h in
     let dirty = dirty_place n.place (sym (ap place_in seen) ∙ r.dirty) in
-    let children = ap children_in seen in
+    let children = ap children_in seen ∙ dirty_row (views nodes) n dirty in
     let clean = ap is_clean_row (sym children) ∙ r.below in
     record {
       dirty = dirty;
@@ -118,7 +119,7 @@ pub placed_is_clean : (nodes : List TableNode) (i : ℕ) (n : TableNode) → are
     → is_clean_node (slice_get (views nodes) i) ≡ true
 placed_is_clean nodes i n s h p =
     let own = settled_at (views nodes) i (view_of (views nodes) n) s h in
-    ap is_clean_node h ∙ settled_clean (stretch_at n.place) (is_clean_row (row_of (views nodes) n.links.items)) (some_stretch n.place p) own
+    ap is_clean_node h ∙ settled_clean (stretch_at n.place) (is_clean_row (view_of (views nodes) n).children) (some_stretch n.place p) own
 
 pub placed_list : (o : Option NodePlace) (number : ℕ) (below : List ℕ) → is_some o ≡ true → dirty_node o number below ≡ []
 placed_list None number below h = absurd cc

@@ -8,6 +8,8 @@ use Rattle.std.proofs.Math.Seq.{take-append_seam}
 use Rattle.ubifs_base.specs.declared.memory.Memory.{Memory}
 use Rattle.index_tree.specs.Shape.{count, node_count, shape_weight, full}
 use Rattle.index_media.specs.KeyedRow.{bare}
+use Rattle.node_table.specs.Beyond.{is_loaded}
+use Rattle.node_table.specs.BeyondLaws.{loaded_row}
 use Rattle.node_table.specs.Counting.{counts_of, counts_of_all}
 use Rattle.node_table.specs.NodeView.{NodeView, row_of, view_of, views, children_in}
 use Rattle.node_table.specs.Staging.{IsAdded}
@@ -42,11 +44,12 @@ counted_more f [] v = refl
 counted_more f (w ∷ seen) v = ap (λ (cs : List TreeCounts). counts_of f w.children ∷ cs) (counted_more f seen v)
 
 pub after_both : (f : ℕ) (old new : List TableNode) (kept now : List TreeCounts) (n : TableNode) (own : TreeCounts) (b : Bool) → new ≡ (if b then old ++ n ∷ [] else old)
-    → now ≡ (if b then kept ++ own ∷ [] else kept) → kept ≡ counts_of_all f (views old) → own ≡ counts_of f (row_of (views old) n.links.items) → now ≡ counts_of_all f (views new)
-after_both f old new kept now n own true e c k o =
-    c ∙ ap (λ (cs : List TreeCounts). cs ++ own ∷ []) k ∙ ap (λ (x : TreeCounts). counts_of_all f (views old) ++ x ∷ []) o
+    → now ≡ (if b then kept ++ own ∷ [] else kept) → kept ≡ counts_of_all f (views old) → own ≡ counts_of f (row_of (views old) n.links.items) → is_loaded n ≡ true
+    → now ≡ counts_of_all f (views new)
+after_both f old new kept now n own true e c k o l =
+    c ∙ ap (λ (cs : List TreeCounts). cs ++ own ∷ []) k ∙ ap (λ (x : TreeCounts). counts_of_all f (views old) ++ x ∷ []) (o ∙ ap (counts_of f) (sym (loaded_row (views old) n l)))
     ∙ sym (counted_more f (views old) (view_of (views old) n)) ∙ ap (counts_of_all f) (sym (views_push old n)) ∙ ap (λ v. counts_of_all f (views v)) (sym e)
-after_both f old new kept now n own false e c k o = c ∙ k ∙ ap (λ v. counts_of_all f (views v)) (sym e)
+after_both f old new kept now n own false e c k o l = c ∙ k ∙ ap (λ v. counts_of_all f (views v)) (sym e)
 
 -- the first nodes, with their numbers
 counted_first : (f : ℕ) (seen more : List NodeView) → take (length seen) (counts_of_all f (seen ++ more)) ≡ counts_of_all f seen

@@ -4,6 +4,9 @@ use Rattle.std.specs.Prelude.{◌==◌, not, Option, None, Some, slice_get, map,
 use Rattle.std.proofs.lemmas.Bool.Decides.{nat_tests}
 use Rattle.std.proofs.lemmas.List.{map-append}
 use Rattle.std.proofs.lemmas.List.Elements.{filter-append}
+use Rattle.index_tree.specs.Shape.{fits}
+use Rattle.index_media.specs.KeyedRow.{KeyedRow, bare}
+use Rattle.node_table.specs.BeyondLaws.{dirty_row}
 use Rattle.node_table.specs.Dirty.{dirty_node, dirty_among, dirty_behind, dirty_lists, dirty_from, dirty_below}
 use Rattle.node_table.specs.NodeView.{NodeView, view_of, views_behind, views, IsRootIn}
 use Rattle.node_table.specs.Placing.{with_place, without_number}
@@ -60,6 +63,10 @@ dirty_kept old new (Some root) a h =
     let long = dirty_long [] old in
     ap (λ (ds : List (List ℕ)). unwrap_or (slice_get ds root.number) []) all ∙ get_first (dirty_lists old) p.0 root.number (omega (arith, h, long))
 
+own_among : (place : Option NodePlace) (k : ℕ) (xs ys : List ℕ) → (place ≡ None → xs ≡ ys) → dirty_node place k xs ≡ dirty_node place k ys
+own_among None k xs ys h = ap (λ (v : List ℕ). v ++ k ∷ []) (h refl)
+own_among (Some p) k xs ys h = refl
+
 -- those of a node, over those of all
 dirty_opened_behind : (f : ℕ) (seen : List NodeView) (known : List (List ℕ)) (nodes : List TableNode) (i : ℕ) (n : TableNode) → length known ≡ length seen
     → AreSoundViews f (views_behind seen nodes) → slice_get nodes i ≡ Some n
@@ -72,16 +79,20 @@ dirty_opened_behind f seen known (m ∷ ms) zero n l s h =
     let all : views_behind seen (m ∷ ms) ≡ seen ++ v ∷ more.0 = more.1 ∙ append_assoc seen (v ∷ []) more.0 in
     let here : slice_get (views_behind seen (m ∷ ms)) (length seen) ≡ Some v = ap (λ xs. slice_get xs (length seen)) all ∙ get_seam seen v more.0 in
     let fit = children_fit f v (sound_at f (views_behind seen (m ∷ ms)) (length seen) v s here) in
-    let inside : AreLinksIn (length known) m.links.items = subst (λ k. AreLinksIn k m.links.items) (sym l) (links_there f seen m.links.items fit) in
+    let F : KeyedRow → Type 0 = λ r. fits f (bare r) ≡ true in
+    let inside : m.place ≡ None → AreLinksIn (length known) m.links.items = λ none. subst (λ k. AreLinksIn k m.links.items) (sym l) (links_there f seen m.links.items (subst F (dirty_row seen m none) fit)) in
     let whole = dirty_behind known (m ∷ ms) in
     let own = dirty_node m.place (length known) (dirty_among known m.links.items) in
     let p = dirty_more (known ++ own ∷ []) ms in
     let known_all : whole ≡ known ++ own ∷ p.0 = p.1 ∙ append_assoc known (own ∷ []) p.0 in
     let start : length known + 0 ≡ length known = omega arith in
-    let among : dirty_among whole m.links.items ≡ dirty_among known m.links.items =
-    ap (λ (ds : List (List ℕ)). dirty_among ds m.links.items) known_all ∙ among_more known (own ∷ p.0) m.links.items inside in
+    let among : m.place ≡ None → dirty_among whole m.links.items ≡ dirty_among known m.links.items = λ none.
+    ap (λ (ds : List (List ℕ)). dirty_among ds m.links.items) known_all ∙ among_more known (own ∷ p.0) m.links.items (inside none) in
+    let over = own_among m.place (length known) (dirty_among whole m.links.items) (dirty_among known m.links.items) among in
+    let found : slice_get whole (length known) ≡ Some own = ap (λ (ds : List (List ℕ)). slice_get ds (length known)) known_all ∙ get_there known own p.0 in
     let P : TableNode → Type 0 = λ x. slice_get whole (length known + 0) ≡ Some (dirty_node x.place (length known + 0) (dirty_among whole x.links.items)) in
-    subst P same (rw (start, among) (ap (λ (ds : List (List ℕ)). slice_get ds (length known)) known_all ∙ get_there known own p.0))
+    let Q : ℕ → Type 0 = λ k. slice_get whole k ≡ Some (dirty_node m.place k (dirty_among whole m.links.items)) in
+    subst P same (subst Q (sym start) (found ∙ ap (λ (d : List ℕ). Some d) (sym over)))
 dirty_opened_behind f seen known (m ∷ ms) (suc i) n l s h =
     let own = dirty_node m.place (length known) (dirty_among known m.links.items) in
     let one = length-append known (own ∷ []) in

@@ -11,6 +11,9 @@ use Rattle.index_media.specs.InsertionSound.{AreKeys}
 use Rattle.index_media.specs.KeyedKeys.{key_before, AreKeysBounded}
 use Rattle.index_media.specs.KeyedRow.{KeyedRow, no_more, leaf_in, node_in, bare}
 use Rattle.index_media.specs.PlacedRow.{Stretch}
+use Rattle.told_value.specs.declared.told.Told.{Told}
+use Rattle.node_table.specs.Beyond.{children_by, is_loaded, are_loaded, row_told, branch_at_place}
+use Rattle.node_table.specs.BeyondLaws.{loaded_row}
 use Rattle.node_table.specs.Clean.{is_clean_below, are_clean_below}
 use Rattle.node_table.specs.Counting.{counts_of, counts_of_all}
 use Rattle.node_table.specs.NodeView.{NodeView, stretch_at, node_before, linked_before, row_of, view_of, views_behind, views, children_in, tree_at, IsRootIn}
@@ -23,6 +26,7 @@ use Rattle.node_table.specs.declared.link.Link.TheVariants.{ToLeaf, ToNode}
 use Rattle.node_table.specs.declared.node.NodePlace.{NodePlace}
 use Rattle.node_table.specs.declared.node.Root.{Root}
 use Rattle.node_table.specs.declared.node.TableNode.{TableNode}
+use Rattle.node_table.specs.declared.seen.MediumSeen.{MediumSeen}
 use Rattle.node_table.proofs.Viewing.{get_seam, views_more}
 
 -- nothing but places changes of a row
@@ -138,10 +142,16 @@ row_placed : (p : NodePlace) (b : KeyedRow) (vs ws : List NodeView) (links : Lis
 row_placed p b vs ws [] h = refl
 row_placed p b vs ws (link ∷ links) h = link_placed p b vs ws link (row_of vs links) (row_of ws links) h (row_placed p b vs ws links h)
 
+children_placed : (p : NodePlace) (b : KeyedRow) (vs ws : List NodeView) (links : List Link) (level : ℕ) (place : Option NodePlace) (beyond : Option (Told MediumSeen)) → ArePlacedViews p b vs ws
+    → IsPlacedRow p b (children_by level place beyond (row_of vs links)) (children_by level place beyond (row_of ws links))
+children_placed p b vs ws links level place None h = row_placed p b vs ws links h
+children_placed p b vs ws links level None (Some told) h = row_placed p b vs ws links h
+children_placed p b vs ws links level (Some q) (Some told) h = placed_same p b (row_told told.value level (branch_at_place q))
+
 behind_placed : (p : NodePlace) (b : KeyedRow) (vs ws : List NodeView) (nodes : List TableNode) → ArePlacedViews p b vs ws → ArePlacedViews p b (views_behind vs nodes) (views_behind ws nodes)
 behind_placed p b vs ws [] h = h
 behind_placed p b vs ws (n ∷ ns) h =
-    let own : IsPlacedView p b (view_of vs n) (view_of ws n) = record { level = refl; place = inl refl; children = row_placed p b vs ws n.links.items h } in
+    let own : IsPlacedView p b (view_of vs n) (view_of ws n) = record { level = refl; place = inl refl; children = children_placed p b vs ws n.links.items n.level n.place n.beyond h } in
     behind_placed p b (vs ++ view_of vs n ∷ []) (ws ++ view_of ws n ∷ []) ns (push_view p b vs ws (view_of vs n) (view_of ws n) h own)
 
 -- what is seen of a table in which a dirty node was given a place
@@ -166,34 +176,38 @@ seen_here seen m ms =
     let more = views_more (seen ++ v ∷ []) ms in
     seen_whole seen more.0 (views_behind seen (m ∷ ms)) v (more.1 ∙ append_assoc seen (v ∷ []) more.0)
 
-given_place : (seen : List NodeView) (nodes : List TableNode) (number : ℕ) (p : NodePlace) (n : TableNode) → slice_get nodes number ≡ Some n → n.place ≡ None
+given_place : (seen : List NodeView) (nodes : List TableNode) (number : ℕ) (p : NodePlace) (n : TableNode) → slice_get nodes number ≡ Some n → n.place ≡ None → is_loaded n ≡ true
     → GivenPlace seen nodes number p n
-given_place seen [] number p n h d = absurd cc
-given_place seen (m ∷ ms) zero p n h d =
+given_place seen [] number p n h d l = absurd cc
+given_place seen (m ∷ ms) zero p n h d l =
     let same : m ≡ n = cc in
     let none : m.place ≡ None = ap (λ (x : TableNode). x.place) same ∙ d in
     let v = view_of seen m in
-    let w : NodeView = record { level = m.level; place = stretch_at (Some p); children = v.children } in
+    let loaded : is_loaded m ≡ true = ap is_loaded same ∙ l in
+    let after : TableNode = record m { place = Some p } in
+    let w = view_of seen after in
+    let row : w.children ≡ v.children = loaded_row seen after loaded ∙ sym (loaded_row seen m loaded) in
+    let P : KeyedRow → Type 0 = λ r. IsPlacedRow p v.children v.children r in
     let here = seen_here seen m ms in
     let dirty : v.place ≡ None = ap stretch_at none in
     record {
       below = v.children;
       seen_there = seen_dirty (views_behind seen (m ∷ ms)) (length seen + 0) m.level n.level v.place v.children here dirty (ap (λ (x : TableNode). x.level) same);
       placed = behind_placed p v.children (seen ++ v ∷ []) (seen ++ w ∷ []) ms
-          (push_view p v.children seen seen v w (same_views p v.children seen) (record { level = refl; place = inr (dirty, refl, refl); children = placed_same p v.children v.children }));
+          (push_view p v.children seen seen v w (same_views p v.children seen) (record { level = refl; place = inr (dirty, refl, refl); children = subst P (sym row) (placed_same p v.children v.children) }));
     }
-given_place seen (m ∷ ms) (suc k) p n h d =
+given_place seen (m ∷ ms) (suc k) p n h d l =
     let one = length-append seen (view_of seen m ∷ []) in
     let place : length (seen ++ view_of seen m ∷ []) + k ≡ length seen + suc k = omega (arith, one) in
-    let g = given_place (seen ++ view_of seen m ∷ []) ms k p n h d in
+    let g = given_place (seen ++ view_of seen m ∷ []) ms k p n h d l in
     let P : ℕ → Type 0 = λ i. slice_get (views_behind seen (m ∷ ms)) i ≡ Some (record { level = n.level; place = None; children = g.below }) in
     record { below = g.below; seen_there = subst P place g.seen_there; placed = g.placed }
 
 -- the same, by what is seen of the node
-pub placed_views : (nodes : List TableNode) (number : ℕ) (p : NodePlace) (n : TableNode) → slice_get nodes number ≡ Some n → n.place ≡ None
+pub placed_views : (nodes : List TableNode) (number : ℕ) (p : NodePlace) (n : TableNode) → slice_get nodes number ≡ Some n → n.place ≡ None → is_loaded n ≡ true
     → ArePlacedViews p (children_in (slice_get (views nodes) number)) (views nodes) (views (with_place number p nodes))
-placed_views nodes number p n h d =
-    let g = given_place [] nodes number p n h d in
+placed_views nodes number p n h d l =
+    let g = given_place [] nodes number p n h d l in
     let start : length {A = NodeView} [] + number ≡ number = omega arith in
     let here = ap children_in (ap (λ k. slice_get (views nodes) k) (sym start) ∙ g.seen_there) in
     let P : KeyedRow → Type 0 = λ b. ArePlacedViews p b (views nodes) (views (with_place number p nodes)) in
@@ -243,6 +257,11 @@ views_counted f p b (v ∷ vs) ws h =
     let own : counts_of f h.0.children ≡ counts_of f v.children = rw e refl in
     let more = views_counted f p b vs h.1 h.4 in
     ap (counts_of_all f) h.2 ∙ ap (λ (c : TreeCounts). c ∷ counts_of_all f h.1) own ∙ ap (λ (cs : List TreeCounts). counts_of f v.children ∷ cs) more
+
+pub with_loaded : (number : ℕ) (p : NodePlace) (nodes : List TableNode) → are_loaded (with_place number p nodes) ≡ are_loaded nodes
+with_loaded number p [] = refl
+with_loaded zero p (n ∷ ns) = refl
+with_loaded (suc k) p (n ∷ ns) = ap (λ (b : Bool). is_loaded n && b) (with_loaded k p ns)
 
 pub there_placed : (old new : List TableNode) (root : Option Root) → length new ≡ length old → IsRootIn old root → IsRootIn new root
 there_placed old new None l h = tt

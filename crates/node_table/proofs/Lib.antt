@@ -21,3 +21,4 @@ pub mod DirtyLists
 pub mod Cleaning
 pub mod PlacedTable
 pub mod KeptPlaces
+pub mod Unloaded

@@ -257,7 +257,7 @@ link_first seen key (ToNode own number) links = node_first key own (slice_get se
 
 -- a node that is added, and a link to it
 pub node_pushed : (old new : List TableNode) (n : TableNode) (number : ℕ) (key : Key) (made : List Link) (rest : KeyedRow) → new ≡ old ++ n ∷ [] → number ≡ length old → AreLinksIn (length old) made
-    → row_before (views new) (made ++ ToNode key number ∷ []) rest ≡ row_before (views old) made (node_in key (stretch_at n.place) (row_of (views old) n.links.items) rest)
+    → row_before (views new) (made ++ ToNode key number ∷ []) rest ≡ row_before (views old) made (node_in key (stretch_at n.place) (view_of (views old) n).children rest)
 node_pushed old new n number key made rest e k h =
     let a : IsAdded old new = record { more = n ∷ []; is = e } in
     let v = view_of (views old) n in

@@ -7,12 +7,17 @@ use Rattle.index_tree.specs.Shape.{done, fits}
 use Rattle.index_media.specs.InsertionSound.{fit_node}
 use Rattle.index_media.specs.KeyedKeys.{AreKeysBounded}
 use Rattle.index_media.specs.KeyedRow.{KeyedRow, no_more, leaf_in, bare}
+use Rattle.told_value.specs.declared.told.Told.{Told}
+use Rattle.node_table.specs.Beyond.{children_by, is_loaded}
+use Rattle.node_table.specs.BeyondLaws.{loaded_row}
 use Rattle.node_table.specs.NodeView.{NodeView, stretch_at, node_before, linked_before, row_of, view_of, views_behind, views, children_in, tree_at, IsRootIn}
 use Rattle.node_table.specs.Sound.{IsSoundView, AreSoundViews}
 use Rattle.node_table.specs.declared.link.Link.{Link}
 use Rattle.node_table.specs.declared.link.Link.TheVariants.{ToLeaf, ToNode}
+use Rattle.node_table.specs.declared.node.NodePlace.{NodePlace}
 use Rattle.node_table.specs.declared.node.Root.{Root}
 use Rattle.node_table.specs.declared.node.TableNode.{TableNode}
+use Rattle.node_table.specs.declared.seen.MediumSeen.{MediumSeen}
 
 pub get_left : (xs ys : List NodeView) (i : ℕ) (v : NodeView) → slice_get xs i ≡ Some v → slice_get (xs ++ ys) i ≡ Some v
 get_left [] ys i v h = absurd cc
@@ -53,6 +58,14 @@ row_more fanout seen more (link ∷ links) f =
     link_more fanout seen more link (row_of seen links) (row_of (seen ++ more) links) f
     (row_more fanout seen more links (link_behind fanout seen link (row_of seen links) f))
 
+-- nor of what is below a node, loaded or not
+children_more : (fanout : ℕ) (seen more : List NodeView) (links : List Link) (level : ℕ) (place : Option NodePlace) (beyond : Option (Told MediumSeen))
+    → fits fanout (bare (children_by level place beyond (row_of seen links))) ≡ true
+    → children_by level place beyond (row_of (seen ++ more) links) ≡ children_by level place beyond (row_of seen links)
+children_more fanout seen more links level place None f = row_more fanout seen more links f
+children_more fanout seen more links level None (Some told) f = row_more fanout seen more links f
+children_more fanout seen more links level (Some p) (Some told) f = refl
+
 -- nodes behind add to what is seen
 pub views_more : (seen : List NodeView) (nodes : List TableNode) → (more : List NodeView) × (views_behind seen nodes ≡ seen ++ more)
 views_more seen [] = ([], sym (append-nil seen))
@@ -88,7 +101,7 @@ opened_behind fanout seen (m ∷ ms) zero n s h =
     let place : length seen + 0 ≡ length seen = omega arith in
     let here : slice_get whole (length seen + 0) ≡ Some v = ap (λ k. slice_get whole k) place ∙ ap (λ w. slice_get w (length seen)) all ∙ get_seam seen v p.0 in
     let sound = sound_at fanout whole (length seen + 0) v s here in
-    let row : row_of whole m.links.items ≡ row_of seen m.links.items = ap (λ w. row_of w m.links.items) all ∙ row_more fanout seen (v ∷ p.0) m.links.items (children_fit fanout v sound) in
+    let row : (view_of whole m).children ≡ v.children = ap (λ (w : List NodeView). (view_of w m).children) all ∙ children_more fanout seen (v ∷ p.0) m.links.items m.level m.place m.beyond (children_fit fanout v sound) in
     let P : TableNode → Type 0 = λ t. slice_get whole (length seen + 0) ≡ Some (view_of whole t) in
     let same : m ≡ n = cc in
     subst P same (here ∙ ap (λ (r : KeyedRow). Some (record { level = m.level; place = stretch_at m.place; children = r })) (sym row))
@@ -116,11 +129,13 @@ pub record Opened (nodes : List TableNode) (i : ℕ) (n : TableNode) : Type 0 wh
   pub children : children_in (slice_get (views nodes) i) ≡ row_of (views nodes) n.links.items
   pub bounded : AreKeysBounded 0 None (row_of (views nodes) n.links.items)
 
-pub opened_node : (fanout : ℕ) (nodes : List TableNode) (i : ℕ) (n : TableNode) → AreSoundViews fanout (views nodes) → slice_get nodes i ≡ Some n → Opened nodes i n
-opened_node fanout nodes i n s h =
+pub opened_node : (fanout : ℕ) (nodes : List TableNode) (i : ℕ) (n : TableNode) → AreSoundViews fanout (views nodes) → slice_get nodes i ≡ Some n → is_loaded n ≡ true → Opened nodes i n
+opened_node fanout nodes i n s h l =
     let there = opened fanout nodes i n s h in
+    let row = loaded_row (views nodes) n l in
     let sound = sound_at fanout (views nodes) i (view_of (views nodes) n) s there in
-    record { children = ap children_in there; bounded = sound.2 }
+    let P : KeyedRow → Type 0 = λ r. AreKeysBounded 0 None r in
+    record { children = ap children_in there ∙ row; bounded = subst P row sound.2 }
 
 -- where there is no node, none has children
 pub none_opened : (nodes : List TableNode) (i : ℕ) → length nodes ≤ i → children_in (slice_get (views nodes) i) ≡ no_more

@@ -1,4 +1,6 @@
+pub mod Beyond
 pub mod NodeView
+pub mod BeyondLaws
 pub mod Sound
 pub mod Walk
 pub mod Staging
@@ -9,3 +11,4 @@ pub mod Pruning
 pub mod Clean
 pub mod Dirty
 pub mod Placing
+pub mod StubRows

@@ -6,6 +6,7 @@ use Rattle.index_tree.specs.Shape.{contents}
 use Rattle.index_tree.specs.declared.leaf.Leaf.{Leaf}
 use Rattle.index_media.specs.KeyedRow.{KeyedRow, no_more, leaf_in, node_in, bare}
 use Rattle.index_media.specs.PlacedRow.{Stretch}
+use Rattle.node_table.specs.Beyond.{children_by}
 use Rattle.node_table.specs.declared.link.Link.{Link}
 use Rattle.node_table.specs.declared.link.Link.TheVariants.{ToLeaf, ToNode}
 use Rattle.node_table.specs.declared.node.NodePlace.{NodePlace}
@@ -50,7 +51,11 @@ row_of seen (link ∷ links) = linked_before seen link (row_of seen links)
 
 -- what is seen of a node over others
 abbrev pub view_of : List NodeView → TableNode → NodeView
-view_of seen node = record { level = node.level; place = stretch_at node.place; children = row_of seen node.links.items }
+view_of seen node = record {
+  level = node.level;
+  place = stretch_at node.place;
+  children = children_by node.level node.place node.beyond (row_of seen node.links.items);
+}
 
 -- what is seen of nodes, and of more nodes behind them, each over those before it
 abbrev pub views_behind : List NodeView → List TableNode → List NodeView

@@ -48,6 +48,7 @@ impl NodeTable {
             level,
             place: None,
             links,
+            beyond: None,
         })?;
         made.push(Link::ToNode { key, number })?;
         Ok(())
@@ -136,6 +137,7 @@ impl NodeTable {
                     level: node.level,
                     place: None,
                     links,
+                    beyond: None,
                 })
             }
         }

@@ -1,6 +1,8 @@
 // A node of the table.
 
 use crate::link::Link;
+use crate::seen::MediumSeen;
+use told_value::Told;
 use ubifs_base::Key;
 
 /// Where a node stands on the medium: the LEB, and the offset and the length in bytes.
@@ -12,12 +14,14 @@ pub struct NodePlace {
 }
 
 /// A node: how far it stands above the lowest level, where it stands on the medium (none: it is dirty), and its
-/// children from left to right (`struct ubifs_znode` of Linux).
-#[derive(Debug, Drop)]
+/// children from left to right (`struct ubifs_znode` of Linux). One that isn't loaded has a place and no links: it tells
+/// what the LEBs held when it was met, so contracts see what is below it.
+#[derive(Drop)]
 pub struct TableNode {
     pub level: u16,
     pub place: Option<NodePlace>,
     pub links: Vec<Link>,
+    pub beyond: Option<Told<MediumSeen>>,
 }
 
 /// The topmost node of an index, by its number. No branch of a parent gives it a key: whoever reads an index takes that of

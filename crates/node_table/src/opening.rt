@@ -26,6 +26,7 @@ impl NodeTable {
         ensures some { IfSome result (λ node. slice_get self.now.nodes.items number ≡ Some node.now) }
         ensures seen { IfSome result (λ node. slice_get (views self.now.nodes.items) number ≡ Some (view_of (views self.now.nodes.items) node.now)) }
         ensures sound { IfSome result (λ node. IsSoundView self.now.fanout (view_of (views self.now.nodes.items) node.now)) }
+        ensures linked { IfSome result (λ node. children_in (slice_get (views self.now.nodes.items) number) ≡ row_of (views self.now.nodes.items) node.now.links.items) }
         ensures none { IfNone result (length self.now.nodes.items ≤ number) }
         ensures unseen { IfNone result (slice_get (views self.now.nodes.items) number ≡ None) }
     {

@@ -79,6 +79,7 @@ impl NodeTable {
                     level,
                     place: None,
                     links,
+                    beyond: None,
                 })?;
                 Ok(Root { key, number })
             }

@@ -6,6 +6,7 @@ ghost use Rattle.index_tree.specs.Order.{key_rank, of_rank, first_after};
 ghost use Rattle.index_tree.specs.RangeRemoval.{within_range};
 ghost use Rattle.index_tree.specs.Removal.{holds};
 ghost use Rattle.index_media.specs.KeyedRow.{no_more, node_in};
+ghost use Rattle.node_table.specs.Beyond.{is_loaded, are_loaded};
 ghost use Rattle.node_table.specs.Clean.{is_clean_below, are_clean_below};
 ghost use Rattle.node_table.specs.Counting.{counts_of_all, counted-prop};
 ghost use Rattle.node_table.specs.NodeView.{views, view_of, row_of, stretch_at, tree_at, leaves_at, IsRootIn};
@@ -33,6 +34,7 @@ pub struct NodeTable {
     ghost most: { fanout ≤ 256 },
     ghost sound: { AreSoundViews fanout (views nodes.items) } by { sound_views-prop fanout (views nodes.items) },
     ghost clean: { are_clean_below (views nodes.items) ≡ true },
+    ghost loaded: { are_loaded nodes.items ≡ true },
     ghost counted: { counts.items ≡ counts_of_all fanout (views nodes.items) } by { counted-prop fanout counts.items (views nodes.items) },
 }
 
@@ -51,7 +53,7 @@ impl NodeTable {
         }
     }
 
-    /// Adds a node whose links lead to leaves or to nodes of the table, and answers its number. If the node is clean, all
+    /// Adds a node that is loaded, whose links lead to leaves or to nodes of the table, and answers its number. If the node is clean, all
     /// nodes below it are. Below each root stands what stood there.
     ///
     /// After `Memory` the table is as before.
@@ -59,6 +61,7 @@ impl NodeTable {
     pub fn add(&mut self, node: TableNode) -> Result<u64, Memory>
         requires sound { IsSoundView self.old.fanout (view_of (views self.old.nodes.items) node) }
         requires clean { is_clean_below (view_of (views self.old.nodes.items) node) ≡ true }
+        requires loaded { is_loaded node ≡ true }
         ensures made { IfOk result (λ number. (key : AKey) → tree_at self.new.nodes.items (Some (record { key = key; number = number })) ≡ node_in key (stretch_at node.place) (row_of (views self.old.nodes.items) node.links.items) no_more) }
         ensures added { OnOk result (self.new.nodes.items ≡ self.old.nodes.items ++ node ∷ []) }
         ensures number { IfOk result (λ number. number ≡ length self.old.nodes.items) }

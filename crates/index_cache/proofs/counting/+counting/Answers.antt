@@ -1,6 +1,6 @@
 use Rattle.std.proofs.Common.{ℕ, ◌≤◌, ◌-◌, ◌^◌, List, length, subst, ap, sym, ◌∙◌, arith}
 use Rattle.std.specs.Prelude.{min}
-use Rattle.index_media.specs.KeyedRow.{bare}
+use Rattle.index_media.specs.KeyedRow.{KeyedRow, bare}
 use Rattle.index_tree.specs.Shape.{node_count}
 use Rattle.node_table.specs.Dirty.{dirty_lists, dirty_among}
 use Rattle.node_table.specs.NodeView.{views, row_of, children_in}
@@ -26,7 +26,7 @@ pub count_at-count_among-requires : goal.count_at-count_among-requires
 count_at-count_among-requires t c =
     let seen = views c.args.table.now.nodes.items in
     let same = ap (λ v. row_size (row_of seen v)) c.as_slice.ensures.value in
-    let whole = ap (λ o. row_size (children_in o)) c.in-Some.ensures.seen in
+    let whole = ap row_size c.in-Some.ensures.linked in
     omega (arith, same, whole)
 
 pub count_at-returns-else-is_some-clause-number : goal.count_at-returns-else-is_some-clause-number
@@ -68,7 +68,7 @@ count_at-returns-else-is_some-clause-most t c =
     let whole = dirty_opened s.fanout s.nodes.items c.args.number n s.sound c.in-Some.ensures.some ∙ dirty_list n.place c.args.number below dirty in
     let P : List Link → Type 0 = λ v. length (dirty_among known v) ≤ node_count (bare (row_of seen v)) in
     let under = subst P c.as_slice.ensures.value c.count_among.ensures.most in
-    one_most _ below c.args.number _ _ whole under (sym (ap (λ o. node_count (bare (children_in o))) c.in-Some.ensures.seen))
+    one_most _ below c.args.number _ _ whole under (sym (ap (λ (r : KeyedRow). node_count (bare r)) c.in-Some.ensures.linked))
 
 pub count_among-returns-in-Some-clause-most : goal.count_among-returns-in-Some-clause-most
 count_among-returns-in-Some-clause-most t c =

@@ -1,9 +1,12 @@
-use Rattle.std.proofs.Common.{ℕ, List, [], ◌∷◌, length, ap, sym, ◌∙◌, subst, arith}
+use Rattle.std.proofs.Common.{◌≡◌, true, ℕ, List, [], ◌∷◌, length, ap, sym, ◌∙◌, subst, arith}
 use Rattle.std.specs.Prelude.{slice_get}
 use Rattle.std.proofs.lemmas.Option.{slice_get_within}
+use Rattle.index_tree.specs.Shape.{fits}
 use Rattle.index_media.specs.Clean.{is_clean_row}
+use Rattle.index_media.specs.KeyedRow.{KeyedRow, bare}
+use Rattle.node_table.specs.BeyondLaws.{table_row}
 use Rattle.node_table.specs.Dirty.{dirty_lists, dirty_among}
-use Rattle.node_table.specs.NodeView.{views, view_of, row_of, children_in}
+use Rattle.node_table.specs.NodeView.{views, view_of, row_of}
 use Rattle.node_table.specs.Pruning.{place_in}
 use Rattle.node_table.specs.Staging.{AreLinksIn}
 use Rattle.node_table.specs.declared.link.Link.{Link}
@@ -36,8 +39,10 @@ first_dirty-first_dirty_among-requires t c =
     let seen = views s.nodes.items in
     let n = c.in-Some.node.now in
     let same = ap (λ v. row_size (row_of seen v)) c.as_slice.ensures.value in
-    let whole = ap (λ o. row_size (children_in o)) c.in-Some.ensures.seen in
-    let there = links_there s.fanout seen n.links.items (children_fit s.fanout (view_of seen n) c.in-Some.ensures.sound) in
+    let whole = ap row_size c.in-Some.ensures.linked in
+    let row = table_row seen s.nodes.items c.args.number n s.loaded c.in-Some.ensures.some in
+    let F : KeyedRow → Type 0 = λ r. fits s.fanout (bare r) ≡ true in
+    let there = links_there s.fanout seen n.links.items (subst F row (children_fit s.fanout (view_of seen n) c.in-Some.ensures.sound)) in
     let P : List Link → Type 0 = λ v. AreLinksIn (length s.nodes.items) v in
     let Q : ℕ → Type 0 = λ k. AreLinksIn k n.links.items in
     (omega (arith, same, whole), subst P (sym c.as_slice.ensures.value) (subst Q (views_length s.nodes.items) there))
@@ -62,7 +67,7 @@ first_dirty-returns-in-None-first_dirty_among-clause-ready t c =
     record {
       there = slice_get_within s.nodes.items c.args.number n c.in-Some.ensures.some;
       dirty = ap place_in c.in-Some.ensures.seen ∙ dirty_view n.place dirty;
-      below = ap (λ o. is_clean_row (children_in o)) c.in-Some.ensures.seen ∙ ap (λ (v : List Link). is_clean_row (row_of seen v)) (sym c.as_slice.ensures.value) ∙ c.in-None-first_dirty_among.ensures.none;
+      below = ap is_clean_row c.in-Some.ensures.linked ∙ ap (λ (v : List Link). is_clean_row (row_of seen v)) (sym c.as_slice.ensures.value) ∙ c.in-None-first_dirty_among.ensures.none;
     }
 
 pub first_dirty-returns-in-Some-first_dirty_among-clause-first : goal.first_dirty-returns-in-Some-first_dirty_among-clause-first

@@ -1,4 +1,6 @@
 use Rattle.std.proofs.Common.{None, List, ap, sym, subst, ◌∙◌}
+use Rattle.index_media.specs.KeyedRow.{KeyedRow}
+use Rattle.node_table.specs.BeyondLaws.{loaded_at, table_row}
 use Rattle.node_table.specs.NodeView.{views, view_of, row_of}
 use Rattle.node_table.specs.Sound.{IsSoundView}
 use Rattle.node_table.specs.declared.link.Link.{Link}
@@ -8,7 +10,7 @@ use Rattle.node_table.proofs.table.NodeTable.copy_of.Goals as goal
 pub returns-in_ok-links-in-Some-clause-children : goal.returns-in_ok-links-in-Some-clause-children
 returns-in_ok-links-in-Some-clause-children c =
     let nodes = c.args.self.now.nodes.items in
-    let o = opened_node c.args.self.now.fanout nodes c.args.number c.in-Some.node.now c.args.self.now.sound c.in-Some.ensures.some in
+    let o = opened_node c.args.self.now.fanout nodes c.args.number c.in-Some.node.now c.args.self.now.sound c.in-Some.ensures.some (loaded_at nodes c.args.number c.in-Some.node.now c.args.self.now.loaded c.in-Some.ensures.some) in
     o.children ∙ ap (λ v. row_of (views nodes) v) (sym (c.in_ok-links-in-Some.ensures ∙ c.as_slice.ensures.value))
 
 pub returns-in_ok-links-in-Some-clause-sound : goal.returns-in_ok-links-in-Some-clause-sound
@@ -18,4 +20,6 @@ returns-in_ok-links-in-Some-clause-sound c =
     let node = c.in-Some.node.now in
     let there = opened f nodes c.args.number node c.args.self.now.sound c.in-Some.ensures.some in
     let P : List Link → Type 0 = λ v. IsSoundView f (record { level = node.level; place = None; children = row_of (views nodes) v }) in
-    subst P (sym (c.in_ok-links-in-Some.ensures ∙ c.as_slice.ensures.value)) (sound_at f (views nodes) c.args.number (view_of (views nodes) node) c.args.self.now.sound there)
+    let Q : KeyedRow → Type 0 = λ r. IsSoundView f (record { level = node.level; place = None; children = r }) in
+    subst P (sym (c.in_ok-links-in-Some.ensures ∙ c.as_slice.ensures.value))
+    (subst Q (table_row (views nodes) nodes c.args.number node c.args.self.now.loaded c.in-Some.ensures.some) (sound_at f (views nodes) c.args.number (view_of (views nodes) node) c.args.self.now.sound there))

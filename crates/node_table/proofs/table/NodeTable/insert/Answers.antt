@@ -12,6 +12,7 @@ add-requires c = record {
   sound = row_sound c.args.self.now.fanout c.insert_row.new.self.fanout c.in_ok-level.level c.args.leaf (tree_at c.args.self.now.nodes.items c.args.root)
       (row_of (views c.insert_row.new.self.nodes.items) c.in_ok-links.links.items) c.args.self.now.least c.in_ok-links.ensures.fanout c.requires.key c.in_ok-level.ensures c.in_ok-links.ensures.made;
   clean = refl;
+  loaded = refl;
 }
 
 pub returns-in-Some-clause-made : goal.returns-in-Some-clause-made
@@ -47,7 +48,7 @@ returns-in_ok-number-in-None-clause-root c =
     let row = tree_at c.args.self.now.nodes.items c.args.root in
     let key = c.first_key-key.result in
     let root : Root = record { key = key; number = c.in_ok-number-in-None.number } in
-    let node : TableNode = record { level = c.in_ok-level.level; place = None; links = c.in_ok-links.links } in
+    let node : TableNode = record { level = c.in_ok-level.level; place = None; links = c.in_ok-links.links; beyond = None } in
     root_sound f c.in_ok-level.level c.args.leaf row c.add.new.self.nodes.items root c.args.self.now.least c.requires.key c.in_ok-level.ensures
     (pushed_there now c.add.new.self.nodes.items node c.in_ok-number-in-None.number c.in_ok-number-in-None.ensures.added c.in_ok-number-in-None.ensures.number)
     (raised_made f seen c.args.leaf row (tree_at c.add.new.self.nodes.items (Some root)) c.in_ok-links.links.items key c.in_ok-links.ensures.made

@@ -1,4 +1,6 @@
-use Rattle.node_table.specs.NodeView.{views, view_of}
+use Rattle.std.proofs.Common.{ap, ◌∙◌}
+use Rattle.node_table.specs.BeyondLaws.{table_row}
+use Rattle.node_table.specs.NodeView.{views, view_of, children_in}
 use Rattle.node_table.proofs.Viewing.{opened, sound_at, not_there}
 use Rattle.node_table.proofs.table.NodeTable.node_at.Goals as goal
 
@@ -15,3 +17,9 @@ returns-in-Some-clause-sound c =
 
 pub returns-in-None-clause-unseen : goal.returns-in-None-clause-unseen
 returns-in-None-clause-unseen c = not_there c.args.self.now.nodes.items c.args.number c.in-None.ensures.none
+
+pub returns-in-Some-clause-linked : goal.returns-in-Some-clause-linked
+returns-in-Some-clause-linked c =
+    let s = c.args.self.now in
+    let n = c.in-Some.node.now in
+    ap children_in (opened s.fanout s.nodes.items c.args.number n s.sound c.in-Some.ensures.some) ∙ table_row (views s.nodes.items) s.nodes.items c.args.number n s.loaded c.in-Some.ensures.some

@@ -10,7 +10,7 @@ pub returns-clause-made : goal.returns-clause-made
 returns-clause-made c = λ rest.
     let old = c.args.self.now.nodes.items in
     let new = c.add.new.self.nodes.items in
-    let node : TableNode = record { level = c.args.level; place = None; links = c.args.links } in
+    let node : TableNode = record { level = c.args.level; place = None; links = c.args.links; beyond = None } in
     ap (λ v. row_before (views new) v rest) c.in_ok-push.ensures.items
     ∙ node_pushed old new node c.in_ok-number.number c.args.key c.args.made.now.items rest c.in_ok-number.ensures.added c.in_ok-number.ensures.number c.requires.there
 
@@ -18,7 +18,7 @@ pub returns-clause-there : goal.returns-clause-there
 returns-clause-there c =
     let old = c.args.self.now.nodes.items in
     let new = c.add.new.self.nodes.items in
-    let node : TableNode = record { level = c.args.level; place = None; links = c.args.links } in
+    let node : TableNode = record { level = c.args.level; place = None; links = c.args.links; beyond = None } in
     let P : List Link → Type 0 = λ v. AreLinksIn (length new) v in
     subst P (sym c.in_ok-push.ensures.items)
     (links_in_pushed old new node c.in_ok-number.number c.args.key c.args.made.now.items c.in_ok-number.ensures.added c.in_ok-number.ensures.number c.requires.there)

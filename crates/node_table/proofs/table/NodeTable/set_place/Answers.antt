@@ -1,5 +1,6 @@
 use Rattle.std.proofs.Common.{List, ap, sym, ◌∙◌, subst}
 use Rattle.std.specs.Prelude.{slice_get}
+use Rattle.node_table.specs.Beyond.{are_loaded}
 use Rattle.node_table.specs.Clean.{are_clean_below}
 use Rattle.node_table.specs.Dirty.{dirty_below}
 use Rattle.node_table.specs.Placing.{IsPlacedRow}
@@ -14,30 +15,35 @@ use Rattle.node_table.proofs.table.NodeTable.set_place.Goals as goal
 pub invariant_of-self-clause-sound : goal.invariant_of-self-clause-sound
 invariant_of-self-clause-sound c =
     let s = c.args.self.now in
-    subst (λ ns. AreSoundViews s.fanout (views ns)) (sym c.put_place.ensures) (table_placed s.fanout s.nodes.items c.args.number c.args.place s.sound s.clean c.requires.ready).sound
+    subst (λ ns. AreSoundViews s.fanout (views ns)) (sym c.put_place.ensures) (table_placed s.fanout s.nodes.items c.args.number c.args.place s.sound s.clean s.loaded c.requires.ready).sound
 
 pub invariant_of-self-clause-clean : goal.invariant_of-self-clause-clean
 invariant_of-self-clause-clean c =
     let s = c.args.self.now in
-    ap (λ ns. are_clean_below (views ns)) c.put_place.ensures ∙ (table_placed s.fanout s.nodes.items c.args.number c.args.place s.sound s.clean c.requires.ready).settled
+    ap (λ ns. are_clean_below (views ns)) c.put_place.ensures ∙ (table_placed s.fanout s.nodes.items c.args.number c.args.place s.sound s.clean s.loaded c.requires.ready).settled
+
+pub invariant_of-self-clause-loaded : goal.invariant_of-self-clause-loaded
+invariant_of-self-clause-loaded c =
+    let s = c.args.self.now in
+    ap are_loaded c.put_place.ensures ∙ (table_placed s.fanout s.nodes.items c.args.number c.args.place s.sound s.clean s.loaded c.requires.ready).loaded
 
 pub invariant_of-self-clause-counted : goal.invariant_of-self-clause-counted
 invariant_of-self-clause-counted c =
     let s = c.args.self.now in
-    s.counted ∙ sym (ap (λ ns. counts_of_all s.fanout (views ns)) c.put_place.ensures ∙ (table_placed s.fanout s.nodes.items c.args.number c.args.place s.sound s.clean c.requires.ready).counted)
+    s.counted ∙ sym (ap (λ ns. counts_of_all s.fanout (views ns)) c.put_place.ensures ∙ (table_placed s.fanout s.nodes.items c.args.number c.args.place s.sound s.clean s.loaded c.requires.ready).counted)
 
 pub returns-clause-trees : goal.returns-clause-trees
 returns-clause-trees c = λ root.
     let s = c.args.self.now in
     let P : List TableNode → Type 0 = λ ns. IsPlacedRow c.args.place (children_in (slice_get (views s.nodes.items) c.args.number)) (tree_at s.nodes.items root) (tree_at ns root) in
-    subst P (sym c.put_place.ensures) ((table_placed s.fanout s.nodes.items c.args.number c.args.place s.sound s.clean c.requires.ready).trees root)
+    subst P (sym c.put_place.ensures) ((table_placed s.fanout s.nodes.items c.args.number c.args.place s.sound s.clean s.loaded c.requires.ready).trees root)
 
 pub returns-clause-dirty : goal.returns-clause-dirty
 returns-clause-dirty c = λ root.
     let s = c.args.self.now in
-    ap (λ ns. dirty_below ns root) c.put_place.ensures ∙ (table_placed s.fanout s.nodes.items c.args.number c.args.place s.sound s.clean c.requires.ready).dirty root
+    ap (λ ns. dirty_below ns root) c.put_place.ensures ∙ (table_placed s.fanout s.nodes.items c.args.number c.args.place s.sound s.clean s.loaded c.requires.ready).dirty root
 
 pub returns-clause-roots : goal.returns-clause-roots
 returns-clause-roots c = λ root h.
     let s = c.args.self.now in
-    subst (λ ns. IsSoundRoot ns root) (sym c.put_place.ensures) ((table_placed s.fanout s.nodes.items c.args.number c.args.place s.sound s.clean c.requires.ready).roots root h)
+    subst (λ ns. IsSoundRoot ns root) (sym c.put_place.ensures) ((table_placed s.fanout s.nodes.items c.args.number c.args.place s.sound s.clean s.loaded c.requires.ready).roots root h)

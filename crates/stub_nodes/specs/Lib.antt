@@ -1,3 +1,0 @@
-pub mod StubView
-pub mod StubLaws
-pub mod StubRows
