@@ -1,20 +1,18 @@
 -- Three nodes, worked by hand.
-use Rattle.std.proofs.Common.{◌≡◌, ℕ, List, [], ◌∷◌, ◌++◌, refl, ap, ◌∙◌}
-use Rattle.std.specs.Prelude.{Option, None, Some}
+use Rattle.std.proofs.Common.{◌≡◌, ℕ, List, [], ◌∷◌, refl, ap, ◌∙◌}
+use Rattle.std.specs.Prelude.{Option, None, Some, is_none}
 use Rattle.ubifs_base.specs.declared.key.Key.{Key}
 use Rattle.index_media.specs.KeyedRow.{KeyedRow, no_more, leaf_in, node_in, all_clean}
 use Rattle.index_media.specs.PlacedRow.{ended, leaf_at, node_at}
 use Rattle.index_tree.specs.declared.leaf.Leaf.{Leaf}
-use Rattle.told_value.specs.declared.told.Told.{Told}
-use Rattle.node_table.specs.Beyond.{children_by}
+use Rattle.node_table.specs.BeyondLaws.{loaded_row}
 use Rattle.node_table.specs.Dirty.{dirty_lists, dirty_node, dirty_among}
-use Rattle.node_table.specs.NodeView.{NodeView, row_of, stretch_at, tree_at}
+use Rattle.node_table.specs.NodeView.{row_of, stretch_at, tree_at, view_of}
 use Rattle.node_table.specs.Placing.{with_place}
 use Rattle.node_table.specs.declared.link.Link.{Link}
 use Rattle.node_table.specs.declared.link.Link.TheVariants.{ToLeaf, ToNode}
 use Rattle.node_table.specs.declared.node.NodePlace.{NodePlace}
 use Rattle.node_table.specs.declared.node.TableNode.{TableNode}
-use Rattle.node_table.specs.declared.seen.MediumSeen.{MediumSeen}
 use Rattle.index_cache.specs.Worked.{AreThreeNodes, placed_branch}
 
 -- the lists of three nodes of these places and links
@@ -47,14 +45,14 @@ pub last_tree : (x y : Leaf) (a b key : Key) (left right top : TableNode) (p q r
     → tree_at (with_place 2 r (with_place 1 q (with_place 0 p (left ∷ right ∷ top ∷ [])))) (Some (record { key = key; number = 2 }))
     ≡ all_clean (node_at (placed_branch key r) (node_at (placed_branch a p) (leaf_at x ended) (node_at (placed_branch b q) (leaf_at y ended) ended)) ended)
 last_tree x y a b key left right top p q r h =
-    let seen : Option (Told MediumSeen) → List NodeView = λ x. record { level = left.level; place = stretch_at (Some p); children = children_by left.level (Some p) x (row_of [] left.links.items) } ∷ [] in
-    let both : Option (Told MediumSeen) → Option (Told MediumSeen) → List NodeView = λ x z.
-    seen x ++ record { level = right.level; place = stretch_at (Some q); children = children_by right.level (Some q) z (row_of (seen x) right.links.items) } ∷ [] in
-    let tree : Option (Told MediumSeen) → Option (Told MediumSeen) → Option (Told MediumSeen) → KeyedRow = λ x z t.
-    node_in key (stretch_at (Some r)) (children_by top.level (Some r) t (row_of (both x z) top.links.items)) no_more in
-    let v : NodeView = record { level = left.level; place = stretch_at (Some p); children = row_of [] left.links.items } in
-    let w : NodeView = record { level = right.level; place = stretch_at (Some q); children = row_of (v ∷ []) right.links.items } in
-    ap (λ o. tree o right.beyond top.beyond) h.left_loaded ∙ ap (λ o. tree None o top.beyond) h.right_loaded ∙ ap (λ o. tree None None o) h.top_loaded
-    ∙ ap (λ (l : List Link). node_in key (stretch_at (Some r)) (row_of (v ∷ w ∷ []) l) no_more) h.top_nodes
-    ∙ ap (λ (l : List Link). node_in key (stretch_at (Some r)) (node_in a (stretch_at (Some p)) (row_of [] l) (node_in b (stretch_at (Some q)) (row_of (v ∷ []) right.links.items) no_more)) no_more) h.left_leaf
-    ∙ ap (λ (l : List Link). node_in key (stretch_at (Some r)) (node_in a (stretch_at (Some p)) (leaf_in x no_more) (node_in b (stretch_at (Some q)) (row_of (v ∷ []) l) no_more)) no_more) h.right_leaf
+    let first : TableNode = record left { place = Some p } in
+    let second : TableNode = record right { place = Some q } in
+    let last : TableNode = record top { place = Some r } in
+    let v = view_of [] first in
+    let w = view_of (v ∷ []) second in
+    let below = loaded_row (v ∷ w ∷ []) last (ap (λ o. is_none o) h.top_loaded) in
+    let one = loaded_row [] first (ap (λ o. is_none o) h.left_loaded) ∙ ap (λ (l : List Link). row_of [] l) h.left_leaf in
+    let other = loaded_row (v ∷ []) second (ap (λ o. is_none o) h.right_loaded) ∙ ap (λ (l : List Link). row_of (v ∷ []) l) h.right_leaf in
+    ap (λ (c : KeyedRow). node_in key (stretch_at (Some r)) c no_more) (below ∙ ap (λ (l : List Link). row_of (v ∷ w ∷ []) l) h.top_nodes)
+    ∙ ap (λ (c : KeyedRow). node_in key (stretch_at (Some r)) (node_in a (stretch_at (Some p)) c (node_in b (stretch_at (Some q)) w.children no_more)) no_more) one
+    ∙ ap (λ (c : KeyedRow). node_in key (stretch_at (Some r)) (node_in a (stretch_at (Some p)) (leaf_in x no_more) (node_in b (stretch_at (Some q)) c no_more)) no_more) other
