@@ -15,7 +15,7 @@
 #![tactic(auto)]
 
 mod buds;
-pub mod caller;
+pub mod client;
 mod commits;
 mod head_at;
 mod laws;

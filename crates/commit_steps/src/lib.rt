@@ -6,6 +6,6 @@
 //! once no node is dirty the frozen index stands on the volume. The index before stands all along.
 #![tactic(auto)]
 
-mod caller;
+mod client;
 
-pub use crate::caller::{commit_beside_puts, load_and_commit};
+pub use crate::client::{commit_beside_puts, load_and_commit};

@@ -3,7 +3,7 @@ use Rattle.std.proofs.Common.{◌≡◌, ◌⊎◌, inl, inr, ℕ, ◌+◌, ◌-
 use Rattle.std.specs.Prelude.{Option}
 use Rattle.fs_model.specs.declared.space.Grant.{Grant}
 use Rattle.fs_model.specs.Backing.{BackingState, Outlook, given_back, granted}
-use Rattle.cached_files.specs.Calls.{SureGoes}
+use Rattle.buffered_files.specs.Calls.{SureGoes}
 use Rattle.vfs_ops.specs.declared.event.Event.TheVariants.{Drain, Refill}
 use Rattle.vfs_ops.specs.declared.event.Outcome.{Outcome}
 use Rattle.vfs_ops.specs.declared.event.Outcome.TheVariants.{Drained, Granted, Refused}

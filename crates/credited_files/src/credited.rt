@@ -1,7 +1,7 @@
 // What callers and the background do to files whose credits are counted.
 
 ghost use Rattle.std.specs.Prelude.{◌≡◌, ℕ, ◌+◌, ◌*◌, ◌<◌, ◌^◌, ◌≤◌, Bool, true, false, None, [], Contains, is_some, length};
-ghost use Rattle.cached_files.specs.Calls.{SureGoes};
+ghost use Rattle.buffered_files.specs.Calls.{SureGoes};
 ghost use Rattle.credit_pool.specs.States.{without};
 ghost use Rattle.credited_files.specs.Calls.{MayBeServed, WasServed, is_work_between};
 ghost use Rattle.credited_files.specs.States.{HasOtherCredits};

@@ -1,7 +1,7 @@
 // Credits that come into the pool, go to a call, and go back to the backing.
 
 ghost use Rattle.std.specs.Prelude.{◌≡◌, ◌⊎◌, ℕ, ◌+◌, ◌-◌, ◌*◌, ◌<◌, ◌^◌, ◌≤◌, true, false, None, Contains, length};
-ghost use Rattle.cached_files.specs.Calls.{SureGoes};
+ghost use Rattle.buffered_files.specs.Calls.{SureGoes};
 ghost use Rattle.credit_pool.specs.States.{without};
 ghost use Rattle.credited_files.specs.Calls.{IsFullFor, needs_room};
 ghost use Rattle.credited_files.specs.States.{HasOtherCredits};

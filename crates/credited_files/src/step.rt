@@ -2,7 +2,7 @@
 
 ghost use Rattle.std.specs.Prelude.{◌≡◌, ℕ, ◌+◌, ◌≤◌, length};
 ghost use Rattle.fs_model.specs.declared.op.Op.{Op};
-ghost use Rattle.cached_files.specs.Calls.{SureGoes};
+ghost use Rattle.buffered_files.specs.Calls.{SureGoes};
 ghost use Rattle.fs_laws.specs.Sound.{IsCall};
 ghost use Rattle.vfs_ops.specs.declared.event.Event.TheVariants.{Call};
 ghost use Rattle.vfs_ops.specs.declared.event.Outcome.TheVariants.{Replied};

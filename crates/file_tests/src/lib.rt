@@ -4,11 +4,11 @@
 #![tactic(auto)]
 
 #[cfg(test)]
-mod change_nodes_tests;
-#[cfg(test)]
 mod credit_pool_tests;
 #[cfg(test)]
 mod fs_model_tests;
+#[cfg(test)]
+mod group_nodes_tests;
 #[cfg(test)]
 mod page_cache_tests;
 #[cfg(test)]

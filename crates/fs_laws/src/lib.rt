@@ -7,7 +7,7 @@
 //! its own path doesn't lead (`proofs/Ways.antt`). A caller of a backing is proved from the laws alone (`put_operation`).
 #![tactic(auto)]
 
-mod caller;
+mod client;
 mod law;
 
 pub use crate::law::{

@@ -11,11 +11,11 @@ use Rattle.fs_model.specs.declared.change.Change.TheVariants.{SetInode, SetEntry
 use Rattle.fs_model.specs.declared.inode.Entry.{Entry}
 use Rattle.fs_model.specs.declared.inode.Inode.{Inode}
 use Rattle.fs_model.specs.Proper.{is_block_node, is_entry_node, is_inode_node, is_name}
-use Rattle.change_nodes.specs.FitLaws.{r5_small, inode_words, mode_fits, kind_fits, block_ino, block_number}
-use Rattle.change_nodes.specs.Nodes.{node_of}
-use Rattle.change_nodes.specs.NodeLaws.{leaf_of_entry, leaf_of_inode, leaf_of_node, most_bytes, most_data, name_most, plain_mode}
-use Rattle.change_nodes.specs.TextLaws.{width}
-use Rattle.change_nodes.specs.Texts.{leaf_len}
+use Rattle.group_nodes.specs.FitLaws.{r5_small, inode_words, mode_fits, kind_fits, block_ino, block_number}
+use Rattle.group_nodes.specs.Nodes.{node_of}
+use Rattle.group_nodes.specs.NodeLaws.{leaf_of_entry, leaf_of_inode, leaf_of_node, most_bytes, most_data, name_most, plain_mode}
+use Rattle.group_nodes.specs.TextLaws.{width}
+use Rattle.group_nodes.specs.Texts.{leaf_len}
 use Rattle.image_maker.specs.Places.{IsWrittenLeaf, numbered_leaves}
 
 -- a node of the grammar whose numbers fit

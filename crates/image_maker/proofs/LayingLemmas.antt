@@ -23,7 +23,7 @@ use Rattle.image_maker.specs.Laying.{TakesLeaf, IsLaid, IsClosed}
 use Rattle.image_maker.specs.Packed.{packed_leaves}
 use Rattle.image_maker.specs.Places.{AreLaid, IsWrittenLeaf, numbered_leaves, numbered_text, placed_leaf, placed_rows, row_bytes}
 use Rattle.image_maker.proofs.Rows.{all-row, flat_texts, length_texts, numbered-append, placed-next, placed-none, texts_are}
-use Rattle.change_nodes.specs.Texts.{leaf_bytes, leaf_text}
+use Rattle.group_nodes.specs.Texts.{leaf_bytes, leaf_text}
 
 abbrev leaf_there : Placed → Leaf
 leaf_there x = (kept_at x).leaf

@@ -13,7 +13,7 @@ use Rattle.fs_model.specs.declared.inode.Inode.{Inode}
 use Rattle.fs_model.specs.Directory.{by_hash, entries_in}
 use Rattle.fs_model.specs.Files.{Tree, Inodes}
 use Rattle.fs_model.specs.Proper.{IsProper, ascends}
-use Rattle.change_nodes.specs.Texts.{leaf_bytes}
+use Rattle.group_nodes.specs.Texts.{leaf_bytes}
 use Rattle.fs_model.specs.Cover.{tree_bytes}
 use Rattle.ubifs_base.specs.declared.raw_geometry.RawGeometry.{RawGeometry}
 use Rattle.ubifs_base.specs.Geometry.{IsGeometry, leb_reserve}

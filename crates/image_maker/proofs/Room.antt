@@ -12,7 +12,7 @@ use Rattle.image_maker.specs.Laying.{IsLaid}
 use Rattle.image_maker.specs.Packed.{packed_after}
 use Rattle.image_maker.specs.Places.{row_bytes}
 use Rattle.image_maker.proofs.Packing.{packed_after_some}
-use Rattle.change_nodes.specs.Texts.{leaf_bytes}
+use Rattle.group_nodes.specs.Texts.{leaf_bytes}
 
 leaf_bytes-pos : (leaf : LeafNode) → 1 ≤ leaf_bytes leaf
 leaf_bytes-pos (inode node) = omega arith

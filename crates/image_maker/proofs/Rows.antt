@@ -5,8 +5,8 @@ use Rattle.std.proofs.lemmas.List.{append-nil, map-append}
 use Rattle.std.proofs.lemmas.List.Sums.{sum_by-append, sum_by-cons}
 use Rattle.ubifs_base.specs.declared.raw_geometry.RawGeometry.{RawGeometry}
 use Rattle.media_leaf.specs.LeafNode.{LeafNode}
-use Rattle.change_nodes.specs.TextLaws.{length-leaf_text}
-use Rattle.change_nodes.specs.Texts.{leaf_bytes}
+use Rattle.group_nodes.specs.TextLaws.{length-leaf_text}
+use Rattle.group_nodes.specs.Texts.{leaf_bytes}
 use Rattle.image_maker.specs.Image.{leaf_texts}
 use Rattle.image_maker.specs.Places.{FitsLeb, numbered_leaves, numbered_text, placed_leaf, placed_row, placed_rows, row_bytes}
 

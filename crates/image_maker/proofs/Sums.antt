@@ -15,7 +15,7 @@ use Rattle.fs_model.specs.Cover.{block_bytes, entry_bytes}
 use Rattle.fs_model.specs.Directory.{by_hash}
 use Rattle.fs_model.specs.Files.{Blocks, name_cmp}
 use Rattle.fs_model.specs.Path.{is_dir}
-use Rattle.change_nodes.specs.Texts.{leaf_bytes}
+use Rattle.group_nodes.specs.Texts.{leaf_bytes}
 use Rattle.image_maker.specs.Leaves.{block_leaf, entry_leaf}
 
 -- ---- rows by the number that they belong to

@@ -22,8 +22,8 @@ use Rattle.fs_model.specs.Path.{is_dir}
 use Rattle.fs_model.specs.Files.{Tree, Inodes, Blocks, Entries, name_cmp}
 use Rattle.fs_model.specs.Proper.{IsProper, ascends, has_kind, is_inode_node, is_block_node, is_entry_node}
 use Rattle.image_maker.specs.Laying.{HavePlainModes}
-use Rattle.change_nodes.specs.NodeLaws.{numbered, plain_mode}
-use Rattle.change_nodes.specs.Texts.{leaf_bytes}
+use Rattle.group_nodes.specs.NodeLaws.{numbered, plain_mode}
+use Rattle.group_nodes.specs.Texts.{leaf_bytes}
 use Rattle.image_maker.specs.Leaves.{stored_size, inode_leaf, block_leaf, entry_leaf, leaves_of, live_leaves}
 use Rattle.image_maker.proofs.Grammar.{CanBeWritten, block_written, entry_written, inode_written, nlink_fits, size_fits}
 use Rattle.image_maker.proofs.Sums.{count_le-sum_by, part, part_le, part_step, block_weight, sum_by-block_leaves, sum_by-blocks, sum_by-entry_leaves, sum_by-by_hash}

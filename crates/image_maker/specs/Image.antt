@@ -8,7 +8,7 @@ use Rattle.ubifs_base.specs.Gap.{gap_of}
 use Rattle.ubi_volume.specs.declared.mem_volume.VolShape.{VolShape}
 use Rattle.ubi_volume.specs.Volume.{filled}
 use Rattle.media_leaf.specs.LeafNode.{LeafNode}
-use Rattle.change_nodes.specs.Texts.{leaf_text}
+use Rattle.group_nodes.specs.Texts.{leaf_text}
 
 -- the shape of a volume of this geometry
 abbrev pub shape_of : RawGeometry → VolShape

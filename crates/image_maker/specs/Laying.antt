@@ -6,7 +6,7 @@ use Rattle.ubifs_base.specs.Areas.{main_first, main_lebs}
 use Rattle.ubifs_base.specs.Geometry.{leb_reserve}
 use Rattle.ubi_volume.specs.Volume.{VolumeState, filled}
 use Rattle.media_leaf.specs.LeafNode.{LeafNode, IsLeaf}
-use Rattle.change_nodes.specs.Texts.{leaf_bytes, leaf_text}
+use Rattle.group_nodes.specs.Texts.{leaf_bytes, leaf_text}
 use Rattle.leaf_map.specs.Kept.{kept_at}
 use Rattle.fs_model.specs.declared.inode.Entry.{Entry}
 use Rattle.fs_model.specs.Directory.{entries_in}

@@ -2,7 +2,7 @@
 use Rattle.std.specs.Prelude.{ℕ, ◌+◌, nat_le, if◌then◌else◌, List, [], ◌∷◌, ◌++◌, length}
 use Rattle.ubifs_base.specs.declared.raw_geometry.RawGeometry.{RawGeometry}
 use Rattle.media_leaf.specs.LeafNode.{LeafNode}
-use Rattle.change_nodes.specs.Texts.{leaf_bytes}
+use Rattle.group_nodes.specs.Texts.{leaf_bytes}
 use Rattle.image_maker.specs.declared.open_leb.OpenLeb.{OpenLeb}
 
 -- the bytes that leaves take of each LEB of this size, one behind another, and in the next LEB where one doesn't fit; of the first LEB so many are taken before

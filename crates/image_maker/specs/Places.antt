@@ -5,7 +5,7 @@ use Rattle.ubifs_base.specs.declared.raw_geometry.RawGeometry.{RawGeometry}
 use Rattle.ubifs_base.specs.Areas.{main_first}
 use Rattle.media_leaf.specs.LeafNode.{LeafNode, IsLeafNode, written}
 use Rattle.leaf_map.specs.Kept.{Placed, kept_at}
-use Rattle.change_nodes.specs.Texts.{leaf_bytes, leaf_len, leaf_text}
+use Rattle.group_nodes.specs.Texts.{leaf_bytes, leaf_len, leaf_text}
 use Rattle.image_maker.specs.Image.{AreHeld}
 use Rattle.image_maker.specs.Packed.{packed_leaves}
 use Rattle.image_maker.specs.declared.laid_leaves.LaidLeaves.{LaidLeaves}

@@ -17,7 +17,7 @@ use crate::laid_leaves::LaidLeaves;
 use crate::open_leb::OpenLeb;
 use crate::tree_leaves::{block_leaf, entry_leaf, inode_leaf};
 use fs_model::{Inode, Rows};
-use op_plans::by_hash;
+use op_groups::by_hash;
 use plain_backing::Tree;
 use std::alloc::Global;
 use ubi_volume::MemVolume;

@@ -5,15 +5,15 @@ ghost use Rattle.ubifs_base.specs.Areas.{main_first};
 ghost use Rattle.ubifs_base.specs.RawOf.{raw_of};
 ghost use Rattle.ubi_volume.specs.MemVolume.{state_of};
 ghost use Rattle.media_leaf.specs.LeafNode.{LeafNode, IsLeaf};
-ghost use Rattle.change_nodes.specs.Nodes.{node_of, HasPlainMode};
-ghost use Rattle.change_nodes.specs.Texts.{leaf_bytes, leaf_text};
+ghost use Rattle.group_nodes.specs.Nodes.{node_of, HasPlainMode};
+ghost use Rattle.group_nodes.specs.Texts.{leaf_bytes, leaf_text};
 ghost use Rattle.image_maker.specs.Image.{to_unit, round_up};
 ghost use Rattle.image_maker.specs.Packed.{packed_after};
 ghost use Rattle.image_maker.specs.Laying.{HasGeometry, TakesLeaf, IsLaid, IsReady, Lays, IsClosed};
 
 use crate::tree_leaves::leaf_at;
-use change_nodes::{text_len, write_text};
 use fs_model::Change;
+use group_nodes::{text_len, write_text};
 use index_tree::Leaf;
 use std::alloc::Global;
 use ubi_volume::{MemVolume, Volume};

@@ -4,7 +4,7 @@ ghost use Rattle.std.specs.Prelude.{◌≡◌, ◌^◌, ◌<◌, ◌≤◌, ℕ,
 ghost use Rattle.fs_model.specs.Cover.{entry_bytes};
 ghost use Rattle.fs_model.specs.Directory.{dir_links, entries_in, links_of};
 ghost use Rattle.fs_model.specs.Files.{Tree as FilesTree};
-ghost use Rattle.change_nodes.specs.Nodes.{node_of, HasPlainMode};
+ghost use Rattle.group_nodes.specs.Nodes.{node_of, HasPlainMode};
 ghost use Rattle.image_maker.specs.Leaves.{stored_size, inode_leaf, block_leaf, entry_leaf};
 ghost use Rattle.image_maker.specs.Laying.{AreListed};
 ghost use Rattle.image_maker.specs.Places.{placed_leaf};
@@ -13,10 +13,10 @@ ghost use Rattle.media_leaf.specs.LeafNode.{IsLeaf};
 ghost use Rattle.ubifs_base.specs.declared.key.Key.TheVariants.{Dent};
 ghost use Rattle.ubifs_base.specs.R5.{r5_of};
 
-use change_nodes::node_len;
 use fs_model::{Change, Entry, Inode, Kind};
+use group_nodes::node_len;
 use index_tree::Leaf;
-use op_plans::{dir_links, dir_size};
+use op_groups::{dir_links, dir_size};
 use std::alloc::Global;
 use ubifs_base::{Bytes, Key, Memory, Name, r5};
 

@@ -6,7 +6,7 @@ use Rattle.std.proofs.lemmas.Bool.{cases_Bool}
 use Rattle.std.proofs.lemmas.List.Elements.{All-from_recursion}
 use Rattle.ubifs_base.specs.Key.{key_words}
 use Rattle.fs_model.specs.declared.change.Change.{Change}
-use Rattle.change_nodes.specs.Nodes.{change_of}
+use Rattle.group_nodes.specs.Nodes.{change_of}
 use Rattle.index_tree.specs.Distinct.{AreDistinct}
 use Rattle.index_tree.specs.Removal.{holds, same_leaf}
 use Rattle.index_tree.specs.declared.leaf.Leaf.{Leaf}

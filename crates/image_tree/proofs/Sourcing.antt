@@ -7,7 +7,7 @@ use Rattle.ubifs_base.specs.declared.key.Key.TheVariants.{Ino, Xent}
 use Rattle.media_leaf.specs.LeafNode.{LeafNode, inode, block, entry, truncation}
 use Rattle.media_leaf.specs.declared.dent_node.DentNode.{DentNode}
 use Rattle.media_leaf.specs.declared.ino_node.InoNode.{InoNode}
-use Rattle.change_nodes.specs.Nodes.{bits_of, kind_of_bits}
+use Rattle.group_nodes.specs.Nodes.{bits_of, kind_of_bits}
 use Rattle.media_sys.specs.declared.ref_node.RefNode.{RefNode}
 use Rattle.bud_log.specs.Buds.{buds_of}
 use Rattle.index_tree.specs.Shape.{contents as leaves_in}

@@ -7,8 +7,8 @@
 #![tactic(auto)]
 
 mod buffer;
-pub mod caller;
 mod calls;
+pub mod client;
 mod commit;
 mod counting;
 mod load;

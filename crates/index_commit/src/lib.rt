@@ -6,7 +6,7 @@
 //! far in place of the LEB that they are for. Where the volume doesn't fail, they are written, whatever else ends the call.
 #![tactic(auto)]
 
-pub mod caller;
+pub mod client;
 mod index_at;
 mod index_fault;
 mod laws;

@@ -15,7 +15,7 @@ use Rattle.index_media.specs.PlacedRow.{PlacedRow, are_disjoint, branch_to}
 use Rattle.bud_log.specs.Buds.{buds_of}
 use Rattle.bud_log.specs.Log.{references_of}
 use Rattle.bud_log.specs.LogText.{LogText}
-use Rattle.change_nodes.specs.Nodes.{change_of, leaf_key}
+use Rattle.group_nodes.specs.Nodes.{change_of, leaf_key}
 use Rattle.media_leaf.specs.LeafNode.{LeafNode, inode, block, entry, truncation}
 use Rattle.leaf_map.specs.Allowed.{AreOriginals}
 use Rattle.leaf_map.specs.Kept.{Kept, Placed, kept_at, node_key, shown, shown_by}

@@ -24,7 +24,7 @@ use Rattle.fs_model.specs.declared.inode.Inode.{Inode}
 use Rattle.fs_model.specs.declared.inode.Kind.TheVariants.{Dir}
 use Rattle.fs_model.specs.Files.{Inodes, Tree}
 use Rattle.fs_model.specs.Proper.{IsProper, has_kind}
-use Rattle.change_nodes.specs.FitLaws.{r5_small}
+use Rattle.group_nodes.specs.FitLaws.{r5_small}
 use Rattle.leaf_map.specs.Kept.{Kept, Placed, kept_at, node_key, shown, shown_by}
 use Rattle.leaf_map.specs.LeafMap.{HasKeyOf, IsKeyed, IsLeafMap, are_apart, shows_same}
 use Rattle.image_maker.specs.Leaves.{leaves_of, live_leaves}

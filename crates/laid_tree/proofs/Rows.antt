@@ -17,8 +17,8 @@ use Rattle.ubifs_base.specs.Node.{node_bytes}
 use Rattle.ubifs_base.specs.declared.raw_geometry.RawGeometry.{RawGeometry}
 use Rattle.media_leaf.specs.LeafNode.{LeafNode, inode, block, entry, truncation}
 use Rattle.media_sys.specs.declared.branch.Branch.{Branch}
-use Rattle.change_nodes.specs.Texts.{leaf_bytes, leaf_len}
-use Rattle.change_nodes.specs.TextLaws.{length-leaf_text}
+use Rattle.group_nodes.specs.Texts.{leaf_bytes, leaf_len}
+use Rattle.group_nodes.specs.TextLaws.{length-leaf_text}
 use Rattle.index_media.specs.PlacedRow.{branch_to, bytes_taken, node_end}
 use Rattle.leaf_map.specs.Kept.{Placed}
 use Rattle.leb_scan.specs.Text.{is_blank}

@@ -7,8 +7,8 @@ use Rattle.ubifs_base.specs.Gap.{gap_of}
 use Rattle.ubifs_base.specs.declared.raw_geometry.RawGeometry.{RawGeometry}
 use Rattle.media_leaf.specs.LeafNode.{LeafNode, IsLeafNode, written}
 use Rattle.fs_model.specs.Cover.{round_8}
-use Rattle.change_nodes.specs.Texts.{leaf_bytes, leaf_len, leaf_text}
-use Rattle.change_nodes.specs.TextLaws.{length-leaf_text, length-written}
+use Rattle.group_nodes.specs.Texts.{leaf_bytes, leaf_len, leaf_text}
+use Rattle.group_nodes.specs.TextLaws.{length-leaf_text, length-written}
 use Rattle.leaf_map.specs.Kept.{Placed}
 use Rattle.sound_image.specs.Leaves.{IsPlacedIn}
 use Rattle.image_maker.specs.Image.{leb_text, round_up, to_unit}

@@ -16,7 +16,7 @@ use Rattle.media_leaf.specs.Entry.{entry_fields}
 use Rattle.media_leaf.specs.LeafNode.{LeafNode, IsLeafNode, block, entry, fields_of, inode, leaf_form, tail_of, truncation}
 use Rattle.media_leaf.specs.declared.dent_node.DentNode.{DentNode}
 use Rattle.leb_scan.specs.Text.{leaf_type}
-use Rattle.change_nodes.specs.Nodes.{leaf_key}
+use Rattle.group_nodes.specs.Nodes.{leaf_key}
 use Rattle.leaf_check.specs.NodeKeys.{key_by}
 
 -- a hash has 29 bits

@@ -12,7 +12,7 @@ use Rattle.ubifs_base.specs.declared.raw_geometry.RawGeometry.{RawGeometry}
 use Rattle.media_leaf.specs.LeafNode.{IsLeafNode, LeafNode, type_of}
 use Rattle.media_lpt.specs.declared.lprop.Lprop.{Lprop}
 use Rattle.leb_scan.specs.Text.{leaf_type}
-use Rattle.change_nodes.specs.Nodes.{leaf_key}
+use Rattle.group_nodes.specs.Nodes.{leaf_key}
 use Rattle.ubifs_base.specs.declared.key.Key.{Key}
 use Rattle.leb_scan.specs.declared.found.Found.{Found}
 use Rattle.index_tree.specs.declared.leaf.Leaf.{Leaf}

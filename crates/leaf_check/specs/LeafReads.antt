@@ -3,7 +3,7 @@ use Rattle.std.specs.Prelude.{◌≡◌, ℕ, ◌+◌, ◌≤◌, ◌<◌, List,
 use Rattle.media_leaf.specs.LeafNode.{IsLeafNode, LeafNode}
 use Rattle.leb_scan.specs.Text.{leaf_type}
 use Rattle.leb_scan.specs.declared.found.Found.{Found}
-use Rattle.change_nodes.specs.Nodes.{leaf_key}
+use Rattle.group_nodes.specs.Nodes.{leaf_key}
 use Rattle.sound_image.specs.Frames.{IsKnownAt}
 use Rattle.index_tree.specs.declared.leaf.Leaf.{Leaf}
 use Rattle.ubi_volume.specs.Volume.{VolumeState}

@@ -3,7 +3,7 @@
 ghost use Rattle.std.specs.Prelude.{◌≡◌, ℕ};
 ghost use Rattle.media_leaf.specs.LeafNode.{IsLeafNode, LeafNode};
 ghost use Rattle.leb_scan.specs.Text.{leaf_type};
-ghost use Rattle.change_nodes.specs.Nodes.{leaf_key};
+ghost use Rattle.group_nodes.specs.Nodes.{leaf_key};
 ghost use Rattle.leaf_check.specs.NodeKeys.{key_by};
 
 use node_fields::u32_at;

@@ -7,8 +7,8 @@ use Rattle.fs_model.specs.declared.change.Change.TheVariants.{SetInode, SetEntry
 use Rattle.fs_model.specs.declared.inode.Inode.{Inode}
 use Rattle.fs_model.specs.declared.inode.Kind.{Kind}
 use Rattle.fs_model.specs.Backing.{is_node}
-use Rattle.change_nodes.specs.NodeLaws.{mode_of_node, node_carries, bits_are, mode_is, bits_say}
-use Rattle.change_nodes.specs.Nodes.{bits_of, inode_node, inode_of, kind_of_bits, node_of, type_bits}
+use Rattle.group_nodes.specs.NodeLaws.{mode_of_node, node_carries, bits_are, mode_is, bits_say}
+use Rattle.group_nodes.specs.Nodes.{bits_of, inode_node, inode_of, kind_of_bits, node_of, type_bits}
 use Rattle.leaf_map.specs.After.{Carries}
 
 -- an inode's node shows it, whatever its links

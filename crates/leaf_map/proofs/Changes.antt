@@ -10,7 +10,7 @@ use Rattle.fs_model.specs.declared.inode.Inode.{Inode}
 use Rattle.fs_model.specs.declared.inode.Entry.{Entry}
 use Rattle.fs_model.specs.Change.{applied, changed, key_number}
 use Rattle.fs_model.specs.Files.{Tree, Inodes, Blocks, Entries, inode_at, with_block as set_block}
-use Rattle.change_nodes.specs.Nodes.{change_of}
+use Rattle.group_nodes.specs.Nodes.{change_of}
 use Rattle.leaf_map.specs.After.{Carries, goes, has_inode, is_gone, is_idle, is_set, kept_after, kept_by, kept_with, put_leaf, read}
 use Rattle.leaf_map.specs.Kept.{Kept, Placed, kept_at, shown, shown_by}
 use Rattle.leaf_map.specs.KeyedLaws.{node_keyed, read_carried}

@@ -10,7 +10,7 @@ use Rattle.index_tree.specs.declared.leaf.Leaf.{Leaf}
 use Rattle.index_tree.specs.Order.{leaf_rank, ordered_from}
 use Rattle.fs_model.specs.declared.change.Change.{Change}
 use Rattle.fs_model.specs.declared.change.Change.TheVariants.{SetInode, SetEntry, SetBlock}
-use Rattle.change_nodes.specs.Nodes.{gone_inode, inode_node}
+use Rattle.group_nodes.specs.Nodes.{gone_inode, inode_node}
 use Rattle.leaf_map.specs.Allowed.{IsReadLeaf}
 use Rattle.leaf_map.specs.Kept.{Kept, Placed, kept_at, shown, shown_by}
 use Rattle.leaf_map.specs.KeyedLaws.{node_keyed}

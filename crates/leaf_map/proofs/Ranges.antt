@@ -10,7 +10,7 @@ use Rattle.index_tree.specs.Order.{key_rank, leaf_rank}
 use Rattle.index_tree.specs.RangeRemoval.{in_range, outside_range}
 use Rattle.fs_model.specs.declared.change.Change.{Change}
 use Rattle.fs_model.specs.declared.change.Change.TheVariants.{SetInode, SetEntry, SetBlock, CutBlocks, DropInode}
-use Rattle.change_nodes.specs.FitLaws.{r5_small}
+use Rattle.group_nodes.specs.FitLaws.{r5_small}
 use Rattle.leaf_map.specs.After.{goes, is_gone}
 use Rattle.leaf_map.specs.Follows.{block_key_from, last_block_key}
 use Rattle.leaf_map.specs.Kept.{Kept, shown_by}

@@ -11,7 +11,7 @@ use Rattle.fs_model.specs.declared.change.Change.TheVariants.{SetInode, SetEntry
 use Rattle.fs_model.specs.declared.inode.Kind.{Kind}
 use Rattle.fs_model.specs.Change.{apply, key_number}
 use Rattle.fs_model.specs.Recovery.{Numbered, as_replayed, by_number, placed}
-use Rattle.change_nodes.specs.Nodes.{bits_of, change_of, inode_of, kind_of_bits, kind_of_type}
+use Rattle.group_nodes.specs.Nodes.{bits_of, change_of, inode_of, kind_of_bits, kind_of_type}
 use Rattle.leaf_map.specs.After.{kept_after}
 use Rattle.leaf_map.specs.Allowed.{AreRead}
 use Rattle.leaf_map.specs.Kept.{Kept, Placed, node_key}

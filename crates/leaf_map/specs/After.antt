@@ -6,7 +6,7 @@ use Rattle.media_leaf.specs.LeafNode.{LeafNode}
 use Rattle.fs_model.specs.declared.change.Change.{Change}
 use Rattle.fs_model.specs.declared.change.Change.TheVariants.{SetInode, SetEntry, DropEntry, SetBlock, CutBlocks, DropInode}
 use Rattle.fs_model.specs.Path.{is_same_name}
-use Rattle.change_nodes.specs.Nodes.{change_of}
+use Rattle.group_nodes.specs.Nodes.{change_of}
 use Rattle.leaf_map.specs.Kept.{Kept, Placed, kept_at, kept_bytes, shown, shown_by}
 
 -- whether a change makes obsolete what shows this: an inode and a block are told by their key, an entry by its directory and name

@@ -9,8 +9,8 @@ use Rattle.index_tree.specs.declared.leaf.Leaf.{Leaf}
 use Rattle.fs_model.specs.declared.change.Change.{Change}
 use Rattle.fs_model.specs.declared.change.Change.TheVariants.{SetInode}
 use Rattle.fs_model.specs.Cover.{round_8}
-pub use Rattle.change_nodes.specs.Nodes.{bits_of, kind_of_bits}
-use Rattle.change_nodes.specs.Nodes.{change_of, inode_of}
+pub use Rattle.group_nodes.specs.Nodes.{bits_of, kind_of_bits}
+use Rattle.group_nodes.specs.Nodes.{change_of, inode_of}
 
 -- a leaf of an index, with the node that stands at its place and that node's sequence number
 pub record Kept : Type 0 where

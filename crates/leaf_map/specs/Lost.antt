@@ -6,7 +6,7 @@ use Rattle.media_leaf.specs.LeafNode.{LeafNode, entry}
 use Rattle.index_tree.specs.declared.leaf.Leaf.{Leaf}
 use Rattle.index_tree.specs.Order.{key_rank, leaf_rank}
 use Rattle.fs_model.specs.Path.{is_empty, is_same_name}
-use Rattle.change_nodes.specs.Nodes.{leaf_key}
+use Rattle.group_nodes.specs.Nodes.{leaf_key}
 use Rattle.leaf_map.specs.Kept.{Placed}
 use Rattle.leaf_map.specs.Parts.{Committed, Named, Parts, in_bud, own_node, shows_nothing}
 use Rattle.leaf_map.specs.Recovered.{copies_left, in_order, leaf_at, leaves_found, spare_copies}

@@ -10,7 +10,7 @@ use Rattle.index_tree.specs.Order.{leaf_rank}
 use Rattle.fs_model.specs.declared.change.Change.{Change}
 use Rattle.fs_model.specs.declared.change.Change.TheVariants.{SetInode, DropInode}
 use Rattle.fs_model.specs.Files.{Tree}
-use Rattle.change_nodes.specs.Nodes.{gone_inode, inode_node}
+use Rattle.group_nodes.specs.Nodes.{gone_inode, inode_node}
 use Rattle.leaf_map.specs.After.{is_gone, kept_after}
 use Rattle.leaf_map.specs.Kept.{Kept, Placed, kept_at, node_key, shown, shown_by}
 use Rattle.leaf_map.specs.LeafMap.{shows_same}

@@ -7,8 +7,8 @@ use Rattle.fs_model.specs.declared.inode.Inode.{Inode}
 use Rattle.fs_model.specs.declared.inode.Kind.TheVariants.{File}
 use Rattle.fs_model.specs.Making.{new_dir, new_file}
 use Rattle.media_leaf.specs.LeafNode.{inode}
-use Rattle.change_nodes.specs.Nodes.{inode_node, node_of}
-use Rattle.change_nodes.specs.Texts.{leaf_len}
+use Rattle.group_nodes.specs.Nodes.{inode_node, node_of}
+use Rattle.group_nodes.specs.Texts.{leaf_len}
 use Rattle.leaf_map.specs.Kept.{Kept, Placed, kept_at}
 use Rattle.leaf_map.specs.Parts.{Committed, Named, Parts}
 use Rattle.leaf_map.specs.SpaceFound.{MainArea}

@@ -16,7 +16,7 @@ ghost use Rattle.fs_model.specs.Backing.{is_node};
 ghost use Rattle.fs_model.specs.Change.{applied, apply, key_number};
 ghost use Rattle.fs_model.specs.Files.{Tree, inode_at, name_cmp, pair_cmp};
 ghost use Rattle.fs_model.specs.Proper.{IsInOrder};
-ghost use Rattle.change_nodes.specs.Nodes.{change_of, node_of};
+ghost use Rattle.group_nodes.specs.Nodes.{change_of, node_of};
 ghost use Rattle.fs_model.specs.Recovery.{Head, IsRecovered, KeepsSynced, Numbered, recovered, taken};
 ghost use Rattle.leaf_map.specs.Allowed.{AreOriginals, FitsLeaves, FitsTree, HasInode, IsCopied, IsNodeOf, IsOwnNode, IsTouchedIn, LosesNothing};
 ghost use Rattle.leaf_map.specs.After.{Carries, come_by, gone_by, is_gone, is_idle, is_set, kept_after, kept_by, used_by};

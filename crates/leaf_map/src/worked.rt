@@ -2,7 +2,7 @@
 
 ghost use Rattle.std.specs.Prelude.{◌≡◌, ◌∷◌, []};
 ghost use Rattle.fs_model.specs.declared.change.Change.TheVariants.{CutBlocks, DropEntry, DropInode, SetEntry};
-ghost use Rattle.change_nodes.specs.Nodes.{node_of};
+ghost use Rattle.group_nodes.specs.Nodes.{node_of};
 ghost use Rattle.leaf_map.specs.After.{kept_after};
 ghost use Rattle.leaf_map.specs.Kept.{kept_at};
 ghost use Rattle.leaf_map.specs.Recovered.{recovered_of, tree_found};

@@ -6,7 +6,7 @@ use Rattle.index_tree.specs.declared.leaf.Leaf.{Leaf}
 use Rattle.index_tree.specs.Order.{leaf_rank}
 use Rattle.fs_model.specs.declared.change.Change.{Change}
 use Rattle.fs_model.specs.declared.change.Change.TheVariants.{SetInode, SetEntry, SetBlock, DropEntry, CutBlocks, DropInode}
-use Rattle.change_nodes.specs.Nodes.{change_of}
+use Rattle.group_nodes.specs.Nodes.{change_of}
 use Rattle.leaf_map.specs.After.{is_gone, is_idle, is_inode, is_set, kept_after, put_leaf, read}
 use Rattle.leaf_map.specs.Kept.{Kept, Placed, kept_at, shown_by}
 use Rattle.leaf_map.specs.LeafMap.{shows_same}

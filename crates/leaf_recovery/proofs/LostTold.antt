@@ -16,7 +16,7 @@ use Rattle.index_tree.specs.Removal.{same_leaf}
 use Rattle.fs_model.specs.declared.change.Change.TheVariants.{SetInode}
 use Rattle.fs_model.specs.declared.inode.Kind.{Kind}
 use Rattle.fs_model.specs.Path.{is_empty, is_same_name}
-use Rattle.change_nodes.specs.Nodes.{bits_of, inode_of, kind_of_bits, leaf_key}
+use Rattle.group_nodes.specs.Nodes.{bits_of, inode_of, kind_of_bits, leaf_key}
 use Rattle.leaf_map.specs.Kept.{Kept, Placed, kept_at, shown}
 use Rattle.leaf_map.specs.Lost.{have_same_name, is_read_name, is_renamed, lost_leaves, names_left, stands_for, unnamed}
 use Rattle.leaf_map.specs.Parts.{Committed, Named, Parts, has_links, in_bud, is_linked_unknown, is_shown, own_node, shows_nothing}

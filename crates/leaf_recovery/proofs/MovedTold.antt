@@ -5,7 +5,7 @@ use Rattle.std.proofs.lemmas.Bool.{and_parts, eqb-true}
 use Rattle.ubifs_base.specs.declared.key.Key.{Key}
 use Rattle.ubifs_base.specs.declared.key.Key.TheVariants.{Ino, Block as BlockKey, Dent, Xent}
 use Rattle.media_leaf.specs.LeafNode.{LeafNode, block, inode}
-use Rattle.change_nodes.specs.Nodes.{gone_inode, inode_node}
+use Rattle.group_nodes.specs.Nodes.{gone_inode, inode_node}
 use Rattle.media_sys.specs.declared.ref_node.RefNode.{RefNode}
 use Rattle.index_tree.specs.declared.leaf.Leaf.{Leaf}
 use Rattle.leaf_map.specs.Kept.{Kept, Placed, kept_at, shown, shown_by}

@@ -14,7 +14,7 @@ use Rattle.fs_model.specs.declared.change.Change.TheVariants.{SetInode, SetEntry
 use Rattle.fs_model.specs.declared.inode.Inode.{Inode as AnInode}
 use Rattle.fs_model.specs.declared.inode.Kind.{Kind}
 use Rattle.fs_model.specs.declared.inode.Kind.TheVariants.{File}
-use Rattle.change_nodes.specs.Nodes.{bits_of, change_of, gone_inode, inode_of, kind_of_bits, kind_of_type}
+use Rattle.group_nodes.specs.Nodes.{bits_of, change_of, gone_inode, inode_of, kind_of_bits, kind_of_type}
 use Rattle.leaf_map.specs.After.{goes, is_inode, is_set}
 use Rattle.leaf_map.specs.Kept.{node_key, shown}
 use Rattle.leaf_map.specs.LeafMap.{shows_same}

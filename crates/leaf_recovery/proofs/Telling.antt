@@ -6,7 +6,7 @@ use Rattle.media_leaf.specs.LeafNode.{IsLeaf}
 use Rattle.media_sys.specs.declared.ref_node.RefNode.{RefNode}
 use Rattle.index_tree.specs.declared.leaf.Leaf.{Leaf}
 use Rattle.fs_model.specs.declared.change.Change.{Change}
-use Rattle.change_nodes.specs.Nodes.{change_of}
+use Rattle.group_nodes.specs.Nodes.{change_of}
 use Rattle.leaf_map.specs.Kept.{Kept, Placed, kept_at, shown, shown_by}
 use Rattle.leaf_map.specs.LeafMap.{shows_same}
 use Rattle.leaf_map.specs.Parts.{Committed, Parts, in_bud, is_named, is_own, is_shown, own_node}

@@ -5,7 +5,7 @@ use Rattle.std.specs.List.{AllByRecursion}
 use Rattle.ubifs_base.specs.R5.{r5_of}
 use Rattle.ubifs_base.specs.declared.key.Key.TheVariants.{Ino, Xent}
 use Rattle.media_leaf.specs.LeafNode.{LeafNode, IsLeaf, inode, block, entry, truncation}
-use Rattle.change_nodes.specs.Nodes.{bits_of, kind_of_bits}
+use Rattle.group_nodes.specs.Nodes.{bits_of, kind_of_bits}
 use Rattle.leaf_map.specs.Kept.{Placed}
 use Rattle.leaf_map.specs.Recovered.{in_order}
 use Rattle.journal_scan.specs.Content.{content_of, told}

@@ -14,7 +14,7 @@ use Rattle.index_tree.specs.Keyed.{HasKey, HaveKeys}
 use Rattle.index_tree.specs.Order.{leaf_rank}
 use Rattle.fs_model.specs.declared.change.Change.{Change}
 use Rattle.fs_model.specs.declared.change.Change.TheVariants.{SetInode, SetEntry, SetBlock}
-use Rattle.change_nodes.specs.FitLaws.{r5_small}
+use Rattle.group_nodes.specs.FitLaws.{r5_small}
 use Rattle.leaf_map.specs.Kept.{Kept, Placed, kept_at, shown_by}
 use Rattle.leaf_map.specs.LeafMap.{HasKeyOf, IsKeyed}
 use Rattle.leaf_map.specs.Parts.{Committed, Parts, own_node}

@@ -15,7 +15,7 @@ use Rattle.index_tree.specs.Shape.{contents}
 use Rattle.index_tree.specs.Tree.{shape}
 use Rattle.fs_model.specs.declared.change.Change.{Change}
 use Rattle.fs_model.specs.declared.change.Change.TheVariants.{SetInode, SetEntry, SetBlock}
-use Rattle.change_nodes.specs.Nodes.{gone_inode, inode_node}
+use Rattle.group_nodes.specs.Nodes.{gone_inode, inode_node}
 use Rattle.leaf_map.specs.Kept.{Kept, Placed, kept_at, shown}
 use Rattle.leaf_map.specs.LeafMap.{HasKeyOf, IsKeyed, IsLeafMap, are_apart}
 use Rattle.leaf_map.specs.Parts.{Committed, Parts, own_node}

@@ -19,7 +19,7 @@ use Rattle.fs_model.specs.declared.inode.Entry.{Entry as AnEntry}
 use Rattle.fs_model.specs.declared.inode.Inode.{Inode as AnInode}
 use Rattle.fs_model.specs.declared.inode.Kind.{Kind}
 use Rattle.fs_model.specs.Files.{name_cmp}
-use Rattle.change_nodes.specs.Nodes.{bits_of, inode_of, kind_of_bits, kind_of_type}
+use Rattle.group_nodes.specs.Nodes.{bits_of, inode_of, kind_of_bits, kind_of_type}
 use Rattle.leaf_map.specs.After.{is_inode}
 use Rattle.leaf_map.specs.Kept.{Kept, shown, shown_by}
 use Rattle.leaf_map.specs.LeafMap.{HasKeyOf, IsKeyed}

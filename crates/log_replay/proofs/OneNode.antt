@@ -22,7 +22,7 @@ use Rattle.fs_model.specs.declared.inode.Entry.{Entry}
 use Rattle.fs_model.specs.declared.inode.Inode.{Inode}
 use Rattle.fs_model.specs.declared.inode.Kind.{Kind}
 use Rattle.fs_model.specs.Files.{name_cmp}
-use Rattle.change_nodes.specs.Nodes.{bits_of, change_of, inode_of, kind_of_bits, kind_of_type}
+use Rattle.group_nodes.specs.Nodes.{bits_of, change_of, inode_of, kind_of_bits, kind_of_type}
 use Rattle.leaf_map.specs.After.{Carries, has_inode, is_gone, is_idle, is_inode, is_set, kept_after, kept_by, put_leaf, read}
 use Rattle.leaf_map.specs.Follows.{block_key_from, last_block_key, with_leaf, without_old}
 use Rattle.leaf_map.specs.Kept.{Kept, Placed, kept_at, node_key, shown, shown_by}

@@ -11,7 +11,7 @@ use Rattle.media_leaf.specs.LeafNode.{LeafNode, IsLeaf, inode, block}
 use Rattle.index_tree.specs.declared.leaf.Leaf.{Leaf}
 use Rattle.index_tree.specs.Order.{leaf_rank}
 use Rattle.index_tree.specs.Removal.{same_leaf}
-use Rattle.change_nodes.specs.Nodes.{gone_inode, inode_node}
+use Rattle.group_nodes.specs.Nodes.{gone_inode, inode_node}
 use Rattle.leaf_map.specs.Kept.{Kept, Placed, kept_at, node_key, shown, shown_by}
 use Rattle.leaf_map.specs.Parts.{Committed, Named, Parts, in_bud, is_own, is_shown, own_node}
 use Rattle.leaf_map.specs.Recovered.{stand_in}

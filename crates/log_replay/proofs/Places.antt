@@ -14,7 +14,7 @@ use Rattle.index_tree.specs.Order.{leaf_rank}
 use Rattle.index_tree.specs.Removal.{same_leaf, holds}
 use Rattle.fs_model.specs.declared.change.Change.{Change}
 use Rattle.fs_model.specs.declared.change.Change.TheVariants.{SetInode, SetEntry, SetBlock}
-use Rattle.change_nodes.specs.Nodes.{change_of, gone_inode, inode_node}
+use Rattle.group_nodes.specs.Nodes.{change_of, gone_inode, inode_node}
 use Rattle.leaf_map.specs.After.{is_gone, is_idle, is_set, kept_after, kept_with, put_leaf, read}
 use Rattle.leaf_map.specs.Kept.{Kept, Placed, kept_at, shown, shown_by}
 use Rattle.leaf_map.specs.Allowed.{IsNodeOf}

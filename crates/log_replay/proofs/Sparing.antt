@@ -15,7 +15,7 @@ use Rattle.index_tree.specs.declared.leaf.Leaf.{Leaf}
 use Rattle.index_tree.specs.Removal.{same_leaf}
 use Rattle.fs_model.specs.declared.change.Change.TheVariants.{SetInode}
 use Rattle.fs_model.specs.declared.inode.Kind.{Kind}
-use Rattle.change_nodes.specs.Nodes.{bits_of, inode_of, kind_of_bits}
+use Rattle.group_nodes.specs.Nodes.{bits_of, inode_of, kind_of_bits}
 use Rattle.leaf_map.specs.Kept.{Placed}
 use Rattle.leaf_map.specs.Parts.{Committed, Named, Parts, in_bud, is_linked_unknown, is_shown}
 use Rattle.leaf_map.specs.Recovered.{listed_left}

@@ -4,7 +4,7 @@ use Rattle.fs_model.specs.declared.inode.Entry.{Entry}
 use Rattle.fs_model.specs.declared.refusal.Refusal.{Refusal}
 use Rattle.fs_model.specs.Files.{Tree}
 use Rattle.fs_model.specs.Path.{components, last_of, only_dir}
-use Rattle.op_plans.specs.Facts.{IsParent}
+use Rattle.op_groups.specs.Facts.{IsParent}
 use Rattle.manifest_tree.specs.declared.places.FreePlace.{FreePlace}
 use Rattle.manifest_tree.specs.ManifestTree.{free_in, free_place}
 

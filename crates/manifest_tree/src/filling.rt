@@ -9,7 +9,7 @@ ghost use Rattle.manifest_tree.specs.ManifestTree.{with_copies, with_copies_page
 
 use fs_laws::a_page_keeps_trees_proper;
 use fs_model::{Change, Group, Inode, Kind};
-use op_plans::{is_bad_mode, new_file};
+use op_groups::{is_bad_mode, new_file};
 use plain_backing::Tree;
 use std::alloc::Global;
 use ubifs_base::{Bytes, Memory};

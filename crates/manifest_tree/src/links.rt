@@ -8,7 +8,7 @@ ghost use Rattle.fs_model.specs.Files.{Tree as AnyTree, inode_at};
 ghost use Rattle.fs_model.specs.Links.{linking};
 
 use fs_model::{Change, Entry, Group, Inode};
-use op_plans::touched;
+use op_groups::touched;
 use std::alloc::Global;
 use ubifs_base::{Memory, Name};
 

@@ -11,7 +11,7 @@ ghost use Rattle.manifest_tree.specs.ManifestTree.{line_made, manifest_tree};
 use crate::making::{make_dir, make_empty_file, make_file, make_link, make_symlink};
 use fs_laws::a_fresh_volume_is_sound;
 use fs_model::{Change, Group};
-use op_plans::new_dir;
+use op_groups::new_dir;
 use plain_backing::Tree;
 use script_text::{ManifestLine, TextFault};
 use std::alloc::Global;

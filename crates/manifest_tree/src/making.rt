@@ -8,7 +8,7 @@ ghost use Rattle.fs_model.specs.Files.{inode_at};
 ghost use Rattle.fs_model.specs.Links.{linking};
 ghost use Rattle.fs_model.specs.Making.{inode_limit, making, new_dir, new_file, new_symlink};
 ghost use Rattle.fs_model.specs.Proper.{IsProper, are_bytes};
-ghost use Rattle.op_plans.specs.Facts.{IsParent};
+ghost use Rattle.op_groups.specs.Facts.{IsParent};
 ghost use Rattle.script_text.specs.declared.manifest_line.ManifestLine.TheVariants.{File, Link, Symlink};
 ghost use Rattle.manifest_tree.specs.ManifestTree.{line_made, with_new};
 ghost use Rattle.manifest_tree.specs.Places.{IsFreePlace};
@@ -18,7 +18,7 @@ use crate::links::linking;
 use crate::places::{FreePlace, copied, find_file, find_place};
 use fs_laws::{a_new_file_keeps_trees_proper, a_new_symbolic_link_keeps_trees_proper};
 use fs_model::{Entry, Inode, Kind};
-use op_plans::{
+use op_groups::{
     Parent, is_bad_mode, is_bad_target, is_used_up, making, new_dir, new_file, new_symlink,
 };
 use plain_backing::Tree;

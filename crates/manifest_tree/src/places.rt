@@ -9,7 +9,7 @@ ghost use Rattle.manifest_tree.specs.Places.{IsFreePlace, IsPlaceIn};
 
 use crate::walks::walk;
 use fs_model::{Entry, Inode, Kind};
-use op_plans::{Parent, components, has_long_name, is_name_path, pop_last};
+use op_groups::{Parent, components, has_long_name, is_name_path, pop_last};
 use plain_backing::Tree;
 use std::alloc::Global;
 use ubifs_base::{Memory, Name};

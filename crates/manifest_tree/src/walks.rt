@@ -5,7 +5,7 @@ ghost use Rattle.fs_model.specs.Path.{child, reached, root_entry};
 ghost use Rattle.manifest_tree.specs.Places.{entry_found};
 
 use fs_model::{Entry, Kind};
-use op_plans::root_entry;
+use op_groups::root_entry;
 use plain_backing::Tree;
 use std::alloc::Global;
 use ubifs_base::{Memory, Name};

@@ -5,8 +5,8 @@
 //! index is shown, over a volume and from memory, and no clause says how much of it a change loads.
 #![tactic(auto)]
 
-pub mod caller;
 mod changes;
+pub mod client;
 mod commit;
 mod counts;
 mod lookups;

@@ -11,7 +11,7 @@ mod after;
 mod bisect;
 mod branches;
 mod cache;
-pub mod caller;
+pub mod client;
 mod find;
 mod forgetting;
 mod holding;

@@ -4,7 +4,7 @@
 #![tactic(auto)]
 
 #[cfg(test)]
-mod op_plans_tests;
+mod op_groups_tests;
 #[cfg(test)]
 mod plain_backing_cut_tests;
 #[cfg(test)]

@@ -2,11 +2,11 @@
 
 ghost use Rattle.std.specs.Prelude.{IfOk, ◌<◌, ◌^◌};
 ghost use Rattle.fs_model.specs.Proper.{IsProper};
-ghost use Rattle.cached_files.specs.Present.{IsKept};
+ghost use Rattle.buffered_files.specs.Present.{IsKept};
 ghost use Rattle.plain_backing.specs.PlainBacking.{state_of};
 
 use crate::vfs_ops_tests::{first_wrong, fresh_files};
-use cached_files::{Kept, bytes};
+use buffered_files::{Kept, bytes};
 use fs_model::StoreFault;
 use plain_backing::PlainBacking;
 use std::alloc::Global;

@@ -6,8 +6,8 @@ use Rattle.media_leaf.specs.LeafNode.{IsLeafNode, LeafNode, inode, block, entry,
 use Rattle.media_leaf.specs.declared.ino_node.InoNode.{InoNode}
 use Rattle.ubifs_base.specs.NodeLaws.{IsBytes}
 use Rattle.fs_model.specs.declared.change.Change.{Change}
-use Rattle.change_nodes.specs.LengthLaws.{leaf_length, length_most}
-use Rattle.change_nodes.specs.Nodes.{IsReadOf}
+use Rattle.group_nodes.specs.LengthLaws.{leaf_length, length_most}
+use Rattle.group_nodes.specs.Nodes.{IsReadOf}
 use Rattle.leaf_map.specs.Kept.{shown}
 use Rattle.recovered_tree.specs.Sets.{IsShownIn}
 

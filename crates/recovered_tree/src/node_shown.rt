@@ -1,15 +1,15 @@
 // What a leaf's node shows.
 
 ghost use Rattle.std.specs.Prelude.{◌≡◌, IfOk, take, drop};
-ghost use Rattle.change_nodes.specs.Nodes.{bits_of, kind_of_bits};
+ghost use Rattle.group_nodes.specs.Nodes.{bits_of, kind_of_bits};
 ghost use Rattle.leaf_map.specs.Kept.{shown};
 ghost use Rattle.media_leaf.specs.LeafNode.{inode};
 ghost use Rattle.recovered_tree.specs.Sets.{IsShownIn};
 ghost use Rattle.ubi_volume.specs.Faults.{HasAreaCause, StaysSureArea};
 ghost use Rattle.ubi_volume.specs.Volume.{Keeps, SameShape};
 
-use change_nodes::read_change;
 use fs_model::{Change, Inode, Kind};
+use group_nodes::read_change;
 use media_leaf::{InoNode, one_node};
 use std::alloc::Global;
 use ubi_volume::{AreaFault, Volume};

@@ -8,7 +8,7 @@ use Rattle.fs_model.specs.declared.backing_answers.Mode.TheVariants.{ReadWrite}
 use Rattle.fs_model.specs.declared.refusal.NoSpace.{NoSpace}
 use Rattle.fs_model.specs.declared.trace.TraceLine.{TraceLine}
 use Rattle.fs_model.specs.Legal.{AreLines, Opening, Place, behind, count_in}
-use Rattle.cached_files.specs.declared.kept.Kept.{Kept}
+use Rattle.buffered_files.specs.declared.kept.Kept.{Kept}
 use Rattle.plain_backing.specs.declared.backing.PlainBacking.{PlainBacking}
 use Rattle.plain_backing.specs.PlainBacking.{Covers, outlook_of, state_of}
 use Rattle.plain_backing.specs.Spending.{is_spent}

@@ -17,10 +17,10 @@ use Rattle.fs_model.specs.declared.space.Need.{Need}
 use Rattle.fs_model.specs.Backing.{BackingState, Goes, ModeGoes, Rose, next_orphans}
 use Rattle.fs_model.specs.Cover.{needed, room_for, tree_bytes}
 use Rattle.fs_model.specs.Files.{Files}
-use Rattle.cached_files.specs.Alike.{IsAlike}
-use Rattle.cached_files.specs.declared.kept.Kept.{Kept}
-use Rattle.cached_files.specs.Calls.{IsWithoutRoom, SureGoes}
-use Rattle.cached_files.specs.Present.{IsKept, present}
+use Rattle.buffered_files.specs.Alike.{IsAlike}
+use Rattle.buffered_files.specs.declared.kept.Kept.{Kept}
+use Rattle.buffered_files.specs.Calls.{IsWithoutRoom, SureGoes}
+use Rattle.buffered_files.specs.Present.{IsKept, present}
 use Rattle.plain_backing.specs.declared.backing.PlainBacking.{PlainBacking}
 use Rattle.plain_backing.specs.PlainBacking.{Covers, state_of, outlook_of}
 use Rattle.plain_backing.specs.Spending.{is_spent}

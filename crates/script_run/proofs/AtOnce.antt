@@ -17,9 +17,9 @@ use Rattle.fs_model.specs.Legal.{AreLines, AreSides, IsPlain, IsRefusal, IsRefus
 use Rattle.fs_model.specs.Orphan.{nameless}
 use Rattle.small_areas.specs.Orphans.{orphan_limit}
 use Rattle.fs_laws.specs.Sound.{IsCall}
-use Rattle.cached_files.specs.declared.kept.Kept.{Kept}
-use Rattle.cached_files.specs.Calls.{full_weight}
-use Rattle.cached_files.specs.Present.{IsKept, present}
+use Rattle.buffered_files.specs.declared.kept.Kept.{Kept}
+use Rattle.buffered_files.specs.Calls.{full_weight}
+use Rattle.buffered_files.specs.Present.{IsKept, present}
 use Rattle.plain_backing.specs.declared.backing.PlainBacking.{PlainBacking}
 use Rattle.plain_backing.specs.PlainBacking.{outlook_of, state_of}
 use Rattle.vfs_ops.specs.FilesState.{FilesState}

@@ -17,9 +17,9 @@ use Rattle.fs_model.specs.Files.{Files}
 use Rattle.fs_model.specs.Legal.{pages_in, read_only_cause}
 use Rattle.fs_model.specs.Operation.{outcome_of}
 use Rattle.fs_model.specs.Outcome.{Outcome}
-use Rattle.cached_files.specs.declared.kept.Kept.{Kept}
-use Rattle.cached_files.specs.Calls.{full_weight}
-use Rattle.cached_files.specs.Present.{present}
+use Rattle.buffered_files.specs.declared.kept.Kept.{Kept}
+use Rattle.buffered_files.specs.Calls.{full_weight}
+use Rattle.buffered_files.specs.Present.{present}
 use Rattle.vfs_ops.specs.declared.event.Event.TheVariants.{Call}
 use Rattle.vfs_ops.specs.declared.event.Outcome.TheVariants.{Replied}
 use Rattle.vfs_ops.specs.Events.{IsWeighedCall}

@@ -14,7 +14,7 @@ use Rattle.fs_model.specs.Journal.{Journal}
 use Rattle.fs_model.specs.Outcome.{reply_in}
 use Rattle.fs_model.specs.Same.{trimmed_blocks}
 use Rattle.fs_model.specs.Worked.{fresh}
-use Rattle.cached_files.specs.Alike.{IsAlike}
+use Rattle.buffered_files.specs.Alike.{IsAlike}
 use Rattle.space_sums.proofs.Index.{index_lebs-grows}
 use Rattle.script_text.specs.Reply.{reply_line}
 use Rattle.text_lines.specs.Lines.{ended}

@@ -10,7 +10,7 @@ use Rattle.fs_model.specs.Journal.{AreSynced, IfTold, IsJournalOf, Journal, MayL
 use Rattle.fs_model.specs.JournalLaws.{Synced-leaves}
 use Rattle.fs_model.specs.Orphan.{without_nameless}
 use Rattle.fs_model.specs.Recovery.{Head, IsRecovered}
-use Rattle.cached_files.specs.Cuts.{TreePlace, Value, ValuesOf, value_at}
+use Rattle.buffered_files.specs.Cuts.{TreePlace, Value, ValuesOf, value_at}
 use Rattle.plain_backing.specs.declared.backing.PlainBacking.{PlainBacking}
 use Rattle.plain_backing.specs.PlainBacking.{new_state, state_of}
 use Rattle.plain_backing.specs.Story.{medium_of}

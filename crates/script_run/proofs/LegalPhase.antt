@@ -9,7 +9,7 @@ use Rattle.fs_model.specs.Files.{Files}
 use Rattle.fs_model.specs.Legal.{IsLegal}
 use Rattle.fs_model.specs.Proper.{ascends}
 use Rattle.fs_model.specs.Same.{IsSame, told_inodes}
-use Rattle.cached_files.specs.Alike.{IsAlike}
+use Rattle.buffered_files.specs.Alike.{IsAlike}
 use Rattle.script_phase.specs.declared.lines.CallerLine.{CallerLine}
 use Rattle.script_phase.specs.Phases.{callers_in}
 use Rattle.script_run.specs.Phases.{AreServedTogether, left_by, opened_on}

@@ -22,9 +22,9 @@ use Rattle.fs_model.specs.Outcome.{Outcome, refuse}
 use Rattle.fs_laws.specs.Maps.{set_other}
 use Rattle.fs_laws.specs.Orders.{pairs}
 use Rattle.fs_laws.specs.Sound.{IsSound}
-use Rattle.cached_files.specs.declared.kept.Kept.{Kept}
-use Rattle.cached_files.specs.Present.{DirtyPages, IsKept, has_dirty, present, with_page}
-use Rattle.cached_files.proofs.Reading.{Reads-tree, seen_below, seen_kept}
+use Rattle.buffered_files.specs.declared.kept.Kept.{Kept}
+use Rattle.buffered_files.specs.Present.{DirtyPages, IsKept, has_dirty, present, with_page}
+use Rattle.buffered_files.proofs.Reading.{Reads-tree, seen_below, seen_kept}
 use Rattle.plain_backing.specs.declared.backing.PlainBacking.{PlainBacking}
 use Rattle.plain_backing.specs.PlainBacking.{state_of}
 use Rattle.vfs_ops.specs.Events.{HasSynced}

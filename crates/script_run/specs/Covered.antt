@@ -5,8 +5,8 @@ use Rattle.ubifs_base.specs.Areas.{main_lebs}
 use Rattle.fs_model.specs.declared.space.Grant.{Grant}
 use Rattle.fs_model.specs.declared.space.Space.{Space}
 use Rattle.fs_model.specs.Cover.{tree_bytes}
-use Rattle.cached_files.specs.declared.kept.Kept.{Kept}
-use Rattle.cached_files.specs.Present.{IsKept, present}
+use Rattle.buffered_files.specs.declared.kept.Kept.{Kept}
+use Rattle.buffered_files.specs.Present.{IsKept, present}
 use Rattle.plain_backing.specs.Covering.{IsCovering}
 use Rattle.script_run.specs.Run.{Running}
 

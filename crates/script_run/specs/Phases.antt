@@ -7,7 +7,7 @@ use Rattle.fs_model.specs.declared.backing_answers.Mode.TheVariants.{ReadWrite}
 use Rattle.fs_model.specs.declared.trace.TraceLine.{TraceLine}
 use Rattle.fs_model.specs.Cover.{index_lebs}
 use Rattle.fs_model.specs.Legal.{AreLines, Opening, Place, Present, count_in, most_weight, sides_in}
-use Rattle.cached_files.specs.Alike.{IsAlike}
+use Rattle.buffered_files.specs.Alike.{IsAlike}
 use Rattle.traced_files.specs.History.{IsAsked, grown_weight, is_flushed}
 use Rattle.traced_files.specs.Seen.{LeavesSeen}
 use Rattle.script_text.specs.declared.part.Part.{Part}

@@ -3,9 +3,9 @@ use Rattle.std.specs.Prelude.{◌≡◌}
 use Rattle.fs_model.specs.declared.backing_answers.Mode.TheVariants.{ReadOnly}
 use Rattle.fs_model.specs.declared.refusal.Cause.{Cause}
 use Rattle.fs_model.specs.Files.{Files}
-use Rattle.cached_files.specs.declared.kept.Kept.{Kept}
-use Rattle.cached_files.specs.Calls.{full_weight}
-use Rattle.cached_files.specs.Present.{present}
+use Rattle.buffered_files.specs.declared.kept.Kept.{Kept}
+use Rattle.buffered_files.specs.Calls.{full_weight}
+use Rattle.buffered_files.specs.Present.{present}
 use Rattle.plain_backing.specs.declared.backing.PlainBacking.{PlainBacking}
 use Rattle.plain_backing.specs.PlainBacking.{state_of}
 use Rattle.script_run.specs.Reading.{Reading}

@@ -11,7 +11,7 @@ use Rattle.fs_model.specs.Files.{Files, Tree}
 use Rattle.fs_model.specs.Legal.{read_only_cause}
 use Rattle.fs_model.specs.Operation.{outcome_of}
 use Rattle.fs_model.specs.Outcome.{Outcome}
-use Rattle.cached_files.specs.Alike.{IsAlike}
+use Rattle.buffered_files.specs.Alike.{IsAlike}
 use Rattle.vfs_ops.specs.Steps.{IsDone}
 use Rattle.script_text.specs.declared.part.Part.{Part}
 use Rattle.script_text.specs.declared.part.Part.TheVariants.{Mount, Unmount, Now, Workers, Line}

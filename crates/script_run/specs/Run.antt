@@ -20,7 +20,7 @@ use Rattle.fs_model.specs.Legal.{pages_in}
 use Rattle.fs_model.specs.Orphan.{leaves_orphan, nameless, without_nameless}
 use Rattle.fs_model.specs.Outcome.{Outcome}
 use Rattle.fs_model.specs.Worked.{fresh}
-use Rattle.cached_files.specs.Alike.{IsAlike}
+use Rattle.buffered_files.specs.Alike.{IsAlike}
 use Rattle.vfs_ops.specs.Kinds.{added_by, is_question}
 use Rattle.vfs_ops.specs.Operations.{has_group, nodes_asked}
 use Rattle.vfs_ops.specs.Steps.{IsDone, allowed, asked, is_write}

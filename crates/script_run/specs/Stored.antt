@@ -3,8 +3,8 @@ use Rattle.std.specs.Prelude.{◌≡◌, ℕ, Bool, false, not}
 use Rattle.fs_model.specs.declared.reply.Reply.{Reply}
 use Rattle.fs_model.specs.declared.reply.Reply.TheVariants.{Refused}
 use Rattle.fs_model.specs.Files.{Files, Tree, block_at, inode_at}
-use Rattle.cached_files.specs.declared.kept.Kept.{Kept}
-use Rattle.cached_files.specs.Present.{IsKept, present}
+use Rattle.buffered_files.specs.declared.kept.Kept.{Kept}
+use Rattle.buffered_files.specs.Present.{IsKept, present}
 use Rattle.vfs_ops.specs.Kinds.{is_late}
 
 -- The files are this tree under what is kept of them in memory: dirty pages, the inodes of their files, and which files are open.

@@ -6,7 +6,7 @@ ghost use Rattle.script_run.specs.Phases.{AreServed, AreServedTogether, IsPhase,
 ghost use Rattle.script_run.specs.Sessions.{IsSession, IsWaiting, running_of, state_in};
 
 use crate::session::{Session, served};
-use cached_files::{clean_files_are_those_of_the_backing, present_files_are_sound};
+use buffered_files::{clean_files_are_those_of_the_backing, present_files_are_sound};
 use fs_model::TraceLine;
 use live_fs::Closed;
 use script_phase::{CallerLine, serve_at_once};

@@ -11,7 +11,7 @@ ghost use Rattle.script_run.specs.Reading.{IsReadPart, IsReadReply, reading_on};
 ghost use Rattle.script_run.specs.Readers.{IsClosed, reading_of, seen_over};
 
 use crate::session::{CLEAN, parts_of};
-use cached_files::clean_files_are_those_of_the_backing;
+use buffered_files::clean_files_are_those_of_the_backing;
 use fs_model::{Cause, Mode, Op, Refusal, Reply, Space};
 use plain_backing::{PlainBacking, Tree};
 use script_text::{Part, write_mount_for_reading, write_reply};

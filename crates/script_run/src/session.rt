@@ -2,8 +2,8 @@
 
 ghost use Rattle.std.specs.Prelude.{◌≡◌, ℕ, ◌<◌, ◌≤◌, ◌+◌, ◌++◌, ◌^◌, [], IfOk, OnOk, false, true, List};
 ghost use Rattle.ubifs_base.specs.RawOf.{raw_of};
-ghost use Rattle.cached_files.specs.Alike.{IsAlike};
-ghost use Rattle.cached_files.specs.Present.{present};
+ghost use Rattle.buffered_files.specs.Alike.{IsAlike};
+ghost use Rattle.buffered_files.specs.Present.{present};
 ghost use Rattle.fs_model.specs.declared.backing_answers.Mode.TheVariants.{ReadWrite};
 ghost use Rattle.plain_backing.specs.PlainBacking.{state_of};
 ghost use Rattle.script_text.specs.declared.part.Part.TheVariants.{Line, Mount, Unmount};
@@ -19,7 +19,7 @@ ghost use Rattle.script_run.specs.Sessions.{IsBare, IsSession, IsSteady, running
 
 use crate::nameless::without_nameless;
 use crate::opening::{Opening, backing_of};
-use cached_files::{clean_files_are_those_of_the_backing, present_files_are_sound};
+use buffered_files::{clean_files_are_those_of_the_backing, present_files_are_sound};
 use fs_laws::a_mount_keeps_trees_proper;
 use fs_model::{Backing, Op, Reply};
 use plain_backing::PlainBacking;

@@ -13,7 +13,7 @@ use Rattle.media_leaf.specs.declared.ino_node.InoNode.{InoNode}
 use Rattle.fs_model.specs.declared.change.Change.{Change}
 use Rattle.fs_model.specs.declared.change.Change.TheVariants.{SetInode, SetEntry, DropEntry, DropInode}
 use Rattle.fs_model.specs.declared.inode.Kind.{Kind}
-use Rattle.change_nodes.specs.Nodes.{bits_of, change_of, inode_of, kind_of_bits, kind_of_type}
+use Rattle.group_nodes.specs.Nodes.{bits_of, change_of, inode_of, kind_of_bits, kind_of_type}
 use Rattle.leaf_map.specs.Kept.{Placed, node_key}
 use Rattle.leaf_map.specs.Recovered.{in_order}
 use Rattle.journal_scan.specs.Content.{content_of, number_told, told}

@@ -1,7 +1,7 @@
 -- What is read where no node can stand.
 use Rattle.std.proofs.Common.{◌≡◌, ℕ, ◌-◌, ◌<◌, ◌≤◌, List, [], length, take, drop, min, ap, sym, ◌∙◌, arith, length-drop, None}
 use Rattle.std.proofs.lemmas.List.{length-take}
-use Rattle.change_nodes.specs.LengthLaws.{leaf_length, length_most}
+use Rattle.group_nodes.specs.LengthLaws.{leaf_length, length_most}
 use Rattle.shown_leaves.specs.Stored.{IsStoredIn}
 
 none_in_nothing : (bytes : List ℕ) → length bytes ≡ 0 → IsStoredIn bytes None

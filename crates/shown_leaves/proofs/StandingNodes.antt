@@ -19,9 +19,9 @@ use Rattle.media_leaf.specs.declared.data_node.DataNode.{DataNode}
 use Rattle.media_leaf.specs.declared.dent_node.DentNode.{DentNode}
 use Rattle.media_leaf.specs.declared.ino_node.InoNode.{InoNode}
 use Rattle.media_leaf.specs.declared.trun_node.TrunNode.{TrunNode}
-use Rattle.change_nodes.specs.Nodes.{bits_of, kind_of_bits, kind_of_type}
+use Rattle.group_nodes.specs.Nodes.{bits_of, kind_of_bits, kind_of_type}
 use Rattle.fs_model.specs.declared.inode.Kind.{Kind}
-use Rattle.change_nodes.specs.LengthLaws.{leaf_length}
+use Rattle.group_nodes.specs.LengthLaws.{leaf_length}
 use Rattle.leaf_map.specs.Kept.{Placed, shown}
 use Rattle.sound_image.specs.Leaves.{IsPlacedIn}
 use Rattle.tree_check.specs.Told.{shown_told}

@@ -1,7 +1,7 @@
 -- What is wrong with nodes of the journal, with copies, and with leaves that are there twice: the parts of the rule on the tree that need no tree.
 use Rattle.std.specs.Prelude.{◌≡◌, List, None}
 use Rattle.ubifs_base.specs.Key.{key_words}
-use Rattle.change_nodes.specs.Nodes.{change_of}
+use Rattle.group_nodes.specs.Nodes.{change_of}
 use Rattle.leaf_map.specs.Kept.{Placed, node_key}
 use Rattle.leaf_map.specs.Parts.{Parts}
 use Rattle.sound_image.specs.Tree.{IsCopy}

@@ -6,7 +6,7 @@ use Rattle.shown_leaves.specs.declared.leaves.JudgedLeaf.{JudgedLeaf}
 use Rattle.tree_check.specs.Places.{number_shown}
 use Rattle.tree_check.specs.declared.shown_leaf.Shown.{Shown}
 use Rattle.tree_check.specs.declared.shown_leaf.Shown.TheVariants.{Inode, Entry, Deletion, Block, Nothing}
-use Rattle.change_nodes.specs.Nodes.{bits_of, kind_of_bits, kind_of_type}
+use Rattle.group_nodes.specs.Nodes.{bits_of, kind_of_bits, kind_of_type}
 use Rattle.fs_model.specs.declared.inode.Kind.{Kind}
 use Rattle.shown_leaves.specs.declared.sourced_leaf.KnownBlock.{KnownBlock}
 use Rattle.shown_leaves.specs.declared.sourced_leaf.Source.{Source}

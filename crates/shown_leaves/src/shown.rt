@@ -1,7 +1,7 @@
 // What a node shows.
 
 ghost use Rattle.std.specs.Prelude.{◌≡◌, Some};
-ghost use Rattle.change_nodes.specs.Nodes.{bits_of, kind_of_bits, kind_of_type};
+ghost use Rattle.group_nodes.specs.Nodes.{bits_of, kind_of_bits, kind_of_type};
 ghost use Rattle.leaf_map.specs.Kept.{shown};
 ghost use Rattle.media_leaf.specs.LeafNode.{entry, truncation};
 ghost use Rattle.tree_check.specs.Told.{shown_told};

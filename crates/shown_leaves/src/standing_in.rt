@@ -3,7 +3,7 @@
 ghost use Rattle.std.specs.Prelude.{◌≡◌, [], Some};
 ghost use Rattle.std.specs.Option.{option_map};
 ghost use Rattle.media_leaf.specs.LeafNode.{inode, block};
-ghost use Rattle.change_nodes.specs.Nodes.{gone_inode, inode_node};
+ghost use Rattle.group_nodes.specs.Nodes.{gone_inode, inode_node};
 ghost use Rattle.leaf_map.specs.Recovered.{stand_in};
 ghost use Rattle.shown_leaves.specs.Stored.{leaf_node};
 

@@ -15,7 +15,7 @@ use Rattle.fs_model.specs.declared.inode.Inode.{Inode}
 use Rattle.fs_model.specs.declared.inode.Kind.TheVariants.{Dir}
 use Rattle.fs_model.specs.Files.{Inodes, Tree, inode_at}
 use Rattle.fs_model.specs.Proper.{has_kind, same_kind}
-use Rattle.change_nodes.specs.Nodes.{change_of}
+use Rattle.group_nodes.specs.Nodes.{change_of}
 use Rattle.leaf_map.specs.Kept.{Kept, Placed, shown_by}
 use Rattle.leaf_map.specs.LeafMap.{are_apart, shows_same}
 use Rattle.leaf_map.specs.Lost.{empty_names}

@@ -17,7 +17,7 @@ use Rattle.index_tree.specs.declared.leaf.Leaf.{Leaf}
 use Rattle.fs_model.specs.declared.change.Change.{Change}
 use Rattle.fs_model.specs.declared.change.Change.TheVariants.{SetBlock, SetEntry, SetInode, DropEntry}
 use Rattle.fs_model.specs.declared.inode.Kind.{Kind}
-use Rattle.change_nodes.specs.Nodes.{bits_of, gone_inode, inode_node, inode_of, kind_of_bits, kind_of_type}
+use Rattle.group_nodes.specs.Nodes.{bits_of, gone_inode, inode_node, inode_of, kind_of_bits, kind_of_type}
 use Rattle.leaf_map.specs.Kept.{Kept, Placed, kept_at, node_key, shown}
 use Rattle.leaf_map.specs.LeafMap.{HasKeyOf, IsKeyed, IsLeafMap, are_apart, shows_same}
 use Rattle.leaf_map.specs.Parts.{Committed, Named, Parts, in_bud, is_own, is_shown, own_node}

@@ -27,7 +27,7 @@ use Rattle.leb_scan.specs.declared.tail.Tail.TheVariants.{Clean}
 use Rattle.media_sys.specs.declared.ref_node.RefNode.{RefNode}
 use Rattle.bud_log.specs.Log.{references_of}
 use Rattle.bud_log.specs.LogText.{LogText}
-use Rattle.change_nodes.specs.Nodes.{change_of}
+use Rattle.group_nodes.specs.Nodes.{change_of}
 use Rattle.leaf_map.specs.Kept.{Placed}
 use Rattle.leaf_map.specs.SpaceFound.{space_found}
 use Rattle.leaf_map.specs.Lost.{missing_leaves}

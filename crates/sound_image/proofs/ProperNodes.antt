@@ -25,7 +25,7 @@ use Rattle.fs_model.specs.declared.inode.Kind.{Kind}
 use Rattle.fs_model.specs.declared.inode.Kind.TheVariants.{Symlink, Block, Char}
 use Rattle.fs_model.specs.Path.{is_dir, is_empty, is_same_name}
 use Rattle.fs_model.specs.Proper.{are_bytes, are_long_words, are_words, has_data, is_block_node, is_entry_node, is_inode_node, is_name}
-use Rattle.change_nodes.specs.Nodes.{bits_of, inode_of, kind_of_bits, kind_of_type}
+use Rattle.group_nodes.specs.Nodes.{bits_of, inode_of, kind_of_bits, kind_of_type}
 use Rattle.leaf_map.specs.Kept.{shown}
 use Rattle.sound_image.specs.Summary.{with_a_link}
 use Rattle.sound_image.proofs.Lists.{two_true}

@@ -23,7 +23,7 @@ use Rattle.fs_model.specs.declared.change.Change.TheVariants.{SetInode}
 use Rattle.fs_model.specs.declared.inode.Inode.{Inode}
 use Rattle.fs_model.specs.declared.inode.Kind.TheVariants.{Dir, File}
 use Rattle.fs_model.specs.Proper.{names_of}
-use Rattle.change_nodes.specs.Nodes.{change_of, inode_of}
+use Rattle.group_nodes.specs.Nodes.{change_of, inode_of}
 use Rattle.leaf_map.specs.Kept.{Kept, Placed, shown_by}
 use Rattle.leaf_map.specs.Lost.{missing_leaves}
 use Rattle.leaf_map.specs.Parts.{Parts}

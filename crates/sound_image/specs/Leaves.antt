@@ -8,7 +8,7 @@ use Rattle.index_tree.specs.Shape.{contents as leaves_in}
 use Rattle.index_tree.specs.declared.leaf.Leaf.{Leaf}
 use Rattle.index_media.specs.PlacedRow.{plain, branch_to, are_disjoint}
 use Rattle.small_areas.specs.Orphans.{AreOrphans}
-use Rattle.change_nodes.specs.Nodes.{leaf_key}
+use Rattle.group_nodes.specs.Nodes.{leaf_key}
 use Rattle.leaf_map.specs.Kept.{Placed}
 use Rattle.leaf_map.specs.Lost.{empty_names, missing_leaves}
 use Rattle.leaf_map.specs.Parts.{Committed, Parts}

@@ -11,7 +11,7 @@ use Rattle.fs_model.specs.Path.{is_dir}
 use Rattle.fs_model.specs.Proper.{has_kind, is_sound_dir, is_sound_entry, names_of}
 use Rattle.index_tree.specs.Distinct.{AreDistinct}
 use Rattle.index_tree.specs.Order.{leaf_rank}
-use Rattle.change_nodes.specs.Nodes.{change_of}
+use Rattle.group_nodes.specs.Nodes.{change_of}
 use Rattle.leaf_map.specs.Allowed.{IsOwnNode}
 use Rattle.leaf_map.specs.Kept.{Kept, Placed, kept_at, shown, shown_by}
 use Rattle.leaf_map.specs.LeafMap.{are_apart}

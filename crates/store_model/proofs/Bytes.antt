@@ -7,7 +7,7 @@ use Rattle.media_leaf.specs.LeafNode.{IsLeaf}
 use Rattle.fs_model.specs.Cover.{round_8}
 use Rattle.fs_model.specs.declared.change.Change.{Change}
 use Rattle.fs_model.specs.declared.change.Change.TheVariants.{DropInode}
-use Rattle.change_nodes.specs.Nodes.{node_of}
+use Rattle.group_nodes.specs.Nodes.{node_of}
 use Rattle.leaf_map.specs.After.{Carries, come_by, gone_by, is_gone, is_idle, is_set, kept_by, used_by}
 use Rattle.leaf_map.specs.Kept.{Kept, Placed, kept_at, kept_bytes}
 use Rattle.leaf_map.specs.LeafMap.{IsLeafMap}

@@ -14,7 +14,7 @@ use Rattle.media_leaf.specs.LeafNode.{LeafNode, inode, block, entry, truncation}
 use Rattle.fs_model.specs.declared.change.Change.{Change}
 use Rattle.fs_model.specs.declared.change.Change.TheVariants.{DropInode}
 use Rattle.fs_model.specs.Cover.{round_8}
-use Rattle.change_nodes.specs.Texts.{leaf_len}
+use Rattle.group_nodes.specs.Texts.{leaf_len}
 use Rattle.leaf_map.specs.After.{is_gone, kept_by}
 use Rattle.leaf_map.specs.Kept.{Kept, kept_at, Placed}
 use Rattle.store_model.specs.Events.{after, after_change, after_part, at_copy, Begin, Copying, credit, Drop, End, end_at, end_commit, Event, Free, free_victim, granted, Held, Move, move, nodes_len, Offer, Open, paid, Part, Payment, Put, put, Putting, Start, Sync, Write, write_index}

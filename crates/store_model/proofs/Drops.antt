@@ -5,7 +5,7 @@ use Rattle.media_leaf.specs.LeafNode.{IsLeaf}
 use Rattle.fs_model.specs.declared.change.Change.TheVariants.{DropInode}
 use Rattle.fs_model.specs.Change.{without_inode}
 use Rattle.fs_model.specs.Files.{Tree}
-use Rattle.change_nodes.specs.Nodes.{node_of}
+use Rattle.group_nodes.specs.Nodes.{node_of}
 use Rattle.leaf_map.specs.After.{is_gone}
 use Rattle.leaf_map.specs.Kept.{Kept, Placed}
 use Rattle.store_model.proofs.Puts.{KeptLaw, Show, TreeLaw}

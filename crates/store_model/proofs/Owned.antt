@@ -21,7 +21,7 @@ use Rattle.fs_model.specs.Change.{applied, apply, key_number, without_inode}
 use Rattle.fs_model.specs.Files.{Inodes, Tree, inode_at, with_block}
 use Rattle.fs_laws.specs.Maps.{key_cases, removed_other, set_here, set_other}
 use Rattle.fs_laws.specs.Orders.{numbers}
-use Rattle.change_nodes.specs.Nodes.{bits_of, inode_of, kind_of_bits, kind_of_type}
+use Rattle.group_nodes.specs.Nodes.{bits_of, inode_of, kind_of_bits, kind_of_type}
 use Rattle.leaf_map.specs.After.{Carries, goes, has_inode, is_gone, is_idle, is_inode, is_set, kept_by, put_leaf}
 use Rattle.leaf_map.specs.Allowed.{HasInode}
 use Rattle.leaf_map.specs.Kept.{Kept, kept_at, node_key, shown, shown_by}

@@ -15,7 +15,7 @@ use Rattle.fs_model.specs.declared.change.Change.TheVariants.{SetInode, SetEntry
 use Rattle.fs_model.specs.declared.inode.Inode.{Inode}
 use Rattle.fs_model.specs.declared.inode.Kind.{Kind}
 use Rattle.fs_model.specs.Recovery.{Numbered, as_replayed, by_number, placed}
-use Rattle.change_nodes.specs.Nodes.{bits_of, change_of, inode_of, kind_of_bits, kind_of_type}
+use Rattle.group_nodes.specs.Nodes.{bits_of, change_of, inode_of, kind_of_bits, kind_of_type}
 use Rattle.leaf_map.specs.After.{Carries}
 use Rattle.leaf_map.specs.Allowed.{AreRead}
 use Rattle.leaf_map.specs.Kept.{Placed}

@@ -6,7 +6,7 @@ use Rattle.std.proofs.lemmas.Bool.{eqb-true}
 use Rattle.ubifs_base.specs.declared.raw_geometry.RawGeometry.{RawGeometry}
 use Rattle.index_tree.specs.declared.leaf.Leaf.{Leaf}
 use Rattle.fs_model.specs.Cover.{round_8}
-use Rattle.change_nodes.specs.Texts.{leaf_len}
+use Rattle.group_nodes.specs.Texts.{leaf_len}
 use Rattle.leaf_map.specs.Kept.{Kept, Placed}
 use Rattle.leaf_map.specs.Parts.{in_bud}
 use Rattle.store_model.specs.Events.{open_buds, start, take_leb, view_now}

@@ -19,7 +19,7 @@ use Rattle.fs_model.specs.Journal.{base_head, data_head}
 use Rattle.fs_model.specs.Proper.{IsProper}
 use Rattle.fs_model.specs.Recovery.{Numbered}
 use Rattle.fs_model.specs.Orphan.{all_drop_named, all_revive_none}
-use Rattle.change_nodes.specs.Texts.{leaf_len}
+use Rattle.group_nodes.specs.Texts.{leaf_len}
 use Rattle.leaf_map.specs.After.{Carries}
 use Rattle.leaf_map.specs.Kept.{Kept, Placed}
 use Rattle.space_sums.specs.Spaces.{taken_lebs}

@@ -3,7 +3,7 @@ use Rattle.std.specs.Prelude.{◌≡◌, ◌||◌, ◌≤◌, ℕ, zero, suc, �
 use Rattle.std.specs.List.{list_all, AllByRecursion}
 use Rattle.ubifs_base.specs.declared.raw_geometry.RawGeometry.{RawGeometry}
 use Rattle.fs_model.specs.Cover.{round_8}
-use Rattle.change_nodes.specs.Texts.{leaf_len}
+use Rattle.group_nodes.specs.Texts.{leaf_len}
 use Rattle.leaf_map.specs.Kept.{Placed}
 use Rattle.store_model.specs.Fits.{nodes_in}
 use Rattle.store_model.specs.Heads.{copies_of, groups_of}

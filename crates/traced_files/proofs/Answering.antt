@@ -22,9 +22,9 @@ use Rattle.fs_model.specs.Operation.{Outcome, outcome_of}
 use Rattle.fs_model.specs.Orphan.{leaves_orphan, within_orphans}
 use Rattle.fs_model.specs.Outcome.{refuse}
 use Rattle.fs_model.specs.declared.space.Need.{Need}
-use Rattle.cached_files.specs.declared.kept.Kept.{Kept}
-use Rattle.cached_files.specs.Alike.{IsAlike}
-use Rattle.cached_files.specs.Calls.{IsWithoutRoom}
+use Rattle.buffered_files.specs.declared.kept.Kept.{Kept}
+use Rattle.buffered_files.specs.Alike.{IsAlike}
+use Rattle.buffered_files.specs.Calls.{IsWithoutRoom}
 use Rattle.vfs_plans.specs.Answers.{IsFault}
 use Rattle.vfs_ops.specs.Operations.{has_group, is_of_names}
 use Rattle.vfs_ops.specs.Replies.{IsAlikeOutcome}

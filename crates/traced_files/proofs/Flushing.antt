@@ -10,7 +10,7 @@ use Rattle.fs_model.specs.declared.reply.Reply.{Reply}
 use Rattle.fs_model.specs.declared.reply.Reply.TheVariants.{Done, Refused}
 use Rattle.fs_model.specs.declared.refusal.Refusal.TheVariants.{Enomem}
 use Rattle.fs_model.specs.declared.trace.TraceLine.{TraceLine}
-use Rattle.cached_files.specs.declared.kept.Kept.{Kept}
+use Rattle.buffered_files.specs.declared.kept.Kept.{Kept}
 use Rattle.vfs_ops.specs.declared.event.Event.{Event}
 use Rattle.vfs_ops.specs.declared.event.Event.TheVariants.{Pick, Put}
 use Rattle.vfs_ops.specs.declared.event.Outcome.{Outcome}

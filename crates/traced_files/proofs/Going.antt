@@ -34,8 +34,8 @@ use Rattle.fs_model.specs.Orphan.{leaves_orphan, nameless}
 use Rattle.fs_model.specs.Outcome.{Outcome, refuse, with_inode, with_open}
 use Rattle.fs_model.specs.Same.{trimmed_blocks}
 use Rattle.fs_laws.specs.Sound.{IsCall, IsMoment, IsSound}
-use Rattle.cached_files.specs.Alike.{IsAlike}
-use Rattle.cached_files.specs.Present.{newly_dirty}
+use Rattle.buffered_files.specs.Alike.{IsAlike}
+use Rattle.buffered_files.specs.Present.{newly_dirty}
 use Rattle.credited_files.specs.Calls.{needs_room}
 use Rattle.vfs_ops.specs.declared.event.Event.TheVariants.{Call}
 use Rattle.vfs_ops.specs.declared.event.Outcome.TheVariants.{Replied}

@@ -20,7 +20,7 @@ use Rattle.fs_model.specs.Backing.{BackingState, ModeGoes, next_orphans, orphan_
 use Rattle.fs_model.specs.Cover.{index_lebs}
 use Rattle.fs_model.specs.Files.{Files}
 use Rattle.fs_model.specs.Legal.{Opening, Place, behind, count_in, most_weight, next_number, pages_in, sides_in}
-use Rattle.cached_files.specs.Calls.{full_weight}
+use Rattle.buffered_files.specs.Calls.{full_weight}
 use Rattle.vfs_ops.specs.declared.event.Event.{Event}
 use Rattle.vfs_ops.specs.declared.event.Event.TheVariants.{Put}
 use Rattle.vfs_ops.specs.declared.event.Outcome.{Outcome}

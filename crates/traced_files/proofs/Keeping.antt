@@ -10,8 +10,8 @@ use Rattle.fs_model.specs.declared.trace.TraceLine.{TraceLine}
 use Rattle.fs_model.specs.Legal.{Opening}
 use Rattle.fs_model.specs.Backing.{BackingState, Outlook}
 use Rattle.fs_laws.specs.Sound.{IsCall, IsMoment, IsSound}
-use Rattle.cached_files.specs.Calls.{SureGoes}
-use Rattle.cached_files.specs.Present.{IsKept}
+use Rattle.buffered_files.specs.Calls.{SureGoes}
+use Rattle.buffered_files.specs.Present.{IsKept}
 use Rattle.credited_files.specs.Calls.{WasServed, is_work_between}
 use Rattle.credited_files.specs.States.{HasOtherCredits}
 use Rattle.fs_model.specs.Cover.{tree_bytes}

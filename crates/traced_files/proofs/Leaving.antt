@@ -24,12 +24,12 @@ use Rattle.fs_model.specs.Operation.{Outcome, files_in, group_of, outcome_of}
 use Rattle.fs_model.specs.Orphan.{without_nameless}
 use Rattle.fs_model.specs.Proper.{IsInOrder}
 use Rattle.fs_laws.specs.Sound.{IsCall, IsMoment, IsSound}
-use Rattle.cached_files.specs.Alike.{IsAlike}
-use Rattle.cached_files.specs.CutLaws.{AreAmong, Puts-with}
-use Rattle.cached_files.specs.Cuts.{HasValues, TreePlace, Value, Values, ValuesOf, ValuesWith, value_at}
-use Rattle.cached_files.specs.Cuts.GroupFate.{NotPut}
-use Rattle.cached_files.proofs.Applied.{agrees_of}
-use Rattle.cached_files.proofs.PlaceValues.{alike_among}
+use Rattle.buffered_files.specs.Alike.{IsAlike}
+use Rattle.buffered_files.specs.CutLaws.{AreAmong, Puts-with}
+use Rattle.buffered_files.specs.Cuts.{HasValues, TreePlace, Value, Values, ValuesOf, ValuesWith, value_at}
+use Rattle.buffered_files.specs.Cuts.GroupFate.{NotPut}
+use Rattle.buffered_files.proofs.Applied.{agrees_of}
+use Rattle.buffered_files.proofs.PlaceValues.{alike_among}
 use Rattle.vfs_ops.specs.declared.event.Event.{Event}
 use Rattle.vfs_ops.specs.declared.event.Event.TheVariants.{Call}
 use Rattle.vfs_ops.specs.declared.event.Outcome.{Outcome as EventOutcome}

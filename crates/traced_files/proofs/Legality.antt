@@ -13,7 +13,7 @@ use Rattle.fs_model.specs.Files.{Files}
 use Rattle.fs_model.specs.Legal.{IsLegal, IsModeSince, Opening, sides_in}
 use Rattle.fs_model.specs.Same.{IsSame}
 use Rattle.fs_laws.specs.Sound.{IsSound}
-use Rattle.cached_files.specs.Alike.{IsAlike}
+use Rattle.buffered_files.specs.Alike.{IsAlike}
 use Rattle.vfs_ops.specs.FilesState.{FilesState, present_in}
 use Rattle.traced_files.specs.History.{IsAsked, IsHistory, IsModeAfter, IsSureSince, first_place, opening_of, present_of}
 use Rattle.traced_files.proofs.Counts.{rise_ascends, rise_bounds}

@@ -7,7 +7,7 @@ use Rattle.std.proofs.lemmas.List.Folds.{list_all-append}
 use Rattle.fs_model.specs.declared.trace.TraceLine.{TraceLine}
 use Rattle.fs_model.specs.Files.{Files, Tree}
 use Rattle.fs_model.specs.Journal.{Journal, MayLeave}
-use Rattle.cached_files.specs.Cuts.{TreePlace, ValuesOf, value_at}
+use Rattle.buffered_files.specs.Cuts.{TreePlace, ValuesOf, value_at}
 use Rattle.traced_files.specs.History.{files_behind}
 use Rattle.traced_files.specs.Seen.{LeavesSeen, ValuesBefore, WasSeen, is_flush_done, is_unflushed}
 

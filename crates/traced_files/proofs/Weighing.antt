@@ -16,7 +16,7 @@ use Rattle.fs_model.specs.Legal.{IsPlain, IsRefusal, IsRefused, Opening, Place, 
 use Rattle.fs_model.specs.Operation.{outcome_of, reply_in}
 use Rattle.fs_model.specs.Outcome.{Outcome}
 use Rattle.fs_laws.specs.Sound.{IsSound}
-use Rattle.cached_files.specs.Calls.{full_weight}
+use Rattle.buffered_files.specs.Calls.{full_weight}
 use Rattle.vfs_ops.specs.FilesState.{present_in}
 use Rattle.vfs_ops.specs.Kinds.{added_by, is_late}
 use Rattle.vfs_ops.specs.Operations.{has_group, nodes_asked}

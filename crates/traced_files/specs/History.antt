@@ -17,9 +17,9 @@ use Rattle.fs_model.specs.Files.{Files}
 use Rattle.fs_model.specs.Legal.{AreLines, Opening, Place, Present, count_in, most_weight, pages_in, sides_in}
 use Rattle.fs_model.specs.Operation.{files_in, outcome_of}
 use Rattle.fs_laws.specs.Sound.{IsSound}
-use Rattle.cached_files.specs.declared.kept.Kept.{Kept}
-use Rattle.cached_files.specs.Alike.{IsAlike}
-use Rattle.cached_files.specs.Calls.{full_weight}
+use Rattle.buffered_files.specs.declared.kept.Kept.{Kept}
+use Rattle.buffered_files.specs.Alike.{IsAlike}
+use Rattle.buffered_files.specs.Calls.{full_weight}
 use Rattle.vfs_ops.specs.FilesState.{FilesState, present_in}
 use Rattle.vfs_ops.specs.Kinds.{is_question}
 use Rattle.vfs_ops.specs.Operations.{has_group}

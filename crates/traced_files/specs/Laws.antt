@@ -16,12 +16,12 @@ use Rattle.fs_model.specs.Operation.{files_in, outcome_of}
 use Rattle.fs_model.specs.Orphan.{without_nameless}
 use Rattle.fs_model.specs.Proper.{IsProper}
 use Rattle.fs_laws.specs.Sound.{IsCall, IsMoment, IsSound, LeavesSound}
-use Rattle.cached_files.specs.declared.kept.Kept.{Kept}
-use Rattle.cached_files.specs.Alike.{IsAlike}
-use Rattle.cached_files.specs.Calls.{GrowsBy}
-use Rattle.cached_files.specs.Cuts.{HasValues, PutsWith, ValuesOf, ValuesWith}
-use Rattle.cached_files.specs.Cuts.GroupFate.{NotPut}
-use Rattle.cached_files.specs.Present.{IsKept, present}
+use Rattle.buffered_files.specs.declared.kept.Kept.{Kept}
+use Rattle.buffered_files.specs.Alike.{IsAlike}
+use Rattle.buffered_files.specs.Calls.{GrowsBy}
+use Rattle.buffered_files.specs.Cuts.{HasValues, PutsWith, ValuesOf, ValuesWith}
+use Rattle.buffered_files.specs.Cuts.GroupFate.{NotPut}
+use Rattle.buffered_files.specs.Present.{IsKept, present}
 use Rattle.vfs_plans.specs.Operations.{is_truncate}
 use Rattle.vfs_ops.specs.declared.event.Event.{Event}
 use Rattle.vfs_ops.specs.declared.event.Event.TheVariants.{Call}

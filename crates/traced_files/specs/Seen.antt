@@ -11,7 +11,7 @@ use Rattle.fs_model.specs.declared.trace.TraceLine.{TraceLine}
 use Rattle.fs_model.specs.Files.{Files, Tree}
 use Rattle.fs_model.specs.Journal.{Journal, MayLeave}
 use Rattle.fs_model.specs.Operation.{files_in, outcome_of}
-use Rattle.cached_files.specs.Cuts.{TreePlace, Value, Values, ValuesOf, value_at}
+use Rattle.buffered_files.specs.Cuts.{TreePlace, Value, Values, ValuesOf, value_at}
 use Rattle.vfs_ops.specs.FilesState.{FilesState, present_in}
 use Rattle.traced_files.specs.History.{files_behind}
 use Rattle.traced_files.specs.Start.{Start}

@@ -6,7 +6,7 @@ ghost use Rattle.fs_model.specs.declared.backing_answers.Mode.TheVariants.{ReadW
 ghost use Rattle.fs_model.specs.declared.trace.TraceLine.{TraceLine};
 ghost use Rattle.fs_model.specs.Files.{Files, Tree};
 ghost use Rattle.fs_model.specs.Journal.{IfTold, IsJournalOf, Journal, MayLeave};
-ghost use Rattle.cached_files.specs.Cuts.{TreePlace, ValuesOf, value_at};
+ghost use Rattle.buffered_files.specs.Cuts.{TreePlace, ValuesOf, value_at};
 ghost use Rattle.vfs_ops.specs.declared.event.Event.TheVariants.{Call};
 ghost use Rattle.vfs_ops.specs.declared.event.Outcome.TheVariants.{Replied};
 ghost use Rattle.vfs_ops.specs.FilesState.{FilesState, present_in};
@@ -16,7 +16,7 @@ ghost use Rattle.traced_files.specs.History.{files_behind};
 ghost use Rattle.traced_files.specs.Laws.{AreLaws};
 ghost use Rattle.traced_files.specs.Seen.{LeavesSeen, is_flush_done};
 
-use cached_files::{a_cut_leaves_what_was_put, clean_files_are_those_of_the_backing};
+use buffered_files::{a_cut_leaves_what_was_put, clean_files_are_those_of_the_backing};
 use fs_laws::an_operation_leaves_files_sound;
 use fs_model::groups_make_the_changes;
 use vfs_ops::{

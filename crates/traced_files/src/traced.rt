@@ -18,7 +18,7 @@ use crate::pass::Pass;
 use crate::passes::Ledger;
 use crate::replies::{out_of_memory, twice};
 use crate::site::Site;
-use cached_files::alike_files_are_the_same;
+use buffered_files::alike_files_are_the_same;
 use credit_pool::Pool;
 use credited_files::{CreditedFs, Stock};
 use fs_model::{Backing, Op, Reply, TraceLine};

@@ -5,7 +5,7 @@ use Rattle.std.specs.Option.{option_map}
 use Rattle.media_leaf.specs.LeafNode.{LeafNode, block, entry, inode, truncation}
 use Rattle.fs_model.specs.declared.change.Change.TheVariants.{DropEntry, SetEntry, SetInode}
 use Rattle.fs_model.specs.declared.inode.Kind.{Kind}
-use Rattle.change_nodes.specs.Nodes.{bits_of, inode_of, kind_of_bits, kind_of_type}
+use Rattle.group_nodes.specs.Nodes.{bits_of, inode_of, kind_of_bits, kind_of_type}
 use Rattle.leaf_map.specs.Kept.{Kept, shown, shown_by}
 use Rattle.tree_check.specs.Told.{shown_told}
 

@@ -22,7 +22,7 @@ use Rattle.fs_model.specs.Path.{is_same_name}
 use Rattle.fs_model.specs.Proper.{ascends, is_block_node}
 use Rattle.fs_laws.specs.Maps.{below_rest, filter_ascends, insert_ascends, tail_ascends}
 use Rattle.fs_laws.specs.Orders.{named, numbers, pairs}
-use Rattle.change_nodes.specs.FitLaws.{r5_small}
+use Rattle.group_nodes.specs.FitLaws.{r5_small}
 use Rattle.leaf_map.specs.After.{goes}
 use Rattle.tree_nodes.specs.Stored.{as_stored, hash_and_name}
 use Rattle.tree_nodes.proofs.Changes.{all_append, all_by_hash, changes_from, changes_of, name_is, set_block}

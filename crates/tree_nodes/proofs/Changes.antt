@@ -27,8 +27,8 @@ use Rattle.fs_model.specs.Path.{is_same_name}
 use Rattle.fs_model.specs.Proper.{IsProper, has_kind, is_entry_node, is_inode_node, is_name, is_sound_entry, are_words, same_kind}
 use Rattle.fs_laws.specs.Maps.{all_at}
 use Rattle.fs_laws.specs.Orders.{numbers}
-use Rattle.change_nodes.specs.NodeLaws.{numbered, plain_mode, node_carries, bits_are, mode_is, bits_say}
-use Rattle.change_nodes.specs.Nodes.{inode_node, inode_of, kind_of_bits, node_of}
+use Rattle.group_nodes.specs.NodeLaws.{numbered, plain_mode, node_carries, bits_are, mode_is, bits_say}
+use Rattle.group_nodes.specs.Nodes.{inode_node, inode_of, kind_of_bits, node_of}
 use Rattle.leaf_map.specs.Kept.{shown}
 use Rattle.image_maker.specs.Leaves.{block_leaf, entry_leaf, leaves_of}
 use Rattle.tree_nodes.specs.Stored.{as_stored}

@@ -10,7 +10,7 @@ use Rattle.fs_model.specs.declared.change.Change.TheVariants.{SetInode, SetEntry
 use Rattle.fs_model.specs.declared.inode.Entry.{Entry}
 use Rattle.fs_model.specs.Directory.{by_hash, entries_in}
 use Rattle.fs_model.specs.Files.{Blocks, Entries, Inodes, Tree, name_cmp}
-use Rattle.change_nodes.specs.Nodes.{node_of}
+use Rattle.group_nodes.specs.Nodes.{node_of}
 use Rattle.leaf_map.specs.Kept.{Placed, kept_at, node_key, shown, shown_by}
 use Rattle.leaf_map.specs.LeafMap.{HasKeyOf, IsKeyed, IsLeafMap, are_apart, shows_same}
 use Rattle.leaf_map.specs.Shown.{blocks_of, entries_of, inodes_of, with_block, with_entry, with_inode}

@@ -16,8 +16,8 @@ use Rattle.fs_model.specs.Files.{Blocks, Entries, Handles, Inodes, Tree, entry_a
 use Rattle.fs_model.specs.Path.{is_dir}
 use Rattle.fs_model.specs.Proper.{IsProper, ascends, is_block_node, is_inode_node}
 use Rattle.fs_model.specs.Same.{IsSame, as_told, told_inodes, trimmed_blocks}
-use Rattle.change_nodes.specs.NodeLaws.{leaf_of_inode, leaf_of_node}
-use Rattle.change_nodes.specs.Nodes.{node_of}
+use Rattle.group_nodes.specs.NodeLaws.{leaf_of_inode, leaf_of_node}
+use Rattle.group_nodes.specs.Nodes.{node_of}
 use Rattle.leaf_map.specs.After.{is_set}
 use Rattle.leaf_map.specs.Kept.{Placed, kept_at, node_key}
 use Rattle.leaf_map.specs.LeafMap.{IsLeafMap}

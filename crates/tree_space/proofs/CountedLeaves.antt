@@ -7,7 +7,7 @@ use Rattle.std.proofs.lemmas.List.{append-nil, length-map}
 use Rattle.std.proofs.lemmas.List.Sums.{sum_by-cons}
 use Rattle.ubifs_base.specs.declared.raw_geometry.RawGeometry.{RawGeometry}
 use Rattle.media_leaf.specs.LeafNode.{LeafNode}
-use Rattle.change_nodes.specs.Texts.{leaf_bytes}
+use Rattle.group_nodes.specs.Texts.{leaf_bytes}
 use Rattle.fs_model.specs.Cover.{block_bytes, entry_bytes, inode_bytes, tree_bytes}
 use Rattle.fs_model.specs.Files.{Tree}
 use Rattle.plain_backing.specs.Covering.{leaf_count}

@@ -11,7 +11,7 @@ use crate::node_lens::{block_len, entry_len, inode_len};
 use crate::tally::Tally;
 use fs_model::{Entry, Inode};
 use image_maker::leaves_of_a_tree_are_few;
-use op_plans::by_hash;
+use op_groups::by_hash;
 use plain_backing::Tree;
 use std::alloc::Global;
 use ubifs_base::{Geometry, Memory};

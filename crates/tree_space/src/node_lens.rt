@@ -1,7 +1,7 @@
 // The bytes that leaf nodes take.
 
 ghost use Rattle.std.specs.Prelude.{◌≡◌, ◌+◌, ◌<◌, ℕ, length};
-ghost use Rattle.change_nodes.specs.Texts.{leaf_bytes};
+ghost use Rattle.group_nodes.specs.Texts.{leaf_bytes};
 ghost use Rattle.fs_model.specs.Cover.{round_8};
 ghost use Rattle.fs_model.specs.Files.{Tree as FilesTree};
 ghost use Rattle.image_maker.specs.Leaves.{block_leaf, entry_leaf, inode_leaf};

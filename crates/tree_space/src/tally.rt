@@ -3,7 +3,7 @@
 ghost use Rattle.std.specs.Prelude.{◌≡◌, ◌<◌, ◌∷◌, [], List};
 ghost use Rattle.ubifs_base.specs.RawOf.{raw_of};
 ghost use Rattle.media_leaf.specs.LeafNode.{LeafNode};
-ghost use Rattle.change_nodes.specs.Texts.{leaf_bytes};
+ghost use Rattle.group_nodes.specs.Texts.{leaf_bytes};
 ghost use Rattle.tree_space.specs.Counted.{CanTake, Counts};
 
 use ubifs_base::Geometry;

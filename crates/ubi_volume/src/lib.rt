@@ -9,7 +9,7 @@
 #![tactic(auto)]
 
 mod arming;
-pub mod caller;
+pub mod client;
 mod fault;
 mod image;
 mod leb;

@@ -16,11 +16,11 @@ use Rattle.fs_model.specs.Files.{Files}
 use Rattle.fs_model.specs.Operation.{group_of, outcome_of, plan_of}
 use Rattle.fs_model.specs.Need.{need_of}
 use Rattle.fs_model.specs.Outcome.{done_by}
-use Rattle.cached_files.specs.declared.kept.Kept.{Kept}
-use Rattle.cached_files.specs.Alike.{IsAlike}
-use Rattle.cached_files.specs.CallLaws.{Covered-then, Goes-then, Goes-within}
-use Rattle.cached_files.specs.Calls.{HasMadeRoom, IsNotEnospc, WasCovered}
-use Rattle.cached_files.specs.Present.{DirtyPages, newly_dirty, present}
+use Rattle.buffered_files.specs.declared.kept.Kept.{Kept}
+use Rattle.buffered_files.specs.Alike.{IsAlike}
+use Rattle.buffered_files.specs.CallLaws.{Covered-then, Goes-then, Goes-within}
+use Rattle.buffered_files.specs.Calls.{HasMadeRoom, IsNotEnospc, WasCovered}
+use Rattle.buffered_files.specs.Present.{DirtyPages, newly_dirty, present}
 use Rattle.vfs_plans.specs.Answers.{IsRefused, Looks}
 use Rattle.vfs_ops.specs.Operations.{has_group, is_of_names}
 use Rattle.vfs_ops.specs.Steps.{IsAtOnce, IsAtOnceReply, WasAdmitted, is_write, no_space_in}

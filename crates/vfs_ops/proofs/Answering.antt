@@ -32,8 +32,8 @@ use Rattle.fs_model.specs.Rename.{is_under, moved, renamed}
 use Rattle.fs_model.specs.Same.{before_zeros, trimmed, trimmed_blocks}
 use Rattle.fs_model.specs.Truncation.{truncating}
 use Rattle.fs_laws.specs.Sound.{IsSound}
-use Rattle.cached_files.specs.Alike.{IsAlike}
-use Rattle.cached_files.specs.Follow.{AreOfNames}
+use Rattle.buffered_files.specs.Alike.{IsAlike}
+use Rattle.buffered_files.specs.Follow.{AreOfNames}
 use Rattle.vfs_ops.specs.Operations.{is_of_names}
 use Rattle.vfs_ops.specs.Replies.{IsAlikeOutcome}
 use Rattle.vfs_ops.proofs.Buffering.{open_file, plain_file}

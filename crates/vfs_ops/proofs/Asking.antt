@@ -15,8 +15,8 @@ use Rattle.fs_model.specs.Need.{change_bytes, group_need, need_of, truncation_ne
 use Rattle.fs_model.specs.Operation.{group_of, plan_of}
 use Rattle.fs_model.specs.Outcome.{Plan, group_in}
 use Rattle.fs_laws.specs.Sound.{IsSound}
-use Rattle.cached_files.specs.Alike.{IsAlike}
-use Rattle.cached_files.specs.Resized.{need_by}
+use Rattle.buffered_files.specs.Alike.{IsAlike}
+use Rattle.buffered_files.specs.Resized.{need_by}
 use Rattle.vfs_plans.specs.Operations.{is_truncate}
 use Rattle.vfs_ops.proofs.Answering.{plan_same, with_blocks, with_same}
 use Rattle.vfs_ops.proofs.Truncating.{need_by_is, sizes_related}

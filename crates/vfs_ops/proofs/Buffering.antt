@@ -26,11 +26,11 @@ use Rattle.fs_model.specs.Proper.{IsProper, has_kind, same_kind}
 use Rattle.fs_laws.specs.Maps.{all_at}
 use Rattle.fs_laws.specs.Orders.{pairs}
 use Rattle.fs_laws.specs.Sound.{IsSound, LeavesSound}
-use Rattle.cached_files.specs.declared.kept.Kept.{Kept}
-use Rattle.cached_files.specs.Alike.{IsAlike}
-use Rattle.cached_files.specs.CallLaws.{Goes-then, Goes-within}
-use Rattle.cached_files.specs.Calls.{HasCommitted}
-use Rattle.cached_files.specs.Present.{DirtyPages, newly_dirty}
+use Rattle.buffered_files.specs.declared.kept.Kept.{Kept}
+use Rattle.buffered_files.specs.Alike.{IsAlike}
+use Rattle.buffered_files.specs.CallLaws.{Goes-then, Goes-within}
+use Rattle.buffered_files.specs.Calls.{HasCommitted}
+use Rattle.buffered_files.specs.Present.{DirtyPages, newly_dirty}
 use Rattle.vfs_ops.specs.Writing.{credits_need, write_need}
 use Rattle.vfs_ops.proofs.Takes.{alike_sound}
 

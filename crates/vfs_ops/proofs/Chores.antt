@@ -12,10 +12,10 @@ use Rattle.fs_model.specs.Backing.{BackingState, Goes, HasMode, KeepsCommit, Kee
 use Rattle.fs_model.specs.Cover.{needed, room_for}
 use Rattle.fs_model.specs.Journal.{Journal, Medium}
 use Rattle.fs_model.specs.JournalLaws.{Leaves-none}
-use Rattle.cached_files.specs.declared.kept.Kept.{Kept}
-use Rattle.cached_files.specs.Calls.{SureGoes}
-use Rattle.cached_files.specs.CallLaws.{Goes-none}
-use Rattle.cached_files.specs.Present.{IsKept}
+use Rattle.buffered_files.specs.declared.kept.Kept.{Kept}
+use Rattle.buffered_files.specs.Calls.{SureGoes}
+use Rattle.buffered_files.specs.CallLaws.{Goes-none}
+use Rattle.buffered_files.specs.Present.{IsKept}
 use Rattle.vfs_ops.specs.declared.event.Event.{Event}
 use Rattle.vfs_ops.specs.declared.event.Event.TheVariants.{Call, Pick, Put, Sync, Collect, CommitStart, CommitStep, CommitEnd, Refill, Drain}
 use Rattle.vfs_ops.specs.declared.event.Outcome.{Outcome}

@@ -11,8 +11,8 @@ use Rattle.fs_model.specs.Handles.{closed, is_bad_slot}
 use Rattle.fs_model.specs.Orphan.{is_nameless}
 use Rattle.fs_model.specs.Outcome.{Outcome, files_in}
 use Rattle.fs_laws.specs.Sound.{IsSound, LeavesSound}
-use Rattle.cached_files.specs.declared.kept.Kept.{Kept}
-use Rattle.cached_files.specs.Present.{present, IsKept}
+use Rattle.buffered_files.specs.declared.kept.Kept.{Kept}
+use Rattle.buffered_files.specs.Present.{present, IsKept}
 
 -- files without the handle of a slot are sound
 pub closed_sound : (files : Files) (caller slot ino : ℕ) → is_bad_slot slot ≡ false → handle_at files caller slot ≡ Some ino

@@ -15,12 +15,12 @@ use Rattle.fs_model.specs.Backing.{BackingState, Outlook, given_back, granted}
 use Rattle.fs_model.specs.Files.{Files, Tree}
 use Rattle.fs_model.specs.Journal.{Journal, Leaves, MayLeave}
 use Rattle.fs_model.specs.Operation.{group_of}
-use Rattle.cached_files.specs.declared.kept.Kept.{Kept}
-use Rattle.cached_files.specs.Alike.{IsAlike}
-use Rattle.cached_files.specs.CutLaws.{AreAmong, Answered-none, Puts-none, Puts-nothing, Puts-then, Puts-with, Refused-none}
-use Rattle.cached_files.specs.Cuts.{GroupFate, HasValues, IsLastPut, PutsOnly, PutsSeen, PutsSeenWith, Values, ValuesOf, group_fate, refused_fate, value_at}
-use Rattle.cached_files.specs.Cuts.GroupFate.{WasPut, NotPut, MayBePut}
-use Rattle.cached_files.specs.Present.{present}
+use Rattle.buffered_files.specs.declared.kept.Kept.{Kept}
+use Rattle.buffered_files.specs.Alike.{IsAlike}
+use Rattle.buffered_files.specs.CutLaws.{AreAmong, Answered-none, Puts-none, Puts-nothing, Puts-then, Puts-with, Refused-none}
+use Rattle.buffered_files.specs.Cuts.{GroupFate, HasValues, IsLastPut, PutsOnly, PutsSeen, PutsSeenWith, Values, ValuesOf, group_fate, refused_fate, value_at}
+use Rattle.buffered_files.specs.Cuts.GroupFate.{WasPut, NotPut, MayBePut}
+use Rattle.buffered_files.specs.Present.{present}
 use Rattle.vfs_plans.specs.Answers.{Looks}
 use Rattle.vfs_plans.specs.Operations.{is_truncate}
 use Rattle.vfs_ops.specs.declared.event.Event.{Event}

@@ -1,9 +1,9 @@
 -- A sync after puts.
 use Rattle.std.proofs.Common.{◌≡◌, ℕ, ◌+◌, ◌*◌, ◌≤◌, Bool, true, false, cond, List, [], ◌∷◌, length, Option, Some, sym, subst, ◌∙◌, arith}
 use Rattle.std.specs.Prelude.{◌==◌, filter}
-use Rattle.cached_files.specs.Present.{DirtyPages}
+use Rattle.buffered_files.specs.Present.{DirtyPages}
 use Rattle.fs_model.specs.Backing.{BackingState, Goes}
-use Rattle.cached_files.specs.CallLaws.{Goes-then, Goes-within}
+use Rattle.buffered_files.specs.CallLaws.{Goes-then, Goes-within}
 
 -- a sync puts no node
 pub goes_on : (n : ℕ) (a b c : BackingState) → Goes n a b → Goes 0 b c → Goes n a c

@@ -9,7 +9,7 @@ use Rattle.fs_model.specs.declared.change.Change.TheVariants.{SetInode, SetEntry
 use Rattle.fs_model.specs.Cover.{inode_bytes}
 use Rattle.fs_model.specs.Files.{Tree, inode_at}
 use Rattle.fs_model.specs.Need.{change_bytes}
-use Rattle.op_plans.specs.Facts.{IsGone, bytes_asked}
+use Rattle.op_groups.specs.Facts.{IsGone, bytes_asked}
 use Rattle.vfs_ops.specs.Operations.{LeavesOthers, gone_bytes}
 
 -- the bytes of the node of a number's inode

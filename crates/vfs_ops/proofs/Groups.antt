@@ -25,7 +25,7 @@ use Rattle.fs_model.specs.Orphan.{is_open}
 use Rattle.fs_model.specs.Outcome.{Plan, done_by, group_in, refuse, with_found, with_some}
 use Rattle.fs_model.specs.Path.{has_long_name, components, last_of, walked, parent_of, is_dir}
 use Rattle.fs_model.specs.Rename.{is_under, moved, moving, coming, comes_linked_out, renamed}
-use Rattle.cached_files.specs.Follow.{KeepsSize, AreOfNames}
+use Rattle.buffered_files.specs.Follow.{KeepsSize, AreOfNames}
 use Rattle.vfs_ops.specs.Operations.{is_of_names, class_of, LeavesOthers}
 use Rattle.vfs_ops.proofs.Plans.{refuse_to, found_to, some_to}
 

@@ -16,9 +16,9 @@ use Rattle.fs_model.specs.Backing.{BackingState, Outlook}
 use Rattle.fs_model.specs.CallFaults.{refusal_of}
 use Rattle.fs_model.specs.Files.{pair_cmp}
 use Rattle.page_cache.specs.Pages.{Pages}
-use Rattle.cached_files.specs.declared.kept.Kept.{Kept}
-use Rattle.cached_files.specs.Calls.{IsWithoutRoom}
-use Rattle.cached_files.specs.Present.{IsSameButClean, newly_dirty}
+use Rattle.buffered_files.specs.declared.kept.Kept.{Kept}
+use Rattle.buffered_files.specs.Calls.{IsWithoutRoom}
+use Rattle.buffered_files.specs.Present.{IsSameButClean, newly_dirty}
 use Rattle.vfs_plans.specs.Answers.{IsFault, Looks}
 use Rattle.vfs_ops.specs.Kinds.{IsEarly, IsLookOnly, IsStopped, OnlyLooks, is_late, is_question}
 use Rattle.vfs_ops.specs.Operations.{is_of_names}

@@ -25,13 +25,13 @@ use Rattle.fs_model.specs.Outcome.{Outcome, files_in}
 use Rattle.fs_model.specs.Proper.{IsProper, has_kind, same_kind}
 use Rattle.fs_model.specs.Truncation.{truncating}
 use Rattle.fs_laws.specs.Sound.{IsSound, LeavesSound}
-use Rattle.cached_files.specs.declared.kept.Kept.{Kept}
-use Rattle.cached_files.specs.Alike.{IsAlike}
-use Rattle.cached_files.specs.CallLaws.{Goes-then, Goes-within}
-use Rattle.cached_files.specs.Calls.{GrowsBy, IsWithoutRoom, WasCovered, added_or_refused}
-use Rattle.cached_files.specs.Cuts.{GroupFate, PutsSeenWith}
-use Rattle.cached_files.specs.Present.{present}
-use Rattle.cached_files.specs.Resized.{PutsSize, need_by, size_need}
+use Rattle.buffered_files.specs.declared.kept.Kept.{Kept}
+use Rattle.buffered_files.specs.Alike.{IsAlike}
+use Rattle.buffered_files.specs.CallLaws.{Goes-then, Goes-within}
+use Rattle.buffered_files.specs.Calls.{GrowsBy, IsWithoutRoom, WasCovered, added_or_refused}
+use Rattle.buffered_files.specs.Cuts.{GroupFate, PutsSeenWith}
+use Rattle.buffered_files.specs.Present.{present}
+use Rattle.buffered_files.specs.Resized.{PutsSize, need_by, size_need}
 use Rattle.vfs_plans.specs.Answers.{IsFault, IsRefused, Looks}
 use Rattle.vfs_ops.specs.Events.{PutsCall}
 use Rattle.vfs_ops.specs.Kinds.{KeepsOrphans}

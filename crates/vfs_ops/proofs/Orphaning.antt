@@ -20,7 +20,7 @@ use Rattle.fs_model.specs.Operation.{outcome_of}
 use Rattle.fs_model.specs.Orphan.{nameless, within_orphans}
 use Rattle.fs_model.specs.Outcome.{Outcome, refuse, with_some}
 use Rattle.fs_laws.specs.Sound.{IsSound}
-use Rattle.cached_files.specs.Alike.{IsAlike}
+use Rattle.buffered_files.specs.Alike.{IsAlike}
 use Rattle.vfs_plans.specs.Answers.{Looks}
 use Rattle.vfs_ops.specs.Kinds.{FitsNextOrphans, KeepsOrphans}
 use Rattle.vfs_ops.specs.Operations.{is_of_names}

@@ -31,9 +31,9 @@ use Rattle.fs_model.specs.Path.{is_path, has_long_name, components, last_of, wal
 use Rattle.fs_model.specs.Proper.{IsProper}
 use Rattle.fs_model.specs.Rename.{is_under, moved, moving, coming, comes_linked_out, renamed}
 use Rattle.fs_laws.specs.Sound.{IsSound}
-use Rattle.cached_files.specs.declared.kept.Kept.{Kept}
-use Rattle.cached_files.specs.Alike.{IsAlike}
-use Rattle.cached_files.specs.Present.{present}
+use Rattle.buffered_files.specs.declared.kept.Kept.{Kept}
+use Rattle.buffered_files.specs.Alike.{IsAlike}
+use Rattle.buffered_files.specs.Present.{present}
 use Rattle.vfs_plans.specs.Answers.{Looks}
 use Rattle.vfs_plans.specs.Operations.{is_truncate}
 use Rattle.vfs_ops.specs.Operations.{is_of_names, is_orphaned, orphans}

@@ -7,8 +7,8 @@ use Rattle.fs_model.specs.declared.backing_answers.Mode.{Mode}
 use Rattle.fs_model.specs.declared.backing_answers.Mode.TheVariants.{ReadWrite}
 use Rattle.fs_model.specs.declared.op.Op.TheVariants.{Fsync, Flush}
 use Rattle.fs_model.specs.Backing.{BackingState}
-use Rattle.cached_files.specs.declared.kept.Kept.{Kept}
-use Rattle.cached_files.specs.Present.{dirty_of_others}
+use Rattle.buffered_files.specs.declared.kept.Kept.{Kept}
+use Rattle.buffered_files.specs.Present.{dirty_of_others}
 use Rattle.vfs_ops.specs.Kinds.{KeepsOthers}
 use Rattle.vfs_ops.specs.Operations.{is_of_names}
 use Rattle.vfs_ops.specs.Steps.{IsIdle}

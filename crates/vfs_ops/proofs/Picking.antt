@@ -12,9 +12,9 @@ use Rattle.fs_model.specs.declared.page_node.PageNode.{PageNode}
 use Rattle.page_cache.specs.Pages.{Pages, dirty_at, is_current, is_page, oldest_of, ticket_of}
 use Rattle.page_cache.specs.declared.dirty_page.DirtyPage.{DirtyPage}
 use Rattle.page_cache.specs.declared.ticket.Ticket.{Ticket}
-use Rattle.cached_files.specs.declared.kept.Kept.{Kept}
-use Rattle.cached_files.specs.PagePut.{page_at}
-use Rattle.cached_files.specs.Present.{DirtyPages, FitsPages, page_of}
+use Rattle.buffered_files.specs.declared.kept.Kept.{Kept}
+use Rattle.buffered_files.specs.PagePut.{page_at}
+use Rattle.buffered_files.specs.Present.{DirtyPages, FitsPages, page_of}
 use Rattle.vfs_ops.specs.declared.event.Encoded.{Encoded}
 use Rattle.vfs_ops.specs.Background.{encoded, encoded_at, version_at}
 

@@ -11,14 +11,14 @@ use Rattle.fs_model.specs.Backing.{BackingState, Goes, HasCause, HasMode, next_o
 use Rattle.fs_model.specs.Journal.{Leaves}
 use Rattle.fs_model.specs.JournalLaws.{Leaves-none}
 use Rattle.page_cache.specs.Pages.{Pages, is_current, without_dirty}
-use Rattle.cached_files.specs.declared.kept.Kept.{Kept}
-use Rattle.cached_files.specs.Alike.{IsAlike}
-use Rattle.cached_files.specs.Calls.{GrowsBy, added_or_failed}
-use Rattle.cached_files.specs.CallLaws.{Goes-none, Goes-within}
-use Rattle.cached_files.specs.PagePut.{IsPutOrKept, page_at}
-use Rattle.cached_files.specs.Present.{present}
-use Rattle.cached_files.specs.CutLaws.{Puts-none}
-use Rattle.cached_files.specs.Cuts.{PutsSeen, ValuesOf}
+use Rattle.buffered_files.specs.declared.kept.Kept.{Kept}
+use Rattle.buffered_files.specs.Alike.{IsAlike}
+use Rattle.buffered_files.specs.Calls.{GrowsBy, added_or_failed}
+use Rattle.buffered_files.specs.CallLaws.{Goes-none, Goes-within}
+use Rattle.buffered_files.specs.PagePut.{IsPutOrKept, page_at}
+use Rattle.buffered_files.specs.Present.{present}
+use Rattle.buffered_files.specs.CutLaws.{Puts-none}
+use Rattle.buffered_files.specs.Cuts.{PutsSeen, ValuesOf}
 use Rattle.vfs_ops.specs.declared.event.Encoded.{Encoded}
 use Rattle.vfs_ops.specs.declared.event.Event.{Event}
 use Rattle.vfs_ops.specs.declared.event.Event.TheVariants.{Pick, Put}

@@ -15,10 +15,10 @@ use Rattle.fs_model.specs.Files.{Files, pair_cmp}
 use Rattle.fs_model.specs.Operation.{outcome_of}
 use Rattle.fs_model.specs.Outcome.{Outcome}
 use Rattle.fs_model.specs.Orphan.{within_orphans}
-use Rattle.cached_files.specs.declared.kept.Kept.{Kept}
-use Rattle.cached_files.specs.Alike.{IsAlike}
-use Rattle.cached_files.specs.Calls.{IsNotEnospc}
-use Rattle.cached_files.specs.Present.{has_dirty}
+use Rattle.buffered_files.specs.declared.kept.Kept.{Kept}
+use Rattle.buffered_files.specs.Alike.{IsAlike}
+use Rattle.buffered_files.specs.Calls.{IsNotEnospc}
+use Rattle.buffered_files.specs.Present.{has_dirty}
 use Rattle.vfs_plans.specs.Answers.{IsFault, IsRefused}
 use Rattle.std.proofs.lemmas.Bool.{false≢true}
 use Rattle.std.proofs.lemmas.List.{append-nil}

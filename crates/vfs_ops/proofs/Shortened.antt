@@ -23,16 +23,16 @@ use Rattle.fs_model.specs.Truncation.{shortening, truncating}
 use Rattle.fs_laws.specs.Forgotten.{apply_in_order, found_block}
 use Rattle.fs_laws.specs.Maps.{apart, key_cases, set_here, set_other}
 use Rattle.fs_laws.specs.Orders.{numbers, pairs}
-use Rattle.cached_files.specs.CutLaws.{AreAmong}
-use Rattle.cached_files.specs.Cuts.{TreePlace, ValuesOf, ValuesWith, value_at}
-use Rattle.cached_files.specs.Cuts.TreePlace.{InodeAt, EntryAt, BlockAt}
-use Rattle.cached_files.specs.Cuts.Value.{AnInode, AnEntry, ABlock}
+use Rattle.buffered_files.specs.CutLaws.{AreAmong}
+use Rattle.buffered_files.specs.Cuts.{TreePlace, ValuesOf, ValuesWith, value_at}
+use Rattle.buffered_files.specs.Cuts.TreePlace.{InodeAt, EntryAt, BlockAt}
+use Rattle.buffered_files.specs.Cuts.Value.{AnInode, AnEntry, ABlock}
 use Rattle.fs_laws.specs.Sound.{IsSound}
 use Rattle.fs_model.specs.declared.op.Op.{Op}
 use Rattle.fs_model.specs.declared.op.Op.TheVariants.{Truncate}
 use Rattle.fs_model.specs.Operation.{group_of}
 use Rattle.fs_model.specs.Outcome.{group_in as planned}
-use Rattle.cached_files.specs.Alike.{IsAlike}
+use Rattle.buffered_files.specs.Alike.{IsAlike}
 use Rattle.vfs_plans.specs.Operations.{is_truncate}
 use Rattle.vfs_ops.specs.declared.event.Event.{Event}
 use Rattle.vfs_ops.specs.declared.event.Event.TheVariants.{Call}

@@ -4,9 +4,9 @@ use Rattle.fs_model.specs.Backing.{BackingState, Outlook, Rose}
 use Rattle.fs_model.specs.declared.refusal.Refusal.{Refusal}
 use Rattle.fs_model.specs.declared.refusal.Refusal.TheVariants.{Enospc, Erofs, Eio, Enomem}
 use Rattle.fs_model.specs.declared.space.Need.{Need}
-use Rattle.cached_files.specs.declared.kept.Kept.{Kept}
-use Rattle.cached_files.specs.Calls.{IsWithoutRoom}
-use Rattle.cached_files.specs.CallLaws.{Goes-then, Sure-then}
+use Rattle.buffered_files.specs.declared.kept.Kept.{Kept}
+use Rattle.buffered_files.specs.Calls.{IsWithoutRoom}
+use Rattle.buffered_files.specs.CallLaws.{Goes-then, Sure-then}
 use Rattle.vfs_plans.specs.Answers.{Looks, IsFault}
 
 -- looking twice is looking

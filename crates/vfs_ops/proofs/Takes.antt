@@ -24,11 +24,11 @@ use Rattle.fs_model.specs.Need.{group_need, need_of}
 use Rattle.fs_model.specs.Operation.{plan_of, group_of, outcome_of}
 use Rattle.fs_model.specs.Outcome.{Outcome, done_by, files_in, group_in}
 use Rattle.fs_laws.specs.Sound.{IsSound, LeavesSound, Pays}
-use Rattle.cached_files.specs.declared.kept.Kept.{Kept}
-use Rattle.cached_files.specs.Alike.{IsAlike}
-use Rattle.cached_files.specs.Calls.{IsWithoutRoom}
-use Rattle.cached_files.specs.CallLaws.{Goes-then, Goes-within}
-use Rattle.cached_files.specs.Present.{present}
+use Rattle.buffered_files.specs.declared.kept.Kept.{Kept}
+use Rattle.buffered_files.specs.Alike.{IsAlike}
+use Rattle.buffered_files.specs.Calls.{IsWithoutRoom}
+use Rattle.buffered_files.specs.CallLaws.{Goes-then, Goes-within}
+use Rattle.buffered_files.specs.Present.{present}
 use Rattle.vfs_plans.specs.Answers.{Looks, IsFault, IsRefused}
 use Rattle.vfs_plans.specs.Operations.{is_truncate}
 use Rattle.vfs_ops.specs.Operations.{is_of_names, class_of}

@@ -19,7 +19,7 @@ use Rattle.fs_model.specs.Outcome.{Plan, done_by, group_in, refuse, with_some}
 use Rattle.fs_model.specs.Path.{is_dir}
 use Rattle.fs_model.specs.Truncation.{shortening, truncated, truncating}
 use Rattle.fs_laws.specs.Sound.{IsSound}
-use Rattle.cached_files.specs.Resized.{need_by}
+use Rattle.buffered_files.specs.Resized.{need_by}
 use Rattle.vfs_plans.specs.Operations.{is_truncate}
 use Rattle.vfs_ops.specs.Operations.{is_of_names, nodes_asked}
 use Rattle.vfs_ops.proofs.Buffering.{AtHand, open_file, plain_file}

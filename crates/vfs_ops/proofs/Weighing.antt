@@ -15,9 +15,9 @@ use Rattle.fs_model.specs.declared.space.Need.{Need}
 use Rattle.fs_model.specs.Backing.{BackingState, Goes, given_back, granted}
 use Rattle.fs_model.specs.CallFaults.{refusal_of}
 use Rattle.fs_model.specs.Files.{Files, pages_of}
-use Rattle.cached_files.specs.declared.kept.Kept.{Kept}
-use Rattle.cached_files.specs.Calls.{GrowsBy, added_or_failed, added_or_refused}
-use Rattle.cached_files.specs.Present.{DirtyPages, newly_dirty, present}
+use Rattle.buffered_files.specs.declared.kept.Kept.{Kept}
+use Rattle.buffered_files.specs.Calls.{GrowsBy, added_or_failed, added_or_refused}
+use Rattle.buffered_files.specs.Present.{DirtyPages, newly_dirty, present}
 use Rattle.fs_model.specs.declared.op.Op.{Op}
 use Rattle.fs_model.specs.declared.op.Op.TheVariants.{Write}
 use Rattle.fs_model.specs.Legal.{pages_in}

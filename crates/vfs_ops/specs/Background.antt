@@ -10,11 +10,11 @@ use Rattle.fs_model.specs.Backing.{BackingState, Goes, HasCause, HasMode, IsColl
 use Rattle.fs_model.specs.Cover.{needed, room_for}
 use Rattle.fs_model.specs.Journal.{Leaves}
 use Rattle.page_cache.specs.Pages.{dirty_at, oldest_of, without_dirty}
-use Rattle.cached_files.specs.declared.kept.Kept.{Kept}
-use Rattle.cached_files.specs.Alike.{IsAlike}
-use Rattle.cached_files.specs.Calls.{GrowsBy}
-use Rattle.cached_files.specs.Cuts.{PutsSeen}
-use Rattle.cached_files.specs.PagePut.{page_at}
+use Rattle.buffered_files.specs.declared.kept.Kept.{Kept}
+use Rattle.buffered_files.specs.Alike.{IsAlike}
+use Rattle.buffered_files.specs.Calls.{GrowsBy}
+use Rattle.buffered_files.specs.Cuts.{PutsSeen}
+use Rattle.buffered_files.specs.PagePut.{page_at}
 use Rattle.vfs_ops.specs.declared.event.Encoded.{Encoded}
 use Rattle.vfs_ops.specs.declared.event.Event.{Event}
 use Rattle.vfs_ops.specs.declared.event.Event.TheVariants.{Call, Put, Pick, Sync, Collect, CommitStart, CommitStep, CommitEnd, Refill, Drain}

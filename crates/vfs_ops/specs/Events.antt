@@ -15,12 +15,12 @@ use Rattle.fs_model.specs.Files.{Files, pair_cmp}
 use Rattle.fs_model.specs.Legal.{pages_in}
 use Rattle.fs_model.specs.Operation.{group_of}
 use Rattle.fs_laws.specs.Sound.{IsCall}
-use Rattle.cached_files.specs.declared.kept.Kept.{Kept}
-use Rattle.cached_files.specs.Calls.{GrowsBy}
-use Rattle.cached_files.specs.Alike.{IsAlike}
-use Rattle.cached_files.specs.Cuts.{GroupFate, PutsSeenWith}
-use Rattle.cached_files.specs.Cuts.GroupFate.{NotPut}
-use Rattle.cached_files.specs.Present.{has_dirty, present}
+use Rattle.buffered_files.specs.declared.kept.Kept.{Kept}
+use Rattle.buffered_files.specs.Calls.{GrowsBy}
+use Rattle.buffered_files.specs.Alike.{IsAlike}
+use Rattle.buffered_files.specs.Cuts.{GroupFate, PutsSeenWith}
+use Rattle.buffered_files.specs.Cuts.GroupFate.{NotPut}
+use Rattle.buffered_files.specs.Present.{has_dirty, present}
 use Rattle.vfs_plans.specs.Operations.{is_truncate}
 use Rattle.vfs_ops.specs.declared.event.Event.{Event}
 use Rattle.vfs_ops.specs.declared.event.Event.TheVariants.{Call, Drain, Refill}

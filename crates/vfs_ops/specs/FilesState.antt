@@ -3,8 +3,8 @@ use Rattle.std.specs.Prelude.{◌≡◌, ℕ, List, []}
 use Rattle.fs_model.specs.declared.refusal.NoSpace.{NoSpace}
 use Rattle.fs_model.specs.Backing.{BackingState}
 use Rattle.fs_model.specs.Files.{Files}
-use Rattle.cached_files.specs.declared.kept.Kept.{Kept}
-use Rattle.cached_files.specs.Present.{present}
+use Rattle.buffered_files.specs.declared.kept.Kept.{Kept}
+use Rattle.buffered_files.specs.Present.{present}
 
 -- the backing's state, what is kept in memory in front of it, and the sides of each refusal for want of room so far
 pub record FilesState : Type 0 where

@@ -12,10 +12,10 @@ use Rattle.fs_model.specs.declared.reply.Reply.{Reply}
 use Rattle.fs_model.specs.declared.reply.Reply.TheVariants.{Refused}
 use Rattle.fs_model.specs.Files.{Files, pair_cmp}
 use Rattle.fs_model.specs.Orphan.{leaves_orphan}
-use Rattle.cached_files.specs.declared.kept.Kept.{Kept}
-use Rattle.cached_files.specs.Cuts.{GroupFate, refused_fate}
-use Rattle.cached_files.specs.Cuts.GroupFate.{WasPut}
-use Rattle.cached_files.specs.Present.{dirty_of_others}
+use Rattle.buffered_files.specs.declared.kept.Kept.{Kept}
+use Rattle.buffered_files.specs.Cuts.{GroupFate, refused_fate}
+use Rattle.buffered_files.specs.Cuts.GroupFate.{WasPut}
+use Rattle.buffered_files.specs.Present.{dirty_of_others}
 
 -- whether it only looks at the files
 abbrev pub is_look : Op → Bool

@@ -10,10 +10,10 @@ use Rattle.fs_model.specs.Backing.{FitsGroup, FitsOrphans, Goes, IsModest}
 use Rattle.fs_model.specs.Change.{apply}
 use Rattle.fs_model.specs.Files.{Files}
 use Rattle.fs_laws.specs.Sound.{IsSound}
-use Rattle.cached_files.specs.Alike.{IsAlike}
-use Rattle.cached_files.specs.Calls.{GrowsBy, IsWithoutRoom, WasCovered, added_or_refused}
-use Rattle.cached_files.specs.Cuts.{PutsSeenWith, group_fate}
-use Rattle.cached_files.specs.Follow.{AreOfNames}
+use Rattle.buffered_files.specs.Alike.{IsAlike}
+use Rattle.buffered_files.specs.Calls.{GrowsBy, IsWithoutRoom, WasCovered, added_or_refused}
+use Rattle.buffered_files.specs.Cuts.{PutsSeenWith, group_fate}
+use Rattle.buffered_files.specs.Follow.{AreOfNames}
 use Rattle.vfs_ops.specs.declared.event.Event.{Event}
 use Rattle.vfs_ops.specs.declared.event.Event.TheVariants.{Call}
 use Rattle.vfs_ops.specs.declared.event.Outcome.{Outcome}

@@ -17,8 +17,8 @@ use Rattle.fs_model.specs.Files.{Blocks, Files, Inodes, Tree, inode_at}
 use Rattle.fs_model.specs.Proper.{IsProper, is_block_node}
 use Rattle.fs_laws.specs.Sound.{IsSound}
 use Rattle.page_cache.specs.declared.dirty_page.DirtyPage.{DirtyPage}
-use Rattle.cached_files.specs.declared.kept.Kept.{Kept}
-use Rattle.cached_files.specs.Present.{DirtyPages, FitsClean, FitsFile, FitsOver, FitsPages, IsKept, present}
+use Rattle.buffered_files.specs.declared.kept.Kept.{Kept}
+use Rattle.buffered_files.specs.Present.{DirtyPages, FitsClean, FitsFile, FitsOver, FitsPages, IsKept, present}
 use Rattle.vfs_ops.specs.Steps.{IsReady}
 use base.Stored.{Coded-set}
 use mathlib.Core.HLevel.{Σ_prop_path}

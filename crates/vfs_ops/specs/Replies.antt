@@ -3,7 +3,7 @@ use Rattle.std.specs.Prelude.{◌≡◌, Bool, true, false, Ok, Err}
 use Rattle.fs_model.specs.declared.reply.Reply.{Reply}
 use Rattle.fs_model.specs.declared.reply.Reply.TheVariants.{Bytes, List as Listed, Target, Refused}
 use Rattle.fs_model.specs.Outcome.{Outcome}
-use Rattle.cached_files.specs.Alike.{IsAlike}
+use Rattle.buffered_files.specs.Alike.{IsAlike}
 
 -- whether an operation is refused
 abbrev pub is_refusal : Reply → Bool

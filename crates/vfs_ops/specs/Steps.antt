@@ -18,10 +18,10 @@ use Rattle.fs_model.specs.Operation.{group_of, outcome_of}
 use Rattle.fs_model.specs.Orphan.{within_orphans}
 use Rattle.fs_model.specs.Outcome.{Outcome}
 use Rattle.fs_laws.specs.Sound.{IsSound}
-use Rattle.cached_files.specs.declared.kept.Kept.{Kept}
-use Rattle.cached_files.specs.Alike.{IsAlike}
-use Rattle.cached_files.specs.Calls.{IsNotEnospc, IsWithoutRoom}
-use Rattle.cached_files.specs.Present.{present, IsKept}
+use Rattle.buffered_files.specs.declared.kept.Kept.{Kept}
+use Rattle.buffered_files.specs.Alike.{IsAlike}
+use Rattle.buffered_files.specs.Calls.{IsNotEnospc, IsWithoutRoom}
+use Rattle.buffered_files.specs.Present.{present, IsKept}
 use Rattle.vfs_plans.specs.Answers.{IsFault}
 use Rattle.vfs_ops.specs.Kinds.{IsStopped, OnlyLooks, is_late, is_question}
 use Rattle.vfs_ops.specs.Operations.{has_group, is_of_names, nodes_asked}

@@ -15,9 +15,9 @@ use Rattle.fs_model.specs.declared.space.Need.{Need}
 use Rattle.fs_model.specs.Backing.{BackingState}
 use Rattle.fs_model.specs.Cover.{needed, room_for}
 use Rattle.fs_model.specs.Files.{handle_at, pages_of, pair_cmp}
-use Rattle.cached_files.specs.declared.kept.Kept.{Kept}
-use Rattle.cached_files.specs.Calls.{IsNotEnospc, WasCovered}
-use Rattle.cached_files.specs.Present.{newly_dirty, present}
+use Rattle.buffered_files.specs.declared.kept.Kept.{Kept}
+use Rattle.buffered_files.specs.Calls.{IsNotEnospc, WasCovered}
+use Rattle.buffered_files.specs.Present.{newly_dirty, present}
 
 -- credits for pages, and nothing else
 abbrev pub credits_need : ℕ → Need

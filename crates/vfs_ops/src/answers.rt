@@ -7,10 +7,10 @@ ghost use Rattle.fs_model.specs.Files.{Tree};
 ghost use Rattle.fs_model.specs.Legal.{pages_in};
 ghost use Rattle.fs_model.specs.Operation.{outcome_of};
 ghost use Rattle.fs_laws.specs.Sound.{IsCall};
-ghost use Rattle.cached_files.specs.Alike.{IsAlike};
-ghost use Rattle.cached_files.specs.Calls.{GrowsBy, SureGoes, added_or_refused};
-ghost use Rattle.cached_files.specs.Cuts.{PutsSeen, group_fate};
-ghost use Rattle.cached_files.specs.Present.{present};
+ghost use Rattle.buffered_files.specs.Alike.{IsAlike};
+ghost use Rattle.buffered_files.specs.Calls.{GrowsBy, SureGoes, added_or_refused};
+ghost use Rattle.buffered_files.specs.Cuts.{PutsSeen, group_fate};
+ghost use Rattle.buffered_files.specs.Present.{present};
 ghost use Rattle.vfs_ops.specs.Events.{HasSynced, PutsCall};
 ghost use Rattle.vfs_ops.specs.Kinds.{IsEarly, IsLookOnly, KeepsOrphans, KeepsOthers, OnlyLooks};
 ghost use Rattle.vfs_ops.specs.Operations.{is_of_names, nodes_asked};
@@ -23,9 +23,9 @@ use crate::reads::look;
 use crate::syncs::{flush, fsync};
 use crate::truncations::truncate;
 use crate::writes::write;
-use cached_files::{Kept, present_files_are_sound};
+use buffered_files::{Kept, present_files_are_sound};
 use fs_model::{Backing, Cause, Mode, Op, Refusal, Reply};
-use op_plans::is_bad_slot;
+use op_groups::is_bad_slot;
 use std::alloc::Global;
 
 /// Why the backing doesn't do an operation at all.

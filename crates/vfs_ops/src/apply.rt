@@ -4,16 +4,16 @@ ghost use Rattle.std.specs.Prelude.{◌≡◌, ◌+◌, ◌*◌, max, OnOk, OnEr
 ghost use Rattle.fs_model.specs.Backing.{FitsGroup, FitsOrphans, Goes, IsModest};
 ghost use Rattle.fs_model.specs.Change.{apply};
 ghost use Rattle.fs_laws.specs.Sound.{IsSound};
-ghost use Rattle.cached_files.specs.Alike.{IsAlike};
-ghost use Rattle.cached_files.specs.Calls.{GrowsBy, IsNotEnospc, IsWithoutRoom, SureGoes, WasCovered, added_or_refused};
-ghost use Rattle.cached_files.specs.Cuts.{PutsSeenWith, group_fate};
-ghost use Rattle.cached_files.specs.Follow.{AreOfNames};
-ghost use Rattle.cached_files.specs.Present.{present};
+ghost use Rattle.buffered_files.specs.Alike.{IsAlike};
+ghost use Rattle.buffered_files.specs.Calls.{GrowsBy, IsNotEnospc, IsWithoutRoom, SureGoes, WasCovered, added_or_refused};
+ghost use Rattle.buffered_files.specs.Cuts.{PutsSeenWith, group_fate};
+ghost use Rattle.buffered_files.specs.Follow.{AreOfNames};
+ghost use Rattle.buffered_files.specs.Present.{present};
 ghost use Rattle.vfs_ops.specs.Kinds.{FitsNextOrphans};
 ghost use Rattle.vfs_ops.specs.Steps.{IsReady};
 ghost use Rattle.vfs_ops.specs.Writing.{HasGroupRoom};
 
-use cached_files::{Kept, apply_group, present_files_are_sound};
+use buffered_files::{Kept, apply_group, present_files_are_sound};
 use fs_model::{Backing, Group, Need, Refusal};
 use std::alloc::Global;
 

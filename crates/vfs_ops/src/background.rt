@@ -3,14 +3,14 @@
 ghost use Rattle.std.specs.Prelude.{◌≡◌, ◌+◌, ◌^◌, ◌<◌, ◌≤◌, true, length};
 ghost use Rattle.fs_model.specs.declared.backing_answers.Mode.TheVariants.{ReadWrite};
 ghost use Rattle.fs_model.specs.Proper.{IsProper};
-ghost use Rattle.cached_files.specs.Calls.{SureGoes};
+ghost use Rattle.buffered_files.specs.Calls.{SureGoes};
 ghost use Rattle.vfs_ops.specs.declared.event.Event.TheVariants.{Sync, Collect, CommitStart, CommitStep, CommitEnd, Refill, Drain};
 ghost use Rattle.vfs_ops.specs.Background.{IsChore, is_chore, is_work};
 ghost use Rattle.vfs_ops.specs.Events.{IsCalled, grant_of};
 ghost use Rattle.vfs_ops.specs.Steps.{IsReady};
 
 use crate::event::{Event, Outcome};
-use cached_files::Kept;
+use buffered_files::Kept;
 use fs_model::{Backing, Class, Mode, Need, StoreFault};
 
 /// Whether the backing alone is asked for something.

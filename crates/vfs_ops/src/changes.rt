@@ -9,10 +9,10 @@ ghost use Rattle.fs_model.specs.Operation.{group_of, outcome_of};
 ghost use Rattle.fs_model.specs.Orphan.{within_orphans};
 ghost use Rattle.fs_model.specs.Path.{is_dir};
 ghost use Rattle.fs_laws.specs.Sound.{IsCall, IsSound};
-ghost use Rattle.cached_files.specs.Alike.{IsAlike};
-ghost use Rattle.cached_files.specs.Calls.{GrowsBy, IsNotEnospc, IsWithoutRoom, SureGoes, added_or_refused};
-ghost use Rattle.cached_files.specs.Cuts.{PutsSeenWith, group_fate};
-ghost use Rattle.cached_files.specs.Present.{present, IsKept};
+ghost use Rattle.buffered_files.specs.Alike.{IsAlike};
+ghost use Rattle.buffered_files.specs.Calls.{GrowsBy, IsNotEnospc, IsWithoutRoom, SureGoes, added_or_refused};
+ghost use Rattle.buffered_files.specs.Cuts.{PutsSeenWith, group_fate};
+ghost use Rattle.buffered_files.specs.Present.{present, IsKept};
 ghost use Rattle.vfs_plans.specs.Answers.{IsRefused};
 ghost use Rattle.vfs_ops.specs.Kinds.{IsEarly, OnlyLooks};
 ghost use Rattle.vfs_ops.specs.Operations.{is_of_names, is_orphaned, orphans};
@@ -20,7 +20,7 @@ ghost use Rattle.vfs_ops.specs.Steps.{IsLast};
 ghost use Rattle.vfs_ops.specs.Writing.{HasRoomAtOnce, IsGroupAdmitted};
 
 use crate::needs::{class_of, need_of};
-use cached_files::{Kept, apply_group, present_files_are_sound};
+use buffered_files::{Kept, apply_group, present_files_are_sound};
 use fs_laws::{
     an_operation_asks_for_little, an_operation_fits_its_grant, an_operation_leaves_files_sound,
 };

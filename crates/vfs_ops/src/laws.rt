@@ -17,11 +17,11 @@ ghost use Rattle.fs_model.specs.Operation.{group_of, outcome_of};
 ghost use Rattle.fs_model.specs.Orphan.{leaves_orphan, nameless, without_nameless};
 ghost use Rattle.fs_model.specs.Proper.{IsProper};
 ghost use Rattle.fs_laws.specs.Sound.{IsSound};
-ghost use Rattle.cached_files.specs.Alike.{IsAlike};
-ghost use Rattle.cached_files.specs.Calls.{GrowsBy};
-ghost use Rattle.cached_files.specs.Cuts.{HasValues, ValuesOf, ValuesWith, group_fate};
-ghost use Rattle.cached_files.specs.Cuts.GroupFate.{NotPut};
-ghost use Rattle.cached_files.specs.Present.{IsKept};
+ghost use Rattle.buffered_files.specs.Alike.{IsAlike};
+ghost use Rattle.buffered_files.specs.Calls.{GrowsBy};
+ghost use Rattle.buffered_files.specs.Cuts.{HasValues, ValuesOf, ValuesWith, group_fate};
+ghost use Rattle.buffered_files.specs.Cuts.GroupFate.{NotPut};
+ghost use Rattle.buffered_files.specs.Present.{IsKept};
 ghost use Rattle.vfs_ops.specs.declared.event.Event.{Event};
 ghost use Rattle.vfs_ops.specs.declared.event.Event.TheVariants.{Call};
 ghost use Rattle.vfs_ops.specs.declared.event.Outcome.{Outcome};
@@ -33,7 +33,7 @@ ghost use Rattle.vfs_ops.specs.Passing.{IsApplied, IsStep};
 ghost use Rattle.vfs_ops.specs.Replies.{IsAlikeOutcome, holds_bytes, is_refusal};
 ghost use Rattle.vfs_plans.specs.Operations.{is_truncate};
 
-use cached_files::{
+use buffered_files::{
     a_cut_leaves_what_was_put, clean_files_are_those_of_the_backing, groups_leave_files_alike,
     resized_files_stay_alike, written_files_stay_alike,
 };

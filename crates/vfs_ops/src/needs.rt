@@ -4,13 +4,13 @@ ghost use Rattle.std.specs.Prelude.{◌≡◌, ℕ, ◌≤◌, IfOk, IfErr, sum_
 ghost use Rattle.std.specs.List.{AllByRecursion};
 ghost use Rattle.fs_model.specs.Backing.{group_limit};
 ghost use Rattle.fs_model.specs.Need.{change_bytes, group_need};
-ghost use Rattle.cached_files.specs.Present.{present, IsKept};
+ghost use Rattle.buffered_files.specs.Present.{present, IsKept};
 ghost use Rattle.vfs_plans.specs.Answers.{IsFault, Looks};
 ghost use Rattle.vfs_ops.specs.Operations.{LeavesOthers, class_of, gone_bytes, gone_in};
 
-use cached_files::Kept;
+use buffered_files::Kept;
 use fs_model::{Backing, Change, Class, Group, Need, Op, Refusal};
-use op_plans::{group_need, inode_bytes};
+use op_groups::{group_need, inode_bytes};
 use vfs_plans::inode;
 
 /// What a group asks of admission, with which one inode goes at most.

@@ -5,13 +5,13 @@ ghost use Rattle.fs_model.specs.Files.{bytes_from, inode_at, size_of};
 ghost use Rattle.fs_model.specs.Handles.{bytes_read};
 ghost use Rattle.fs_model.specs.Operation.{outcome_of};
 ghost use Rattle.fs_laws.specs.Sound.{IsSound};
-ghost use Rattle.cached_files.specs.Present.{present, IsKept, IsSameButClean};
+ghost use Rattle.buffered_files.specs.Present.{present, IsKept, IsSameButClean};
 ghost use Rattle.vfs_plans.specs.Answers.{IsFault, IsRefused, Looks};
 ghost use Rattle.vfs_ops.specs.Kinds.{is_look};
 
-use cached_files::{Kept, bytes, size};
+use buffered_files::{Kept, bytes, size};
 use fs_model::{Backing, Inode, Op, Refusal, Reply};
-use op_plans::{is_bad_len, is_bad_slot};
+use op_groups::{is_bad_len, is_bad_slot};
 use std::alloc::Global;
 use ubifs_base::Bytes;
 use vfs_plans::{inode, link_read, listed, or_fault, told};

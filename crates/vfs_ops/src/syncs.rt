@@ -9,15 +9,15 @@ ghost use Rattle.fs_model.specs.Files.{pair_cmp};
 ghost use Rattle.fs_model.specs.Journal.{Leaves};
 ghost use Rattle.fs_model.specs.Operation.{outcome_of};
 ghost use Rattle.fs_laws.specs.Sound.{IsSound};
-ghost use Rattle.cached_files.specs.Alike.{IsAlike};
-ghost use Rattle.cached_files.specs.Calls.{GrowsBy, SureGoes, added_or_refused};
-ghost use Rattle.cached_files.specs.Cuts.{PutsSeen};
-ghost use Rattle.cached_files.specs.Present.{dirty_of_others, has_dirty, present, IsKept};
+ghost use Rattle.buffered_files.specs.Alike.{IsAlike};
+ghost use Rattle.buffered_files.specs.Calls.{GrowsBy, SureGoes, added_or_refused};
+ghost use Rattle.buffered_files.specs.Cuts.{PutsSeen};
+ghost use Rattle.buffered_files.specs.Present.{dirty_of_others, has_dirty, present, IsKept};
 ghost use Rattle.vfs_ops.specs.Kinds.{IsEarly, IsStopped, OnlyLooks};
 
-use cached_files::{Kept, present_files_are_sound, write_back, write_back_file};
+use buffered_files::{Kept, present_files_are_sound, write_back, write_back_file};
 use fs_model::{Backing, Refusal, Reply};
-use op_plans::is_bad_slot;
+use op_groups::is_bad_slot;
 use std::alloc::Global;
 
 /// Puts all dirty pages and syncs. A refusal tells that the backing failed, is read-only, or that memory ran out; what wasn't

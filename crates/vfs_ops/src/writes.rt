@@ -10,22 +10,22 @@ ghost use Rattle.fs_model.specs.Handles.{tree_written};
 ghost use Rattle.fs_model.specs.Operation.{outcome_of};
 ghost use Rattle.fs_model.specs.Proper.{has_kind};
 ghost use Rattle.fs_laws.specs.Sound.{IsSound};
-ghost use Rattle.cached_files.specs.Alike.{IsAlike};
-ghost use Rattle.cached_files.specs.Calls.{GrowsBy, IsCoveredAtLast, IsWithoutRoom, SureGoes, added_or_refused};
-ghost use Rattle.cached_files.specs.Cuts.{PutsSeen};
-ghost use Rattle.cached_files.specs.Present.{IsKept, newly_dirty, present};
+ghost use Rattle.buffered_files.specs.Alike.{IsAlike};
+ghost use Rattle.buffered_files.specs.Calls.{GrowsBy, IsCoveredAtLast, IsWithoutRoom, SureGoes, added_or_refused};
+ghost use Rattle.buffered_files.specs.Cuts.{PutsSeen};
+ghost use Rattle.buffered_files.specs.Present.{IsKept, newly_dirty, present};
 ghost use Rattle.vfs_plans.specs.Answers.{IsFault, IsRefused, Looks};
 ghost use Rattle.vfs_ops.specs.Kinds.{IsEarly, OnlyLooks};
 ghost use Rattle.vfs_ops.specs.Steps.{IsLast};
 ghost use Rattle.vfs_ops.specs.Writing.{HasRoom, IsBuffered, IsCovered, WasPaid, credits_need, newly_by, write_need};
 
-use cached_files::{
+use buffered_files::{
     Kept, make_room, newly, present_files_are_sound, size, write as write_pages,
     written_files_stay_alike,
 };
 use fs_laws::a_write_keeps_trees_proper;
 use fs_model::{Backing, Class, Inode, Need, Refusal, Reply};
-use op_plans::{ends_too_far, is_bad_len, is_bad_slot};
+use op_groups::{ends_too_far, is_bad_len, is_bad_slot};
 use std::alloc::Global;
 use vfs_plans::inode;
 

@@ -13,8 +13,8 @@ use Rattle.fs_model.specs.Links.{losing, linked, linking}
 use Rattle.fs_model.specs.Making.{made, making, inode_limit, is_name_path}
 use Rattle.fs_model.specs.Path.{has_long_name, components, last_of, walked, parent_of, is_dir}
 use Rattle.fs_model.specs.Rename.{is_under, moved, moving, renamed}
-use Rattle.cached_files.specs.declared.kept.Kept.{Kept}
-use Rattle.cached_files.specs.Present.{IsKept}
+use Rattle.buffered_files.specs.declared.kept.Kept.{Kept}
+use Rattle.buffered_files.specs.Present.{IsKept}
 use Rattle.vfs_plans.specs.Answers.{Looks}
 use Rattle.vfs_plans.proofs.Walking.{same_tree}
 

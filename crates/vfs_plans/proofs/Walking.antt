@@ -8,10 +8,10 @@ use Rattle.fs_model.specs.declared.refusal.Refusal.{Refusal}
 use Rattle.fs_model.specs.declared.refusal.Refusal.TheVariants.{Enoent, Eexist, Enotdir, Eisdir, Enotempty, Enospc, Erofs, Eio, Enomem, Efbig, Enametoolong, Einval, Emlink, Enfile, Ebadf}
 use Rattle.fs_model.specs.Backing.{BackingState, Outlook, Reads}
 use Rattle.fs_model.specs.Path.{reached, child, root_entry}
-use Rattle.cached_files.specs.declared.kept.Kept.{Kept}
-use Rattle.cached_files.specs.Present.{present}
+use Rattle.buffered_files.specs.declared.kept.Kept.{Kept}
+use Rattle.buffered_files.specs.Present.{present}
 use Rattle.vfs_plans.specs.Answers.{Looks, IsFault, IsRefused}
-use Rattle.cached_files.specs.CallLaws.{Goes-none, Goes-then, Sure-none, Sure-then}
+use Rattle.buffered_files.specs.CallLaws.{Goes-none, Goes-then, Sure-none, Sure-then}
 
 -- looking twice is looking
 pub reads_then : (a b c : BackingState) → Reads a b → Reads b c → Reads a c

@@ -4,7 +4,7 @@ use Rattle.fs_model.specs.declared.backing_answers.Mode.TheVariants.{ReadWrite}
 use Rattle.fs_model.specs.declared.refusal.Refusal.{Refusal}
 use Rattle.fs_model.specs.declared.refusal.Refusal.TheVariants.{Eio, Enomem}
 use Rattle.fs_model.specs.Backing.{BackingState, Outlook, Goes, Reads, Rose}
-use Rattle.cached_files.specs.Calls.{SureGoes}
+use Rattle.buffered_files.specs.Calls.{SureGoes}
 
 -- a fault of the backing in this call, told as a refusal; the backing is read-only then. Want of memory is free
 abbrev pub IsFault : BackingState → BackingState → Refusal → Type 0

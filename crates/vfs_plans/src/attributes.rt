@@ -2,16 +2,16 @@
 
 ghost use Rattle.std.specs.Prelude.{◌≡◌, Ok, IfOk, IfErr};
 ghost use Rattle.fs_model.specs.Attributes.{found, link_read, listed, mode_set};
-ghost use Rattle.cached_files.specs.Present.{present, IsKept};
+ghost use Rattle.buffered_files.specs.Present.{present, IsKept};
 ghost use Rattle.vfs_plans.specs.Answers.{IsRefused, Looks};
 
 use crate::faults::or_memory;
 use crate::kinds::{is_dir, is_symlink};
 use crate::lookups::{entries, inode};
 use crate::walks::walked;
-use cached_files::Kept;
+use buffered_files::Kept;
 use fs_model::{Backing, Entry, Group, Refusal, Reply};
-use op_plans::{by_hash, has_long_name, is_bad_mode, is_path, setting_mode};
+use op_groups::{by_hash, has_long_name, is_bad_mode, is_path, setting_mode};
 use std::alloc::Global;
 use ubifs_base::Name;
 

@@ -2,7 +2,7 @@
 
 ghost use Rattle.std.specs.Prelude.{◌≡◌, Ok, IfOk, IfErr};
 ghost use Rattle.fs_model.specs.declared.refusal.Refusal.TheVariants.{Enomem};
-ghost use Rattle.cached_files.specs.Calls.{refusal_of};
+ghost use Rattle.buffered_files.specs.Calls.{refusal_of};
 ghost use Rattle.fs_model.specs.declared.backing_answers.StoreFault.{StoreFault as AnyFault};
 ghost use Rattle.std.specs.Prelude.{Err};
 

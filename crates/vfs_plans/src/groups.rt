@@ -3,7 +3,7 @@
 ghost use Rattle.std.specs.Prelude.{◌≡◌, Ok, false, IfOk, IfErr};
 ghost use Rattle.fs_model.specs.declared.refusal.Refusal.TheVariants.{Enomem};
 ghost use Rattle.fs_model.specs.Operation.{plan_of};
-ghost use Rattle.cached_files.specs.Present.{present, IsKept};
+ghost use Rattle.buffered_files.specs.Present.{present, IsKept};
 ghost use Rattle.vfs_plans.specs.Answers.{IsRefused, Looks};
 ghost use Rattle.vfs_plans.specs.Operations.{is_truncate};
 
@@ -12,7 +12,7 @@ use crate::faults::or_memory;
 use crate::links::{dir_removed, linked, unlinked};
 use crate::makes::{created, dir_made, symlink_made};
 use crate::moves::renamed;
-use cached_files::Kept;
+use buffered_files::Kept;
 use fs_model::{Backing, Group, Op, Refusal, Reply};
 use std::alloc::Global;
 use ubifs_base::Name;

@@ -2,16 +2,16 @@
 
 ghost use Rattle.std.specs.Prelude.{◌≡◌, Ok, IfOk, IfErr};
 ghost use Rattle.fs_model.specs.Links.{dir_removed, linked, removing, unlinked};
-ghost use Rattle.cached_files.specs.Present.{present, IsKept};
+ghost use Rattle.buffered_files.specs.Present.{present, IsKept};
 ghost use Rattle.vfs_plans.specs.Answers.{IsFault, IsRefused, Looks};
 
 use crate::faults::or_memory;
 use crate::kinds::is_dir;
 use crate::lookups::{entry, inode, is_filled};
 use crate::walks::{place_of, walked};
-use cached_files::Kept;
+use buffered_files::Kept;
 use fs_model::{Backing, Entry, Group, Inode, Refusal, Reply};
-use op_plans::{Parent, has_long_name, is_linked_out, is_name_path, linking, removing};
+use op_groups::{Parent, has_long_name, is_linked_out, is_name_path, linking, removing};
 use std::alloc::Global;
 use ubifs_base::Name;
 

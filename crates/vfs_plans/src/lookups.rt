@@ -4,14 +4,14 @@ ghost use Rattle.std.specs.Prelude.{◌≡◌, ◌&&◌, not, IfOk, IfErr};
 ghost use Rattle.fs_model.specs.Files.{inode_at, entry_at};
 ghost use Rattle.fs_model.specs.Directory.{entries_in, has_no_entry};
 ghost use Rattle.fs_model.specs.Path.{is_dir};
-ghost use Rattle.cached_files.specs.Present.{present, IsKept};
+ghost use Rattle.buffered_files.specs.Present.{present, IsKept};
 ghost use Rattle.vfs_plans.specs.Answers.{IsFault, Looks};
 
 use crate::faults::or_fault;
 use crate::kinds::is_dir;
-use cached_files::Kept;
+use buffered_files::Kept;
 use fs_model::{Backing, Entry, Inode, Refusal};
-use op_plans::has_no_entry;
+use op_groups::has_no_entry;
 use ubifs_base::Name;
 
 /// The present inode of a number.
@@ -21,7 +21,7 @@ pub fn inode<B: Backing>(backing: &mut B, kept: &Kept, ino: u32) -> Result<Optio
     ensures refused { IfErr result (IsFault (B.state backing.old) (B.state backing.new)) }
     ensures looks { Looks (B.outlook backing.old) (B.outlook backing.new) (B.state backing.old) (B.state backing.new) }
 {
-    or_fault(cached_files::inode(backing, kept, ino))
+    or_fault(buffered_files::inode(backing, kept, ino))
 }
 
 /// The present entry of a name in a directory.

@@ -4,16 +4,16 @@ ghost use Rattle.std.specs.Prelude.{◌≡◌, ◌&&◌, Ok, IfOk, IfErr};
 ghost use Rattle.fs_model.specs.Directory.{dir_links, is_linked_out};
 ghost use Rattle.fs_model.specs.Path.{is_dir};
 ghost use Rattle.fs_model.specs.Making.{created, dir_made, made, symlink_made};
-ghost use Rattle.cached_files.specs.Present.{present, IsKept};
+ghost use Rattle.buffered_files.specs.Present.{present, IsKept};
 ghost use Rattle.vfs_plans.specs.Answers.{IsFault, IsRefused, Looks};
 
 use crate::faults::or_memory;
 use crate::lookups::{entries, entry, inode};
 use crate::place::Place;
 use crate::walks::place_of;
-use cached_files::{Kept, present_files_are_sound};
+use buffered_files::{Kept, present_files_are_sound};
 use fs_model::{Backing, Group, Inode, Kind, Refusal, Reply, Table};
-use op_plans::{
+use op_groups::{
     Parent, dir_links, has_long_name, is_bad_mode, is_bad_target, is_linked_out, is_name_path,
     is_used_up, making, new_dir, new_file, new_symlink,
 };

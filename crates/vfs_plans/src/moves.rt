@@ -3,7 +3,7 @@
 ghost use Rattle.std.specs.Prelude.{◌≡◌, Some, None, Ok, IfOk, IfErr};
 ghost use Rattle.std.specs.Option.{option_to_list};
 ghost use Rattle.fs_model.specs.Rename.{comes_linked_out, moved, moving, renamed};
-ghost use Rattle.cached_files.specs.Present.{present, IsKept};
+ghost use Rattle.buffered_files.specs.Present.{present, IsKept};
 ghost use Rattle.vfs_plans.specs.Answers.{IsFault, IsRefused, Looks};
 
 use crate::faults::or_memory;
@@ -12,9 +12,9 @@ use crate::lookups::{entry, inode, is_filled};
 use crate::makes::is_full;
 use crate::place::Place;
 use crate::walks::{placed, walk};
-use cached_files::Kept;
+use buffered_files::Kept;
 use fs_model::{Backing, Change, Entry, Group, Refusal, Reply};
-use op_plans::{Parent, components, has_long_name, is_name_path, is_under, losing, moving};
+use op_groups::{Parent, components, has_long_name, is_name_path, is_under, losing, moving};
 use std::alloc::Global;
 use ubifs_base::Name;
 

@@ -5,14 +5,14 @@ ghost use Rattle.std.specs.BTreeMap.{insert_entry};
 ghost use Rattle.fs_model.specs.declared.reply.Reply.TheVariants.{Ino};
 ghost use Rattle.fs_model.specs.Files.{pair_cmp};
 ghost use Rattle.fs_model.specs.Handles.{opened};
-ghost use Rattle.cached_files.specs.Present.{present};
+ghost use Rattle.buffered_files.specs.Present.{present};
 ghost use Rattle.vfs_plans.specs.Answers.{IsRefused, Looks};
 
 use crate::kinds::{is_dir, is_file};
 use crate::walks::walked;
-use cached_files::Kept;
+use buffered_files::Kept;
 use fs_model::{Backing, Refusal};
-use op_plans::{has_long_name, is_bad_slot, is_path};
+use op_groups::{has_long_name, is_bad_slot, is_path};
 use std::alloc::Global;
 use ubifs_base::Name;
 

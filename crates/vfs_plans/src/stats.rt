@@ -5,16 +5,16 @@ ghost use Rattle.fs_model.specs.Attributes.{stat_of, told};
 ghost use Rattle.fs_model.specs.Directory.{dir_links, dir_size, links_of, shown_size};
 ghost use Rattle.fs_model.specs.Files.{inode_at};
 ghost use Rattle.fs_model.specs.declared.refusal.Refusal.TheVariants.{Enomem};
-ghost use Rattle.cached_files.specs.Present.{present, IsKept};
+ghost use Rattle.buffered_files.specs.Present.{present, IsKept};
 ghost use Rattle.vfs_plans.specs.Answers.{IsFault, IsRefused, Looks};
 
 use crate::attributes::found;
 use crate::faults::or_fault;
 use crate::kinds::is_dir;
 use crate::lookups::{entries, inode};
-use cached_files::Kept;
+use buffered_files::Kept;
 use fs_model::{Backing, Inode, Refusal, Reply};
-use op_plans::{dir_links, dir_size};
+use op_groups::{dir_links, dir_size};
 use std::alloc::Global;
 use ubifs_base::Name;
 
@@ -83,7 +83,7 @@ fn links_and_size<B: Backing>(
     if is_dir(inode.kind) {
         return of_dir(backing, kept, ino);
     }
-    let size = or_fault(cached_files::size(backing, kept, ino, inode))?;
+    let size = or_fault(buffered_files::size(backing, kept, ino, inode))?;
     Ok((inode.nlink, size))
 }
 

@@ -2,14 +2,14 @@
 
 ghost use Rattle.std.specs.Prelude.{◌≡◌, ◌⊎◌, Ok, Err, IfOk, IfErr};
 ghost use Rattle.fs_model.specs.Path.{child, components, front_of, last_of, only_dir, parent_of, reached, root_entry, walked};
-ghost use Rattle.cached_files.specs.Present.{present};
+ghost use Rattle.buffered_files.specs.Present.{present};
 ghost use Rattle.vfs_plans.specs.Answers.{IsRefused, Looks};
 
 use crate::faults::or_memory;
 use crate::place::Place;
-use cached_files::Kept;
+use buffered_files::Kept;
 use fs_model::{Backing, Entry, Kind, Refusal};
-use op_plans::{components, pop_last};
+use op_groups::{components, pop_last};
 use std::alloc::Global;
 use ubifs_base::Name;
 

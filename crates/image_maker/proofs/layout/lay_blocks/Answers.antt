@@ -1,6 +1,6 @@
 use Rattle.std.proofs.Common.{◌≡◌, [], ◌∷◌, map, sym, ◌∙◌, ap}
 use Rattle.ubifs_base.specs.RawOf.{raw_of}
-use Rattle.change_nodes.specs.Nodes.{node_of}
+use Rattle.group_nodes.specs.Nodes.{node_of}
 use Rattle.image_maker.specs.Leaves.{block_leaf}
 use Rattle.image_maker.proofs.Ready.{begins, next_ready, next_laid}
 use Rattle.image_maker.proofs.layout.lay_blocks.Goals as goal

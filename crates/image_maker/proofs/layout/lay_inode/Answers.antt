@@ -6,7 +6,7 @@ use Rattle.ubi_volume.specs.MemVolume.{state_of}
 use Rattle.media_leaf.specs.LeafNode.{LeafNode}
 use Rattle.fs_model.specs.Cover.{entry_bytes}
 use Rattle.fs_model.specs.Directory.{by_hash, entries_in}
-use Rattle.change_nodes.specs.Nodes.{node_of}
+use Rattle.group_nodes.specs.Nodes.{node_of}
 use Rattle.image_maker.specs.Laying.{IsReady, Lays}
 use Rattle.image_maker.specs.Leaves.{inode_leaf, entry_leaf}
 use Rattle.image_maker.proofs.Ready.{ready_first, second_ready, third_ready, three_laid, same_laid}

@@ -2,7 +2,7 @@ use Rattle.std.proofs.Common.{ap, subst, ◌<◌, ◌^◌, ℕ, sym, ◌∙◌}
 use Rattle.ubifs_base.specs.Key.{IsKey}
 use Rattle.ubifs_base.specs.R5.{r5_of}
 use Rattle.index_tree.specs.declared.leaf.Leaf.{Leaf}
-use Rattle.change_nodes.specs.FitLaws.{r5_small}
+use Rattle.group_nodes.specs.FitLaws.{r5_small}
 use Rattle.log_replay.proofs.application.set_name.Goals as goal
 
 pub put-requires : goal.put-requires

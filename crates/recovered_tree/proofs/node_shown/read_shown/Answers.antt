@@ -1,5 +1,5 @@
 use Rattle.std.proofs.Common.{◌≡◌, ◌∙◌, None, length, subst, sym, arith, rules}
-use Rattle.change_nodes.specs.LengthLaws.{bytes_there, written_back}
+use Rattle.group_nodes.specs.LengthLaws.{bytes_there, written_back}
 use Rattle.recovered_tree.specs.Sets.{IsShownIn}
 use Rattle.recovered_tree.proofs.NodeBytes.{none_behind, none_longer, none_past}
 use Rattle.recovered_tree.proofs.node_shown.read_shown.Goals as goal

@@ -1,5 +1,5 @@
 use Rattle.std.proofs.Common.{◌≡◌, ap, subst, sym, ◌∙◌}
-use Rattle.cached_files.specs.Present.{present}
+use Rattle.buffered_files.specs.Present.{present}
 use Rattle.fs_model.specs.Files.{Tree}
 use Rattle.fs_model.specs.Orphan.{without_nameless}
 use Rattle.fs_model.specs.Proper.{IsProper}

@@ -1,5 +1,5 @@
 use Rattle.std.proofs.Common.{◌≡◌, ◌∙◌, length, subst, sym, arith, rules}
-use Rattle.change_nodes.specs.LengthLaws.{bytes_there, written_back}
+use Rattle.group_nodes.specs.LengthLaws.{bytes_there, written_back}
 use Rattle.shown_leaves.specs.Stored.{IsStoredIn}
 use Rattle.shown_leaves.proofs.Lengths.{none_behind, none_longer, none_past}
 use Rattle.shown_leaves.proofs.reading.read_node.Goals as goal

@@ -1,5 +1,5 @@
 use Rattle.std.proofs.Common.{arith, refl, slice_index}
-use Rattle.change_nodes.specs.LengthLaws.{leaf_length}
+use Rattle.group_nodes.specs.LengthLaws.{leaf_length}
 use Rattle.shown_leaves.proofs.Stored.{ok_map}
 use Rattle.shown_leaves.proofs.StandingNodes.{of_block, of_entry, of_inode, of_none, of_truncation}
 use Rattle.shown_leaves.proofs.standing.shown_in.Goals as goal

@@ -1,8 +1,8 @@
 use Rattle.std.proofs.Common.{ap, arith, refl, sym, ◌∙◌}
 use Rattle.fs_model.specs.declared.backing_answers.Mode.{Mode}
-use Rattle.cached_files.specs.CallLaws.{Goes-none, Goes-within}
+use Rattle.buffered_files.specs.CallLaws.{Goes-none, Goes-within}
 use Rattle.vfs_ops.specs.Steps.{read_only_cause}
-use Rattle.cached_files.specs.Cuts.GroupFate.{NotPut}
+use Rattle.buffered_files.specs.Cuts.GroupFate.{NotPut}
 use Rattle.vfs_ops.proofs.Cutting.{call_seen, cut_same, cut_with}
 use Rattle.vfs_ops.proofs.Others.{not_closed, same_leave}
 use Rattle.vfs_ops.proofs.answers.call.Goals as goal

@@ -12,7 +12,7 @@ use Rattle.vfs_ops.proofs.Looking.{only_early, whole_left}
 use Rattle.vfs_ops.proofs.Others.{idle_on, others_on}
 use Rattle.vfs_ops.proofs.Serving.{none_buffered, not_write, ok_map}
 use Rattle.fs_model.specs.Legal.{pages_in}
-use Rattle.cached_files.specs.Present.{present}
+use Rattle.buffered_files.specs.Present.{present}
 use Rattle.vfs_ops.proofs.Orphaning.{write_keep}
 use Rattle.vfs_ops.proofs.Weighing.{refused_wider, write_weighs}
 use Rattle.vfs_ops.proofs.answers.serve.Goals as goal

@@ -1,9 +1,9 @@
 use Rattle.std.proofs.Common.{◌≡◌, ℕ, ◌+◌, ◌*◌, ap, arith, false, inr, length, max, refl, rules, subst, sym, ◌∙◌}
 use Rattle.std.proofs.lemmas.Bool.{false≢true}
-use Rattle.cached_files.specs.Present.{present}
+use Rattle.buffered_files.specs.Present.{present}
 use Rattle.fs_model.specs.Backing.{Goes}
-use Rattle.cached_files.specs.Calls.{GrowsBy, added_or_refused}
-use Rattle.cached_files.specs.Cuts.{group_fate}
+use Rattle.buffered_files.specs.Calls.{GrowsBy, added_or_refused}
+use Rattle.buffered_files.specs.Cuts.{group_fate}
 use Rattle.vfs_ops.proofs.Cutting.{call_seen, cut_answered, cut_looked, cut_same}
 use Rattle.vfs_ops.proofs.Admitted.{after_ok, names_admitted, none_admitted, on_ok, other_at_once}
 use Rattle.vfs_ops.proofs.Looking.{names_early, only_early, opened_looks, unsynced_early}

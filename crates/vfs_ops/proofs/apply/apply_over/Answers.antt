@@ -1,5 +1,5 @@
 use Rattle.fs_model.specs.Change.{apply}
-use Rattle.cached_files.specs.Present.{present}
+use Rattle.buffered_files.specs.Present.{present}
 use Rattle.std.proofs.Common.{inl}
 use Rattle.vfs_ops.proofs.Orphaning.{group_fits_list, keeps_alike}
 use Rattle.vfs_ops.proofs.Takes.{alike_sound}

@@ -7,11 +7,11 @@ use Rattle.fs_model.specs.Backing.{BackingState, FitsGroup, FitsOrphans, IsModes
 use Rattle.fs_model.specs.Change.{apply}
 use Rattle.fs_model.specs.Need.{need_of}
 use Rattle.fs_model.specs.Operation.{group_of, outcome_of}
-use Rattle.cached_files.specs.Follow.{AreOfNames}
-use Rattle.cached_files.specs.Present.{present}
+use Rattle.buffered_files.specs.Follow.{AreOfNames}
+use Rattle.buffered_files.specs.Present.{present}
 use Rattle.fs_model.specs.Orphan.{within_orphans}
-use Rattle.cached_files.specs.Cuts.{refused_fate}
-use Rattle.cached_files.specs.Cuts.GroupFate.{NotPut, WasPut}
+use Rattle.buffered_files.specs.Cuts.{refused_fate}
+use Rattle.buffered_files.specs.Cuts.GroupFate.{NotPut, WasPut}
 use Rattle.vfs_ops.proofs.Cutting.{cut_looked, cut_refused, cut_with, looked_put, no_changes}
 use Rattle.vfs_ops.proofs.Admitted.{alone_whole, fits_once, group_admitted, plan_refused}
 use Rattle.vfs_ops.proofs.Groups.{AreFitting, group_fits, leaves, names_of}
@@ -26,7 +26,7 @@ use Rattle.std.proofs.lemmas.Bool.{eqb-true}
 use Rattle.fs_model.specs.declared.refusal.Refusal.TheVariants.{Enfile}
 use Rattle.fs_model.specs.declared.refusal.Table.TheVariants.{Orphans as OrphanTable}
 use Rattle.fs_model.specs.declared.reply.Reply.{Reply}
-use Rattle.cached_files.specs.Calls.{added_or_refused}
+use Rattle.buffered_files.specs.Calls.{added_or_refused}
 use Rattle.vfs_ops.proofs.Weighing.{after_look, no_heavier, refused_wider}
 use Rattle.vfs_ops.proofs.changes.change.Goals as goal
 

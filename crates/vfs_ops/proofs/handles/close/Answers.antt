@@ -5,8 +5,8 @@ use Rattle.fs_model.specs.Backing.{BackingState}
 use Rattle.fs_model.specs.Change.{without_inode}
 use Rattle.fs_model.specs.Files.{pair_cmp}
 use Rattle.fs_model.specs.Proper.{IsProper}
-use Rattle.cached_files.specs.CallLaws.{Goes-then}
-use Rattle.cached_files.specs.Present.{covered, present}
+use Rattle.buffered_files.specs.CallLaws.{Goes-then}
+use Rattle.buffered_files.specs.Present.{covered, present}
 use Rattle.vfs_ops.proofs.Closing.{closed_sound, dropped_sound, handles_kept, handles_sound, lost_sound}
 use Rattle.vfs_ops.proofs.Looking.{store_late}
 use Rattle.vfs_ops.proofs.States.{tree_on}

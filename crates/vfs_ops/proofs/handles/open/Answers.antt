@@ -3,7 +3,7 @@ use Rattle.std.specs.BTreeMap.{insert_entry}
 use Rattle.fs_model.specs.Files.{pair_cmp}
 use Rattle.fs_model.specs.Outcome.{Outcome, files_in}
 use Rattle.fs_laws.specs.Sound.{IsSound}
-use Rattle.cached_files.specs.Present.{present}
+use Rattle.buffered_files.specs.Present.{present}
 use Rattle.vfs_ops.proofs.Closing.{handles_kept, handles_sound}
 use Rattle.vfs_ops.proofs.States.{tree_on}
 use Rattle.vfs_ops.proofs.handles.open.Goals as goal

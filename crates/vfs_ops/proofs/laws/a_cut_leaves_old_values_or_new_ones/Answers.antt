@@ -1,5 +1,5 @@
 use Rattle.std.proofs.Common.{subst}
-use Rattle.cached_files.specs.Cuts.{GroupFate, PutsSeenWith, group_fate}
+use Rattle.buffered_files.specs.Cuts.{GroupFate, PutsSeenWith, group_fate}
 use Rattle.vfs_ops.specs.FilesState.{present_in}
 use Rattle.vfs_ops.specs.Events.{outcome_fate, group_in}
 use Rattle.vfs_ops.proofs.Cutting.{has_among, step_cut}

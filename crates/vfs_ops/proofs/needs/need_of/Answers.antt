@@ -1,5 +1,5 @@
 use Rattle.std.proofs.Common.{arith}
-use Rattle.cached_files.specs.Present.{present}
+use Rattle.buffered_files.specs.Present.{present}
 use Rattle.vfs_ops.proofs.Gone.{goes_first, sum_same}
 use Rattle.vfs_ops.proofs.needs.need_of.Goals as goal
 

@@ -1,6 +1,6 @@
 use Rattle.std.proofs.Common.{sym, ◌∙◌}
 use Rattle.std.proofs.lemmas.Bool.{eqb-false, eqb-true}
-use Rattle.cached_files.specs.PagePut.{page_at}
+use Rattle.buffered_files.specs.PagePut.{page_at}
 use Rattle.vfs_ops.specs.Background.{version_at}
 use Rattle.vfs_ops.proofs.Picking.{encoded_bytes, encoded_version, encoded_yes}
 use Rattle.vfs_ops.proofs.pages.is_as_picked.Goals as goal

@@ -1,4 +1,4 @@
-use Rattle.cached_files.specs.Present.{present}
+use Rattle.buffered_files.specs.Present.{present}
 use Rattle.vfs_ops.specs.Steps.{Passage}
 use Rattle.vfs_ops.proofs.Picking.{there}
 use Rattle.vfs_ops.proofs.Placing.{placed, put_weighed, unplaced}

@@ -1,5 +1,5 @@
 use Rattle.std.proofs.Common.{◌*◌, Err, arith, length, rules}
-use Rattle.cached_files.specs.Present.{present}
+use Rattle.buffered_files.specs.Present.{present}
 use Rattle.vfs_ops.proofs.Cutting.{cut_nothing}
 use Rattle.vfs_ops.proofs.Flushing.{goes_on}
 use Rattle.vfs_ops.proofs.Takes.{alike_sound, sound_on}

@@ -2,7 +2,7 @@ use Rattle.std.proofs.Common.{◌≡◌, ℕ, ◌*◌, Err, arith, false, length
 use Rattle.fs_model.specs.declared.reply.Reply.TheVariants.{Done}
 use Rattle.fs_model.specs.Files.{Files, handle_at}
 use Rattle.fs_model.specs.Handles.{is_bad_slot, synced}
-use Rattle.cached_files.specs.Present.{dirty_of_others, has_dirty, present}
+use Rattle.buffered_files.specs.Present.{dirty_of_others, has_dirty, present}
 use Rattle.vfs_ops.proofs.Cutting.{cut_nothing, cut_same}
 use Rattle.vfs_ops.proofs.Flushing.{goes_on, same_open}
 use Rattle.vfs_ops.proofs.Looking.{stopped_late}

@@ -5,11 +5,11 @@ use Rattle.fs_model.specs.declared.reply.Reply.TheVariants.{Done}
 use Rattle.fs_model.specs.declared.op.Op.TheVariants.{Truncate}
 use Rattle.fs_model.specs.Files.{handle_at}
 use Rattle.fs_model.specs.Outcome.{done_by}
-use Rattle.cached_files.specs.Alike.{IsAlike}
-use Rattle.cached_files.specs.CallLaws.{Goes-none, Goes-within, Sure-then}
-use Rattle.cached_files.specs.Present.{IsKept, present}
-use Rattle.cached_files.specs.Cuts.{refused_fate}
-use Rattle.cached_files.specs.Cuts.GroupFate.{WasPut}
+use Rattle.buffered_files.specs.Alike.{IsAlike}
+use Rattle.buffered_files.specs.CallLaws.{Goes-none, Goes-within, Sure-then}
+use Rattle.buffered_files.specs.Present.{IsKept, present}
+use Rattle.buffered_files.specs.Cuts.{refused_fate}
+use Rattle.buffered_files.specs.Cuts.GroupFate.{WasPut}
 use Rattle.vfs_ops.proofs.Buffering.{at_hand, open_file}
 use Rattle.vfs_ops.proofs.Cutting.{call_refused, cut_looked, cut_same}
 use Rattle.vfs_ops.proofs.Looking.{looked, room_late}

@@ -1,8 +1,8 @@
 use Rattle.std.proofs.Common.{inl, inr, refl, ap, subst, ◌∙◌, ◌-◌, ◌≤◌, arith}
 use Rattle.fs_model.specs.Backing.{BackingState}
-use Rattle.cached_files.specs.Calls.{GrowsBy, IsCoveredAtLast, added_or_refused}
+use Rattle.buffered_files.specs.Calls.{GrowsBy, IsCoveredAtLast, added_or_refused}
 use Rattle.vfs_ops.specs.Writing.{HasGroupRoom, credits_need, write_need}
-use Rattle.cached_files.specs.Cuts.{PutsSeen}
+use Rattle.buffered_files.specs.Cuts.{PutsSeen}
 use Rattle.vfs_ops.proofs.Cutting.{cut_same}
 use Rattle.vfs_ops.proofs.Admitted.{on_ok}
 use Rattle.vfs_ops.proofs.Buffering.{modest_need}

@@ -1,11 +1,11 @@
 use Rattle.std.proofs.Common.{◌≡◌, ℕ, ◌*◌, ap, arith, length, refl, rules, subst, sym}
 use Rattle.fs_model.specs.Backing.{BackingState, Goes, granted}
-use Rattle.cached_files.specs.CallLaws.{Goes-granted, Goes-none}
+use Rattle.buffered_files.specs.CallLaws.{Goes-granted, Goes-none}
 use Rattle.vfs_ops.specs.Writing.{HasGroupRoom, write_need}
-use Rattle.cached_files.specs.Cuts.{PutsSeen}
+use Rattle.buffered_files.specs.Cuts.{PutsSeen}
 use Rattle.vfs_ops.proofs.Cutting.{cut_granted}
 use Rattle.vfs_ops.proofs.Buffering.{modest_need, more_new, no_room, whole_need}
-use Rattle.cached_files.specs.Calls.{GrowsBy}
+use Rattle.buffered_files.specs.Calls.{GrowsBy}
 use Rattle.vfs_ops.proofs.Weighing.{fault_told, weigh_granted}
 use Rattle.vfs_ops.proofs.writes.cover_again.Goals as goal
 

@@ -2,7 +2,7 @@ use Rattle.std.proofs.Common.{◌≡◌, ℕ, ◌*◌, length, inl, sym, subst, 
 use Rattle.fs_model.specs.declared.reply.Reply.TheVariants.{Count}
 use Rattle.fs_model.specs.Files.{Files, handle_at}
 use Rattle.fs_model.specs.Handles.{bytes_written, tree_written}
-use Rattle.cached_files.specs.Present.{present}
+use Rattle.buffered_files.specs.Present.{present}
 use Rattle.vfs_ops.specs.Writing.{WasPaid, write_need}
 use Rattle.vfs_ops.proofs.Cutting.{cut_same}
 use Rattle.vfs_ops.proofs.Admitted.{none_new}

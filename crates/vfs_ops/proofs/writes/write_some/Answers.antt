@@ -1,11 +1,11 @@
 use Rattle.std.proofs.Common.{◌≡◌, ℕ, ◌*◌, ap, arith, length, refl, rules}
-use Rattle.cached_files.specs.Present.{present}
+use Rattle.buffered_files.specs.Present.{present}
 use Rattle.vfs_ops.proofs.Cutting.{cut_given, cut_then_looked}
 use Rattle.vfs_ops.proofs.Admitted.{paid_then}
 use Rattle.vfs_ops.proofs.Buffering.{goes_returned, goes_seen, plain_file, written_seen}
 use Rattle.fs_model.specs.Backing.{BackingState}
 use Rattle.fs_model.specs.Files.{pages_of}
-use Rattle.cached_files.specs.Present.{DirtyPages}
+use Rattle.buffered_files.specs.Present.{DirtyPages}
 use Rattle.vfs_ops.proofs.Orphans.{closed_on}
 use Rattle.vfs_ops.proofs.Weighing.{before_look, refused_wider, weigh_given, written}
 use Rattle.vfs_ops.proofs.writes.write_some.Goals as goal

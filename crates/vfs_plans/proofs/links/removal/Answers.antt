@@ -1,5 +1,5 @@
 use Rattle.std.proofs.Common.{sym}
-use Rattle.cached_files.specs.Present.{present}
+use Rattle.buffered_files.specs.Present.{present}
 use Rattle.vfs_plans.proofs.links.removal.Goals as goal
 
 pub returns-clause-found : goal.returns-clause-found

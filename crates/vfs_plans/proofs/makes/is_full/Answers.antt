@@ -1,5 +1,5 @@
 use Rattle.std.proofs.Common.{arith}
-use Rattle.cached_files.specs.Present.{present}
+use Rattle.buffered_files.specs.Present.{present}
 use Rattle.vfs_plans.proofs.FewLinks.{not_full}
 use Rattle.vfs_plans.proofs.makes.is_full.Goals as goal
 

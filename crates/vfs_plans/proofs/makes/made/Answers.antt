@@ -1,5 +1,5 @@
 use Rattle.std.proofs.Common.{◌≡◌, rules, sym, ap, subst, ◌∙◌}
-use Rattle.cached_files.specs.Present.{IsKept, present}
+use Rattle.buffered_files.specs.Present.{IsKept, present}
 use Rattle.fs_model.specs.Files.{inode_at}
 use Rattle.vfs_plans.proofs.Walking.{looks_on}
 use Rattle.vfs_plans.proofs.Plans.{made_is, tree_on}

@@ -1,5 +1,5 @@
 use Rattle.std.proofs.Common.{◌≡◌, sym, subst}
-use Rattle.cached_files.specs.Present.{present}
+use Rattle.buffered_files.specs.Present.{present}
 use Rattle.fs_model.specs.Files.{inode_at}
 use Rattle.vfs_plans.proofs.Plans.{tree_on}
 use Rattle.vfs_plans.proofs.Walking.{looks_on}

@@ -1,5 +1,5 @@
 use Rattle.std.proofs.Common.{rules, sym}
-use Rattle.cached_files.specs.Present.{present}
+use Rattle.buffered_files.specs.Present.{present}
 use Rattle.vfs_plans.proofs.Plans.{moved_over_is, tree_on}
 use Rattle.vfs_plans.proofs.Walking.{looks_on}
 use Rattle.vfs_plans.proofs.moves.moved_over.Goals as goal

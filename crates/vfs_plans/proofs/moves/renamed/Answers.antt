@@ -1,5 +1,5 @@
 use Rattle.std.proofs.Common.{rules}
-use Rattle.cached_files.specs.Present.{present}
+use Rattle.buffered_files.specs.Present.{present}
 use Rattle.vfs_plans.proofs.Plans.{renamed_is, tree_on}
 use Rattle.vfs_plans.proofs.Walking.{looks_on}
 use Rattle.vfs_plans.proofs.moves.renamed.Goals as goal

@@ -1,5 +1,5 @@
 use Rattle.std.proofs.Common.{ℕ, ◌∷◌, ◌++◌, [], length, refl, arith, ap, ◌≡◌, ◌∙◌}
-use Rattle.change_nodes.specs.Nodes.{node_of}
+use Rattle.group_nodes.specs.Nodes.{node_of}
 use Rattle.leaf_map.specs.Kept.{kept_at}
 use Rattle.media_leaf.specs.LeafNode.{LeafNode}
 use Rattle.image_maker.specs.Places.{placed_leaf}

@@ -1,7 +1,7 @@
 use Rattle.std.proofs.Common.{sym, ◌∙◌, arith}
 use Rattle.ubifs_base.specs.RawOf.{raw_of}
 use Rattle.ubi_volume.specs.MemVolume.{state_of}
-use Rattle.change_nodes.specs.Nodes.{node_of}
+use Rattle.group_nodes.specs.Nodes.{node_of}
 use Rattle.image_maker.proofs.LayingLemmas.{IsLaid-append}
 use Rattle.image_maker.proofs.Packing.{taken_packs}
 use Rattle.image_maker.proofs.open_leb.OpenLeb.take_node.Goals as goal

@@ -1,6 +1,6 @@
 use Rattle.std.proofs.Common.{ℕ, ◌+◌, ◌*◌, arith, max, inl, inr, refl}
 use Rattle.fs_model.specs.declared.reply.Reply.{Reply}
-use Rattle.cached_files.specs.Present.{present}
+use Rattle.buffered_files.specs.Present.{present}
 use Rattle.vfs_ops.specs.Steps.{read_only_cause}
 use Rattle.vfs_ops.proofs.Admitted.{told_at_once}
 use Rattle.vfs_ops.proofs.Cutting.{call_noted, call_replied}

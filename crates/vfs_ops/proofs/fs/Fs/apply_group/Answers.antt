@@ -6,8 +6,8 @@ use Rattle.fs_model.specs.declared.refusal.Refusal.{Refusal}
 use Rattle.fs_model.specs.declared.refusal.Refusal.TheVariants.{Enomem, Enospc, Erofs}
 use Rattle.fs_model.specs.declared.reply.Reply.TheVariants.{Refused}
 use Rattle.fs_model.specs.Backing.{Goes}
-use Rattle.cached_files.specs.CallLaws.{Goes-none, Goes-within}
-use Rattle.cached_files.specs.Calls.{IsNotEnospc}
+use Rattle.buffered_files.specs.CallLaws.{Goes-none, Goes-within}
+use Rattle.buffered_files.specs.Calls.{IsNotEnospc}
 use Rattle.vfs_ops.specs.FilesState.{present_in}
 use Rattle.vfs_ops.specs.Fs.{files_state}
 use Rattle.vfs_ops.specs.Passing.{HasOpen}

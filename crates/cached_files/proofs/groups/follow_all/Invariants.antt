@@ -1,6 +1,0 @@
-use Rattle.std.proofs.Common.{◌≡◌}
-use Rattle.cached_files.specs.Follow.{followed}
-use Rattle.cached_files.proofs.groups.follow_all.Given as goal
-
-abbrev pub invariant-loop-change : goal.invariant-loop-change
-invariant-loop-change l = l.kept ≡ followed l.fn.kept l.yielded

@@ -1,5 +1,0 @@
-use Rattle.change_nodes.proofs.ReadBack.{read_back}
-use Rattle.change_nodes.proofs.laws.a_group_is_read_back.Goals as goal
-
-pub returns : goal.returns
-returns c = read_back

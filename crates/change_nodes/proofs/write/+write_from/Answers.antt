@@ -1,9 +1,0 @@
-use Rattle.change_nodes.specs.NodeLaws.{leaf_of_node}
-use Rattle.change_nodes.proofs.ReadBack.{first_is}
-use Rattle.change_nodes.proofs.write.+write_from.Goals as goal
-
-pub text_len-requires : goal.text_len-requires
-text_len-requires t c = leaf_of_node c.in-Some.first.now (first_is c.args.changes.now c.in-Some.first.now c.in-Some.rest.now c.requires.nodes c.in-Some.ensures.cases.0)
-
-pub write_text-requires-clause-node : goal.write_text-requires-clause-node
-write_text-requires-clause-node t c = leaf_of_node c.in-Some.first.now (first_is c.args.changes.now c.in-Some.first.now c.in-Some.rest.now c.requires.nodes c.in-Some.ensures.cases.0)

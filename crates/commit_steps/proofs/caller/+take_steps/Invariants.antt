@@ -1,5 +1,0 @@
-use Rattle.std.proofs.Common.{length}
-use Rattle.commit_steps.proofs.caller.+take_steps.Given as goal
-
-abbrev pub decreases-take_steps : goal.decreases-take_steps
-decreases-take_steps g l = length l.lebs.now

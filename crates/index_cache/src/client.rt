@@ -1,0 +1,149 @@
+// A client of several calls, proved from their contracts alone.
+
+ghost use Rattle.std.specs.Prelude.{◌≡◌, IfOk, OnOk, IsTrue};
+ghost use Rattle.index_media.specs.Clean.{placed_of};
+ghost use Rattle.index_media.specs.KeyedRow.{all_clean};
+ghost use Rattle.index_media.specs.PlacedRow.{PlacedRow, plain};
+ghost use Rattle.index_tree.specs.Shape.{contents};
+ghost use Rattle.node_table.specs.Placing.{KeepsPlaces};
+ghost use Rattle.node_table.specs.Changing.{AreChanges, changed_by, leaves_after_all};
+ghost use Rattle.ubifs_base.specs.Key.{IsKey};
+ghost use Rattle.node_cache.specs.Loaded.{IsRead, IsIndexOn};
+ghost use Rattle.index_cache.specs.Paged.{tree_of, leaves_of, frozen_of, fanout_of, KeepsNodes};
+
+use crate::buffer::NodeBuffer;
+use crate::paged::PagedIndex;
+use index_media::an_insertion_goes_by_the_keys_of_branches;
+use index_tree::Leaf;
+use media_sys::Branch;
+use node_table::{Change, NodePlace, places_are_kept, roots_stay};
+use std::alloc::Global;
+use ubi_volume::{AreaFault, Volume};
+use ubifs_base::{Geometry, Memory};
+
+/// Loads the index that stands on a volume, and makes changes of it. What is seen then are the leaves of the volume after the
+/// changes, and nodes that no change touches stand where they stood.
+pub fn load_and_change<V: Volume>(
+    alloc: Global,
+    volume: &mut V,
+    geo: &Geometry,
+    root: &Branch,
+    changes: &[Change],
+) -> Result<PagedIndex, AreaFault>
+    requires index { (placed : PlacedRow) × IsIndexOn (V.state volume.old) geo.now.fanout root.now placed }
+    requires changes { AreChanges changes.now }
+    ensures tree { (placed : PlacedRow) → IsIndexOn (V.state volume.old) geo.now.fanout root.now placed
+        → IfOk result (λ made. tree_of made ≡ changed_by geo.now.fanout changes.now (all_clean placed)) }
+    ensures leaves { (placed : PlacedRow) → IsIndexOn (V.state volume.old) geo.now.fanout root.now placed
+        → IfOk result (λ made. leaves_of made ≡ leaves_after_all changes.now (contents (plain placed))) }
+    ensures reads { IsRead (V.state volume.old) (V.state volume.new) result }
+{
+    an_insertion_goes_by_the_keys_of_branches();
+    let mut index = PagedIndex::at_root(alloc, volume, geo, root)?;
+    let staged = index.stage(alloc, changes)?;
+    index.adopt(staged);
+    Ok(index)
+}
+
+/// Stages two lists of changes, shows the first, puts a leaf at once, and shows the second then. What is seen at last is what the
+/// second list makes of the index before.
+pub fn adopt_both(
+    index: &mut PagedIndex,
+    alloc: Global,
+    first: &[Change],
+    second: &[Change],
+    leaf: Leaf,
+) -> Result<(), Memory>
+    requires first { AreChanges first.now }
+    requires second { AreChanges second.now }
+    requires key { IsKey leaf.key }
+    ensures tree { OnOk result (tree_of index.new ≡ changed_by (fanout_of index.old) second.now (tree_of index.old)) }
+    ensures kept { KeepsNodes index.old index.new }
+{
+    roots_stay();
+    let one = index.stage(alloc, first)?;
+    let other = index.stage(alloc, second)?;
+    index.adopt(one);
+    index.insert(alloc, leaf)?;
+    index.adopt(other);
+    Ok(())
+}
+
+/// Stages changes, gives the next dirty node of what is frozen a place, if there is one, and shows the changes then. What is seen
+/// are the changes, and what is frozen is as before, but for places.
+pub fn adopt_after_a_place(
+    index: &mut PagedIndex,
+    alloc: Global,
+    changes: &[Change],
+    lnum: u32,
+    offs: u32,
+) -> Result<(), Memory>
+    requires changes { AreChanges changes.now }
+    ensures tree { OnOk result (KeepsPlaces (changed_by (fanout_of index.old) changes.now (tree_of index.old)) (tree_of index.new)) }
+    ensures frozen { KeepsPlaces (frozen_of index.old) (frozen_of index.new) }
+{
+    places_are_kept();
+    let staged = index.stage(alloc, changes)?;
+    let Some(found) = index.next_dirty() else {
+        index.adopt(staged);
+        return Ok(());
+    };
+    index.place(found.node, lnum, offs);
+    index.adopt(staged);
+    Ok(())
+}
+
+/// Writes the dirty nodes of a frozen index one after another, each to the next of these places; true exactly where none
+/// is left. A place tells a LEB and an offset, and its length isn't looked at.
+///
+/// Whoever has a volume writes the bytes there before the node gets its place.
+fn write_frozen(
+    index: &mut PagedIndex,
+    alloc: Global,
+    sqnum: u64,
+    buffer: &mut NodeBuffer,
+    places: &[NodePlace],
+) -> Result<bool, Memory>
+    ensures clean { IfOk result (λ done. IsTrue done → frozen_of index.new ≡ all_clean (placed_of (frozen_of index.new))) }
+    ensures frozen { KeepsPlaces (frozen_of index.old) (frozen_of index.new) }
+    ensures tree { KeepsPlaces (tree_of index.old) (tree_of index.new) }
+{
+    places_are_kept();
+    let Some(found) = index.next_dirty() else {
+        return Ok(true);
+    };
+    let Some((place, rest)) = places.split_first() else {
+        return Ok(false);
+    };
+    let mut bytes = vec![in alloc; 0; found.len as usize]?;
+    if !index.write_node(found.node, sqnum, buffer, &mut bytes) {
+        return Ok(false);
+    }
+    index.place(found.node, place.lnum, place.offs);
+    write_frozen(index, alloc, sqnum, buffer, rest)
+}
+
+/// Freezes an index, makes changes of it then, and writes what is frozen beside them. Where it is true, what is frozen is a
+/// placed row of the leaves from before the changes, in which each node that was clean has kept its place. What is seen are
+/// the changes. The bytes of each node are made and let go, so nothing is on a medium.
+pub fn commit_beside_changes(
+    index: &mut PagedIndex,
+    alloc: Global,
+    changes: &[Change],
+    sqnum: u64,
+    places: &[NodePlace],
+) -> Result<bool, Memory>
+    requires changes { AreChanges changes.now }
+    ensures clean { IfOk result (λ done. IsTrue done → all_clean (placed_of (frozen_of index.new)) ≡ frozen_of index.new) }
+    ensures leaves { IfOk result (λ done. IsTrue done → contents (plain (placed_of (frozen_of index.new))) ≡ leaves_of index.old) }
+    ensures kept { OnOk result (KeepsPlaces (tree_of index.old) (frozen_of index.new)) }
+    ensures tree { OnOk result (KeepsPlaces (changed_by (fanout_of index.old) changes.now (tree_of index.old)) (tree_of index.new)) }
+{
+    roots_stay();
+    places_are_kept();
+    index.freeze();
+    let staged = index.stage(alloc, changes)?;
+    index.adopt(staged);
+    let mut buffer = NodeBuffer::new(alloc)?;
+    write_frozen(index, alloc, sqnum, &mut buffer, places)
+}

@@ -1,5 +1,0 @@
-use Rattle.op_plans.proofs.Asked.{nodes_ask_little}
-use Rattle.op_plans.proofs.law.a_group_of_nodes_asks_little.Goals as goal
-
-pub returns : goal.returns
-returns c = nodes_ask_little
