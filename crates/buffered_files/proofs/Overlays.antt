@@ -13,7 +13,7 @@ use Rattle.page_cache.specs.declared.dirty_page.DirtyPage.{DirtyPage}
 use Rattle.page_cache.specs.Pages.{Pages, is_page, dirty_at, put_last, with_dirty, with_all_dirty, new_pages, old_pages}
 use Rattle.buffered_files.specs.Present.{DirtyPages, with_page}
 use Rattle.buffered_files.proofs.Covers.{page_cases}
-use Rattle.buffered_files.proofs.Inserts.{insert_twice, insert_swap}
+use Rattle.fs_laws.specs.Insertions.{insert_twice, insert_swap}
 use Rattle.fs_laws.specs.Maps.{set_other}
 use Rattle.fs_laws.specs.Orders.{pairs}
 

@@ -35,7 +35,8 @@ use Rattle.buffered_files.proofs.Cutting.{seen_then}
 use Rattle.buffered_files.proofs.Clean.{all_found, all_removed, clean_put}
 use Rattle.buffered_files.proofs.Covers.{other_ends, page_cases}
 use Rattle.buffered_files.proofs.Ends.{insert_ends, insert_other_ends, filled_ends}
-use Rattle.buffered_files.proofs.Inserts.{insert_swap, set_later, set_same}
+use Rattle.fs_laws.specs.Insertions.{insert_swap}
+use Rattle.buffered_files.proofs.Inserts.{set_later, set_same}
 use Rattle.buffered_files.proofs.Reading.{kept_size}
 use Rattle.buffered_files.proofs.Trimmed.{trimmed-insert}
 use Rattle.fs_laws.specs.Maps.{all_at, set_here, set_other, key_cases}

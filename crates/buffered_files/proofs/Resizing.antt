@@ -28,7 +28,7 @@ use Rattle.buffered_files.proofs.Covers.{page_cases, other_ends}
 use Rattle.buffered_files.proofs.Ends.{insert_ends, short_block}
 use Rattle.buffered_files.proofs.Following.{fewer_ends, filter_pages}
 use Rattle.buffered_files.proofs.GroupPut.{GroupPut}
-use Rattle.buffered_files.proofs.Inserts.{insert_twice}
+use Rattle.fs_laws.specs.Insertions.{insert_twice}
 use Rattle.buffered_files.proofs.Overlays.{insert_late}
 use Rattle.buffered_files.proofs.Putting.{numbered}
 use Rattle.buffered_files.proofs.Reading.{seen, seen_kept, seen_below, seen_page, seen_over}

@@ -9,7 +9,8 @@ use Rattle.std.specs.declared.cmp.Ordering.{Ordering}
 use Rattle.std.specs.declared.cmp.Ordering.TheVariants.{Less, Equal, Greater}
 use Rattle.std.proofs.lemmas.Bool.{false≢true, and_parts}
 use Rattle.fs_model.specs.Proper.{ascends}
-use Rattle.buffered_files.proofs.Inserts.{insert_twice, insert_swap, with_all}
+use Rattle.fs_laws.specs.Insertions.{insert_twice, insert_swap}
+use Rattle.buffered_files.proofs.Inserts.{with_all}
 use Rattle.fs_laws.specs.Maps.{IsOrder, apart, missing_before, missing_first, tail_ascends, after_all, all_remove, all_filter, insert_ascends, key_cases}
 
 -- keys of which one is before the other are two

@@ -18,7 +18,8 @@ use Rattle.leaf_map.specs.Kept.{Kept, shown_by}
 use Rattle.leaf_map.specs.LeafMap.{HasKeyOf, IsKeyed}
 use Rattle.leaf_map.specs.RankLaws.{rank_is, rank_shown}
 use Rattle.leaf_map.specs.Shown.{blocks_of, with_block}
-use Rattle.leaf_map.proofs.Maps.{insert_front, less_is, equal_is, reversed}
+use Rattle.fs_laws.specs.Insertions.{reversed}
+use Rattle.leaf_map.proofs.Maps.{insert_front, less_is, equal_is}
 use Rattle.leaf_map.proofs.Ranks.{leaves, are_from, ordered_all}
 use Rattle.leaf_map.proofs.Steps.{Reads, put_here, put_past, put_before}
 

@@ -16,7 +16,8 @@ use Rattle.fs_laws.specs.Orders.{named, bytes_same}
 use Rattle.leaf_map.specs.After.{goes, is_gone, put_leaf}
 use Rattle.leaf_map.specs.Kept.{Kept, shown_by}
 use Rattle.leaf_map.specs.Shown.{entries_of, with_entry}
-use Rattle.leaf_map.proofs.Maps.{insert_twice, insert_swap, remove_insert, remove_swap}
+use Rattle.fs_laws.specs.Insertions.{insert_twice, insert_swap}
+use Rattle.leaf_map.proofs.Maps.{remove_insert, remove_swap}
 use Rattle.leaf_map.proofs.Ranks.{name_is}
 use Rattle.leaf_map.proofs.Steps.{Reads, put_here, put_past, put_before}
 

@@ -18,7 +18,7 @@ use Rattle.fs_model.specs.Files.{Entries, Inodes, Tree, inode_at, name_cmp}
 use Rattle.fs_model.specs.Proper.{IsProper, ascends, has_kind, is_entry_node, is_sound_entry, same_kind}
 use Rattle.fs_laws.specs.Maps.{all_at, apart, found_any, insert_ascends, key_cases, missing_first, set_here, set_other, tail_ascends, values_all}
 use Rattle.fs_laws.specs.Orders.{named, numbers}
-use Rattle.leaf_map.specs.SameLaws.{same_maps}
+use Rattle.fs_laws.specs.SameMaps.{same_maps}
 use Rattle.tree_nodes.specs.Stored.{hash_and_name}
 use Rattle.tree_nodes.proofs.Before.{IsRowOf, all_in, insert_rows, sorted_rows}
 use Rattle.tree_nodes.proofs.Changes.{all_append, all_by_hash, all_filter, own_key}
